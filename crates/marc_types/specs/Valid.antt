@@ -68,3 +68,15 @@ fields_size (f ∷ fs) = field_size f + fields_size fs
 unfoldable pub is_record : Leader → List Field → Bool
 is_record leader fields =
     is_leader leader && list_all is_field fields && nat_le (length fields) 8331 && nat_le (fields_size fields) 1000000
+
+-- the code of an institution is of graphic characters without parentheses, since a key's text stands it in parentheses
+abbrev pub is_code_byte : ℕ → Bool
+is_code_byte b = is_graphic b && not (b == 40) && not (b == 41)
+
+-- a code has 1 to 16 bytes
+unfoldable pub is_code : List ℕ → Bool
+is_code code = nat_le 1 (length code) && nat_le (length code) 16 && list_all is_code_byte code
+
+-- a control number has 1 to 64 graphic characters
+unfoldable pub is_number : List ℕ → Bool
+is_number number = nat_le 1 (length number) && nat_le (length number) 64 && list_all is_graphic number

@@ -1,6 +1,6 @@
 ghost use Rattle.std.specs.Prelude.{◌≡◌, ◌≤◌, ◌+◌, ◌↔◌, IsTrue, IsSome, IfSome};
 ghost use Rattle.std.specs.List.{list_all};
-ghost use Rattle.marc_types.specs.Valid.{is_printable, is_graphic, is_digit, is_alphanumeric, is_data, is_tag, is_control_tag, is_leader, is_text, is_subfield, is_field, subfields_size, field_size, fields_size, is_record};
+ghost use Rattle.marc_types.specs.Valid.{is_printable, is_graphic, is_digit, is_alphanumeric, is_data, is_tag, is_control_tag, is_leader, is_text, is_subfield, is_field, subfields_size, field_size, fields_size, is_record, is_code_byte, is_code, is_number};
 
 use crate::field::{Field, Leader, Subfield, Tag};
 
@@ -167,4 +167,38 @@ pub fn makes_record(leader: &Leader, fields: &[Field]) -> bool
         && fields_are_valid(fields)
         && fields.len() <= MOST_FIELDS
         && fields_within(fields)
+}
+
+fn is_code_byte_of(byte: u8) -> bool
+    ensures { result ≡ is_code_byte byte }
+{
+    is_graphic_byte(byte) && byte != b'(' && byte != b')'
+}
+
+fn all_code_bytes(text: &[u8]) -> bool
+    ensures { result ≡ list_all is_code_byte text.now }
+{
+    text.iter().all(|byte| is_code_byte_of(*byte))
+}
+
+/// Whether a text can be the code of a key: 1 to 16 graphic ASCII characters without parentheses.
+#[tactic(auto, unfolding(crate::specs::Valid::is_code))]
+pub fn can_be_code(text: &[u8]) -> bool
+    ensures { result ≡ is_code text.now }
+{
+    !text.is_empty() && text.len() <= 16 && all_code_bytes(text)
+}
+
+fn all_graphic(text: &[u8]) -> bool
+    ensures { result ≡ list_all is_graphic text.now }
+{
+    text.iter().all(|byte| is_graphic_byte(*byte))
+}
+
+/// Whether a text can be the number of a key: 1 to 64 graphic ASCII characters.
+#[tactic(auto, unfolding(crate::specs::Valid::is_number))]
+pub fn can_be_number(text: &[u8]) -> bool
+    ensures { result ≡ is_number text.now }
+{
+    !text.is_empty() && text.len() <= 64 && all_graphic(text)
 }
