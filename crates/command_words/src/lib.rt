@@ -1,0 +1,8 @@
+//! The words of the command line, and what they ask for.
+#![tactic(auto)]
+
+pub use asked::Request;
+pub use words::{Words, library, request};
+
+mod asked;
+mod words;
