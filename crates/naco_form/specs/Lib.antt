@@ -1,0 +1,4 @@
+pub mod Comparison
+pub mod Entry
+pub mod Pen
+pub mod Table
