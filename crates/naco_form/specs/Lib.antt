@@ -1,3 +1,4 @@
+pub mod Ascii
 pub mod Comparison
 pub mod Entry
 pub mod Pen

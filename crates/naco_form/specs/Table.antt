@@ -28,15 +28,15 @@ is_sign c = nat_lt c 0xA0 && not (is_alphanumeric c)
 -- what one character becomes
 unfoldable pub table_entry : ℕ → List ℕ
 table_entry c =
-    if c == 0xE6 then codes "ae" else (     -- æ
-    if c == 0x153 then codes "oe" else (    -- œ
-    if c == 0xF8 then codes "o" else (      -- ø
-    if c == 0x142 then codes "l" else (     -- ł
-    if c == 0x111 then codes "d" else (     -- đ
-    if c == 0xF0 then codes "d" else (      -- ð
-    if c == 0xFE then codes "th" else (     -- þ
-    if c == 0x131 then codes "i" else (     -- ı
-    if c == 0x2113 then codes "l" else (    -- ℓ
+    if c == 0xE6 then codes "ae" else ( -- æ
+    if c == 0x153 then codes "oe" else ( -- œ
+    if c == 0xF8 then codes "o" else ( -- ø
+    if c == 0x142 then codes "l" else ( -- ł
+    if c == 0x111 then codes "d" else ( -- đ
+    if c == 0xF0 then codes "d" else ( -- ð
+    if c == 0xFE then codes "th" else ( -- þ
+    if c == 0x131 then codes "i" else ( -- ı
+    if c == 0x2113 then codes "l" else ( -- ℓ
     if is_left_out c then [] else (
     if is_kept_sign c then c ∷ [] else (
     if is_sign c then blank ∷ [] else c ∷ [])))))))))))

@@ -3,6 +3,6 @@
 
 mod pen;
 mod table;
+mod text;
 
-
-
+pub use text::comparison_of;

@@ -1,10 +1,11 @@
 //! A pen that writes a comparison text while the characters come, and holds blanks back.
 ghost use Rattle.std.specs.Prelude.{◌≡◌, ◌≢◌, ℕ, List, [], ◌∷◌, ◌++◌, ◌<◌, IsTrue, string_len, reverse, chars, string_bytes, encode_utf8_all, IfOk, OnOk};
+ghost use Rattle.naco_form.specs.Ascii.{ascii_entry};
 ghost use Rattle.naco_form.specs.Comparison.{commas, squeezed, keeps_first_comma, drop_first_comma, trim_end, without_last_comma};
 ghost use Rattle.naco_form.specs.Pen.{PopsIf, whole, written_and_still};
 ghost use Rattle.naco_form.specs.Table.{blank, table_entry};
 
-use crate::table::{Entry, entry_of};
+use crate::table::{Entry, ascii_entry_of, entry_of};
 use std::alloc::{AllocError, Global};
 
 /// Where a pen stands: before its first character, behind a character, or behind a character and a blank that is held back.
@@ -49,6 +50,31 @@ impl Pen {
                 Ok(())
             }
             decided => self.write(decided),
+        }
+    }
+
+    /// Takes the next character, as the table writes it.
+    pub fn put_entry(&mut self, c: char) -> Result<(), AllocError>
+        ensures { OnOk result ((cs : List ℕ) → whole self.new cs ≡ whole self.old (table_entry c ++ cs)) }
+    {
+        match entry_of(c) {
+            Entry::Nothing => Ok(()),
+            Entry::One(first) => self.put(first),
+            Entry::Two(first, second) => {
+                self.put(first)?;
+                self.put(second)
+            }
+        }
+    }
+
+    /// Takes the next ASCII character, as folding and the table write it.
+    pub fn put_ascii(&mut self, byte: u8) -> Result<(), AllocError>
+        requires { byte < 128 }
+        ensures { OnOk result ((cs : List ℕ) → whole self.new cs ≡ whole self.old (ascii_entry byte ++ cs)) }
+    {
+        match ascii_entry_of(byte) {
+            Some(c) => self.put(c),
+            None => Ok(()),
         }
     }
 

@@ -23,5 +23,5 @@ returns-clause-cases c =
     let bs = string_bytes c.args.out.now in (
       refl,
       λ rest e. let ends = (ends_char c.args.c _ _ c.if-ends_with.ensures.cases c.requires).1 _ (c.as_str.ensures.value ∙ reverse_chars_other bs rest c.args.c (IsUtf8-string_bytes c.args.out.now) c.requires e) in
-    false≢true ends,
+          false≢true ends,
     )
