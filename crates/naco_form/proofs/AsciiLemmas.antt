@@ -1,5 +1,6 @@
 -- What the steps before the commas give of an ASCII text.
 use Rattle.std.proofs.Common.{◌≡◌, ◌≢◌, ℕ, zero, suc, ◌<◌, Bool, true, false, ◌==◌, not, cond, nat_lt, List, [], ◌∷◌, ◌++◌, map, filter, flat_map, get_or, slice_index, bytes_eq, All, IsAscii, chars, refl, sym, ap, ap₂, subst, ◌∙◌, arith, suc-le-suc, zero-le}
+use Rattle.std.proofs.lemmas.Bool.{not-true}
 use Rattle.std.proofs.lemmas.Bool.Decides.{nat_tests}
 use Rattle.std.proofs.lemmas.Str.{chars-IsAscii}
 use Rattle.std.specs.Char.{to_ascii_lowercase}
@@ -11,7 +12,7 @@ use Rattle.ucd_table.proofs.Computing.{tables}
 use Rattle.ucd_table.proofs.Facts.{Stepped-below}
 use Rattle.ucd_table.proofs.TrieCheck.{all_below, all_below-at}
 use Rattle.caseless.specs.Caseless.{default_case_fold}
-use Rattle.caseless.proofs.CaselessLemmas.{default_case_fold-ascii, All-chars}
+use Rattle.caseless.proofs.CaselessLemmas.{default_case_fold-ascii, canonical_key-ascii, All-chars}
 use Rattle.unicode_normalization.specs.Forms.{Nfd, nfd}
 use Rattle.unicode_normalization.proofs.FormsLemmas.{normalize-ascii}
 use Rattle.naco_form.specs.declared.table.TheConstants.{ASCII_ENTRIES}
@@ -34,4 +35,28 @@ listed-entry b ascii = (bytes_decides (listed (slice_index ASCII_ENTRIES b)) (as
 
 no_mark : (c : ℕ) → c < 128 → is_mark c ≡ false
 unfolding all_below general_category_stepped tables
-no_mark c ascii = ?
+no_mark c ascii =
+    not-true _ (Stepped-below general_category general_category_stepped (λ _ g. not (general_category_eq g NonspacingMark)) 128 refl c ascii)
+
+lower_ascii : (c : ℕ) → c < 128 → to_ascii_lowercase c < 128
+lower_ascii c h = grind (arith, nat_tests)
+
+lowered_steps : (cs : List ℕ) → All (λ c. c < 128) cs → by_table (without_marks (map to_ascii_lowercase cs)) ≡ flat_map ascii_entry cs
+unfolding by_table without_marks
+lowered_steps [] all = refl
+lowered_steps (c ∷ cs) all =
+    let lower = to_ascii_lowercase c in
+    let rest = without_marks (map to_ascii_lowercase cs) in
+    ap (λ b. by_table (cond (not b) (lower ∷ rest) rest)) (no_mark lower (lower_ascii c (all zero 0 (suc-le-suc zero-le))))
+    ∙ ap (λ l. table_entry lower ++ l) (lowered_steps cs (λ k d lt. all (suc k) d (suc-le-suc lt)))
+
+nfd_folded : (cs : List ℕ) → All (λ c. c < 128) cs → nfd (default_case_fold cs) ≡ map to_ascii_lowercase cs
+nfd_folded cs all =
+    ap (λ l. nfd (default_case_fold l)) (sym (normalize-ascii Nfd cs all)) ∙ canonical_key-ascii cs all
+    ∙ default_case_fold-ascii cs all
+
+pub ascii_steps : (bs : List ℕ) → IsAscii bs → by_table (without_marks (nfd (default_case_fold (chars bs)))) ≡ flat_map ascii_entry bs
+ascii_steps bs ascii =
+    let all = All-chars bs ascii in
+    ap (λ l. by_table (without_marks l)) (nfd_folded (chars bs) all) ∙ lowered_steps (chars bs) all
+    ∙ ap (flat_map ascii_entry) (chars-IsAscii bs ascii)
