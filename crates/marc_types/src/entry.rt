@@ -1,0 +1,110 @@
+ghost use Rattle.std.specs.Prelude.{◌≡◌, ℕ, length};
+
+use crate::copying::{NoMemory, TryCopy};
+use crate::key::{Class, Key};
+use crate::record::Record;
+use crate::sequence::Sequence;
+use crate::text::Text;
+use std::alloc::Global;
+
+/// What the catalogue keeps beside a field: the key of the authority that governs it, whether that authority governs the
+/// heading with its subdivisions, and the key of an authority that is awaited in the place of a former one.
+#[derive(Debug, Drop, PartialEq, Eq)]
+pub struct Tie {
+    pub key: Option<Key>,
+    pub whole: bool,
+    pub awaits: Option<Key>,
+}
+
+pub type Links = Sequence<Tie>;
+
+/// A record of the catalogue, with one tie per field.
+#[derive(Debug, Drop)]
+pub struct Kept {
+    pub rec: Record,
+    pub links: Links,
+    ghost tied: { length links ≡ length rec.fields },
+}
+
+/// A committed record: which loader brought it as which piece of its file (from 1), its class and key, in which run, and
+/// the library code of its file.
+#[derive(Debug, Drop)]
+pub struct Entry {
+    pub loader: u32,
+    pub ordinal: u64,
+    pub rec: Record,
+    pub class: Class,
+    pub key: Key,
+    pub run: u64,
+    pub library: Text,
+}
+
+pub type Entries = Sequence<Entry>;
+
+/// What one commit did: the number of entries before it; of the committed record's heading fields, how many are linked,
+/// ambiguous and unlinked; and how many other records it changed.
+#[derive(Clone, Copy, Debug, PartialEq, Eq)]
+pub struct Receipt {
+    pub at: u64,
+    pub linked: u32,
+    pub ambiguous: u32,
+    pub unlinked: u32,
+    pub changed_records: u64,
+}
+
+/// How a field stands in the catalogue.
+#[derive(Debug, Drop)]
+pub enum Status<'a> {
+    Linked(&'a Key),
+    Ambiguous,
+    Unlinked,
+    NoHeading,
+}
+
+/// The most that a catalogue takes: entries, and bytes of all entries.
+#[derive(Clone, Copy, Debug, PartialEq, Eq)]
+pub struct Limits {
+    pub entries: u64,
+    pub bytes: u64,
+}
+
+/// Why a durable commit answers no receipt.
+#[derive(Clone, Copy, Debug, PartialEq, Eq)]
+pub enum CommitFault {
+    Full,
+    NoMemory,
+    DeviceFault,
+    Broken,
+}
+
+impl TryCopy for Tie {
+    fn copy(&self, alloc: Global) -> Result<Self, NoMemory> {
+        Ok(Tie {
+            key: self.key.copy(alloc)?,
+            whole: self.whole,
+            awaits: self.awaits.copy(alloc)?,
+        })
+    }
+}
+
+impl TryCopy for Kept {
+    fn copy(&self, alloc: Global) -> Result<Self, NoMemory> {
+        let rec = self.rec.copy(alloc)?;
+        let links = self.links.copy(alloc)?;
+        Ok(Kept { rec, links })
+    }
+}
+
+impl TryCopy for Entry {
+    fn copy(&self, alloc: Global) -> Result<Self, NoMemory> {
+        Ok(Entry {
+            loader: self.loader,
+            ordinal: self.ordinal,
+            rec: self.rec.copy(alloc)?,
+            class: self.class,
+            key: self.key.copy(alloc)?,
+            run: self.run,
+            library: self.library.copy(alloc)?,
+        })
+    }
+}

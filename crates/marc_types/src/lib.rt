@@ -1,0 +1,29 @@
+//! The vocabulary of the union catalogue: MARC 21 records, keys, forms, and what is kept of them.
+//!
+//! Contracts see each type as plain data: a `Text` as its bytes, a `Sequence` as a list, a record as the record of its
+//! parts, so `≡` of two values says that they are the same value.
+#![tactic(auto)]
+
+pub use copying::{NoMemory, TryCopy};
+pub use entry::{CommitFault, Entries, Entry, Kept, Limits, Links, Receipt, Status, Tie};
+pub use field::{Field, Fields, Leader, Subfield, Subfields, Tag};
+pub use form::{Form, Forms, Item, Items, Kind};
+pub use key::{Class, Key, Keys, Place, Places};
+pub use record::Record;
+pub use refusal::{RecordFault, Refusal, Set};
+pub use sequence::Sequence;
+pub use text::Text;
+pub use valid::{
+    is_alphanumeric_byte, is_data_byte, is_graphic_byte, is_printable_byte, makes_record,
+};
+
+mod copying;
+mod entry;
+mod field;
+mod form;
+mod key;
+mod record;
+mod refusal;
+mod sequence;
+mod text;
+mod valid;
