@@ -1,3 +1,4 @@
 pub mod EndLemmas
 pub mod PenLemmas
 pub mod AsciiLemmas
+pub mod FormLemmas

@@ -1,8 +1,10 @@
 //! Comparison texts and forms of headings: this project's profile of the NACO Authority File Comparison Rules.
 #![tactic(auto)]
 
+mod forms;
 mod pen;
 mod table;
 mod text;
 
-pub use text::comparison_of;
+pub use forms::form;
+pub use text::comparison;

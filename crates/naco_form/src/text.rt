@@ -6,12 +6,21 @@ ghost use Rattle.naco_form.specs.Pen.{whole};
 
 use crate::pen::Pen;
 use caseless::default_case_fold_str;
+use marc_types::{NoMemory, Text};
 use std::alloc::{AllocError, Global};
 use unicode::properties::GeneralCategory;
 use unicode_normalization::to_nfd;
 
-/// The comparison text of a subfield's text under its code.
-pub fn comparison_of(alloc: Global, code: u8, text: &str) -> Result<String, AllocError>
+/// The comparison text of a subfield's text under its code: folded and decomposed, without nonspacing marks, with letters
+/// and signs by the table, commas as blanks but for the first one under code `a`, and blanks squeezed.
+pub fn comparison(alloc: Global, code: u8, text: &Text) -> Result<Text, NoMemory>
+    ensures { IfOk result (λ made. made ≡ comparison_bytes code text.now) }
+{
+    let compared = comparison_of(alloc, code, text.as_str())?;
+    Ok(Text::from_string(compared))
+}
+
+fn comparison_of(alloc: Global, code: u8, text: &str) -> Result<String, AllocError>
     ensures { IfOk result (λ t. string_bytes t ≡ comparison_bytes code text.now) }
 {
     if text.is_ascii() {
