@@ -4,6 +4,8 @@
 mod forms;
 mod pen;
 mod table;
+#[cfg(test)]
+mod tests;
 mod text;
 
 pub use forms::form;
