@@ -1,4 +1,5 @@
-pub mod EndLemmas
-pub mod PenLemmas
 pub mod AsciiLemmas
+pub mod Computing
+pub mod EndLemmas
 pub mod FormLemmas
+pub mod PenLemmas

@@ -25,7 +25,7 @@ is_alphanumeric c = (nat_le 0x30 c && nat_le c 0x39) || (nat_le 0x41 c && nat_le
 abbrev pub is_sign : ℕ → Bool
 is_sign c = nat_lt c 0xA0 && not (is_alphanumeric c)
 
--- what one character becomes
+-- what one character becomes; every character that isn't named here stays, `♭` and `♯` among them
 unfoldable pub table_entry : ℕ → List ℕ
 table_entry c =
     if c == 0xE6 then codes "ae" else ( -- æ

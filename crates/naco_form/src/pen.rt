@@ -1,5 +1,6 @@
 //! A pen that writes a comparison text while the characters come, and holds blanks back.
-ghost use Rattle.std.specs.Prelude.{◌≡◌, ◌≢◌, ℕ, List, [], ◌∷◌, ◌++◌, ◌<◌, IsTrue, string_len, reverse, chars, string_bytes, encode_utf8_all, IfOk, OnOk};
+ghost use Rattle.std.specs.Prelude.{◌≡◌, ◌≢◌, ℕ, List, [], ◌∷◌, ◌++◌, ◌<◌, ◌≤◌, IsTrue, string_len, reverse, chars, string_bytes, encode_utf8_all, IfOk, OnOk};
+ghost use Rattle.std.specs.String.{string_capacity};
 ghost use Rattle.naco_form.specs.Ascii.{ascii_entry};
 ghost use Rattle.naco_form.specs.Comparison.{commas, squeezed, keeps_first_comma, drop_first_comma, trim_end, without_last_comma};
 ghost use Rattle.naco_form.specs.Pen.{PopsIf, whole, written_and_still};
@@ -28,9 +29,10 @@ const KEEPS_FIRST_COMMA: u8 = b'a';
 
 impl Pen {
     /// A pen for the text of a subfield with this code, with room for so many bytes.
-    #[tactic(auto, unfolding(crate::specs::Pen::whole, crate::specs::Pen::still, crate::specs::Pen::written_and_still), using(crate::proofs::PenLemmas::nothing_written))]
+    #[tactic(auto, unfolding(crate::proofs::Computing::squeezing), using(crate::proofs::PenLemmas::nothing_written))]
     pub fn new(alloc: Global, code: u8, room: usize) -> Result<Pen, AllocError>
-        ensures { IfOk result (λ pen. (cs : List ℕ) → whole pen cs ≡ squeezed (commas (keeps_first_comma code) cs)) }
+        ensures text { IfOk result (λ pen. (cs : List ℕ) → whole pen cs ≡ squeezed (commas (keeps_first_comma code) cs)) }
+        ensures room { IfOk result (λ pen. room ≤ string_capacity pen.out) }
     {
         Ok(Pen {
             out: String::with_capacity(alloc, room)?,
@@ -40,7 +42,6 @@ impl Pen {
     }
 
     /// Takes the next character that the table gives.
-    #[tactic(auto, unfolding(crate::specs::Pen::whole))]
     pub fn put(&mut self, c: char) -> Result<(), AllocError>
         ensures { OnOk result ((cs : List ℕ) → whole self.new cs ≡ whole self.old (c ∷ cs)) }
     {
@@ -110,7 +111,7 @@ impl Pen {
     }
 
     /// Holds a blank back, unless nothing stands before it.
-    #[tactic(auto, unfolding(crate::specs::Pen::still, crate::specs::Pen::written_and_still, crate::specs::Comparison::squeezed, crate::specs::Comparison::trim_front, crate::specs::Comparison::single_blanks))]
+    #[tactic(auto, unfolding(crate::proofs::Computing::squeezing))]
     fn hold_blank(&mut self)
         ensures comma { self.new.keeps_comma ≡ self.old.keeps_comma }
         ensures text { (cs : List ℕ) → written_and_still self.new cs ≡ written_and_still self.old (blank ∷ cs) }
