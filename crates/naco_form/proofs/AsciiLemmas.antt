@@ -1,5 +1,5 @@
 -- What the steps before the commas give of an ASCII text.
-use Rattle.std.proofs.Common.{◌≡◌, ◌≢◌, ℕ, zero, suc, ◌<◌, Bool, true, false, ◌==◌, not, cond, nat_lt, List, [], ◌∷◌, ◌++◌, map, filter, flat_map, get_or, slice_index, bytes_eq, All, IsAscii, chars, refl, sym, ap, ap₂, subst, ◌∙◌, arith, suc-le-suc, zero-le}
+use Rattle.std.proofs.Common.{◌≡◌, ◌≢◌, ℕ, zero, suc, ◌<◌, Bool, false, ◌==◌, not, cond, List, [], ◌∷◌, ◌++◌, map, flat_map, slice_index, bytes_eq, All, IsAscii, chars, refl, sym, ap, ◌∙◌, arith, suc-le-suc, zero-le}
 use Rattle.std.proofs.lemmas.Bool.{not-true}
 use Rattle.std.proofs.lemmas.Bool.Decides.{nat_tests}
 use Rattle.std.proofs.lemmas.Str.{chars-IsAscii}

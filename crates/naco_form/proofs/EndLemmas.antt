@@ -1,8 +1,8 @@
 -- The end of a text, as the front of its characters in reverse.
-use Rattle.std.proofs.Common.{◌≡◌, ◌≢◌, ℕ, ◌+◌, ◌-◌, ◌<◌, Bool, true, false, ◌==◌, List, [], ◌∷◌, ◌++◌, reverse, length, get_or, take, chars, IsUtf8, encode_utf8, encode_utf8_all, refl, sym, ap, subst, ◌∙◌, arith, length-append}
+use Rattle.std.proofs.Common.{◌≡◌, ◌≢◌, ℕ, ◌+◌, ◌-◌, ◌<◌, Bool, true, false, List, [], ◌∷◌, ◌++◌, reverse, length, get_or, chars, IsUtf8, encode_utf8, encode_utf8_all, refl, sym, ap, ◌∙◌, arith, length-append}
 use Rattle.std.proofs.lemmas.Bool.Decides.{nat_tests}
 use Rattle.std.proofs.lemmas.List.{reverse-append, reverse-reverse, get_or_push, append-nil}
-use Rattle.std.proofs.lemmas.Str.{chars-append, encodes-append, encode_ascii, encodes-chars, IsUtf8-encode}
+use Rattle.std.proofs.lemmas.Str.{encodes-append, encode_ascii, encodes-chars}
 use Rattle.std.specs.Char.{IsScalar}
 use Rattle.naco_form.specs.Comparison.{drop_first_comma, trim_front, trim_end}
 use Rattle.naco_form.specs.Table.{blank, comma}

@@ -1,6 +1,6 @@
 -- The comparison text of a text: this project's profile of the NACO Authority File Comparison Rules (Program for Cooperative
 -- Cataloging). Seven steps, each on the whole text, a list of code points.
-use Rattle.std.specs.Prelude.{ℕ, Bool, true, false, ◌==◌, ◌||◌, ◌&&◌, not, List, [], ◌∷◌, filter, flat_map, reverse, chars, encode_utf8_all, if◌then◌else◌}
+use Rattle.std.specs.Prelude.{ℕ, Bool, true, false, ◌==◌, ◌&&◌, not, List, [], ◌∷◌, filter, flat_map, reverse, chars, encode_utf8_all, if◌then◌else◌}
 use Rattle.unicode.specs.GeneralCategory.{general_category, general_category_eq}
 use Rattle.unicode.specs.declared.properties.GeneralCategory.TheVariants.{NonspacingMark}
 use Rattle.caseless.specs.Caseless.{default_case_fold}

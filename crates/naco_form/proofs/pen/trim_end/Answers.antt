@@ -1,4 +1,4 @@
-use Rattle.std.proofs.Common.{◌∙◌, chars, string_bytes}
+use Rattle.std.proofs.Common.{◌∙◌}
 use Rattle.naco_form.proofs.EndLemmas.{trim_popped, trim_done}
 use Rattle.naco_form.proofs.pen.trim_end.Goals as goal
 

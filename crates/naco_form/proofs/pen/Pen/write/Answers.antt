@@ -1,4 +1,4 @@
-use Rattle.std.proofs.Common.{ℕ, List, ◌++◌, string_bytes, encode_utf8, ap, ◌∙◌}
+use Rattle.std.proofs.Common.{◌++◌, string_bytes, encode_utf8, ap, ◌∙◌}
 use Rattle.std.proofs.lemmas.Str.{IsUtf8-string_bytes}
 use Rattle.naco_form.specs.Pen.{written_and_still}
 use Rattle.naco_form.specs.declared.pen.Pen.{Pen}
