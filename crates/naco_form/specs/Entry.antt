@@ -1,0 +1,9 @@
+-- An entry of the table as the characters that it writes.
+use Rattle.std.specs.Prelude.{ℕ, List, [], ◌∷◌}
+use Rattle.naco_form.specs.declared.table.Entry.{Entry}
+use Rattle.naco_form.specs.declared.table.Entry.TheVariants.{Nothing, One, Two}
+
+abbrev pub written : Entry → List ℕ
+written Nothing = []
+written (One c) = c ∷ []
+written (Two c d) = c ∷ d ∷ []

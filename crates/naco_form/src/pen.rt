@@ -1,0 +1,160 @@
+//! A pen that writes a comparison text while the characters come, and holds blanks back.
+ghost use Rattle.std.specs.Prelude.{◌≡◌, ◌≢◌, ℕ, List, [], ◌∷◌, ◌++◌, ◌<◌, ◌≤◌, IsTrue, string_len, reverse, chars, string_bytes, encode_utf8_all, IfOk, OnOk};
+ghost use Rattle.std.specs.String.{string_capacity};
+ghost use Rattle.naco_form.specs.Ascii.{ascii_entry};
+ghost use Rattle.naco_form.specs.Comparison.{commas, squeezed, keeps_first_comma, drop_first_comma, trim_end, without_last_comma};
+ghost use Rattle.naco_form.specs.Pen.{PopsIf, whole, written_and_still};
+ghost use Rattle.naco_form.specs.Table.{blank, table_entry};
+
+use crate::table::{Entry, ascii_entry_of, entry_of};
+use std::alloc::{AllocError, Global};
+
+/// Where a pen stands: before its first character, behind a character, or behind a character and a blank that is held back.
+#[derive(Clone, Copy)]
+pub enum At {
+    Front,
+    Word,
+    Blank,
+}
+
+/// The text so far, where the pen stands, and whether the next comma stays.
+#[derive(Drop)]
+pub struct Pen {
+    pub out: String,
+    pub at: At,
+    pub keeps_comma: bool,
+}
+
+const KEEPS_FIRST_COMMA: u8 = b'a';
+
+impl Pen {
+    /// A pen for the text of a subfield with this code, with room for so many bytes.
+    #[tactic(auto, unfolding(crate::proofs::Computing::squeezing), using(crate::proofs::PenLemmas::nothing_written))]
+    pub fn new(alloc: Global, code: u8, room: usize) -> Result<Pen, AllocError>
+        ensures text { IfOk result (λ pen. (cs : List ℕ) → whole pen cs ≡ squeezed (commas (keeps_first_comma code) cs)) }
+        ensures room { IfOk result (λ pen. room ≤ string_capacity pen.out) }
+    {
+        Ok(Pen {
+            out: String::with_capacity(alloc, room)?,
+            at: At::Front,
+            keeps_comma: code == KEEPS_FIRST_COMMA,
+        })
+    }
+
+    /// Takes the next character that the table gives.
+    pub fn put(&mut self, c: char) -> Result<(), AllocError>
+        ensures { OnOk result ((cs : List ℕ) → whole self.new cs ≡ whole self.old (c ∷ cs)) }
+    {
+        match self.decide_comma(c) {
+            ' ' => {
+                self.hold_blank();
+                Ok(())
+            }
+            decided => self.write(decided),
+        }
+    }
+
+    /// Takes the next character, as the table writes it.
+    pub fn put_entry(&mut self, c: char) -> Result<(), AllocError>
+        ensures { OnOk result ((cs : List ℕ) → whole self.new cs ≡ whole self.old (table_entry c ++ cs)) }
+    {
+        match entry_of(c) {
+            Entry::Nothing => Ok(()),
+            Entry::One(first) => self.put(first),
+            Entry::Two(first, second) => {
+                self.put(first)?;
+                self.put(second)
+            }
+        }
+    }
+
+    /// Takes the next ASCII character, as folding and the table write it.
+    pub fn put_ascii(&mut self, byte: u8) -> Result<(), AllocError>
+        requires { byte < 128 }
+        ensures { OnOk result ((cs : List ℕ) → whole self.new cs ≡ whole self.old (ascii_entry byte ++ cs)) }
+    {
+        match ascii_entry_of(byte) {
+            Some(c) => self.put(c),
+            None => Ok(()),
+        }
+    }
+
+    /// The character, with a blank in place of a comma that doesn't stay.
+    #[tactic(auto, unfolding(crate::specs::Comparison::commas))]
+    fn decide_comma(&mut self, c: char) -> char
+        ensures decided { (cs : List ℕ) → commas self.old.keeps_comma (c ∷ cs) ≡ result ∷ commas self.new.keeps_comma cs }
+        ensures out { self.new.out ≡ self.old.out }
+        ensures at { self.new.at ≡ self.old.at }
+    {
+        if c != ',' {
+            return c;
+        }
+        if !self.keeps_comma {
+            return ' ';
+        }
+        self.keeps_comma = false;
+        c
+    }
+
+    /// Writes a character that is no blank, behind the blank that is held back.
+    fn write(&mut self, c: char) -> Result<(), AllocError>
+        requires { c ≢ blank }
+        ensures comma { self.new.keeps_comma ≡ self.old.keeps_comma }
+        ensures text { OnOk result ((cs : List ℕ) → written_and_still self.new cs ≡ written_and_still self.old (c ∷ cs)) }
+    {
+        if let At::Blank = self.at {
+            self.out.push(' ')?;
+        }
+        self.out.push(c)?;
+        self.at = At::Word;
+        Ok(())
+    }
+
+    /// Holds a blank back, unless nothing stands before it.
+    #[tactic(auto, unfolding(crate::proofs::Computing::squeezing))]
+    fn hold_blank(&mut self)
+        ensures comma { self.new.keeps_comma ≡ self.old.keeps_comma }
+        ensures text { (cs : List ℕ) → written_and_still self.new cs ≡ written_and_still self.old (blank ∷ cs) }
+    {
+        if let At::Word = self.at {
+            self.at = At::Blank;
+        }
+    }
+
+    /// The text, without a comma at its end and the blanks before that.
+    pub fn finish(self) -> String
+        ensures { string_bytes result ≡ encode_utf8_all (without_last_comma (whole self [])) }
+    {
+        let Pen { mut out, .. } = self;
+        drop_last_comma(&mut out);
+        trim_end(&mut out);
+        out
+    }
+}
+
+/// Takes a comma off the end.
+fn drop_last_comma(out: &mut String)
+    ensures { chars (string_bytes out.new) ≡ reverse (drop_first_comma (reverse (chars (string_bytes out.old)))) }
+{
+    pop_if(out, ',');
+}
+
+/// Takes the blanks off the end.
+fn trim_end(out: &mut String)
+    ensures { chars (string_bytes out.new) ≡ trim_end (chars (string_bytes out.old)) }
+{
+    while pop_if(out, ' ') {}
+}
+
+/// Takes an ASCII character off the end, where the text ends with it.
+fn pop_if(out: &mut String, c: char) -> bool
+    requires { c < 128 }
+    ensures cases { PopsIf c (reverse (chars (string_bytes out.old))) (reverse (chars (string_bytes out.new))) result }
+    ensures shorter { IsTrue result → string_len out.new < string_len out.old }
+{
+    if out.as_str().ends_with(c) {
+        out.pop();
+        return true;
+    }
+    false
+}
