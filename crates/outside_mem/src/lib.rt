@@ -3,12 +3,14 @@
 
 mod calls;
 mod fault;
-
+mod files;
+mod room;
 
 mod sink;
 mod source;
 
 pub use fault::NoMemory;
+pub use room::MemRoom;
 
 pub use sink::MemSink;
 pub use source::MemSource;
