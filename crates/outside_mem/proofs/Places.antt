@@ -47,9 +47,9 @@ place_is_named files name place d at =
 named_apart : (name other : List ℕ) (file : MemFile) → other ≢ name → is_named name file ≡ true → is_named other file ≡ false
 named_apart name other file differ named = not_both (string_bytes file.name) name other (is_named other file) refl differ ((bytes_eq-Decides (string_bytes file.name) name).0 named)
   where
-  not_both : (own name other : List ℕ) (b : Bool) → bytes_eq own other ≡ b → other ≢ name → own ≡ name → b ≡ false
-  not_both own name other true test differ same = absurd (differ (sym ((bytes_eq-Decides own other).0 test) ∙ same))
-  not_both own name other false test differ same = refl
+    not_both : (own name other : List ℕ) (b : Bool) → bytes_eq own other ≡ b → other ≢ name → own ≡ name → b ≡ false
+    not_both own name other true test differ same = absurd (differ (sym ((bytes_eq-Decides own other).0 test) ∙ same))
+    not_both own name other false test differ same = refl
 
 -- what is under the name whose place it is
 pub file_in_place : (files : List MemFile) (name : List ℕ) (place : ℕ) (d : MemFile) → IsPlaceOf files name place → file_in files name ≡ without_name (Some (get_or files place d))
@@ -69,7 +69,7 @@ pub file_in_others : (files : List MemFile) (name other : List ℕ) (place : ℕ
 unfolding file_in
 file_in_others files name other place file at named differ =
     ap without_name (find_past (is_named other) files place file file
-        (named_apart name other (get_or files place file) differ (place_is_named files name place file at)) (named_apart name other file differ named))
+    (named_apart name other (get_or files place file) differ (place_is_named files name place file at)) (named_apart name other file differ named))
 
 entered : (found : Option MemFile) (file : MemFile) (b : Bool) → without_name (Some file) ≡ without_name None
     → without_name (option_or found (cond b (Some file) None)) ≡ without_name found
@@ -102,7 +102,7 @@ changes_place files name place old file at is same =
     let named : is_named name file ≡ true = ap (λ own. bytes_eq own name) kept ∙ place_is_named files name place old at in
     record {
       here = file_in_changed files name place file at named;
-      others = λ n differ. file_in_others files name n place file at named differ
+      others = λ n differ. file_in_others files name n place file at named differ;
     }
 
 -- only the calls that are to fail change
@@ -136,6 +136,6 @@ file_in_nameless files name is = ap without_name (find_at (is_named name) files 
 pub changes_nothing : (old new : List MemFile) (name : List ℕ) → ChangesFile old new name (file_in old name) → (n : List ℕ) → file_in new n ≡ file_in old n
 changes_nothing old new name changed n = decided (bytes_eq n name) refl
   where
-  decided : (b : Bool) → bytes_eq n name ≡ b → file_in new n ≡ file_in old n
-  decided true same = rw ((bytes_eq-Decides n name).0 same) changed.here
-  decided false differ = changed.others n (λ e. true≢false (sym ((bytes_eq-Decides n name).1 e) ∙ differ))
+    decided : (b : Bool) → bytes_eq n name ≡ b → file_in new n ≡ file_in old n
+    decided true same = rw ((bytes_eq-Decides n name).0 same) changed.here
+    decided false differ = changed.others n (λ e. true≢false (sym ((bytes_eq-Decides n name).1 e) ∙ differ))

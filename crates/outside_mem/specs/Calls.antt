@@ -22,5 +22,5 @@ abbrev pub after_call : CallsState → Bool → CallsState
 after_call calls failed = record {
   fails = calls.fails;
   made = count_sum calls.made 1;
-  faults = if failed then count_sum calls.faults 1 else calls.faults
+  faults = if failed then count_sum calls.faults 1 else calls.faults;
 }

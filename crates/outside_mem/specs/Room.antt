@@ -33,7 +33,7 @@ room_view room = record {
   file = λ name. told_file (file_under room name).state;
   open_as = λ name. open_sort (file_under room name).state;
   in_faults = λ _. room.in_faults;
-  out_faults = λ _. room.out_faults
+  out_faults = λ _. room.out_faults;
 }
 
 -- an open name tells no file

@@ -114,7 +114,7 @@ pub fn let_call_fail(files: &mut Vec<MemFile>, place: usize, call: u64) -> Resul
     requires { place < vec_len files.old }
     ensures ok { OnOk result ((name : List ℕ) → IsPlaceOf files.old.items name place
         → ChangesFile files.old.items files.new.items name
-            (record (file_in files.old.items name) { fails = (file_in files.old.items name).fails ++ call ∷ [] })) }
+        (record (file_in files.old.items name) { fails = (file_in files.old.items name).fails ++ call ∷ [] })) }
     ensures err { OnErr result ((name : List ℕ) → IsPlaceOf files.old.items name place
         → (n : List ℕ) → file_in files.new.items n ≡ file_in files.old.items n) }
 {

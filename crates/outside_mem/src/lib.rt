@@ -5,12 +5,12 @@ mod calls;
 mod fault;
 mod files;
 mod room;
-
 mod sink;
 mod source;
+#[cfg(test)]
+mod tests;
 
 pub use fault::NoMemory;
 pub use room::MemRoom;
-
 pub use sink::MemSink;
 pub use source::MemSource;

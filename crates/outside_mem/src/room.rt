@@ -44,7 +44,11 @@ impl MemRoom {
         ensures counts { SameCounts self.old self.new }
     {
         let place = files::enter(self.alloc, &mut self.files, name)?;
-        files::set_state(&mut self.files, place, FileState::Closed(Bytes::from_vec(bytes)));
+        files::set_state(
+            &mut self.files,
+            place,
+            FileState::Closed(Bytes::from_vec(bytes)),
+        );
         Ok(())
     }
 
@@ -77,10 +81,12 @@ impl MemRoom {
         ensures { option_copied result ≡ (room_view self.now).file name.now }
     {
         match files::entry_of(&self.files, name) {
-            Some(MemFile {
-                state: FileState::Closed(bytes),
-                ..
-            }) => Some(bytes.as_slice()),
+            Some(
+                MemFile {
+                    state: FileState::Closed(bytes),
+                    ..
+                },
+            ) => Some(bytes.as_slice()),
             _ => None,
         }
     }
@@ -91,12 +97,14 @@ fn open_copy(alloc: Global, files: &[MemFile], name: &str) -> Option<MemSource>
     ensures { IfSome result (IsSourceOf (file_in files.now name.now)) }
 {
     match files::entry_of(files, name) {
-        Some(MemFile {
-            state: FileState::Closed(bytes),
-            opening_fails: false,
-            fails,
-            ..
-        }) => {
+        Some(
+            MemFile {
+                state: FileState::Closed(bytes),
+                opening_fails: false,
+                fails,
+                ..
+            },
+        ) => {
             let copy = bytes.as_slice().to_vec(alloc).ok()?;
             let fails = fails.to_vec(alloc).ok()?;
             Some(MemSource::new(copy, usize::MAX, fails))
@@ -123,6 +131,7 @@ impl MemRoom {
 
 impl Room for MemRoom {
     type In = MemSource;
+
     type Out = MemSink;
 
     ghost seen = { room_view };

@@ -6,4 +6,4 @@ pub returns : goal.returns
 returns c name at =
     let old = c.index_mut-file.result.now in
     rw (is_under c.args.files.now.items name c.args.place old at c.index_mut-file.ensures.value)
-        (changes_place c.args.files.now.items name c.args.place old (record old { state = c.args.state }) at c.index_mut-file.ensures.value refl)
+    (changes_place c.args.files.now.items name c.args.place old (record old { state = c.args.state }) at c.index_mut-file.ensures.value refl)
