@@ -1,5 +1,5 @@
 -- What a read in memory moves.
-use Rattle.std.proofs.Common.{◌≡◌, ℕ, ◌+◌, ◌<◌, ◌≤◌, List, [], ◌∷◌, ◌++◌, length, take, drop, min, refl, arith}
+use Rattle.std.proofs.Common.{◌≡◌, ℕ, ◌≤◌, List, [], ◌∷◌, ◌++◌, length, take, drop, refl, arith}
 use Rattle.std.proofs.lemmas.Grind.{common_steps}
 
 -- the bytes that were moved, with those that are left, are those that were left

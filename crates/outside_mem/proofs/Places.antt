@@ -1,5 +1,5 @@
 -- What a list of entries has under each name, after one of them changed or was added.
-use Rattle.std.proofs.Common.{◌≡◌, ◌≢◌, ℕ, ◌+◌, ◌<◌, ◌≤◌, List, [], ◌∷◌, ◌++◌, length, set, get_or, Option, Some, None, IfSome, IfNone, Bool, true, false, not, cond, nat_lt, refl, sym, ap, ◌∙◌, arith, subst, length-append, Result, Ok, Err, OnErr, inl, inr, true≢false}
+use Rattle.std.proofs.Common.{◌≡◌, ◌≢◌, ℕ, ◌<◌, ◌≤◌, List, [], ◌∷◌, ◌++◌, length, set, get_or, Option, Some, None, IfSome, IfNone, Bool, true, false, not, cond, nat_lt, refl, sym, ap, ◌∙◌, arith, subst, length-append, Result, Ok, Err, OnErr, inl, inr, true≢false}
 use Rattle.std.specs.List.{find, position, position_or_len, slice_get}
 use Rattle.std.specs.Option.{option_or}
 use Rattle.std.proofs.lemmas.Option.{slice_get-get_or, slice_get_cases}
@@ -10,7 +10,7 @@ use Rattle.std.proofs.lemmas.List.Folds.{find-set, find_past, find-append, find_
 use Rattle.std.proofs.lemmas.List.Sums.{prefix_len-le-length, passes_at_first}
 use Rattle.std.proofs.lemmas.Slice.Eq.{bytes_eq-Decides}
 use Rattle.outside_mem.specs.declared.files.MemFile.{MemFile}
-use Rattle.outside_mem.specs.Files.{NamedFile, is_named, without_name, file_in, IsPlaceOf, IsNameless, IsBlank, ChangesFile}
+use Rattle.outside_mem.specs.Files.{is_named, without_name, file_in, IsPlaceOf, IsNameless, IsBlank, ChangesFile}
 
 abbrev first_of : ℕ → ℕ → Bool → Option ℕ
 first_of k len within = cond within (Some k) None

@@ -1,10 +1,10 @@
 -- What a room in memory has under each name.
-use Rattle.std.specs.Prelude.{◌≡◌, ◌≢◌, ℕ, ◌<◌, List, [], length, Option, Some, None, Bool, true, false}
+use Rattle.std.specs.Prelude.{◌≡◌, ◌≢◌, ℕ, ◌<◌, List, [], length, Option, Some, None, Bool, false}
 use Rattle.std.specs.List.{find, position_or_len}
 use Rattle.std.specs.Str.{bytes_eq}
 use Rattle.std.specs.String.{string_bytes}
 use Rattle.outside_mem.specs.declared.files.FileState.{FileState}
-use Rattle.outside_mem.specs.declared.files.FileState.TheVariants.{Absent, Closed, Open}
+use Rattle.outside_mem.specs.declared.files.FileState.TheVariants.{Absent}
 use Rattle.outside_mem.specs.declared.files.MemFile.{MemFile}
 
 -- what stands under a name, the numbers of the calls that are to fail on an object opened by it, and whether each opening is to fail

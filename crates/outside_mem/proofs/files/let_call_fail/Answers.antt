@@ -1,4 +1,4 @@
-use Rattle.std.proofs.Common.{◌≡◌, ℕ, List, set, refl, ◌++◌, ◌∷◌, []}
+use Rattle.std.proofs.Common.{◌≡◌, ℕ, List, set, refl}
 use Rattle.outside_mem.proofs.Places.{changes_fails, changes_nothing, is_under, on_err}
 use Rattle.outside_mem.specs.Files.{IsPlaceOf, file_in}
 use Rattle.outside_mem.proofs.files.let_call_fail.Goals as goal
