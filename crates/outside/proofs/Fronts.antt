@@ -1,7 +1,10 @@
 -- What several writes wrote, one after the other.
-use Rattle.std.proofs.Common.{◌≡◌, ℕ, List, [], ◌++◌, Option, Some, None, refl, sym, ap, ◌∙◌, append_assoc, append-nil}
+use Rattle.std.proofs.Common.{◌≡◌, ℕ, List, [], ◌++◌, Option, Some, None, refl, sym, ap, ◌∙◌, append_assoc, append-nil, ◌<◌, ◌+◌, length, take, drop, get_or, arith, take-append-drop, drop-cons}
 use Rattle.std.specs.Io.KnownBytes.{Appends, Consumes, IsAtEnd}
 use Rattle.std.proofs.KnownBytes.{Appends-trans, Appends-nil, Consumes-trans}
+use Rattle.std.specs.List.{flat_map}
+use Rattle.std.proofs.lemmas.Grind.{common_steps}
+use Rattle.std.proofs.lemmas.Grind.{flat_map-append}
 use Rattle.outside.specs.Sink.{WritesFront}
 
 -- nothing was written
@@ -49,3 +52,26 @@ pub consumes_told : (a b : Option (List ℕ)) (xs bs : List ℕ) → a ≡ Some 
 consumes_told None b xs bs told read end = cc
 consumes_told (Some x) None xs bs told read end = absurd read
 consumes_told (Some x) (Some y) xs bs told read end = let e = append-nil bs in cc
+
+-- one after the other, of three
+pub appends_three : (a b c d : Option (List ℕ)) (p q r : List ℕ) → Appends a b p → Appends b c q → Appends c d r → Appends a d (p ++ q ++ r)
+appends_three a b c d p q r first second third = appends_then a c d (p ++ q) r (appends_then a b c p q first second) third
+
+-- a front of the first bytes, and nothing of the rest
+pub front_first : (a b : Option (List ℕ)) (p q r : List ℕ) → WritesFront a b p → WritesFront a b (p ++ q ++ r)
+front_first a b p q r first = front_more a b (p ++ q) r (front_more a b p q first)
+
+-- the first bytes, a front of the next, and nothing of the rest
+pub front_second : (a b c : Option (List ℕ)) (p q r : List ℕ) → Appends a b p → WritesFront b c q → WritesFront a c (p ++ q ++ r)
+front_second a b c p q r first second = front_more a c (p ++ q) r (front_then a b c p q first second)
+
+-- the first bytes, the next, and a front of the rest
+pub front_third : (a b c d : Option (List ℕ)) (p q r : List ℕ) → Appends a b p → Appends b c q → WritesFront c d r → WritesFront a d (p ++ q ++ r)
+front_third a b c d p q r first second third = front_then a c d (p ++ q) r (appends_then a b c p q first second) third
+
+-- the items before this one, and a front of this one
+pub front_item : {X : Type 0} (f : X → List ℕ) (a b c : Option (List ℕ)) (xs : List X) (i : ℕ) (x : X) → Appends a b (flat_map f (take i xs))
+    → WritesFront b c (f x) → i < length xs → x ≡ get_or xs i x → WritesFront a c (flat_map f xs)
+front_item f a b c xs i x before item within is =
+    let split : flat_map f xs ≡ flat_map f (take i xs) ++ f x ++ flat_map f (drop (i + 1) xs) = grind (arith, common_steps, flat_map-append f (take i xs) (drop i xs), take-append-drop i xs, drop-cons xs i x within) in
+    rw split (front_second a b c (flat_map f (take i xs)) (f x) (flat_map f (drop (i + 1) xs)) before item)

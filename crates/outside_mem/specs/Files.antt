@@ -1,0 +1,46 @@
+-- What a room in memory has under each name.
+use Rattle.std.specs.Prelude.{◌≡◌, ◌≢◌, ℕ, ◌<◌, List, [], length, Option, Some, None, Bool, false}
+use Rattle.std.specs.List.{find, position_or_len}
+use Rattle.std.specs.Str.{bytes_eq}
+use Rattle.std.specs.String.{string_bytes}
+use Rattle.outside_mem.specs.declared.files.FileState.{FileState}
+use Rattle.outside_mem.specs.declared.files.FileState.TheVariants.{Absent}
+use Rattle.outside_mem.specs.declared.files.MemFile.{MemFile}
+
+-- what stands under a name, the numbers of the calls that are to fail on an object opened by it, and whether each opening is to fail
+pub record NamedFile : Type 0 where
+  pub state : FileState
+  pub fails : List ℕ
+  pub opening_fails : Bool
+
+-- whether the entry has that name
+abbrev pub is_named : List ℕ → MemFile → Bool
+is_named name file = bytes_eq (string_bytes file.name) name
+
+-- an entry without its name; no entry is that of no file
+abbrev pub without_name : Option MemFile → NamedFile
+without_name None = record { state = Absent; fails = []; opening_fails = false }
+without_name (Some file) = record { state = file.state; fails = file.fails.items; opening_fails = file.opening_fails }
+
+-- what a list of entries has under a name
+unfoldable pub file_in : List MemFile → List ℕ → NamedFile
+file_in files name = without_name (find (is_named name) files)
+
+-- the first entry of that name stands at that place
+pub record IsPlaceOf (files : List MemFile) (name : List ℕ) (place : ℕ) : Type 0 where
+  pub first : place ≡ position_or_len (is_named name) files
+  pub within : place < length files
+
+-- no entry has that name
+pub record IsNameless (files : List MemFile) (name : List ℕ) : Type 0 where
+  pub none : position_or_len (is_named name) files ≡ length files
+
+-- the entry of that name says no more than none does
+pub record IsBlank (file : MemFile) (name : List ℕ) : Type 0 where
+  pub named : string_bytes file.name ≡ name
+  pub blank : without_name (Some file) ≡ without_name None
+
+-- this stands under the name now, and what stands under any other stays
+pub record ChangesFile (old new : List MemFile) (name : List ℕ) (file : NamedFile) : Type 0 where
+  pub here : file_in new name ≡ file
+  pub others : (n : List ℕ) → n ≢ name → file_in new n ≡ file_in old n

@@ -1,0 +1,4 @@
+pub mod Calls
+pub mod Objects
+pub mod Files
+pub mod Room

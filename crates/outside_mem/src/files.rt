@@ -1,0 +1,124 @@
+ghost use Rattle.std.specs.Prelude.{◌≡◌, ℕ, ◌<◌, List, [], ◌∷◌, ◌++◌, vec_len, length, Some, None, true, false, IfSome, IfNone, IfOk, OnOk, OnErr};
+ghost use Rattle.std.specs.List.{position};
+ghost use Rattle.outside_mem.specs.Files.{is_named, file_in, without_name, IsPlaceOf, IsNameless, IsBlank, ChangesFile};
+
+use outside::Bytes;
+use std::alloc::{AllocError, Global};
+
+/// What stands under a name.
+#[derive(Debug, Drop)]
+pub enum FileState {
+    /// No file.
+    Absent,
+    /// A file with these bytes.
+    Closed(Bytes),
+    /// What is open as output.
+    Open,
+}
+
+/// A name, what stands under it, and what is to fail.
+#[derive(Debug, Drop)]
+pub struct MemFile {
+    pub name: String,
+    pub state: FileState,
+    /// The numbers of the calls that are to fail on an object that is opened by this name.
+    pub fails: Vec<u64>,
+    /// Whether each opening by this name is to fail.
+    pub opening_fails: bool,
+}
+
+fn position_of(files: &[MemFile], name: &str) -> Option<usize>
+    ensures { result ≡ position (is_named name.now) files.now }
+{
+    files.iter().position(|file| file.name.as_str() == name)
+}
+
+/// The place of the entry of that name.
+#[tactic(auto, using(crate::proofs::Places::place_found, crate::proofs::Places::place_missing))]
+pub fn place_of(files: &[MemFile], name: &str) -> Option<usize>
+    ensures found { IfSome result (IsPlaceOf files.now name.now) }
+    ensures missing { IfNone result (IsNameless files.now name.now) }
+{
+    position_of(files, name)
+}
+
+/// The entry of that name.
+#[tactic(auto, using(crate::proofs::Places::is_under, crate::proofs::Places::file_in_nameless))]
+pub fn entry_of<'a>(files: &'a [MemFile], name: &str) -> Option<&'a MemFile>
+    ensures none { IfNone result (file_in files.now name.now ≡ without_name None) }
+    ensures entry { IfSome result (λ file. file_in files.now name.now ≡ without_name (Some file.now)) }
+{
+    let place = place_of(files, name)?;
+    Some(&files[place])
+}
+
+/// The calls that are to fail on an object that is opened at that place, where opening it isn't to fail, and there is
+/// memory for a copy.
+#[tactic(auto, using(crate::proofs::Places::is_under))]
+pub fn fails_of_opening(alloc: Global, files: &[MemFile], place: usize) -> Option<Vec<u64>>
+    requires { place < length files.now }
+    ensures { IfSome result (λ fails. (name : List ℕ) → IsPlaceOf files.now name place
+        → ((file_in files.now name).opening_fails ≡ false) × ((file_in files.now name).fails ≡ fails.items)) }
+{
+    let file = &files[place];
+    if file.opening_fails {
+        return None;
+    }
+    file.fails.to_vec(alloc).ok()
+}
+
+fn blank(alloc: Global, name: &str) -> Result<MemFile, AllocError>
+    ensures { IfOk result (λ file. IsBlank file name.now) }
+{
+    Ok(MemFile {
+        name: String::from_str(alloc, name)?,
+        state: FileState::Absent,
+        fails: Vec::new(alloc),
+        opening_fails: false,
+    })
+}
+
+/// The place of the entry of that name, which is made where there is none.
+#[tactic(auto, using(crate::proofs::Places::file_in_entered, crate::proofs::Places::place_entered))]
+pub fn enter(alloc: Global, files: &mut Vec<MemFile>, name: &str) -> Result<usize, AllocError>
+    ensures place { IfOk result (IsPlaceOf files.new.items name.now) }
+    ensures same { (n : List ℕ) → file_in files.new.items n ≡ file_in files.old.items n }
+{
+    if let Some(place) = place_of(files, name) {
+        return Ok(place);
+    }
+    let place = files.len();
+    files.push(blank(alloc, name)?)?;
+    Ok(place)
+}
+
+pub fn set_state(files: &mut Vec<MemFile>, place: usize, state: FileState)
+    requires { place < vec_len files.old }
+    ensures { (name : List ℕ) → IsPlaceOf files.old.items name place
+        → ChangesFile files.old.items files.new.items name (record (file_in files.old.items name) { state = state }) }
+{
+    let file = &mut files[place];
+    file.state = state;
+}
+
+pub fn let_opening_fail(files: &mut Vec<MemFile>, place: usize)
+    requires { place < vec_len files.old }
+    ensures { (name : List ℕ) → IsPlaceOf files.old.items name place
+        → ChangesFile files.old.items files.new.items name (record (file_in files.old.items name) { opening_fails = true }) }
+{
+    let file = &mut files[place];
+    file.opening_fails = true;
+}
+
+pub fn let_call_fail(files: &mut Vec<MemFile>, place: usize, call: u64) -> Result<(), AllocError>
+    requires { place < vec_len files.old }
+    ensures ok { OnOk result ((name : List ℕ) → IsPlaceOf files.old.items name place
+        → ChangesFile files.old.items files.new.items name
+        (record (file_in files.old.items name) { fails = (file_in files.old.items name).fails ++ call ∷ [] })) }
+    ensures err { OnErr result ((name : List ℕ) → IsPlaceOf files.old.items name place
+        → (n : List ℕ) → file_in files.new.items n ≡ file_in files.old.items n) }
+{
+    let file = &mut files[place];
+    file.fails.push(call)?;
+    Ok(())
+}

@@ -1,0 +1,16 @@
+//! The outside in memory: sources, sinks and a room that tell their contents, and fail at listed calls.
+#![tactic(auto)]
+
+mod calls;
+mod fault;
+mod files;
+mod room;
+mod sink;
+mod source;
+#[cfg(test)]
+mod tests;
+
+pub use fault::NoMemory;
+pub use room::MemRoom;
+pub use sink::MemSink;
+pub use source::MemSource;
