@@ -1,3 +1,6 @@
 pub mod Texts
 pub mod Slices
 pub mod Lists
+pub mod Passing
+pub mod Codes
+pub mod Pieces

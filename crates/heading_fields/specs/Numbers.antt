@@ -1,8 +1,10 @@
 -- Record control numbers in `$0`. Source: MARC 21, control subfield $0: the MARC organization code in parentheses,
 -- followed by the number.
 use Rattle.std.specs.Prelude.{ℕ, ◌==◌, Bool, ◌&&◌, not, List, ◌∷◌, ◌++◌, filter, bytes_eq}
+use Rattle.std.specs.List.{list_all}
 use Rattle.marc_types.specs.declared.field.Subfield.{Subfield}
 use Rattle.marc_types.specs.declared.key.Key.{Key}
+use Rattle.marc_types.specs.Valid.{is_graphic}
 
 -- a text without its blanks
 abbrev pub without_blanks : List ℕ → List ℕ
@@ -23,3 +25,7 @@ unnumbered key subs = filter (λ s. not (is_naming key s)) subs
 -- the `$0` of a key
 abbrev pub number_of : Key → Subfield
 number_of key = record { code = 48; text = key_text key }
+
+-- a key whose code and number are of graphic ASCII characters, as those of records are
+unfoldable pub is_plain : Key → Bool
+is_plain key = list_all is_graphic key.code && list_all is_graphic key.number
