@@ -13,7 +13,7 @@ use Rattle.marc_types.specs.Order.{text_Decides}
 use Rattle.marc_types.specs.Valid.{is_graphic, is_data, is_text, is_subfield}
 use Rattle.heading_fields.specs.Tables.{is_controlled, is_subdivision}
 use Rattle.heading_fields.specs.Parts.{is_dividing, is_part}
-use Rattle.heading_fields.specs.Numbers.{without_blanks, key_text, is_naming, number_of, is_plain}
+use Rattle.heading_fields.specs.Numbers.{without_blanks, key_text, is_naming, number_of, is_blankless}
 use Rattle.heading_fields.proofs.Passing.{Full, full_from, all_from, full_append, full_weaker, filter_full}
 
 zero_not_controlled : (kind : Kind) → is_controlled kind 48 ≡ false
@@ -96,54 +96,55 @@ pub undivided_part : (kind : Kind) (s : Subfield) → is_dividing s ≡ false �
 unfolding is_part
 undivided_part kind s h = rw h refl
 
-graphic_not_blank : (b : ℕ) → is_graphic b ≡ true → not (b == 0x20) ≡ true
-graphic_not_blank b h = grind (arith, nat_tests, h)
-
-graphic_data : (b : ℕ) → is_graphic b ≡ true → is_data b ≡ true
-graphic_data b h = grind (arith, nat_tests, h)
-
--- a text of graphic characters has no blank
-graphic_without_blanks : (xs : List ℕ) → list_all is_graphic xs ≡ true → without_blanks xs ≡ xs
-graphic_without_blanks xs e =
-    filter_full (λ b. not (b == 0x20)) xs (full_weaker is_graphic (λ b. not (b == 0x20)) graphic_not_blank xs (full_from is_graphic xs e))
-
-plain_code : (key : Key) → is_plain key ≡ true → list_all is_graphic key.code ≡ true
-unfolding is_plain
-plain_code key h = and_first (list_all is_graphic key.code) (list_all is_graphic key.number) h
-
 and_second : (a b : Bool) → (a && b) ≡ true → b ≡ true
 and_second true b h = h
 and_second false b h = cc
 
-plain_number : (key : Key) → is_plain key ≡ true → list_all is_graphic key.number ≡ true
-unfolding is_plain
-plain_number key h = and_second (list_all is_graphic key.code) (list_all is_graphic key.number) h
+blankless : (xs : List ℕ) → list_all (λ b. not (b == 0x20)) xs ≡ true → without_blanks xs ≡ xs
+blankless xs e = filter_full (λ b. not (b == 0x20)) xs (full_from (λ b. not (b == 0x20)) xs e)
 
--- the text of a plain key has no blank
-plain_key_text : (key : Key) → is_plain key ≡ true → without_blanks (key_text key) ≡ key_text key
-unfolding key_text
-plain_key_text key h =
-    let split = filter-append (λ b. not (b == 0x20)) key.code (0x29 ∷ key.number) in
-    let code = graphic_without_blanks key.code (plain_code key h) in
-    let number = graphic_without_blanks key.number (plain_number key h) in
+-- the text of a key without blanks has no blank
+blankless_key_text : (key : Key) → is_blankless key ≡ true → without_blanks (key_text key) ≡ key_text key
+unfolding key_text is_blankless
+blankless_key_text key h =
+    let filled = λ (b : ℕ). not (b == 0x20) in
+    let split = filter-append filled key.code (0x29 ∷ key.number) in
+    let code = blankless key.code (and_first (list_all filled key.code) (list_all filled key.number) h) in
+    let number = blankless key.number (and_second (list_all filled key.code) (list_all filled key.number) h) in
     ap (λ xs. 0x28 ∷ xs) (split ∙ rw (code, number) refl)
 
--- the `$0` of a plain key names the key
-pub number_is_naming : (key : Key) → is_plain key ≡ true → is_naming key (number_of key) ≡ true
+-- the `$0` of such a key names the key
+pub number_is_naming : (key : Key) → is_blankless key ≡ true → is_naming key (number_of key) ≡ true
 unfolding is_naming
-number_is_naming key h = (text_Decides (without_blanks (key_text key)) (key_text key)).1 (plain_key_text key h)
+number_is_naming key h = (text_Decides (without_blanks (key_text key)) (key_text key)).1 (blankless_key_text key h)
 
-graphic_text : (xs : List ℕ) → list_all is_graphic xs ≡ true → Full is_data xs
-graphic_text xs e = full_weaker is_graphic is_data graphic_data xs (full_from is_graphic xs e)
-
--- the `$0` of a plain key is a subfield as records have them
-pub number_is_subfield : (key : Key) → is_plain key ≡ true → is_subfield (number_of key) ≡ true
+-- the `$0` of a key is a subfield as records have them
+pub number_is_subfield : (key : Key) → is_text key.code ≡ true → is_text key.number ≡ true → is_subfield (number_of key) ≡ true
 unfolding is_subfield is_text key_text
-number_is_subfield key h =
+number_is_subfield key hc hn =
     all_from is_data (0x28 ∷ key.code ++ 0x29 ∷ key.number)
-    (refl, full_append is_data key.code (0x29 ∷ key.number) (graphic_text key.code (plain_code key h)) (refl, graphic_text key.number (plain_number key h)))
+    (refl, full_append is_data key.code (0x29 ∷ key.number) (full_from is_data key.code hc) (refl, full_from is_data key.number hn))
 
 -- the length of a key's text
 pub length-key_text : (key : Key) → length (key_text key) ≡ length key.code + length key.number + 2
 unfolding key_text
 length-key_text key = omega (arith, length-append key.code (0x29 ∷ key.number))
+
+graphic_not_blank : (b : ℕ) → is_graphic b ≡ true → not (b == 0x20) ≡ true
+graphic_not_blank b h = grind (arith, nat_tests, h)
+
+graphic_is_data : (b : ℕ) → is_graphic b ≡ true → is_data b ≡ true
+graphic_is_data b h = grind (arith, nat_tests, h)
+
+-- a key of graphic characters has no blanks, and its texts have no terminators and delimiters
+pub graphic_is_blankless : (key : Key) → list_all is_graphic key.code ≡ true → list_all is_graphic key.number ≡ true → is_blankless key ≡ true
+unfolding is_blankless
+graphic_is_blankless key hc hn =
+    let filled = λ (b : ℕ). not (b == 0x20) in
+    let code = all_from filled key.code (full_weaker is_graphic filled graphic_not_blank key.code (full_from is_graphic key.code hc)) in
+    let number = all_from filled key.number (full_weaker is_graphic filled graphic_not_blank key.number (full_from is_graphic key.number hn)) in
+    rw (code, number) refl
+
+pub graphic_is_text : (xs : List ℕ) → list_all is_graphic xs ≡ true → is_text xs ≡ true
+unfolding is_text
+graphic_is_text xs h = all_from is_data xs (full_weaker is_graphic is_data graphic_is_data xs (full_from is_graphic xs h))

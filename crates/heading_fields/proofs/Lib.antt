@@ -4,3 +4,5 @@ pub mod Lists
 pub mod Passing
 pub mod Codes
 pub mod Pieces
+pub mod Sublaws
+pub mod Fieldlaws

@@ -7,17 +7,17 @@ use Rattle.marc_types.specs.declared.key.Key.{Key}
 use Rattle.marc_types.specs.declared.form.Kind.{Kind}
 use Rattle.marc_types.specs.Valid.{subfields_size}
 use Rattle.heading_fields.specs.Parts.{before, onward, is_dividing, region, behind, is_part, part, outside}
-use Rattle.heading_fields.specs.Numbers.{key_text, is_naming, unnumbered, number_of, is_plain}
+use Rattle.heading_fields.specs.Numbers.{key_text, is_naming, unnumbered, number_of, is_blankless}
 use Rattle.heading_fields.specs.Rewriting.{front, rest, rewritten_subfields}
 use Rattle.heading_fields.proofs.Passing.{Free, Full, free_append, full_append, before_free, onward_free, filter_free, filter_not_free, filter_full, filter_not_full, before_full, onward_full, before_is_free, filter_is_full, filter_not_is_free, free_filter, free_before, free_onward, full_filter, full_before, full_onward, free_weaker, free_where_full, tail_begins, cut_filter}
 use Rattle.heading_fields.proofs.Codes.{part_not_naming, dividing_not_naming, number_not_part, number_not_dividing, outside_not_dividing, outside_base, dividing_is_part, undivided_part, number_is_naming, number_is_subfield}
 
 -- the subfields between the `$0` and the first subdivision, or the end
-pub middle : Bool → Kind → List Subfield → List Subfield
+unfoldable pub middle : Bool → Kind → List Subfield → List Subfield
 middle whole kind subs = filter (λ s. not (is_part whole kind s)) (onward (is_part whole kind) (region whole subs))
 
 -- five pieces: F, H, N, M, B
-pub laid : List Subfield → List Subfield → Subfield → List Subfield → List Subfield → List Subfield
+unfoldable pub laid : List Subfield → List Subfield → Subfield → List Subfield → List Subfield → List Subfield
 laid f h n m b = ((f ++ h) ++ n ∷ m) ++ b
 
 pub rewritten_is_laid : (whole : Bool) (kind : Kind) (key : Key) (heading subs : List Subfield) →

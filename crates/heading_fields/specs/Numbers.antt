@@ -4,7 +4,6 @@ use Rattle.std.specs.Prelude.{ℕ, ◌==◌, Bool, ◌&&◌, not, List, ◌∷�
 use Rattle.std.specs.List.{list_all}
 use Rattle.marc_types.specs.declared.field.Subfield.{Subfield}
 use Rattle.marc_types.specs.declared.key.Key.{Key}
-use Rattle.marc_types.specs.Valid.{is_graphic}
 
 -- a text without its blanks
 abbrev pub without_blanks : List ℕ → List ℕ
@@ -26,6 +25,6 @@ unnumbered key subs = filter (λ s. not (is_naming key s)) subs
 abbrev pub number_of : Key → Subfield
 number_of key = record { code = 48; text = key_text key }
 
--- a key whose code and number are of graphic ASCII characters, as those of records are
-unfoldable pub is_plain : Key → Bool
-is_plain key = list_all is_graphic key.code && list_all is_graphic key.number
+-- neither the code nor the number has a blank, as in the keys of records
+unfoldable pub is_blankless : Key → Bool
+is_blankless key = list_all (λ b. not (b == 0x20)) key.code && list_all (λ b. not (b == 0x20)) key.number

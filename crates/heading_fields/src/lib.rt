@@ -7,6 +7,8 @@ pub use parts::{controlled, full, has_subdivision, heading_len};
 pub use rewriting::{rewrite, unlink};
 pub use tables::{authority_kind, heading_kind, takes_subdivisions};
 
+pub mod laws;
+
 mod numbers;
 mod parts;
 mod rewriting;
