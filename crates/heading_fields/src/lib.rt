@@ -13,3 +13,5 @@ mod numbers;
 mod parts;
 mod rewriting;
 mod tables;
+#[cfg(test)]
+mod tests;
