@@ -9,6 +9,7 @@ struct Subfield {
     text: String,
 }
 
+#[allow(dead_code)]
 #[derive(Clone, Copy)]
 struct Tag(u8, u8, u8);
 

@@ -1,8 +1,7 @@
 -- What the tables of codes say of `$0` and of subdivisions, and which `$0` name a key.
-use Rattle.std.proofs.Common.{◌≡◌, ◌≢◌, ◌+◌, ◌≤◌, ◌==◌, ℕ, Bool, true, false, not, ◌&&◌, ◌||◌, List, [], ◌∷◌, ◌++◌, length, filter, bytes_eq, nat_le, refl, sym, ap, ◌∙◌, arith, length-append}
+use Rattle.std.proofs.Common.{◌≡◌, ◌+◌, ◌==◌, ℕ, Bool, true, false, not, ◌&&◌, ◌||◌, List, ◌∷◌, ◌++◌, length, bytes_eq, refl, ap, ◌∙◌, arith, length-append}
 use Rattle.std.specs.Cmp.{unsigned_Decides}
 use Rattle.std.specs.List.{list_all}
-use Rattle.std.proofs.lemmas.Grind.{common_steps}
 use Rattle.std.proofs.lemmas.Bool.Decides.{nat_tests}
 use Rattle.std.proofs.lemmas.List.Elements.{filter-append}
 use Rattle.marc_types.specs.declared.field.Subfield.{Subfield}
@@ -14,7 +13,7 @@ use Rattle.marc_types.specs.Valid.{is_graphic, is_data, is_text, is_subfield}
 use Rattle.heading_fields.specs.Tables.{is_controlled, is_subdivision}
 use Rattle.heading_fields.specs.Parts.{is_dividing, is_part}
 use Rattle.heading_fields.specs.Numbers.{without_blanks, key_text, is_naming, number_of, is_blankless}
-use Rattle.heading_fields.proofs.Passing.{Full, full_from, all_from, full_append, full_weaker, filter_full}
+use Rattle.heading_fields.proofs.Passing.{full_from, all_from, full_append, full_weaker, filter_full}
 
 zero_not_controlled : (kind : Kind) → is_controlled kind 48 ≡ false
 unfolding is_controlled

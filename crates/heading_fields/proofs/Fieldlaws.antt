@@ -1,5 +1,5 @@
 -- The laws of rewriting and unlinking, on fields.
-use Rattle.std.proofs.Common.{◌≡◌, ◌≢◌, ◌+◌, ◌≤◌, ℕ, Bool, true, false, not, ◌&&◌, List, [], ◌∷◌, ◌++◌, length, refl, sym, ap, ◌∙◌, arith}
+use Rattle.std.proofs.Common.{◌≡◌, ◌≢◌, ◌+◌, ◌≤◌, ℕ, Bool, true, false, not, ◌&&◌, List, [], length, refl, arith}
 use Rattle.std.specs.List.{list_any, list_all}
 use Rattle.marc_types.specs.declared.field.Tag.{Tag}
 use Rattle.marc_types.specs.declared.field.Subfield.{Subfield}
@@ -10,9 +10,9 @@ use Rattle.marc_types.specs.declared.key.Key.{Key}
 use Rattle.marc_types.specs.declared.form.Kind.{Kind}
 use Rattle.marc_types.specs.declared.form.Kind.TheVariants.{Personal, Corporate, Meeting, Title, Chronological, Topical, Geographic, Genre}
 use Rattle.marc_types.specs.Valid.{is_tag, is_control_tag, is_printable, is_text, is_subfield, is_field, subfields_size, field_size}
-use Rattle.heading_fields.specs.Tables.{kind_of, kind_by_tag}
+use Rattle.heading_fields.specs.Tables.{kind_of}
 use Rattle.heading_fields.specs.Parts.{tag_of, subfields_of, written_length, part, base_part, field_part, field_outside, reaches}
-use Rattle.heading_fields.specs.Numbers.{is_naming, unnumbered, number_of, is_blankless}
+use Rattle.heading_fields.specs.Numbers.{is_naming, unnumbered, is_blankless}
 use Rattle.heading_fields.specs.Rewriting.{indicator_of, rewritten_indicator, rewriting, rewritten_subfields, unlinking}
 use Rattle.heading_fields.proofs.Passing.{full_from, all_from, full_filter}
 use Rattle.heading_fields.proofs.Codes.{number_is_subfield}
@@ -183,7 +183,7 @@ is_field_rewriting (Variable tag ind1 ind2 subs) kind class heading key whole hf
     let v = variable_field tag ind1 ind2 subs hf in
     let deep = reaches whole class (Variable tag ind1 ind2 subs) in
     let full = full_rewritten is_subfield deep kind key (subfields_of heading) subs
-        (full_from is_subfield (subfields_of heading) (subfields_ok heading hh)) (full_from is_subfield subs v.subfields) (number_is_subfield key hc hn) in
+    (full_from is_subfield (subfields_of heading) (subfields_ok heading hh)) (full_from is_subfield subs v.subfields) (number_is_subfield key hc hn) in
     let all = all_from is_subfield (rewritten_subfields deep kind key (subfields_of heading) subs) full in
     is_field_from tag (rewritten_indicator kind heading ind1) ind2 (rewritten_subfields deep kind key (subfields_of heading) subs)
     (record { tag_ok = v.tag_ok; not_control = v.not_control; first = rewritten_indicator_ok kind heading ind1 hh v.first; second = v.second; subfields = all })

@@ -1,12 +1,11 @@
 -- Filters of filters.
-use Rattle.std.proofs.Common.{◌≡◌, ◌<◌, ◌+◌, ℕ, Bool, true, false, not, cond, List, [], ◌∷◌, ◌++◌, take, get_or, filter, length, refl, ◌∙◌, append_assoc, arith}
+use Rattle.std.proofs.Common.{◌≡◌, ◌<◌, ◌+◌, ℕ, Bool, not, cond, List, [], ◌∷◌, ◌++◌, take, get_or, filter, length, refl, append_assoc}
 use Rattle.marc_types.specs.declared.field.Subfield.{Subfield}
 use Rattle.marc_types.specs.declared.key.Key.{Key}
 use Rattle.marc_types.specs.declared.form.Kind.{Kind}
 use Rattle.heading_fields.specs.Parts.{before, onward, region, behind, is_part, part}
 use Rattle.heading_fields.specs.Numbers.{is_naming, unnumbered, number_of}
 use Rattle.heading_fields.specs.Rewriting.{front, rest, rewritten_subfields}
-use Rattle.std.proofs.lemmas.Grind.{common_steps}
 use Rattle.std.proofs.lemmas.List.Elements.{filter_more, filter-append}
 
 -- one more element of a slice, seen through two tests

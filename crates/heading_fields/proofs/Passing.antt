@@ -1,7 +1,6 @@
 -- Lists none of whose elements pass a test, and lists all of whose elements do: how they are cut and filtered.
-use Rattle.std.proofs.Common.{◌≡◌, ◌≢◌, Bool, true, false, not, cond, ◌&&◌, List, [], ◌∷◌, ◌++◌, filter, if◌then◌else◌, refl, sym, ap, ◌∙◌, append_assoc, append-nil, arith}
+use Rattle.std.proofs.Common.{◌≡◌, ◌≢◌, Bool, true, false, not, cond, ◌&&◌, List, [], ◌∷◌, ◌++◌, filter, if◌then◌else◌, refl, ap}
 use Rattle.std.specs.List.{list_all}
-use Rattle.std.proofs.lemmas.Grind.{common_steps}
 use Rattle.heading_fields.specs.Parts.{before, onward}
 
 -- no element passes

@@ -1,16 +1,14 @@
 -- A rewritten field as it is laid out: what stands before the part, the heading's part, the `$0`, and what stands behind.
-use Rattle.std.proofs.Common.{◌≡◌, ◌≢◌, ◌+◌, ◌≤◌, ℕ, Bool, true, false, not, cond, List, [], ◌∷◌, ◌++◌, filter, length, if◌then◌else◌, refl, sym, ap, subst, ◌∙◌, append_assoc, append-nil, arith}
-use Rattle.std.proofs.lemmas.Grind.{common_steps}
+use Rattle.std.proofs.Common.{◌≡◌, Bool, true, false, not, List, [], ◌∷◌, ◌++◌, filter, refl, ◌∙◌, append_assoc, append-nil}
 use Rattle.std.proofs.lemmas.List.Elements.{filter-append}
 use Rattle.marc_types.specs.declared.field.Subfield.{Subfield}
 use Rattle.marc_types.specs.declared.key.Key.{Key}
 use Rattle.marc_types.specs.declared.form.Kind.{Kind}
-use Rattle.marc_types.specs.Valid.{subfields_size}
-use Rattle.heading_fields.specs.Parts.{before, onward, is_dividing, region, behind, is_part, part, outside}
-use Rattle.heading_fields.specs.Numbers.{key_text, is_naming, unnumbered, number_of, is_blankless}
+use Rattle.heading_fields.specs.Parts.{before, onward, is_dividing, region, behind, is_part, part}
+use Rattle.heading_fields.specs.Numbers.{is_naming, unnumbered, number_of}
 use Rattle.heading_fields.specs.Rewriting.{front, rest, rewritten_subfields}
-use Rattle.heading_fields.proofs.Passing.{Free, Full, free_append, full_append, before_free, onward_free, filter_free, filter_not_free, filter_full, filter_not_full, before_full, onward_full, before_is_free, filter_is_full, filter_not_is_free, free_filter, free_before, free_onward, full_filter, full_before, full_onward, free_weaker, free_where_full, tail_begins, cut_filter}
-use Rattle.heading_fields.proofs.Codes.{part_not_naming, dividing_not_naming, number_not_part, number_not_dividing, outside_not_dividing, outside_base, dividing_is_part, undivided_part, number_is_naming, number_is_subfield}
+use Rattle.heading_fields.proofs.Passing.{Free, Full, free_append, before_free, onward_free, filter_not_free, before_is_free, filter_is_full, filter_not_is_free, free_filter, free_before, free_onward, tail_begins}
+use Rattle.heading_fields.proofs.Codes.{dividing_not_naming, number_not_part, number_not_dividing}
 
 -- the subfields between the `$0` and the first subdivision, or the end
 unfoldable pub middle : Bool → Kind → List Subfield → List Subfield
@@ -78,7 +76,7 @@ regions false kind key heading subs =
     let df : Free is_dividing f = free_filter is_dividing kept (before p (region false subs)) (free_before is_dividing p (region false subs) (region_undivided subs)) in
     let dh : Free is_dividing h = free_filter is_dividing p (region false heading) (region_undivided heading) in
     let dm : Free is_dividing m = free_filter is_dividing kept (filter (λ s. not (p s)) (onward p (region false subs)))
-        (free_filter is_dividing (λ s. not (p s)) (onward p (region false subs)) (free_onward is_dividing p (region false subs) (region_undivided subs))) in
+    (free_filter is_dividing (λ s. not (p s)) (onward p (region false subs)) (free_onward is_dividing p (region false subs) (region_undivided subs))) in
     let ends = tail_begins is_dividing kept (dividing_not_naming key) subs in
     (base_region f h (number_of key) m b df dh (number_not_dividing key) dm ends.0, base_behind f h (number_of key) m b df dh (number_not_dividing key) dm ends.1)
 

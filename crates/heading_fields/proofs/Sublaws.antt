@@ -1,17 +1,17 @@
 -- The laws of rewriting and unlinking, on lists of subfields.
-use Rattle.std.proofs.Common.{◌≡◌, ◌≢◌, ◌+◌, ◌≤◌, ℕ, Bool, true, false, not, cond, List, [], ◌∷◌, ◌++◌, filter, length, refl, sym, ap, ◌∙◌, append_assoc, append-nil, arith}
-use Rattle.std.specs.List.{list_any, list_all}
+use Rattle.std.proofs.Common.{◌≡◌, ◌≢◌, ◌+◌, ◌≤◌, Bool, true, false, not, cond, List, [], ◌∷◌, ◌++◌, filter, length, refl, sym, ap, ◌∙◌, append_assoc, append-nil, arith}
+use Rattle.std.specs.List.{list_any}
 use Rattle.std.proofs.lemmas.Grind.{common_steps}
 use Rattle.std.proofs.lemmas.List.Elements.{filter-append}
 use Rattle.marc_types.specs.declared.field.Subfield.{Subfield}
 use Rattle.marc_types.specs.declared.key.Key.{Key}
 use Rattle.marc_types.specs.declared.form.Kind.{Kind}
-use Rattle.marc_types.specs.Valid.{subfields_size, is_subfield}
+use Rattle.marc_types.specs.Valid.{subfields_size}
 use Rattle.heading_fields.specs.Parts.{before, onward, is_dividing, region, behind, is_part, part, outside}
-use Rattle.heading_fields.specs.Numbers.{key_text, is_naming, unnumbered, number_of, is_blankless}
+use Rattle.heading_fields.specs.Numbers.{is_naming, unnumbered, number_of, is_blankless}
 use Rattle.heading_fields.specs.Rewriting.{front, rest, rewritten_subfields}
-use Rattle.heading_fields.proofs.Passing.{Free, Full, free_append, full_append, before_free, onward_free, filter_free, filter_not_free, filter_full, filter_not_full, before_full, onward_full, before_is_free, filter_is_full, filter_not_is_free, free_filter, free_before, free_onward, full_filter, full_before, full_onward, free_weaker, free_where_full, tail_begins, cut_filter, full_from, all_from}
-use Rattle.heading_fields.proofs.Codes.{part_not_naming, dividing_not_naming, number_not_part, outside_not_dividing, outside_base, dividing_is_part, undivided_part, number_is_naming, number_is_subfield, length-key_text}
+use Rattle.heading_fields.proofs.Passing.{Free, Full, full_append, before_free, onward_free, filter_free, filter_not_free, filter_full, filter_not_full, before_full, onward_full, filter_not_is_free, free_before, full_filter, full_before, full_onward, free_weaker, cut_filter}
+use Rattle.heading_fields.proofs.Codes.{part_not_naming, dividing_not_naming, outside_not_dividing, outside_base, dividing_is_part, undivided_part, number_is_naming, length-key_text}
 use Rattle.heading_fields.proofs.Pieces.{middle, laid, rewritten_is_laid, IsLaid, rewritten_pieces}
 
 part_of_laid : (whole : Bool) (kind : Kind) (key : Key) (f h : List Subfield) (n : Subfield) (m b : List Subfield) → IsLaid whole kind key f h n m b →
@@ -37,7 +37,7 @@ unfolding front
 front_of_laid whole kind key f h n m b l some =
     let p = is_part whole kind in
     let cut : before p ((f ++ h) ++ n ∷ m) ≡ f =
-        rw (append_assoc f h (n ∷ m), before_free p f (h ++ n ∷ m) l.front_outside, before_full p h (n ∷ m) l.heading_part some) (append-nil f) in
+    rw (append_assoc f h (n ∷ m), before_free p f (h ++ n ∷ m) l.front_outside, before_full p h (n ∷ m) l.heading_part some) (append-nil f) in
     ap (λ xs. unnumbered key (before p xs)) l.in_region ∙ ap (unnumbered key) cut ∙ l.front_unnumbered
 
 unnumbered_named : (key : Key) (n : Subfield) (m : List Subfield) → is_naming key n ≡ true → unnumbered key (n ∷ m) ≡ unnumbered key m
@@ -50,9 +50,9 @@ middle_of_laid whole kind key f h n m b l some named =
     let p = is_part whole kind in
     let other = λ (s : Subfield). not (is_part whole kind s) in
     let cut : onward p ((f ++ h) ++ n ∷ m) ≡ h ++ n ∷ m =
-        rw (append_assoc f h (n ∷ m), onward_free p f (h ++ n ∷ m) l.front_outside, onward_full p h (n ∷ m) l.heading_part some) refl in
+    rw (append_assoc f h (n ∷ m), onward_free p f (h ++ n ∷ m) l.front_outside, onward_full p h (n ∷ m) l.heading_part some) refl in
     let left : filter other (h ++ n ∷ m) ≡ n ∷ m =
-        filter-append other h (n ∷ m) ∙ rw (filter_not_full p h l.heading_part, filter_not_free p (n ∷ m) (l.number_outside, l.middle_outside)) refl in
+    filter-append other h (n ∷ m) ∙ rw (filter_not_full p h l.heading_part, filter_not_free p (n ∷ m) (l.number_outside, l.middle_outside)) refl in
     ap (λ xs. unnumbered key (filter other (onward p xs))) l.in_region ∙ ap (λ xs. unnumbered key (filter other xs)) cut ∙ ap (unnumbered key) left
     ∙ unnumbered_named key n m named ∙ l.middle_unnumbered
 
@@ -80,10 +80,10 @@ outside_of_laid whole kind key f h n m b l named =
     let kept = λ (s : Subfield). not (is_naming key s) in
     let other = λ (s : Subfield). not (is_part whole kind s) in
     let left : filter other ((f ++ h) ++ n ∷ m) ≡ f ++ n ∷ m =
-        filter-append other (f ++ h) (n ∷ m)
-        ∙ rw (filter-append other f h, filter_not_free p f l.front_outside, filter_not_full p h l.heading_part, filter_not_free p (n ∷ m) (l.number_outside, l.middle_outside), append-nil f) refl in
+    filter-append other (f ++ h) (n ∷ m)
+    ∙ rw (filter-append other f h, filter_not_free p f l.front_outside, filter_not_full p h l.heading_part, filter_not_free p (n ∷ m) (l.number_outside, l.middle_outside), append-nil f) refl in
     rw (l.in_region, l.in_behind, left) (filter-append kept (f ++ n ∷ m) b
-        ∙ rw (filter-append kept f (n ∷ m), unnumbered_named key n m named, l.front_unnumbered, l.middle_unnumbered, l.behind_unnumbered) (append_assoc f m b))
+    ∙ rw (filter-append kept f (n ∷ m), unnumbered_named key n m named, l.front_unnumbered, l.middle_unnumbered, l.behind_unnumbered) (append_assoc f m b))
 
 -- the subfields outside a part, without the `$0` of a key, piece by piece
 outside_in_pieces : (whole : Bool) (kind : Kind) (key : Key) (subs : List Subfield) →
@@ -94,8 +94,10 @@ outside_in_pieces whole kind key subs =
     let kept = λ (s : Subfield). not (is_naming key s) in
     let other = λ (s : Subfield). not (is_part whole kind s) in
     ap (λ xs. unnumbered key (xs ++ behind whole subs)) (cut_filter p (region whole subs))
-    ∙ rw (filter-append kept (before p (region whole subs) ++ filter other (onward p (region whole subs))) (behind whole subs),
-        filter-append kept (before p (region whole subs)) (filter other (onward p (region whole subs))))
+    ∙ rw (
+      filter-append kept (before p (region whole subs) ++ filter other (onward p (region whole subs))) (behind whole subs),
+      filter-append kept (before p (region whole subs)) (filter other (onward p (region whole subs))),
+    )
     (append_assoc (unnumbered key (before p (region whole subs))) (unnumbered key (filter other (onward p (region whole subs)))) (unnumbered key (behind whole subs)))
 
 -- rewriting keeps what stands outside the part, but for the `$0` of the key
@@ -221,8 +223,14 @@ base_of_laid kind key f h n m b l e =
     let outside_front : Free p f = free_weaker (is_part true kind) p (outside_base kind) f l.front_outside in
     let undivided_front : Free is_dividing f = free_weaker (is_part true kind) is_dividing (outside_not_dividing kind) f l.front_outside in
     let outside_behind : Free p (n ∷ m) = free_weaker (is_part true kind) p (outside_base kind) (n ∷ m) (l.number_outside, l.middle_outside) in
-    rw (e, append-nil ((f ++ h) ++ n ∷ m), append_assoc f h (n ∷ m), before_free is_dividing f (h ++ n ∷ m) undivided_front,
-        filter-append p f (before is_dividing (h ++ n ∷ m)), filter_free p f outside_front)
+    rw (
+      e,
+      append-nil ((f ++ h) ++ n ∷ m),
+      append_assoc f h (n ∷ m),
+      before_free is_dividing f (h ++ n ∷ m) undivided_front,
+      filter-append p f (before is_dividing (h ++ n ∷ m)),
+      filter_free p f outside_front,
+    )
     (base_before kind h (n ∷ m) outside_behind)
 
 -- a field that is rewritten whole or by its base has the heading's base part as its own

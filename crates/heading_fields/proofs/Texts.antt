@@ -1,5 +1,5 @@
 -- The test whether a text without its blanks is a key's text, one byte at a time.
-use Rattle.std.proofs.Common.{◌≡◌, ◌≢◌, ◌==◌, ◌+◌, ◌<◌, ◌≤◌, ℕ, zero, suc, Bool, true, false, List, [], ◌∷◌, Some, None, is_some, not, refl, drop, get_or, length, slice_get, bytes_eq, sym, ◌∙◌, arith, add-one, drop-cons, ne_eqb}
+use Rattle.std.proofs.Common.{◌≡◌, ◌≢◌, ◌==◌, ◌+◌, ◌<◌, ◌≤◌, ℕ, zero, suc, Bool, true, false, List, [], ◌∷◌, Some, None, is_some, not, refl, drop, get_or, length, slice_get, bytes_eq, sym, arith, add-one, drop-cons, ne_eqb}
 use Rattle.heading_fields.specs.Numbers.{without_blanks}
 
 -- an element of a list begins what is left from its place on

@@ -1,7 +1,7 @@
 -- Which tags have headings and of what kind, and which subfield codes belong to a heading. Source: MARC 21 Format for
 -- Bibliographic Data and MARC 21 Format for Authority Data (tags, indicators, subfield codes). Which codes are
 -- controlled is this project's profile.
-use Rattle.std.specs.Prelude.{ℕ, ◌==◌, Bool, true, false, ◌&&◌, ◌||◌, List, Option, Some, None, if◌then◌else◌, codes}
+use Rattle.std.specs.Prelude.{ℕ, ◌==◌, Bool, ◌&&◌, ◌||◌, List, Option, Some, None, if◌then◌else◌, codes}
 use Rattle.std.specs.Option.{option_or}
 use Rattle.std.specs.List.{list_any}
 use Rattle.marc_types.specs.declared.field.Tag.{Tag}

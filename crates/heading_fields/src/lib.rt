@@ -8,7 +8,6 @@ pub use rewriting::{rewrite, unlink};
 pub use tables::{authority_kind, heading_kind, takes_subdivisions};
 
 pub mod laws;
-
 mod numbers;
 mod parts;
 mod rewriting;

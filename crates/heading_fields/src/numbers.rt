@@ -88,7 +88,12 @@ pub(crate) fn number_of_key(alloc: Global, key: &Key) -> Result<Subfield, NoMemo
 }
 
 /// Appends the subfields that aren't a `$0` naming the key.
-pub(crate) fn append_unnumbered(alloc: Global, out: &mut Vec<Subfield>, subfields: &[Subfield], key: &Key) -> Result<(), NoMemory>
+pub(crate) fn append_unnumbered(
+    alloc: Global,
+    out: &mut Vec<Subfield>,
+    subfields: &[Subfield],
+    key: &Key,
+) -> Result<(), NoMemory>
     ensures { OnOk result (out.new.items ≡ out.old.items ++ unnumbered key.now subfields.now) }
 {
     for subfield in subfields {

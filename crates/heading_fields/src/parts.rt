@@ -41,9 +41,9 @@ fn first_subdivision(subfields: &[Subfield]) -> Option<usize>
         .position(|subfield| is_subdivision_code(subfield.code))
 }
 
-#[tactic(auto, using(crate::proofs::Slices::before_at, crate::proofs::Slices::onward_at, crate::proofs::Slices::at_within))]
 /// The subfields among which a part may stand, and those behind them: a full part may stand anywhere, a base part before
 /// the first subdivision.
+#[tactic(auto, using(crate::proofs::Slices::before_at, crate::proofs::Slices::onward_at, crate::proofs::Slices::at_within))]
 pub(crate) fn split_region(subfields: &[Subfield], whole: bool) -> (&[Subfield], &[Subfield])
     ensures region { result.0.now ≡ region whole subfields.now }
     ensures behind { result.1.now ≡ behind whole subfields.now }
@@ -72,8 +72,8 @@ fn first_of_part(region: &[Subfield], kind: Kind, whole: bool) -> Option<usize>
         .position(|subfield| belongs(subfield, kind, whole))
 }
 
-#[tactic(auto, using(crate::proofs::Slices::before_at, crate::proofs::Slices::onward_at, crate::proofs::Slices::at_within))]
 /// The subfields before the first of the part, and the others.
+#[tactic(auto, using(crate::proofs::Slices::before_at, crate::proofs::Slices::onward_at, crate::proofs::Slices::at_within))]
 pub(crate) fn split_part(region: &[Subfield], kind: Kind, whole: bool) -> (&[Subfield], &[Subfield])
     ensures before { result.0.now ≡ before (is_part whole kind) region.now }
     ensures onward { result.1.now ≡ onward (is_part whole kind) region.now }
@@ -92,8 +92,8 @@ pub(crate) fn part_count(region: &[Subfield], kind: Kind, whole: bool) -> usize
         .count()
 }
 
-#[tactic(auto, using(crate::proofs::Slices::size_region), unfolding(crate::specs::Parts::part))]
 /// The length of the base part: two and the bytes of the text, for each subfield.
+#[tactic(auto, using(crate::proofs::Slices::size_region), unfolding(crate::specs::Parts::part))]
 pub fn heading_len(field: &Field, kind: Kind) -> u64
     requires { field_size field.now ≤ 1000000 }
     ensures { result ≡ subfields_size (base_part kind field.now) }
@@ -116,7 +116,13 @@ fn part_len(region: &[Subfield], kind: Kind) -> u64
 }
 
 /// Appends the subfields that belong to the part.
-pub(crate) fn append_part(alloc: Global, out: &mut Vec<Subfield>, region: &[Subfield], kind: Kind, whole: bool) -> Result<(), NoMemory>
+pub(crate) fn append_part(
+    alloc: Global,
+    out: &mut Vec<Subfield>,
+    region: &[Subfield],
+    kind: Kind,
+    whole: bool,
+) -> Result<(), NoMemory>
     ensures { OnOk result (out.new.items ≡ out.old.items ++ filter (is_part whole kind) region.now) }
 {
     for subfield in region {
@@ -128,7 +134,12 @@ pub(crate) fn append_part(alloc: Global, out: &mut Vec<Subfield>, region: &[Subf
 }
 
 #[tactic(auto, unfolding(crate::specs::Parts::part))]
-fn part_of(alloc: Global, subfields: &[Subfield], kind: Kind, whole: bool) -> Result<Subfields, NoMemory>
+fn part_of(
+    alloc: Global,
+    subfields: &[Subfield],
+    kind: Kind,
+    whole: bool,
+) -> Result<Subfields, NoMemory>
     ensures { IfOk result (λ made. made ≡ part whole kind subfields.now) }
 {
     let (region, _) = split_region(subfields, whole);

@@ -14,17 +14,21 @@ fn first_indicator(kind: Kind, heading: &Field, own: u8) -> u8
     ensures { result ≡ rewritten_indicator kind heading.now own }
 {
     match (kind, heading) {
-        (
-            Kind::Personal | Kind::Corporate | Kind::Meeting,
-            Field::Variable { ind1, .. },
-        ) => *ind1,
+        (Kind::Personal | Kind::Corporate | Kind::Meeting, Field::Variable { ind1, .. }) => *ind1,
         _ => own,
     }
 }
 
 /// Appends the subfields that neither belong to the part nor are a `$0` naming the key.
 #[tactic(auto, using(crate::proofs::Lists::outside_more))]
-fn append_outside(alloc: Global, out: &mut Vec<Subfield>, region: &[Subfield], kind: Kind, whole: bool, key: &Key) -> Result<(), NoMemory>
+fn append_outside(
+    alloc: Global,
+    out: &mut Vec<Subfield>,
+    region: &[Subfield],
+    kind: Kind,
+    whole: bool,
+    key: &Key,
+) -> Result<(), NoMemory>
     ensures { OnOk result (out.new.items
         ≡ out.old.items ++ unnumbered key.now (filter (λ s. not (is_part whole kind s)) region.now)) }
 {
@@ -46,7 +50,14 @@ fn unnumbered_count(subfields: &[Subfield], key: &Key) -> usize {
 
 /// Appends the heading's part and the `$0` of the key.
 #[tactic(auto, unfolding(crate::specs::Parts::part))]
-fn append_heading(alloc: Global, out: &mut Vec<Subfield>, heading: &[Subfield], kind: Kind, whole: bool, key: &Key) -> Result<(), NoMemory>
+fn append_heading(
+    alloc: Global,
+    out: &mut Vec<Subfield>,
+    heading: &[Subfield],
+    kind: Kind,
+    whole: bool,
+    key: &Key,
+) -> Result<(), NoMemory>
     ensures { OnOk result (out.new.items ≡ out.old.items ++ part whole kind heading.now ++ number_of key.now ∷ []) }
 {
     let (standing, _) = split_region(heading, whole);
@@ -56,7 +67,13 @@ fn append_heading(alloc: Global, out: &mut Vec<Subfield>, heading: &[Subfield], 
 }
 
 /// How many subfields a rewritten field has.
-fn rewritten_count(subfields: &[Subfield], kind: Kind, heading: &[Subfield], key: &Key, whole: bool) -> usize {
+fn rewritten_count(
+    subfields: &[Subfield],
+    kind: Kind,
+    heading: &[Subfield],
+    key: &Key,
+    whole: bool,
+) -> usize {
     let (standing, _) = split_region(heading, whole);
     let (region, _) = split_region(subfields, whole);
     let kept = unnumbered_count(subfields, key).saturating_sub(part_count(region, kind, whole));
@@ -64,8 +81,15 @@ fn rewritten_count(subfields: &[Subfield], kind: Kind, heading: &[Subfield], key
         .saturating_add(1)
 }
 
-/// The subfields of a rewritten field. Each text is read once.
-fn rewritten(alloc: Global, subfields: &[Subfield], kind: Kind, heading: &[Subfield], key: &Key, whole: bool) -> Result<Subfields, NoMemory>
+/// The subfields of a rewritten field. Each text that it keeps is copied once.
+fn rewritten(
+    alloc: Global,
+    subfields: &[Subfield],
+    kind: Kind,
+    heading: &[Subfield],
+    key: &Key,
+    whole: bool,
+) -> Result<Subfields, NoMemory>
     ensures { IfOk result (λ made. made ≡ rewritten_subfields whole kind key.now heading.now subfields.now) }
 {
     let (region, behind) = split_region(subfields, whole);
@@ -86,12 +110,25 @@ fn rewritten(alloc: Global, subfields: &[Subfield], kind: Kind, heading: &[Subfi
 /// The part is the full part where `whole` says so and the field takes subdivisions, else the base part. A control field
 /// stays as it is.
 #[tactic(auto, unfolding(crate::specs::Rewriting::rewriting))]
-pub fn rewrite(alloc: Global, field: &Field, kind: Kind, class: Class, heading: &Field, key: &Key, whole: bool) -> Result<Field, NoMemory>
+pub fn rewrite(
+    alloc: Global,
+    field: &Field,
+    kind: Kind,
+    class: Class,
+    heading: &Field,
+    key: &Key,
+    whole: bool,
+) -> Result<Field, NoMemory>
     ensures { IfOk result (λ made. made ≡ rewriting field.now kind class heading.now key.now whole) }
 {
     match field {
         Field::Control { .. } => field.copy(alloc),
-        Field::Variable { tag, ind1, ind2, subs } => {
+        Field::Variable {
+            tag,
+            ind1,
+            ind2,
+            subs,
+        } => {
             let whole = whole && takes_subdivisions(tag, class);
             Ok(Field::Variable {
                 tag: *tag,
@@ -119,7 +156,12 @@ pub fn unlink(alloc: Global, field: &Field, key: &Key) -> Result<Field, NoMemory
 {
     match field {
         Field::Control { .. } => field.copy(alloc),
-        Field::Variable { tag, ind1, ind2, subs } => Ok(Field::Variable {
+        Field::Variable {
+            tag,
+            ind1,
+            ind2,
+            subs,
+        } => Ok(Field::Variable {
             tag: *tag,
             ind1: *ind1,
             ind2: *ind2,

@@ -95,7 +95,10 @@ fn is_corporate_code(code: u8) -> bool
 fn is_meeting_code(code: u8) -> bool
     ensures { result ≡ is_controlled meeting code }
 {
-    matches!(code, b'a' | b'c'..=b'g' | b'k' | b'l' | b'n' | b'p' | b'q' | b's' | b't')
+    matches!(
+        code,
+        b'a' | b'c'..=b'g' | b'k' | b'l' | b'n' | b'p' | b'q' | b's' | b't'
+    )
 }
 
 #[tactic(auto, unfolding(crate::specs::Tables::is_controlled))]

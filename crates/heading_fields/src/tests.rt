@@ -116,13 +116,31 @@ fn the_table_of_tags(rt: HostRuntime) {
         let subject = bare_field(tag, b'0', rt.alloc());
         let elsewhere = bare_field(tag, b'1', rt.alloc());
         assert!(rt; authority_kind(&tag) == first, "{number}");
-        assert!(rt; heading_kind(&subject, Class::Authority) == linked, "{number}");
-        assert!(rt; heading_kind(&elsewhere, Class::Authority) == linked, "{number}");
-        assert!(rt; heading_kind(&subject, Class::Bibliographic) == bibliographic, "{number}");
-        assert!(rt; heading_kind(&elsewhere, Class::Bibliographic) == other, "{number}");
+        assert!(rt;
+            heading_kind(&subject, Class::Authority) == linked,
+            "{number}"
+        );
+        assert!(rt;
+            heading_kind(&elsewhere, Class::Authority) == linked,
+            "{number}"
+        );
+        assert!(rt;
+            heading_kind(&subject, Class::Bibliographic) == bibliographic,
+            "{number}"
+        );
+        assert!(rt;
+            heading_kind(&elsewhere, Class::Bibliographic) == other,
+            "{number}"
+        );
         let divisible = matches!(tag.a, b'1' | b'4' | b'5');
-        assert!(rt; takes_subdivisions(&tag, Class::Authority) == divisible, "{number}");
-        assert!(rt; takes_subdivisions(&tag, Class::Bibliographic) == (tag.a == b'6'), "{number}");
+        assert!(rt;
+            takes_subdivisions(&tag, Class::Authority) == divisible,
+            "{number}"
+        );
+        assert!(rt;
+            takes_subdivisions(&tag, Class::Bibliographic) == (tag.a == b'6'),
+            "{number}"
+        );
     }
 }
 
@@ -147,7 +165,12 @@ fn tag(name: &[u8; 3]) -> Tag {
 }
 
 /// A field of a tag, two indicators, and pieces of code and text.
-fn field(alloc: Global, name: &[u8; 3], indicators: &[u8; 2], pieces: Pieces) -> Result<Field, Fail> {
+fn field(
+    alloc: Global,
+    name: &[u8; 3],
+    indicators: &[u8; 2],
+    pieces: Pieces,
+) -> Result<Field, Fail> {
     Ok(Field::Variable {
         tag: tag(name),
         ind1: indicators[0],
@@ -179,34 +202,78 @@ fn key(alloc: Global, number: &str) -> Result<Key, Fail> {
 fn a_name_is_rewritten(rt: HostRuntime) -> Result<(), Fail> {
     let alloc = rt.alloc();
     let key = key(alloc, "n79021164")?;
-    let heading = field(alloc, b"100", b"1 ", &[(b'a', "Twain, Mark,"), (b'd', "1835-1910")])?;
+    let heading = field(
+        alloc,
+        b"100",
+        b"1 ",
+        &[(b'a', "Twain, Mark,"), (b'd', "1835-1910")],
+    )?;
     let variant = field(
         alloc,
         b"100",
         b"0 ",
-        &[(b'a', "Clemens, Samuel Langhorne,"), (b'd', "1835-1910,"), (b'e', "author.")],
+        &[
+            (b'a', "Clemens, Samuel Langhorne,"),
+            (b'd', "1835-1910,"),
+            (b'e', "author."),
+        ],
     )?;
     let rewritten = field(
         alloc,
         b"100",
         b"1 ",
-        &[(b'a', "Twain, Mark,"), (b'd', "1835-1910"), (b'0', "(DLC)n79021164"), (b'e', "author.")],
+        &[
+            (b'a', "Twain, Mark,"),
+            (b'd', "1835-1910"),
+            (b'0', "(DLC)n79021164"),
+            (b'e', "author."),
+        ],
     )?;
     let class = Class::Bibliographic;
-    let made = rewrite(alloc, &variant, Kind::Personal, class, &heading, &key, false)?;
+    let made = rewrite(
+        alloc,
+        &variant,
+        Kind::Personal,
+        class,
+        &heading,
+        &key,
+        false,
+    )?;
     assert!(rt; made == rewritten);
     let again = rewrite(alloc, &made, Kind::Personal, class, &heading, &key, false)?;
     assert!(rt; again == rewritten);
 
-    let numbered = field(alloc, b"700", b"1 ", &[(b'a', "Twayne, M."), (b'0', "(DLC)n 79021164"), (b'0', "(ULIB)7")])?;
+    let numbered = field(
+        alloc,
+        b"700",
+        b"1 ",
+        &[
+            (b'a', "Twayne, M."),
+            (b'0', "(DLC)n 79021164"),
+            (b'0', "(ULIB)7"),
+        ],
+    )?;
     assert!(rt; names(&numbered, &key) && !names(&variant, &key));
     let named = field(
         alloc,
         b"700",
         b"1 ",
-        &[(b'a', "Twain, Mark,"), (b'd', "1835-1910"), (b'0', "(DLC)n79021164"), (b'0', "(ULIB)7")],
+        &[
+            (b'a', "Twain, Mark,"),
+            (b'd', "1835-1910"),
+            (b'0', "(DLC)n79021164"),
+            (b'0', "(ULIB)7"),
+        ],
     )?;
-    let made = rewrite(alloc, &numbered, Kind::Personal, class, &heading, &key, false)?;
+    let made = rewrite(
+        alloc,
+        &numbered,
+        Kind::Personal,
+        class,
+        &heading,
+        &key,
+        false,
+    )?;
     assert!(rt; made == named);
     Ok(())
 }
@@ -218,17 +285,54 @@ fn subjects_are_rewritten(rt: HostRuntime) -> Result<(), Fail> {
     let (topical, bib, auth) = (Kind::Topical, Class::Bibliographic, Class::Authority);
     let sh1 = key(alloc, "sh1")?;
     let films = field(alloc, b"150", b"  ", &[(b'a', "Motion pictures")])?;
-    let subject = field(alloc, b"650", b" 0", &[(b'a', "Moving-pictures"), (b'0', "(DLC)sh1"), (b'z', "France")])?;
-    let broader = field(alloc, b"550", b"  ", &[(b'w', "g"), (b'a', "Moving-pictures"), (b'0', "(DLC)sh1")])?;
+    let subject = field(
+        alloc,
+        b"650",
+        b" 0",
+        &[
+            (b'a', "Moving-pictures"),
+            (b'0', "(DLC)sh1"),
+            (b'z', "France"),
+        ],
+    )?;
+    let broader = field(
+        alloc,
+        b"550",
+        b"  ",
+        &[(b'w', "g"), (b'a', "Moving-pictures"), (b'0', "(DLC)sh1")],
+    )?;
     let made = rewrite(alloc, &subject, topical, bib, &films, &sh1, false)?;
-    assert!(rt; made == field(alloc, b"650", b" 0", &[(b'a', "Motion pictures"), (b'0', "(DLC)sh1"), (b'z', "France")])?);
+    assert!(rt;
+        made == field(
+            alloc,
+            b"650",
+            b" 0",
+            &[
+                (b'a', "Motion pictures"),
+                (b'0', "(DLC)sh1"),
+                (b'z', "France")
+            ]
+        )?
+    );
     let made = rewrite(alloc, &broader, topical, auth, &films, &sh1, true)?;
-    assert!(rt; made == field(alloc, b"550", b"  ", &[(b'w', "g"), (b'a', "Motion pictures"), (b'0', "(DLC)sh1")])?);
+    assert!(rt;
+        made == field(
+            alloc,
+            b"550",
+            b"  ",
+            &[(b'w', "g"), (b'a', "Motion pictures"), (b'0', "(DLC)sh1")]
+        )?
+    );
 
     let sh4 = key(alloc, "sh4")?;
     let women = field(alloc, b"150", b"  ", &[(b'a', "Women")])?;
     let divided = field(alloc, b"650", b" 0", &[(b'a', "WOMEN"), (b'z', "France")])?;
-    let linked = field(alloc, b"650", b" 0", &[(b'a', "Women"), (b'0', "(DLC)sh4"), (b'z', "France")])?;
+    let linked = field(
+        alloc,
+        b"650",
+        b" 0",
+        &[(b'a', "Women"), (b'0', "(DLC)sh4"), (b'z', "France")],
+    )?;
     let made = rewrite(alloc, &divided, topical, bib, &women, &sh4, false)?;
     assert!(rt; made == linked);
     let unlinked = unlink(alloc, &linked, &sh4)?;
@@ -237,9 +341,21 @@ fn subjects_are_rewritten(rt: HostRuntime) -> Result<(), Fail> {
 
     let sh3 = key(alloc, "sh3")?;
     let females = field(alloc, b"150", b"  ", &[(b'a', "Females")])?;
-    let whole = field(alloc, b"650", b" 0", &[(b'a', "Women"), (b'x', "History"), (b'0', "(DLC)sh3")])?;
+    let whole = field(
+        alloc,
+        b"650",
+        b" 0",
+        &[(b'a', "Women"), (b'x', "History"), (b'0', "(DLC)sh3")],
+    )?;
     let made = rewrite(alloc, &whole, topical, bib, &females, &sh3, true)?;
-    assert!(rt; made == field(alloc, b"650", b" 0", &[(b'a', "Females"), (b'0', "(DLC)sh3")])?);
+    assert!(rt;
+        made == field(
+            alloc,
+            b"650",
+            b" 0",
+            &[(b'a', "Females"), (b'0', "(DLC)sh3")]
+        )?
+    );
     Ok(())
 }
 
@@ -248,15 +364,32 @@ fn subjects_are_rewritten(rt: HostRuntime) -> Result<(), Fail> {
 fn parts_of_a_heading(rt: HostRuntime) -> Result<(), Fail> {
     let alloc = rt.alloc();
     let (bib, auth) = (Class::Bibliographic, Class::Authority);
-    let pieces: Pieces = &[(b'e', "author"), (b'a', "Twain, Mark,"), (b'x', "Plays"), (b't', "Works"), (b'v', "Index")];
+    let pieces: Pieces = &[
+        (b'e', "author"),
+        (b'a', "Twain, Mark,"),
+        (b'x', "Plays"),
+        (b't', "Works"),
+        (b'v', "Index"),
+    ];
     let name = field(alloc, b"100", b"1 ", pieces)?;
     let base = subfields(alloc, &[(b'a', "Twain, Mark,")])?;
-    let whole = subfields(alloc, &[(b'a', "Twain, Mark,"), (b'x', "Plays"), (b't', "Works"), (b'v', "Index")])?;
+    let whole = subfields(
+        alloc,
+        &[
+            (b'a', "Twain, Mark,"),
+            (b'x', "Plays"),
+            (b't', "Works"),
+            (b'v', "Index"),
+        ],
+    )?;
     assert!(rt; controlled(alloc, &name, Kind::Personal)? == base);
     assert!(rt; full(alloc, &name, Kind::Personal, bib)? == base);
     assert!(rt; full(alloc, &name, Kind::Personal, auth)? == whole);
     assert!(rt; has_subdivision(&name));
-    let fields = [short_title(alloc, b'a', "Roughing it.")?, short_title(alloc, b'x', "Plays")?];
+    let fields = [
+        short_title(alloc, b'a', "Roughing it.")?,
+        short_title(alloc, b'x', "Plays")?,
+    ];
     assert_eq!(rt; heading_len(&fields[0], Kind::Title), 14);
     assert_eq!(rt; heading_len(&fields[1], Kind::Title), 0);
     Ok(())

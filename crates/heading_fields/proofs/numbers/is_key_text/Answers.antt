@@ -1,4 +1,4 @@
-use Rattle.std.proofs.Common.{◌≡◌, ◌≤◌, ◌+◌, Some, is_some, slice_get, get_or, sym, ap, ◌∙◌, arith}
+use Rattle.std.proofs.Common.{◌≡◌, Some, is_some, slice_get, get_or, sym, ap, ◌∙◌, arith}
 use Rattle.heading_fields.specs.Numbers.{key_text}
 use Rattle.heading_fields.proofs.Texts.{rest_matches, rest_differs, rest_beyond, rest_ends}
 use Rattle.heading_fields.proofs.numbers.is_key_text.Goals as goal
@@ -16,9 +16,11 @@ returns-in_default-2 c =
 pub loop-byte-preserved : goal.loop-byte-preserved
 loop-byte-preserved c =
     let read : slice_get (key_text c.args.key.now) c.loop-byte.place ≡ Some (get_or c.args.text.now c.loop-byte.byte-index 0) =
-        sym c.in-Some.ensures ∙ ap (λ b. Some b) c.if-due-byte.true in
-    (rest_matches c.args.text.now (key_text c.args.key.now) c.loop-byte.byte-index c.loop-byte.place
-    c.loop-byte-test.true c.if-byte-eq-BLANK.false read ∙ c.loop-byte.invariant.0, omega arith)
+    sym c.in-Some.ensures ∙ ap (λ b. Some b) c.if-due-byte.true in (
+      rest_matches c.args.text.now (key_text c.args.key.now) c.loop-byte.byte-index c.loop-byte.place
+          c.loop-byte-test.true c.if-byte-eq-BLANK.false read ∙ c.loop-byte.invariant.0,
+      omega arith,
+    )
 
 pub returns : goal.returns
 returns c =
