@@ -1,0 +1,69 @@
+-- The lengths of written fields and records, as numbers by their rule.
+use Rattle.std.proofs.Common.{◌≡◌, ℕ, ◌+◌, ◌*◌, ◌≤◌, List, [], ◌∷◌, ◌++◌, length, refl, sym, ap, ◌∙◌, arith, length-append, take, drop}
+use Rattle.std.specs.List.{flat_map}
+use Rattle.marc_types.specs.declared.field.Tag.{Tag}
+use Rattle.marc_types.specs.declared.field.Leader.{Leader}
+use Rattle.marc_types.specs.declared.field.Subfield.{Subfield}
+use Rattle.marc_types.specs.declared.field.Field.{Field}
+use Rattle.marc_types.specs.declared.field.Field.TheVariants.{Control, Variable}
+use Rattle.marc_types.specs.Valid.{subfields_size, field_size, fields_size}
+use Rattle.iso2709_record.specs.Written.{delimiter, field_terminator, subfield_bytes, field_data, field_bytes, field_length, fields_length, record_length, base_address, four_digits, five_digits, entry, directory, leader_bytes, written}
+
+pub length-subfield_bytes : (s : Subfield) → length (subfield_bytes s) ≡ 2 + length s.text
+unfolding subfield_bytes
+length-subfield_bytes s = omega arith
+
+pub length-subfields : (subs : List Subfield) → length (flat_map subfield_bytes subs) ≡ subfields_size subs
+length-subfields [] = refl
+length-subfields (s ∷ ss) = omega (arith, length-append (subfield_bytes s) (flat_map subfield_bytes ss), length-subfield_bytes s, length-subfields ss)
+
+-- a control field: its text and its terminator
+pub field_length-control : (tag : Tag) (text : List ℕ) → field_length (Control tag text) ≡ length text + 1
+unfolding field_length field_bytes field_data
+field_length-control tag text = length-append text (field_terminator ∷ [])
+
+-- any other field: two indicators, the subfields, and its terminator
+pub field_length-variable : (tag : Tag) (ind1 ind2 : ℕ) (subs : List Subfield) → field_length (Variable tag ind1 ind2 subs) ≡ subfields_size subs + 3
+unfolding field_length field_bytes field_data
+field_length-variable tag ind1 ind2 subs =
+    omega (arith, length-append (flat_map subfield_bytes subs) (field_terminator ∷ []), length-subfields subs)
+
+pub field_length_bound : (f : Field) → field_length f ≤ field_size f + 3
+unfolding field_size
+field_length_bound (Control tag text) = omega (arith, field_length-control tag text)
+field_length_bound (Variable tag ind1 ind2 subs) = omega (arith, field_length-variable tag ind1 ind2 subs)
+
+pub fields_length_bound : (fs : List Field) → fields_length fs ≤ fields_size fs + 3 * length fs
+fields_length_bound [] = omega arith
+fields_length_bound (f ∷ fs) = omega (arith, field_length_bound f, fields_length_bound fs)
+
+pub length-fields : (fs : List Field) → length (flat_map field_bytes fs) ≡ fields_length fs
+unfolding field_length
+length-fields [] = refl
+length-fields (f ∷ fs) = omega (arith, length-append (field_bytes f) (flat_map field_bytes fs), length-fields fs)
+
+pub length-entry : (start : ℕ) (f : Field) → length (entry start f) ≡ 12
+unfolding entry four_digits five_digits
+length-entry start f = refl
+
+pub length-directory : (start : ℕ) (fs : List Field) → length (directory start fs) ≡ 12 * length fs
+length-directory start [] = refl
+length-directory start (f ∷ fs) =
+    omega (arith, length-append (entry start f) (directory (start + field_length f) fs), length-entry start f, length-directory (start + field_length f) fs)
+
+pub length-leader_bytes : (l : Leader) (size base : ℕ) → length (leader_bytes l size base) ≡ 24
+unfolding leader_bytes five_digits
+length-leader_bytes l size base = refl
+
+pub ruleset field_lengths = (field_length-control, field_length-variable)
+
+-- no field is larger than all
+pub fields_size_each : (fs : List Field) (i : ℕ) (f : Field) → field_size (get_or fs i f) ≤ fields_size fs + field_size f
+fields_size_each [] i f = omega arith
+fields_size_each (g ∷ gs) zero f = omega arith
+fields_size_each (g ∷ gs) (suc i) f = omega (arith, fields_size_each gs i f)
+
+-- a record that its type keeps has few fields and few bytes
+pub record_bounds : (leader : Leader) (fields : List Field) → is_record leader fields ≡ true → (length fields ≤ 8331) × (fields_size fields ≤ 1000000)
+unfolding is_record
+record_bounds leader fields h = ?

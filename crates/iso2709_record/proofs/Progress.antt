@@ -1,0 +1,34 @@
+-- What a call that writes piece by piece has written, and what is left to write.
+use Rattle.std.proofs.Common.{◌≡◌, ℕ, List, [], ◌++◌, Option, refl, sym, ap, ◌∙◌, append_assoc, append-nil, subst}
+use Rattle.std.specs.Io.KnownBytes.{Appends}
+use Rattle.std.proofs.KnownBytes.{Appends-nil}
+use Rattle.outside.specs.Sink.{WritesFront}
+use Rattle.outside.proofs.Fronts.{front_then, front_more, appends_then}
+
+-- of the whole, the first bytes were written, and the rest is left
+pub record IsWriting (old now : Option (List ℕ)) (whole rest : List ℕ) : Type 0 where
+  pub done : List ℕ
+  pub split : whole ≡ done ++ rest
+  pub wrote : Appends old now done
+
+pub writing_begun : (a : Option (List ℕ)) (whole : List ℕ) → IsWriting a a whole whole
+writing_begun a whole = record { done = []; split = refl; wrote = Appends-nil a }
+
+-- the next piece was written
+pub writing_more : (a b c : Option (List ℕ)) (whole left piece rest : List ℕ)
+    → IsWriting a b whole left → left ≡ piece ++ rest → Appends b c piece → IsWriting a c whole rest
+writing_more a b c whole left piece rest w e wrote = record {
+  done = w.done ++ piece;
+  split = w.split ∙ ap (λ l. w.done ++ l) e ∙ sym (append_assoc w.done piece rest);
+  wrote = appends_then a b c w.done piece w.wrote wrote;
+}
+
+-- of the next piece some front was written
+pub writing_failed : (a b c : Option (List ℕ)) (whole left piece rest : List ℕ)
+    → IsWriting a b whole left → left ≡ piece ++ rest → WritesFront b c piece → WritesFront a c whole
+writing_failed a b c whole left piece rest w e front =
+    subst (WritesFront a c) (sym (w.split ∙ ap (λ l. w.done ++ l) e)) (front_then a b c w.done (piece ++ rest) w.wrote (front_more b c piece rest front))
+
+-- nothing is left
+pub writing_done : (a b : Option (List ℕ)) (whole : List ℕ) → IsWriting a b whole [] → Appends a b whole
+writing_done a b whole w = subst (Appends a b) (sym (w.split ∙ append-nil w.done)) w.wrote
