@@ -1,12 +1,13 @@
 -- The lengths of written fields and records, as numbers by their rule.
-use Rattle.std.proofs.Common.{◌≡◌, ℕ, ◌+◌, ◌*◌, ◌≤◌, List, [], ◌∷◌, ◌++◌, length, refl, sym, ap, ◌∙◌, arith, length-append, take, drop}
+use Rattle.std.proofs.Common.{◌≡◌, ℕ, ◌+◌, ◌*◌, ◌≤◌, List, [], ◌∷◌, ◌++◌, length, get_or, zero, suc, true, refl, sym, ap, ◌∙◌, arith, length-append, take, drop}
 use Rattle.std.specs.List.{flat_map}
 use Rattle.marc_types.specs.declared.field.Tag.{Tag}
 use Rattle.marc_types.specs.declared.field.Leader.{Leader}
 use Rattle.marc_types.specs.declared.field.Subfield.{Subfield}
 use Rattle.marc_types.specs.declared.field.Field.{Field}
 use Rattle.marc_types.specs.declared.field.Field.TheVariants.{Control, Variable}
-use Rattle.marc_types.specs.Valid.{subfields_size, field_size, fields_size}
+use Rattle.std.proofs.lemmas.Bool.Decides.{nat_tests}
+use Rattle.marc_types.specs.Valid.{subfields_size, field_size, fields_size, is_record}
 use Rattle.iso2709_record.specs.Written.{delimiter, field_terminator, subfield_bytes, field_data, field_bytes, field_length, fields_length, record_length, base_address, four_digits, five_digits, entry, directory, leader_bytes, written}
 
 pub length-subfield_bytes : (s : Subfield) → length (subfield_bytes s) ≡ 2 + length s.text
@@ -57,13 +58,11 @@ length-leader_bytes l size base = refl
 
 pub ruleset field_lengths = (field_length-control, field_length-variable)
 
--- no field is larger than all
-pub fields_size_each : (fs : List Field) (i : ℕ) (f : Field) → field_size (get_or fs i f) ≤ fields_size fs + field_size f
-fields_size_each [] i f = omega arith
-fields_size_each (g ∷ gs) zero f = omega arith
-fields_size_each (g ∷ gs) (suc i) f = omega (arith, fields_size_each gs i f)
-
 -- a record that its type keeps has few fields and few bytes
 pub record_bounds : (leader : Leader) (fields : List Field) → is_record leader fields ≡ true → (length fields ≤ 8331) × (fields_size fields ≤ 1000000)
 unfolding is_record
-record_bounds leader fields h = ?
+record_bounds leader fields h = grind (arith, nat_tests)
+
+-- the fields of a record together are far below what a u64 counts
+pub fields_length_small : (fs : List Field) → length fs ≤ 8331 → fields_size fs ≤ 1000000 → fields_length fs ≤ 1024993
+fields_length_small fs few small = omega (arith, fields_length_bound fs)

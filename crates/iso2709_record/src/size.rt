@@ -34,10 +34,12 @@ pub fn field_len(field: &Field) -> u64
     }
 }
 
-#[tactic(auto, using(crate::proofs::Lengths::fields_length_bound))]
+#[tactic(auto, using(crate::proofs::Lengths::fields_length_small))]
 fn fields_len(fields: &[Field]) -> u64
-    requires { fields_size fields.now ≤ 1000000 }
-    ensures { result ≡ fields_length fields.now }
+    requires few { length fields.now ≤ 8331 }
+    requires small { fields_size fields.now ≤ 1000000 }
+    ensures value { result ≡ fields_length fields.now }
+    ensures small { result ≤ 1024993 }
 {
     let mut len = 0;
     for field in fields {
@@ -47,7 +49,6 @@ fn fields_len(fields: &[Field]) -> u64
 }
 
 /// The length of the leader and the directory of a record with so many fields.
-#[tactic(auto)]
 pub(crate) fn base_len(fields: &[Field]) -> u64
     requires { length fields.now ≤ 8331 }
     ensures { result ≡ base_address fields.now }
@@ -55,6 +56,7 @@ pub(crate) fn base_len(fields: &[Field]) -> u64
     25 + 12 * fields.len() as u64
 }
 
+#[tactic(auto, using(crate::proofs::Lengths::record_bounds))]
 /// The bytes of a record as it is written: 25, with 12 for each field, the fields' lengths, and 1.
 pub fn encoded_len(rec: &Record) -> u64
     ensures { result ≡ record_length rec.now.fields }
@@ -63,16 +65,20 @@ pub fn encoded_len(rec: &Record) -> u64
     base_len(fields) + fields_len(fields) + 1
 }
 
-#[tactic(auto, using(crate::proofs::Lengths::fields_size_each))]
 fn each_field_fits(fields: &[Field]) -> bool
     requires { fields_size fields.now ≤ 1000000 }
     ensures { result ≡ list_all (λ f. nat_le (field_length f) 9999) fields.now }
 {
-    fields.iter().all(|field| field_len(field) <= MOST_FIELD_LEN)
+    for field in fields {
+        if field_len(field) > MOST_FIELD_LEN {
+            return false;
+        }
+    }
+    true
 }
 
 /// Whether the leader has room for the record's length, and the directory for each field's.
-#[tactic(auto, unfolding(crate::specs::Written::is_writable))]
+#[tactic(auto, using(crate::proofs::Lengths::record_bounds), unfolding(crate::specs::Written::is_writable))]
 pub fn fits(rec: &Record) -> bool
     ensures { result ≡ is_writable rec.now.fields }
 {
