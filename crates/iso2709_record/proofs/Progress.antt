@@ -1,5 +1,7 @@
 -- What a call that writes piece by piece has written, and what is left to write.
-use Rattle.std.proofs.Common.{◌≡◌, ℕ, List, [], ◌++◌, Option, refl, sym, ap, ◌∙◌, append_assoc, append-nil, subst}
+use Rattle.std.proofs.Common.{◌≡◌, ℕ, List, [], ◌++◌, Option, refl, sym, ap, ◌∙◌, append_assoc, append-nil, subst, ◌+◌, ◌<◌, ◌∷◌, length, get_or, drop}
+use Rattle.std.specs.List.{flat_map}
+use Rattle.std.proofs.lemmas.List.{drop_more}
 use Rattle.std.specs.Io.KnownBytes.{Appends}
 use Rattle.std.proofs.KnownBytes.{Appends-nil}
 use Rattle.outside.specs.Sink.{WritesFront}
@@ -32,3 +34,12 @@ writing_failed a b c whole left piece rest w e front =
 -- nothing is left
 pub writing_done : (a b : Option (List ℕ)) (whole : List ℕ) → IsWriting a b whole [] → Appends a b whole
 writing_done a b whole w = subst (Appends a b) (sym (w.split ∙ append-nil w.done)) w.wrote
+
+-- the next element of a list that a loop goes over
+pub drop_next : {X : Type 0} (xs : List X) (i : ℕ) (x : X) → i < length xs → x ≡ get_or xs i x → drop i xs ≡ x ∷ drop (i + 1) xs
+drop_next xs i x h is = drop_more xs i x h ∙ ap (λ y. y ∷ drop (i + 1) xs) (sym is)
+
+-- the next piece, where each element has one
+pub piece_next : {X : Type 0} (f : X → List ℕ) (xs : List X) (i : ℕ) (x : X) → i < length xs → x ≡ get_or xs i x
+    → flat_map f (drop i xs) ≡ f x ++ flat_map f (drop (i + 1) xs)
+piece_next f xs i x h is = ap (flat_map f) (drop_next xs i x h is)

@@ -85,3 +85,26 @@ fn tag_of(field: &Field) -> Tag
         Field::Control { tag, .. } | Field::Variable { tag, .. } => *tag,
     }
 }
+
+#[tactic(auto, using(outside::proofs::Fronts::front_then, outside::proofs::Fronts::front_more, outside::proofs::Fronts::appends_then), unfolding(crate::specs::Written::subfield_bytes))]
+fn write_subfield<K: Sink>(subfield: &Subfield, out: &mut K) -> Result<(), Failed>
+    ensures bytes { OnOk result (Appends (K.written out.old) (K.written out.new) (subfield_bytes subfield.now)) }
+    ensures front { WritesFront (K.written out.old) (K.written out.new) (subfield_bytes subfield.now) }
+    ensures tells { is_some (K.written out.new) ≡ is_some (K.written out.old) }
+    ensures cause { HasCause (K.faults out.old) (K.faults out.new) result }
+{
+    out.write_all(&[DELIMITER, subfield.code])?;
+    out.write_all(subfield.text.as_bytes())
+}
+
+fn write_subfields<K: Sink>(subfields: &[Subfield], out: &mut K) -> Result<(), Failed>
+    ensures bytes { OnOk result (Appends (K.written out.old) (K.written out.new) (flat_map subfield_bytes subfields.now)) }
+    ensures front { WritesFront (K.written out.old) (K.written out.new) (flat_map subfield_bytes subfields.now) }
+    ensures tells { is_some (K.written out.new) ≡ is_some (K.written out.old) }
+    ensures cause { HasCause (K.faults out.old) (K.faults out.new) result }
+{
+    for subfield in subfields {
+        write_subfield(subfield, out)?;
+    }
+    Ok(())
+}
