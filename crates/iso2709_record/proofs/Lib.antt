@@ -1,2 +1,5 @@
 pub mod Lengths
 pub mod Progress
+pub mod Numbers
+pub mod Endings
+pub mod Directory

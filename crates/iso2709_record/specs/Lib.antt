@@ -1,1 +1,4 @@
 pub mod Written
+pub mod First
+pub mod Layout
+pub mod Faults
