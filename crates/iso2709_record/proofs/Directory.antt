@@ -13,11 +13,12 @@ use Rattle.iso2709_record.proofs.Numbers.{number_below}
 
 -- how far leader and directory reach, and the whole record
 pub record Extent (bytes : List ℕ) : Type 0 where
+  pub least : 26 ≤ length bytes
   pub entries : 25 + 12 * entry_count bytes ≡ base_of bytes
   pub base : base_of bytes < length bytes
   pub size : length bytes < 100000
 
-size_parts : (bytes : List ℕ) → has_bad_length bytes ≡ false → (26 ≤ length bytes) × (length bytes < 100000)
+pub size_parts : (bytes : List ℕ) → has_bad_length bytes ≡ false → (26 ≤ length bytes) × (length bytes < 100000)
 unfolding has_bad_length
 size_parts bytes good =
     let parts : (((nat_lt (length bytes) 26 || not (list_all is_digit (take 5 bytes))) || not (number (take 5 bytes) == length bytes)) ≡ false) × (not (ends_once record_terminator bytes) ≡ false) = or_parts _ _ good in
@@ -30,7 +31,7 @@ size_parts bytes good =
     let whole : number (take 5 (take 5 bytes)) ≡ number (take 5 bytes) = ap number (take_all 5 (take 5 bytes) (omega arith)) in
     (least, omega arith)
 
-base_parts : (bytes : List ℕ) → has_bad_leader bytes ≡ false → (25 ≤ base_of bytes) × (base_of bytes ≤ length bytes - 1)
+pub base_parts : (bytes : List ℕ) → has_bad_leader bytes ≡ false → (25 ≤ base_of bytes) × (base_of bytes ≤ length bytes - 1)
 unfolding has_bad_leader
 base_parts bytes good =
     let parts = or_parts _ _ good in
@@ -45,7 +46,7 @@ extent bytes h =
     let size = size_parts bytes h.good_length in
     let base = base_parts bytes h.good_leader in
     let whole = whole_parts bytes h.not_ragged in
-    record { entries = omega arith; base = omega arith; size = size.1 }
+    record { least = size.0; entries = omega arith; base = omega arith; size = size.1 }
 
 -- a part of digits is of digits
 part_digits : (digits : List ℕ) (from count : ℕ) → list_all is_digit digits ≡ true → list_all is_digit (take count (drop from digits)) ≡ true

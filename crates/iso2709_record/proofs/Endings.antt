@@ -1,7 +1,7 @@
 -- Marks in bytes, and codes behind delimiters.
 use Rattle.std.proofs.Common.{◌≡◌, ℕ, ◌+◌, ◌-◌, ◌<◌, ◌≤◌, Bool, true, false, not, ◌&&◌, ◌==◌, cond, List, [], ◌∷◌, length, get_or, take, drop, Option, Some, None, refl, sym, ap, ◌∙◌, arith, inl, inr}
 use Rattle.std.specs.List.{list_any}
-use Rattle.std.proofs.lemmas.Bool.{eq-eqb, ne_eqb, false_from_ne_true, lt-ltb, cases_eq, and_from, and_left, and_right, not_from_true, not_from_false}
+use Rattle.std.proofs.lemmas.Bool.{eq-eqb, ne_eqb, false_from_ne_true, lt-ltb, cases_eq, and_from, and_left, and_right, not_from_true, not_from_false, not-true, and_parts, both_ways}
 use Rattle.std.proofs.lemmas.List.{length-take, get_or-take, get_or_default, drop_more, drop_all}
 use Rattle.std.proofs.lemmas.List.Folds.{list_any_none, list_any_at}
 use Rattle.memchr.specs.Find.{IsFirstByte, is_byte}
@@ -63,3 +63,12 @@ ends_once_none mark [] none = refl
 ends_once_none mark (b ∷ bs) none =
     let other : (get_or (b ∷ bs) (length (b ∷ bs) - 1) 0 == mark) ≡ false = false_from_ne_true _ (none (length (b ∷ bs) - 1) (omega arith) (omega arith)) in
     sym (and_left _ _ (and_right _ _ other))
+
+-- before the last byte no byte is the mark
+pub unmarked_before : (mark : ℕ) (bytes : List ℕ) (k : ℕ) → ends_once mark bytes ≡ true → k < length bytes - 1 → (get_or bytes k 0 == mark) ≡ false
+unfolding ends_once
+unmarked_before mark bytes k once lt =
+    let none : list_any (λ b. b == mark) (take (length bytes - 1) bytes) ≡ false = not-true _ (and_parts _ _ once).1 in
+    let read : get_or (take (length bytes - 1) bytes) k 0 ≡ get_or bytes k 0 = get_or-take (length bytes - 1) bytes k 0 lt in
+    false_from_ne_true _ (λ is_mark. both_ways _ none
+    (list_any_at (λ b. b == mark) (take (length bytes - 1) bytes) k 0 (omega (arith, length-take (length bytes - 1) bytes)) (rw read is_mark)))

@@ -6,6 +6,8 @@ use Rattle.std.specs.List.{list_all, list_any}
 use Rattle.marc_types.specs.declared.field.Tag.{Tag}
 use Rattle.marc_types.specs.declared.refusal.Refusal.{Refusal}
 use Rattle.marc_types.specs.declared.refusal.Refusal.TheVariants.{BadLength, BadLeader, BadDirectory, BadField}
+use Rattle.marc_types.specs.declared.refusal.RecordFault.{RecordFault}
+use Rattle.marc_types.specs.declared.refusal.RecordFault.TheVariants.{Refused, NoMemory}
 use Rattle.marc_types.specs.Valid.{is_printable, is_graphic, is_digit, is_alphanumeric, is_control_tag}
 use Rattle.iso2709_record.specs.Written.{record_terminator, field_terminator, delimiter}
 use Rattle.iso2709_record.specs.First.{AllGood, IsFirstBad}
@@ -121,3 +123,8 @@ IsFirstFault bytes (BadDirectory entry) =
     (has_bad_length bytes ≡ false) × (has_bad_leader bytes ≡ false) × IsBadDirectory bytes entry
 IsFirstFault bytes (BadField entry) = HasDirectory bytes × IsFirstBad (is_good_field bytes) (entry_count bytes) entry
 IsFirstFault bytes _ = ⊥
+
+-- the fault is that refusal, or want of memory
+abbrev pub IsFirstFaultOf : List ℕ → RecordFault → Type 0
+IsFirstFaultOf bytes (Refused refusal) = IsFirstFault bytes refusal
+IsFirstFaultOf bytes NoMemory = Unit {0}

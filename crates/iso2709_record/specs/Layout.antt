@@ -21,7 +21,7 @@ abbrev pub layout_of : List ℕ → Layout
 layout_of bytes = record { base = base_of bytes; entries = entry_count bytes }
 
 -- an entry of the directory: a tag of three bytes, a length of four digits, a start of five digits
-abbrev pub entry_at : List ℕ → ℕ → List ℕ
+unfoldable pub entry_at : List ℕ → ℕ → List ℕ
 entry_at bytes entry = slice_range bytes (24 + 12 * entry) (36 + 12 * entry)
 
 unfoldable pub tag_at : List ℕ → ℕ → Tag
@@ -46,7 +46,7 @@ area_at bytes entry =
     slice_range bytes from (from + length_at bytes entry)
 
 -- the area without its last byte, the field terminator
-abbrev pub data_at : List ℕ → ℕ → List ℕ
+unfoldable pub data_at : List ℕ → ℕ → List ℕ
 data_at bytes entry = take (length (area_at bytes entry) - 1) (area_at bytes entry)
 
 -- the lengths of so many first entries together

@@ -2,3 +2,4 @@ pub mod Written
 pub mod First
 pub mod Layout
 pub mod Faults
+pub mod Raw

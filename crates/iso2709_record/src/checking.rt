@@ -94,7 +94,7 @@ fn fits_tag(tag: Tag, bytes: &[u8]) -> bool
 }
 
 /// Whether a field is as its entry says. The lengths are those of the entries up to this one together.
-#[tactic(auto, using(crate::proofs::Directory::extent), unfolding(crate::specs::Faults::is_good_field, crate::specs::Layout::area_at))]
+#[tactic(auto, using(crate::proofs::Directory::extent), unfolding(crate::specs::Faults::is_good_field, crate::specs::Layout::area_at, crate::specs::Layout::data_at))]
 fn is_good_field(bytes: &[u8], base: u32, entry: u32, lengths: u32) -> bool
     requires directory { HasDirectory bytes.now }
     requires within { entry < entry_count bytes.now }

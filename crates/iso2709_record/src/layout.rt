@@ -18,6 +18,7 @@ const LEADER_LEN: usize = 24;
 const ENTRY_LEN: usize = 12;
 
 /// The bytes of an entry of the directory.
+#[tactic(auto, unfolding(crate::specs::Layout::entry_at))]
 pub(crate) fn entry_at(bytes: &[u8], entry: u32) -> &[u8]
     requires { 36 + 12 * entry ≤ length bytes.now }
     ensures bytes { result.now ≡ entry_at bytes.now entry }

@@ -2,12 +2,18 @@
 #![tactic(auto)]
 
 mod checking;
+mod decoding;
 mod digits;
 mod layout;
 mod marks;
 mod output;
+mod parts;
+mod raw;
 mod size;
 
 pub use checking::check;
+pub use decoding::decode;
 pub use layout::Layout;
+pub use parts::{coding_of, field_of, leader_of};
+pub use raw::{RawField, RawFields, RawRecord};
 pub use size::{encoded_len, field_len, fits};
