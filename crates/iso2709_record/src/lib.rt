@@ -1,7 +1,11 @@
 //! MARC 21 records in ISO 2709: their written form, and the writing of it.
 #![tactic(auto)]
 
+mod blocks;
+mod memory;
 mod output;
 mod size;
 
+pub use memory::{encode_into, encode_vec};
+pub use output::encode;
 pub use size::{encoded_len, field_len, fits};

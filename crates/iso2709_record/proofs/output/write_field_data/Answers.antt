@@ -24,13 +24,13 @@ unfolding field_data
 returns-in_ok-write_all-in-Variable-clause-front g c =
     rw (c.in-Variable.is)
     (front_then _ _ _ (c.in-Variable.ind1 ∷ c.in-Variable.ind2 ∷ []) (flat_map subfield_bytes c.in-Variable.subs)
-      c.in_ok-write_all-in-Variable.ensures.bytes (rw c.as_slice.ensures at c.write_subfields.ensures.front))
+    c.in_ok-write_all-in-Variable.ensures.bytes (rw c.as_slice.ensures at c.write_subfields.ensures.front))
 
 pub returns-in_ok-write_all-in-Variable-clause-bytes : goal.returns-in_ok-write_all-in-Variable-clause-bytes
 unfolding field_data
 returns-in_ok-write_all-in-Variable-clause-bytes g c =
     rw (c.in-Variable.is)
     (on_ok_weaker _
-      (appends_then _ _ _ (c.in-Variable.ind1 ∷ c.in-Variable.ind2 ∷ []) (flat_map subfield_bytes c.in-Variable.subs)
-        c.in_ok-write_all-in-Variable.ensures.bytes)
-      (rw c.as_slice.ensures at c.write_subfields.ensures.bytes))
+    (appends_then _ _ _ (c.in-Variable.ind1 ∷ c.in-Variable.ind2 ∷ []) (flat_map subfield_bytes c.in-Variable.subs)
+    c.in_ok-write_all-in-Variable.ensures.bytes)
+    (rw c.as_slice.ensures at c.write_subfields.ensures.bytes))
