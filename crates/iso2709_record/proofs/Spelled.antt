@@ -153,8 +153,48 @@ leader_spelled_once : (l m : Leader) (s t b c : ℕ) → leader_bytes l s b ≡ 
 unfolding leader_bytes five_digits
 leader_spelled_once l m s t b c e = (leader_same l m (cc) (cc) (cc) (cc) (cc) (cc) (cc), cc)
 
+-- what stands behind the directory, and the bytes that follow the record
+abbrev behind_directory : List Field → List ℕ → List ℕ
+behind_directory fs x = field_terminator ∷ (flat_map field_bytes fs ++ record_terminator ∷ x)
+
+-- what stands behind the leader, and the bytes that follow the record
+abbrev behind_leader : List Field → List ℕ → List ℕ
+behind_leader fs x = directory_bytes 0 fs ++ behind_directory fs x
+
+pub record_bytes-parts : (l : Leader) (fs : List Field) (x : List ℕ)
+    → record_bytes l fs ++ x ≡ leader_bytes l (record_length fs) (base_address fs) ++ behind_leader fs x
+unfolding record_bytes
+record_bytes-parts l fs x = simp append_assoc
+
+cons_tail : (a b : ℕ) (x y : List ℕ) → a ∷ x ≡ b ∷ y → x ≡ y
+cons_tail a b x y e = cc
+
+fields_valid : (l : Leader) (fs : List Field) → is_record l fs ≡ true → list_all is_field fs ≡ true
+unfolding is_record
+fields_valid l fs h = (and_parts _ _ (and_parts _ _ (and_parts _ _ h).0).0).1
+
+fields_short : (fs : List Field) → fits fs ≡ true → list_all (λ f. nat_le (field_length f) 9999) fs ≡ true
+unfolding fits
+fields_short fs h = (and_parts _ _ h).1
+
 -- the written form of a record determines it, whatever follows: none is a front of another's
 pub record_spelled_once : (l m : Leader) (fs gs : List Field) (x y : List ℕ) → is_record l fs ≡ true → is_record m gs ≡ true
     → fits fs ≡ true → fits gs ≡ true → record_bytes l fs ++ x ≡ record_bytes m gs ++ y → (l ≡ m) × (fs ≡ gs) × (x ≡ y)
 record_spelled_once l m fs gs x y p q fits_f fits_g e =
-    ?
+    let leaders = parts_same
+    (leader_bytes l (record_length fs) (base_address fs))
+    (leader_bytes m (record_length gs) (base_address gs))
+    (behind_leader fs x)
+    (behind_leader gs y)
+    (length-leader_bytes l (record_length fs) (base_address fs) ∙ sym (length-leader_bytes m (record_length gs) (base_address gs)))
+    (sym (record_bytes-parts l fs x) ∙ e ∙ record_bytes-parts m gs y) in
+    let led = leader_spelled_once l m (record_length fs) (record_length gs) (base_address fs) (base_address gs) leaders.0 in
+    let bounds_f = record_bounds l fs p in
+    let bounds_g = record_bounds m gs q in
+    let bases = five_digits_same (base_address fs) (base_address gs) (omega arith) (omega arith) led.1 in
+    let sizes : length (directory_bytes 0 fs) ≡ length (directory_bytes 0 gs) = omega (arith, length-directory_bytes 0 fs, length-directory_bytes 0 gs) in
+    let directories = parts_same (directory_bytes 0 fs) (directory_bytes 0 gs) (behind_directory fs x) (behind_directory gs y) sizes leaders.1 in
+    let areas : flat_map field_bytes fs ++ record_terminator ∷ x ≡ flat_map field_bytes gs ++ record_terminator ∷ y = cons_tail _ _ _ _ directories.1 in
+    let fields = fields_spelled_once 0 0 fs gs (record_terminator ∷ x) (record_terminator ∷ y)
+    (fields_valid l fs p) (fields_valid m gs q) (fields_short fs fits_f) (fields_short gs fits_g) directories.0 areas in
+    (led.0, fields.0, cons_tail _ _ _ _ fields.1)
