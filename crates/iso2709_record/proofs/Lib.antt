@@ -1,4 +1,5 @@
 pub mod Digits
 pub mod Lengths
+pub mod Places
 pub mod Progress
 pub mod Spelled

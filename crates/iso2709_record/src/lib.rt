@@ -2,10 +2,12 @@
 #![tactic(auto)]
 
 mod blocks;
+mod laws;
 mod memory;
 mod output;
 mod size;
 
+pub use laws::spelled_once;
 pub use memory::{encode_into, encode_vec};
 pub use output::encode;
 pub use size::{encoded_len, field_len, fits};
