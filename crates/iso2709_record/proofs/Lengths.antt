@@ -1,6 +1,9 @@
 -- The lengths of written fields and records, as numbers by their rule.
-use Rattle.std.proofs.Common.{◌≡◌, ℕ, ◌+◌, ◌*◌, ◌≤◌, List, [], ◌∷◌, ◌++◌, length, get_or, zero, suc, true, refl, sym, ap, ◌∙◌, arith, length-append, take, drop}
-use Rattle.std.specs.List.{flat_map}
+use Rattle.std.proofs.Common.{◌≡◌, ℕ, ◌+◌, ◌*◌, ◌≤◌, List, [], ◌∷◌, length, true, refl, arith, length-append}
+use Rattle.std.specs.List.{flat_map, AllPass}
+use Rattle.std.specs.Prelude.{nat_le}
+use Rattle.std.proofs.lemmas.Bool.{and_parts, and_from, leb-true, le-leb}
+use Rattle.std.proofs.lemmas.List.Sums.{AllPass-from_list_all, list_all-from_AllPass}
 use Rattle.marc_types.specs.declared.field.Tag.{Tag}
 use Rattle.marc_types.specs.declared.field.Leader.{Leader}
 use Rattle.marc_types.specs.declared.field.Subfield.{Subfield}
@@ -8,7 +11,7 @@ use Rattle.marc_types.specs.declared.field.Field.{Field}
 use Rattle.marc_types.specs.declared.field.Field.TheVariants.{Control, Variable}
 use Rattle.std.proofs.lemmas.Bool.Decides.{nat_tests}
 use Rattle.marc_types.specs.Valid.{subfields_size, field_size, fields_size, is_record}
-use Rattle.iso2709_record.specs.Written.{delimiter, field_terminator, subfield_bytes, field_data, field_bytes, field_length, fields_length, record_length, base_address, four_digits, five_digits, entry, directory, leader_bytes, written}
+use Rattle.iso2709_record.specs.Written.{field_terminator, subfield_bytes, field_data, field_bytes, field_length, fields_length, record_length, four_digits, five_digits, entry_bytes, directory_bytes, leader_bytes, record_bytes, fits}
 
 pub length-subfield_bytes : (s : Subfield) → length (subfield_bytes s) ≡ 2 + length s.text
 unfolding subfield_bytes
@@ -43,14 +46,14 @@ unfolding field_length
 length-fields [] = refl
 length-fields (f ∷ fs) = omega (arith, length-append (field_bytes f) (flat_map field_bytes fs), length-fields fs)
 
-pub length-entry : (start : ℕ) (f : Field) → length (entry start f) ≡ 12
-unfolding entry four_digits five_digits
-length-entry start f = refl
+pub length-entry_bytes : (start : ℕ) (f : Field) → length (entry_bytes start f) ≡ 12
+unfolding entry_bytes four_digits five_digits
+length-entry_bytes start f = refl
 
-pub length-directory : (start : ℕ) (fs : List Field) → length (directory start fs) ≡ 12 * length fs
-length-directory start [] = refl
-length-directory start (f ∷ fs) =
-    omega (arith, length-append (entry start f) (directory (start + field_length f) fs), length-entry start f, length-directory (start + field_length f) fs)
+pub length-directory_bytes : (start : ℕ) (fs : List Field) → length (directory_bytes start fs) ≡ 12 * length fs
+length-directory_bytes start [] = refl
+length-directory_bytes start (f ∷ fs) =
+    omega (arith, length-append (entry_bytes start f) (directory_bytes (start + field_length f) fs), length-entry_bytes start f, length-directory_bytes (start + field_length f) fs)
 
 pub length-leader_bytes : (l : Leader) (size base : ℕ) → length (leader_bytes l size base) ≡ 24
 unfolding leader_bytes five_digits
@@ -66,3 +69,17 @@ record_bounds leader fields h = grind (arith, nat_tests)
 -- the fields of a record together are far below what a u64 counts
 pub fields_length_small : (fs : List Field) → length fs ≤ 8331 → fields_size fs ≤ 1000000 → fields_length fs ≤ 1024993
 fields_length_small fs few small = omega (arith, fields_length_bound fs)
+
+pub length-record_bytes : (l : Leader) (fs : List Field) → length (record_bytes l fs) ≡ record_length fs
+unfolding record_bytes
+length-record_bytes l fs =
+    simp (length-append, length-leader_bytes, length-directory_bytes, length-fields) (omega arith)
+
+-- what fits, as numbers
+pub fits_parts : (fs : List Field) → fits fs ≡ true → (record_length fs ≤ 99999) × AllPass (λ f. nat_le (field_length f) 9999) fs
+unfolding fits
+fits_parts fs h = let parts = and_parts _ _ h in (leb-true _ _ parts.0, AllPass-from_list_all _ fs parts.1)
+
+pub fits_from : (fs : List Field) → record_length fs ≤ 99999 → AllPass (λ f. nat_le (field_length f) 9999) fs → fits fs ≡ true
+unfolding fits
+fits_from fs whole each = and_from _ _ (le-leb _ _ whole) (list_all-from_AllPass _ fs each)

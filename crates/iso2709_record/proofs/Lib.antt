@@ -1,7 +1,10 @@
+pub mod Digits
 pub mod Lengths
+pub mod Places
 pub mod Progress
 pub mod Numbers
 pub mod Endings
 pub mod Directory
 pub mod Sound
 pub mod RawFields
+pub mod Spelled

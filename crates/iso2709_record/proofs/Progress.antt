@@ -4,6 +4,8 @@ use Rattle.std.specs.List.{flat_map}
 use Rattle.std.proofs.lemmas.List.{drop_more}
 use Rattle.std.specs.Io.KnownBytes.{Appends}
 use Rattle.std.proofs.KnownBytes.{Appends-nil}
+use Rattle.marc_types.specs.declared.field.Field.{Field}
+use Rattle.iso2709_record.specs.Written.{field_length, entry_bytes, directory_bytes}
 use Rattle.outside.specs.Sink.{WritesFront}
 use Rattle.outside.proofs.Fronts.{front_then, front_more, appends_then}
 
@@ -43,3 +45,9 @@ drop_next xs i x h is = drop_more xs i x h ∙ ap (λ y. y ∷ drop (i + 1) xs) 
 pub piece_next : {X : Type 0} (f : X → List ℕ) (xs : List X) (i : ℕ) (x : X) → i < length xs → x ≡ get_or xs i x
     → flat_map f (drop i xs) ≡ f x ++ flat_map f (drop (i + 1) xs)
 piece_next f xs i x h is = ap (flat_map f) (drop_next xs i x h is)
+
+-- the next directory entry
+pub entry_next : (start n : ℕ) (fields : List Field) (i : ℕ) (f : Field) → i < length fields → f ≡ get_or fields i f → n ≡ field_length f
+    → directory_bytes start (drop i fields) ≡ entry_bytes start f ++ directory_bytes (start + n) (drop (i + 1) fields)
+entry_next start n fields i f h is len =
+    ap (directory_bytes start) (drop_next fields i f h is) ∙ ap (λ m. entry_bytes start f ++ directory_bytes (start + m) (drop (i + 1) fields)) (sym len)

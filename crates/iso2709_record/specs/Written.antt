@@ -61,13 +61,13 @@ abbrev pub record_length : List Field → ℕ
 record_length fields = base_address fields + fields_length fields + 1
 
 -- a directory entry: the tag, the field's length, and where it starts behind the base address
-unfoldable pub entry : ℕ → Field → List ℕ
-entry start f = ((tag_of f).a ∷ (tag_of f).b ∷ (tag_of f).c ∷ []) ++ four_digits (field_length f) ++ five_digits start
+unfoldable pub entry_bytes : ℕ → Field → List ℕ
+entry_bytes start f = ((tag_of f).a ∷ (tag_of f).b ∷ (tag_of f).c ∷ []) ++ four_digits (field_length f) ++ five_digits start
 
 -- the entries of fields that stand one behind the other
-abbrev pub directory : ℕ → List Field → List ℕ
-directory start [] = []
-directory start (f ∷ fs) = entry start f ++ directory (start + field_length f) fs
+abbrev pub directory_bytes : ℕ → List Field → List ℕ
+directory_bytes start [] = []
+directory_bytes start (f ∷ fs) = entry_bytes start f ++ directory_bytes (start + field_length f) fs
 
 -- the record's length, its own leader bytes with coding `a` (UTF-8) and the counts `22` behind them, the base address, and
 -- the other leader bytes before the entry map `4500`
@@ -79,14 +79,14 @@ leader_bytes l size base =
     ++ (l.encoding ∷ l.form ∷ l.linked ∷ 52 ∷ 53 ∷ 48 ∷ 48 ∷ [])
 
 -- leader, directory, field terminator, fields, record terminator
-unfoldable pub written : Leader → List Field → List ℕ
-written l fields =
+unfoldable pub record_bytes : Leader → List Field → List ℕ
+record_bytes l fields =
     leader_bytes l (record_length fields) (base_address fields)
-    ++ directory 0 fields
+    ++ directory_bytes 0 fields
     ++ field_terminator ∷ []
     ++ flat_map field_bytes fields
     ++ record_terminator ∷ []
 
 -- the leader has room for a record's length of five digits, and the directory for a field's length of four
-unfoldable pub is_writable : List Field → Bool
-is_writable fields = nat_le (record_length fields) 99999 && list_all (λ f. nat_le (field_length f) 9999) fields
+unfoldable pub fits : List Field → Bool
+fits fields = nat_le (record_length fields) 99999 && list_all (λ f. nat_le (field_length f) 9999) fields

@@ -3,7 +3,7 @@ ghost use Rattle.iso2709_record.specs.First.{AllGood, IsFirstBad};
 ghost use Rattle.iso2709_record.specs.Layout.{base_of, entry_count, layout_of, lengths_of, area_at, data_at, tag_at};
 ghost use Rattle.iso2709_record.specs.Faults.{has_bad_length, has_bad_leader, is_ragged, is_good_entry, is_good_field, fits_tag, HasWholeEntries, HasDirectory, IsSound, IsFirstFault};
 
-use crate::digits::{are_digits, number};
+use crate::decimal::{are_digits, number};
 use crate::layout::{Layout, entry_at, length_at, start_at, tag_at};
 use crate::marks::{
     FIELD_TERMINATOR, RECORD_TERMINATOR, are_alphanumeric, are_printable, ends_once,

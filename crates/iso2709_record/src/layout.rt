@@ -2,7 +2,7 @@ ghost use Rattle.std.specs.Prelude.{◌≡◌, ◌+◌, ◌*◌, ◌≤◌, ◌<
 ghost use Rattle.iso2709_record.specs.Layout.{entry_at, tag_at, length_at, start_at};
 ghost use Rattle.iso2709_record.specs.Faults.{is_good_entry};
 
-use crate::digits::number;
+use crate::decimal::number;
 use marc_types::Tag;
 
 /// Where the parts of a record stand: the base address, from which the fields' areas count, and the number of entries

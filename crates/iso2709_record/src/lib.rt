@@ -1,11 +1,14 @@
 //! MARC 21 records in ISO 2709: the rules of a record, the reading of it, its written form, and the writing of it.
 #![tactic(auto)]
 
+mod blocks;
 mod checking;
+mod decimal;
 mod decoding;
-mod digits;
+mod laws;
 mod layout;
 mod marks;
+mod memory;
 mod output;
 mod parts;
 mod raw;
@@ -13,7 +16,10 @@ mod size;
 
 pub use checking::check;
 pub use decoding::decode;
+pub use laws::spelled_once;
 pub use layout::Layout;
+pub use memory::{encode_into, encode_vec};
+pub use output::encode;
 pub use parts::{coding_of, field_of, leader_of};
 pub use raw::{RawField, RawFields, RawRecord};
 pub use size::{encoded_len, field_len, fits};

@@ -1,13 +1,14 @@
-ghost use Rattle.std.specs.Prelude.{◌≡◌, ◌≤◌, ◌^◌, ◌<◌, is_some, OnOk, length};
+ghost use Rattle.std.specs.Prelude.{◌≡◌, ◌≤◌, is_some, IsTrue, OnOk, length};
 ghost use Rattle.std.specs.List.{flat_map};
 ghost use Rattle.std.specs.Io.KnownBytes.{Appends};
 ghost use Rattle.outside.specs.Fault.{HasCause};
 ghost use Rattle.outside.specs.Sink.{WritesFront};
-ghost use Rattle.marc_types.specs.Valid.{field_size, fields_size};
-ghost use Rattle.iso2709_record.specs.Written.{digit, subfield_bytes, field_bytes, field_length, entry, directory, leader_bytes, tag_of};
+ghost use Rattle.marc_types.specs.Valid.{fields_size};
+ghost use Rattle.iso2709_record.specs.Written.{subfield_bytes, field_data, field_bytes, directory_bytes, record_bytes, fits};
 
-use crate::size::field_len;
-use marc_types::{Field, Leader, Subfield, Tag};
+use crate::blocks::{entry_block, leader_block};
+use crate::size::{base_len, encoded_len, field_len};
+use marc_types::{Field, Record, Subfield};
 use outside::{Failed, Sink};
 
 const RECORD_TERMINATOR: u8 = 0x1d;
@@ -16,77 +17,7 @@ const FIELD_TERMINATOR: u8 = 0x1e;
 
 const DELIMITER: u8 = 0x1f;
 
-/// The character of the last decimal digit.
-fn digit(number: u64) -> u8
-    ensures { result ≡ digit number }
-{
-    b'0' + (number % 10) as u8
-}
-
-#[tactic(auto, unfolding(crate::specs::Written::leader_bytes, crate::specs::Written::five_digits))]
-fn leader_block(leader: &Leader, size: u64, base: u64) -> [u8; 24]
-    ensures { result ≡ leader_bytes leader.now size base }
-{
-    [
-        digit(size / 10_000),
-        digit(size / 1_000),
-        digit(size / 100),
-        digit(size / 10),
-        digit(size),
-        leader.status,
-        leader.rtype,
-        leader.level,
-        leader.control,
-        b'a',
-        b'2',
-        b'2',
-        digit(base / 10_000),
-        digit(base / 1_000),
-        digit(base / 100),
-        digit(base / 10),
-        digit(base),
-        leader.encoding,
-        leader.form,
-        leader.linked,
-        b'4',
-        b'5',
-        b'0',
-        b'0',
-    ]
-}
-
-#[tactic(auto, unfolding(crate::specs::Written::entry, crate::specs::Written::four_digits, crate::specs::Written::five_digits))]
-fn entry_block(field: &Field, start: u64) -> [u8; 12]
-    requires { field_size field.now ≤ 1000000 }
-    ensures { result ≡ entry start field.now }
-{
-    let tag = tag_of(field);
-    let len = field_len(field);
-    [
-        tag.a,
-        tag.b,
-        tag.c,
-        digit(len / 1_000),
-        digit(len / 100),
-        digit(len / 10),
-        digit(len),
-        digit(start / 10_000),
-        digit(start / 1_000),
-        digit(start / 100),
-        digit(start / 10),
-        digit(start),
-    ]
-}
-
-fn tag_of(field: &Field) -> Tag
-    ensures { result ≡ tag_of field.now }
-{
-    match field {
-        Field::Control { tag, .. } | Field::Variable { tag, .. } => *tag,
-    }
-}
-
-#[tactic(auto, using(outside::proofs::Fronts::front_then, outside::proofs::Fronts::front_more, outside::proofs::Fronts::appends_then), unfolding(crate::specs::Written::subfield_bytes))]
+#[tactic(auto, using(outside::proofs::Fronts::appends_then), unfolding(crate::specs::Written::subfield_bytes))]
 fn write_subfield<K: Sink>(subfield: &Subfield, out: &mut K) -> Result<(), Failed>
     ensures bytes { OnOk result (Appends (K.written out.old) (K.written out.new) (subfield_bytes subfield.now)) }
     ensures front { WritesFront (K.written out.old) (K.written out.new) (subfield_bytes subfield.now) }
@@ -107,4 +38,82 @@ fn write_subfields<K: Sink>(subfields: &[Subfield], out: &mut K) -> Result<(), F
         write_subfield(subfield, out)?;
     }
     Ok(())
+}
+
+fn write_field_data<K: Sink>(field: &Field, out: &mut K) -> Result<(), Failed>
+    ensures bytes { OnOk result (Appends (K.written out.old) (K.written out.new) (field_data field.now)) }
+    ensures front { WritesFront (K.written out.old) (K.written out.new) (field_data field.now) }
+    ensures tells { is_some (K.written out.new) ≡ is_some (K.written out.old) }
+    ensures cause { HasCause (K.faults out.old) (K.faults out.new) result }
+{
+    match field {
+        Field::Control { text, .. } => out.write_all(text.as_bytes()),
+        Field::Variable {
+            ind1,
+            ind2,
+            subs,
+            ..
+        } => {
+            out.write_all(&[*ind1, *ind2])?;
+            write_subfields(subs.as_slice(), out)
+        }
+    }
+}
+
+#[tactic(auto, using(outside::proofs::Fronts::appends_then), unfolding(crate::specs::Written::field_bytes))]
+fn write_field<K: Sink>(field: &Field, out: &mut K) -> Result<(), Failed>
+    ensures bytes { OnOk result (Appends (K.written out.old) (K.written out.new) (field_bytes field.now)) }
+    ensures front { WritesFront (K.written out.old) (K.written out.new) (field_bytes field.now) }
+    ensures tells { is_some (K.written out.new) ≡ is_some (K.written out.old) }
+    ensures cause { HasCause (K.faults out.old) (K.faults out.new) result }
+{
+    write_field_data(field, out)?;
+    out.write_all(&[FIELD_TERMINATOR])
+}
+
+fn write_fields<K: Sink>(fields: &[Field], out: &mut K) -> Result<(), Failed>
+    ensures bytes { OnOk result (Appends (K.written out.old) (K.written out.new) (flat_map field_bytes fields.now)) }
+    ensures front { WritesFront (K.written out.old) (K.written out.new) (flat_map field_bytes fields.now) }
+    ensures tells { is_some (K.written out.new) ≡ is_some (K.written out.old) }
+    ensures cause { HasCause (K.faults out.old) (K.faults out.new) result }
+{
+    for field in fields {
+        write_field(field, out)?;
+    }
+    Ok(())
+}
+
+fn write_directory<K: Sink>(fields: &[Field], out: &mut K) -> Result<(), Failed>
+    requires few { length fields.now ≤ 8331 }
+    requires small { fields_size fields.now ≤ 1000000 }
+    ensures bytes { OnOk result (Appends (K.written out.old) (K.written out.new) (directory_bytes 0 fields.now)) }
+    ensures front { WritesFront (K.written out.old) (K.written out.new) (directory_bytes 0 fields.now) }
+    ensures tells { is_some (K.written out.new) ≡ is_some (K.written out.old) }
+    ensures cause { HasCause (K.faults out.old) (K.faults out.new) result }
+{
+    let mut start = 0;
+    for field in fields {
+        out.write_all(&entry_block(field, start))?;
+        start += field_len(field);
+    }
+    Ok(())
+}
+
+#[tactic(auto, using(crate::proofs::Lengths::record_bounds))]
+/// Writes a record. After `Failed` some front of its written form was written, maybe none or all.
+pub fn encode<K: Sink>(rec: &Record, out: &mut K) -> Result<(), Failed>
+    requires { IsTrue (fits rec.now.fields) }
+    ensures bytes { OnOk result
+        (Appends (K.written out.old) (K.written out.new) (record_bytes rec.now.leader rec.now.fields)) }
+    ensures front { WritesFront (K.written out.old) (K.written out.new) (record_bytes rec.now.leader rec.now.fields) }
+    ensures tells { is_some (K.written out.new) ≡ is_some (K.written out.old) }
+    ensures cause { HasCause (K.faults out.old) (K.faults out.new) result }
+{
+    let fields = rec.fields.as_slice();
+    let leader = leader_block(&rec.leader, encoded_len(rec), base_len(fields));
+    out.write_all(&leader)?;
+    write_directory(fields, out)?;
+    out.write_all(&[FIELD_TERMINATOR])?;
+    write_fields(fields, out)?;
+    out.write_all(&[RECORD_TERMINATOR])
 }

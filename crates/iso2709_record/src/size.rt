@@ -1,7 +1,7 @@
 ghost use Rattle.std.specs.Prelude.{◌≡◌, ◌≤◌, ◌+◌, length, nat_le};
 ghost use Rattle.std.specs.List.{list_all};
 ghost use Rattle.marc_types.specs.Valid.{subfields_size, field_size, fields_size};
-ghost use Rattle.iso2709_record.specs.Written.{field_length, fields_length, record_length, is_writable, base_address};
+ghost use Rattle.iso2709_record.specs.Written.{field_length, fields_length, record_length, fits, base_address};
 
 use marc_types::{Field, Record, Subfield};
 
@@ -78,9 +78,9 @@ fn each_field_fits(fields: &[Field]) -> bool
 }
 
 /// Whether the leader has room for the record's length, and the directory for each field's.
-#[tactic(auto, using(crate::proofs::Lengths::record_bounds), unfolding(crate::specs::Written::is_writable))]
+#[tactic(auto, using(crate::proofs::Lengths::record_bounds), unfolding(crate::specs::Written::fits))]
 pub fn fits(rec: &Record) -> bool
-    ensures { result ≡ is_writable rec.now.fields }
+    ensures { result ≡ fits rec.now.fields }
 {
     encoded_len(rec) <= MOST_RECORD_LEN && each_field_fits(rec.fields.as_slice())
 }
