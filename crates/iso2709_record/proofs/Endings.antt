@@ -23,7 +23,7 @@ follows_end true bytes i le = ap (follows_on true) (drop_all i bytes le)
 follows_end false bytes i le = ap (follows_on false) (drop_all i bytes le)
 
 -- no byte before the place is the mark
-none_before : (mark : ℕ) (bytes : List ℕ) (place : ℕ) → place ≤ length bytes → ((k : ℕ) → k < place → (get_or bytes k 0 == mark) ≡ true → ⊥)
+pub none_before : (mark : ℕ) (bytes : List ℕ) (place : ℕ) → place ≤ length bytes → ((k : ℕ) → k < place → (get_or bytes k 0 == mark) ≡ true → ⊥)
     → list_any (λ b. b == mark) (take place bytes) ≡ false
 none_before mark bytes place le none =
     list_any_none (λ b. b == mark) (take place bytes) (λ k d lt.

@@ -8,3 +8,4 @@ pub mod Directory
 pub mod Sound
 pub mod RawFields
 pub mod Spelled
+pub mod Cutting

@@ -72,9 +72,14 @@ abbrev pub codes_follow : List ℕ → Bool
 codes_follow [] = true
 codes_follow (b ∷ bs) = (if b == delimiter then starts_with_code bs else true) && codes_follow bs
 
--- There is no byte, or the first is a delimiter; and each delimiter is followed by a code.
+-- There is no byte, or the first is a delimiter.
+abbrev pub starts_subfield : List ℕ → Bool
+starts_subfield [] = true
+starts_subfield (b ∷ bs) = b == delimiter
+
+-- The bytes are subfields: each begins with a delimiter and a code, and nothing stands before the first.
 unfoldable pub is_subfield_data : List ℕ → Bool
-is_subfield_data bytes = ((length bytes == 0) || (slice_index bytes 0 == delimiter)) && codes_follow bytes
+is_subfield_data bytes = starts_subfield bytes && codes_follow bytes
 
 -- Two indicators, which are printable, and subfields.
 unfoldable pub is_variable_data : List ℕ → Bool

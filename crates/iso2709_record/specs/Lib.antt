@@ -3,3 +3,4 @@ pub mod First
 pub mod Layout
 pub mod Faults
 pub mod Raw
+pub mod Spelling

@@ -13,6 +13,7 @@ mod output;
 mod parts;
 mod raw;
 mod size;
+mod subfields;
 
 pub use checking::check;
 pub use decoding::decode;
@@ -23,3 +24,4 @@ pub use output::encode;
 pub use parts::{coding_of, field_of, leader_of};
 pub use raw::{RawField, RawFields, RawRecord};
 pub use size::{encoded_len, field_len, fits};
+pub use subfields::{Cut, first_subfield};

@@ -2,7 +2,7 @@ ghost use Rattle.std.specs.Prelude.{◌≡◌, ◌==◌, not};
 ghost use Rattle.std.specs.List.{list_any, list_all};
 ghost use Rattle.marc_types.specs.Valid.{is_printable, is_alphanumeric};
 ghost use Rattle.iso2709_record.specs.Written.{delimiter};
-ghost use Rattle.iso2709_record.specs.Faults.{ends_once, is_control_data, codes_follow, is_subfield_data, is_variable_data};
+ghost use Rattle.iso2709_record.specs.Faults.{ends_once, is_control_data, starts_subfield, codes_follow, is_subfield_data, is_variable_data};
 
 use marc_types::{is_alphanumeric_byte, is_graphic_byte, is_printable_byte};
 use memchr::memchr;
@@ -66,11 +66,21 @@ fn codes_follow(bytes: &[u8]) -> bool
     !wants_code
 }
 
+/// Whether there is no byte, or the first is a delimiter.
+fn starts_subfield(bytes: &[u8]) -> bool
+    ensures { result ≡ starts_subfield bytes.now }
+{
+    match bytes {
+        [] => true,
+        [first, ..] => *first == DELIMITER,
+    }
+}
+
 #[tactic(auto, unfolding(crate::specs::Faults::is_subfield_data))]
 fn is_subfield_data(bytes: &[u8]) -> bool
     ensures { result ≡ is_subfield_data bytes.now }
 {
-    (bytes.is_empty() || bytes[0] == DELIMITER) && codes_follow(bytes)
+    starts_subfield(bytes) && codes_follow(bytes)
 }
 
 /// Whether two indicators and subfields are all that stands there.
