@@ -30,7 +30,7 @@ text_end bytes (Some place) found = record {
   rest = rw (drop_more bytes place 0 found.0.high) found.1;
 }
 
-graphic_is_no_delimiter : (c : ℕ) → is_graphic c ≡ true → (c == delimiter) ≡ false
+pub graphic_is_no_delimiter : (c : ℕ) → is_graphic c ≡ true → (c == delimiter) ≡ false
 graphic_is_no_delimiter c graphic = let low : 33 ≤ c = leb-true _ _ (and_parts _ _ graphic).0 in ne_eqb c delimiter (λ e. omega arith)
 
 -- a text changes nothing of what follows

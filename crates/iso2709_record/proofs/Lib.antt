@@ -9,3 +9,7 @@ pub mod Sound
 pub mod RawFields
 pub mod Spelled
 pub mod Cutting
+pub mod Spellings
+pub mod Marked
+pub mod Leaders
+pub mod ReadAgain

@@ -2,9 +2,10 @@
 use Rattle.std.specs.Prelude.{ℕ, ◌==◌, Bool, ◌||◌, not, List, map, slice_index}
 use Rattle.std.specs.List.{list_any, range_with_len}
 use Rattle.marc_types.specs.declared.field.Leader.{Leader}
+use Rattle.marc_types.specs.declared.field.Field.{Field}
 use Rattle.iso2709_record.specs.declared.raw.RawField.{RawField}
 use Rattle.iso2709_record.specs.declared.raw.RawRecord.{RawRecord}
-use Rattle.iso2709_record.specs.Written.{record_terminator, field_terminator}
+use Rattle.iso2709_record.specs.Written.{record_terminator, field_terminator, tag_of, field_data}
 use Rattle.iso2709_record.specs.Layout.{entry_count, tag_at, data_at}
 
 -- the leader's bytes 05 to 08 and 17 to 19
@@ -32,6 +33,14 @@ raw_fields bytes entries = map (raw_field bytes) (range_with_len 0 entries)
 
 abbrev pub raw_record : List ℕ → RawRecord
 raw_record bytes = record { leader = leader_at bytes; coding = coding_at bytes; fields = raw_fields bytes (entry_count bytes) }
+
+-- a field before its text is read
+abbrev pub raw_of : Field → RawField
+raw_of field = record { tag = tag_of field; area = field_data field }
+
+-- what a record's written form holds: its text is coded `a`
+abbrev pub raw_of_record : Leader → List Field → RawRecord
+raw_of_record leader fields = record { leader = leader; coding = 97; fields = map raw_of fields }
 
 -- no byte is a terminator
 unfoldable pub has_no_terminator : List ℕ → Bool

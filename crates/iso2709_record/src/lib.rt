@@ -12,6 +12,7 @@ mod memory;
 mod output;
 mod parts;
 mod raw;
+mod reading_laws;
 mod size;
 mod subfields;
 
@@ -23,5 +24,6 @@ pub use memory::{encode_into, encode_vec};
 pub use output::encode;
 pub use parts::{coding_of, field_of, leader_of};
 pub use raw::{RawField, RawFields, RawRecord};
+pub use reading_laws::{one_field, one_spelling};
 pub use size::{encoded_len, field_len, fits};
 pub use subfields::{Cut, first_subfield};
