@@ -1,12 +1,13 @@
-ghost use Rattle.std.specs.Prelude.{◌≡◌, true, List};
+ghost use Rattle.std.specs.Prelude.{◌≡◌, true, List, IsTrue};
 ghost use Rattle.marc_types.specs.Valid.{is_tag};
 ghost use Rattle.marc_types.specs.declared.field.Subfield.{Subfield};
 ghost use Rattle.marc_types.specs.declared.field.Field.{Field};
-ghost use Rattle.iso2709_record.specs.Faults.{fits_tag, is_subfield_data};
-ghost use Rattle.iso2709_record.specs.Raw.{has_no_terminator};
+ghost use Rattle.iso2709_record.specs.Written.{record_bytes, fits};
+ghost use Rattle.iso2709_record.specs.Faults.{fits_tag, is_subfield_data, IsSound};
+ghost use Rattle.iso2709_record.specs.Raw.{has_no_terminator, raw_record, raw_of_record};
 ghost use Rattle.iso2709_record.specs.Spelling.{Spells, IsFieldOf};
 
-use marc_types::Tag;
+use marc_types::{Record, Tag};
 
 /// The bytes of subfields spell some subfields, and no bytes spell two lists of them. This is a law for proofs; the call
 /// does nothing.
@@ -24,4 +25,13 @@ pub fn one_field(tag: Tag, bytes: &[u8])
     ensures there { is_tag tag ≡ true → fits_tag tag bytes.now ≡ true → has_no_terminator bytes.now ≡ true →
         (field : Field) × IsFieldOf tag bytes.now field }
     ensures once { (one other : Field) → IsFieldOf tag bytes.now one → IsFieldOf tag bytes.now other → one ≡ other }
+{}
+
+/// A record's written form is sound, and the reading of it gives the record: its leader bytes, its text coded `a`, and of
+/// each field the tag and the data. This is a law for proofs; the call does nothing.
+#[tactic(auto, using(crate::proofs::ReadAgain::written_is_sound, crate::proofs::ReadAgain::written_holds))]
+pub fn read_again(rec: &Record)
+    requires { IsTrue (fits rec.now.fields) }
+    ensures sound { IsSound (record_bytes rec.now.leader rec.now.fields) }
+    ensures same { raw_record (record_bytes rec.now.leader rec.now.fields) ≡ raw_of_record rec.now.leader rec.now.fields }
 {}
