@@ -13,3 +13,4 @@ pub mod Spellings
 pub mod Marked
 pub mod Leaders
 pub mod ReadAgain
+pub mod Refusals

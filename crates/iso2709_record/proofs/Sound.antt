@@ -1,5 +1,5 @@
 -- What a sound record's bytes keep.
-use Rattle.std.proofs.Common.{◌≡◌, ℕ, ◌+◌, ◌-◌, ◌*◌, ◌<◌, ◌≤◌, Bool, true, false, not, ◌&&◌, ◌||◌, ◌==◌, ltb as nat_lt, leb as nat_le, List, length, get_or, take, drop, refl, lit<, ◌∙◌, arith}
+use Rattle.std.proofs.Common.{◌≡◌, ℕ, zero, suc, ◌+◌, ◌-◌, ◌*◌, ◌<◌, ◌≤◌, Bool, true, false, not, ◌&&◌, ◌||◌, ◌==◌, ltb as nat_lt, leb as nat_le, List, length, get_or, take, drop, refl, lit<, ◌∙◌, arith}
 use Rattle.std.specs.List.{list_all, list_any}
 use Rattle.std.proofs.lemmas.Bool.{and_parts, and_from, or_parts, or_from, ltb-true, leb-true, not-false, not_from_false}
 use Rattle.std.proofs.lemmas.List.{length-take, length-drop, get_or-take, get_or-drop, get_or_default}
@@ -7,7 +7,7 @@ use Rattle.std.proofs.lemmas.List.Folds.{list_any_none}
 use Rattle.std.proofs.lemmas.List.Sums.{AllPass-from_list_all}
 use Rattle.marc_types.specs.Valid.{is_printable, is_tag, is_leader, is_alphanumeric}
 use Rattle.iso2709_record.specs.Written.{record_terminator, field_terminator}
-use Rattle.iso2709_record.specs.Layout.{base_of, entry_count, entry_at, tag_at, length_at, start_at, area_at, data_at}
+use Rattle.iso2709_record.specs.Layout.{base_of, entry_count, entry_at, tag_at, length_at, start_at, area_at, data_at, lengths_of}
 use Rattle.iso2709_record.specs.Faults.{ends_once, has_bad_length, has_bad_leader, lies_within, lengths_fit, is_good_entry, is_good_field, fits_tag, IsSound}
 use Rattle.iso2709_record.specs.Raw.{leader_at, has_no_terminator}
 use Rattle.iso2709_record.proofs.Directory.{extent, size_parts}
@@ -123,3 +123,18 @@ sound_unended bytes entry sound lt =
     rw (area_byte bytes entry k below) (unmarked_before record_terminator bytes (base_of bytes + start_at bytes entry + k) once (omega (arith, good.within, below, whole))) in
     let field_end : (get_or (area_at bytes entry) k 0 == field_terminator) ≡ false = unmarked_before field_terminator (area_at bytes entry) k good.once before in
     rw read (or_from _ _ record_end field_end)))
+
+-- how large a sound record is
+pub record SoundSizes (bytes : List ℕ) : Type 0 where
+  pub size : length bytes ≤ 99999
+  pub entries : entry_count bytes ≤ 8331
+
+pub sound_sizes : (bytes : List ℕ) → IsSound bytes → SoundSizes bytes
+sound_sizes bytes sound =
+    let reach = extent bytes sound.directory.whole in
+    record { size = omega (arith, reach.size); entries = omega (arith, reach.entries, reach.base, reach.size) }
+
+-- the lengths of a sound directory's first entries have room behind the base address
+pub sound_lengths : (bytes : List ℕ) (entries : ℕ) → IsSound bytes → entries ≤ entry_count bytes → lengths_of bytes entries ≤ length bytes - base_of bytes - 1
+sound_lengths bytes zero sound le = omega arith
+sound_lengths bytes (suc entries) sound le = leb-true _ _ (sound_area bytes entries sound (omega arith)).room

@@ -133,8 +133,11 @@ fn first_bad_field(bytes: &[u8], layout: &Layout) -> Option<u32>
 /// Where the parts of a record stand, or why its bytes are refused: for the first of its length, its leader, its
 /// directory and its fields that breaks a rule, and of entries the first that does. Source: ISO 2709 as MARC 21 uses it.
 pub fn check(bytes: &[u8]) -> Result<Layout, Refusal>
+    // The parts of a sound record.
     ensures layout { IfOk result (λ layout. layout ≡ layout_of bytes.now) }
     ensures sound { IfOk result (λ layout. IsSound bytes.now) }
+
+    // The first fault.
     ensures refused { IfErr result (IsFirstFault bytes.now) }
 {
     if has_bad_length(bytes) {

@@ -24,6 +24,6 @@ pub use memory::{encode_into, encode_vec};
 pub use output::encode;
 pub use parts::{coding_of, field_of, leader_of};
 pub use raw::{RawField, RawFields, RawRecord};
-pub use reading_laws::{one_field, one_spelling, read_again};
+pub use reading_laws::{one_answer, one_field, one_spelling, read_again, sound_sizes};
 pub use size::{encoded_len, field_len, fits};
 pub use subfields::{Cut, first_subfield};
