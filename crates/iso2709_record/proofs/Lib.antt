@@ -3,3 +3,4 @@ pub mod Lengths
 pub mod Places
 pub mod Progress
 pub mod Spelled
+pub mod Terminators
