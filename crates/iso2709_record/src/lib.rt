@@ -6,6 +6,8 @@ mod laws;
 mod memory;
 mod output;
 mod size;
+#[cfg(test)]
+mod tests;
 
 pub use laws::spelled_once;
 pub use memory::{encode_into, encode_vec};
