@@ -102,7 +102,7 @@ unfolding entry_bytes
 entry_has_none mark start f m h =
     has-append mark (((tag_of f).a ∷ (tag_of f).b ∷ (tag_of f).c ∷ []) ++ four_digits (field_length f)) (five_digits start)
     (has-append mark ((tag_of f).a ∷ (tag_of f).b ∷ (tag_of f).c ∷ []) (four_digits (field_length f))
-      (tag_has_none mark (tag_of f) m (tag_valid f h)) (four_digits_have_none mark (field_length f) m))
+    (tag_has_none mark (tag_of f) m (tag_valid f h)) (four_digits_have_none mark (field_length f) m))
     (five_digits_have_none mark start m)
 
 pub directory_has_none : (mark start : ℕ) (fs : List Field) → IsTerminator mark → list_all is_field fs ≡ true → has mark (directory_bytes start fs) ≡ false
@@ -128,9 +128,9 @@ leader_has_none mark l size base m h =
     let printable = and_parts (list_all is_printable first) (list_all is_printable last) (sym (list_all-append is_printable first last) ∙ h) in
     has-append mark (five_digits size ++ (first ++ coding) ++ five_digits base) (last ++ map)
     (has-append mark (five_digits size ++ (first ++ coding)) (five_digits base)
-      (has-append mark (five_digits size) (first ++ coding) (five_digits_have_none mark size m)
-        (has-append mark first coding (printables_have_none mark first m printable.0) (printables_have_none mark coding m refl)))
-      (five_digits_have_none mark base m))
+    (has-append mark (five_digits size) (first ++ coding) (five_digits_have_none mark size m)
+    (has-append mark first coding (printables_have_none mark first m printable.0) (printables_have_none mark coding m refl)))
+    (five_digits_have_none mark base m))
     (has-append mark last map (printables_have_none mark last m printable.1) (printables_have_none mark map m refl))
 
 -- fields end by field terminators, which are no record terminators
@@ -163,8 +163,8 @@ record_front_has_none l fs h =
     let directory = directory_bytes 0 fs in
     has-append record_terminator (leader ++ directory ++ field_terminator ∷ []) (flat_map field_bytes fs)
     (has-append record_terminator (leader ++ directory) (field_terminator ∷ [])
-      (has-append record_terminator leader directory
-        (leader_has_none record_terminator l (record_length fs) (base_address fs) mark valid.0)
-        (directory_has_none record_terminator 0 fs mark valid.1))
-      refl)
+    (has-append record_terminator leader directory
+    (leader_has_none record_terminator l (record_length fs) (base_address fs) mark valid.0)
+    (directory_has_none record_terminator 0 fs mark valid.1))
+    refl)
     (fields_have_no_record_terminator fs valid.1)

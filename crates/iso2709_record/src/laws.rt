@@ -11,7 +11,6 @@ pub fn spelled_once(one: &Record, other: &Record)
     requires other_fits { IsTrue (fits other.now.fields) }
     ensures { (behind_one behind_other : List ℕ) →
         record_bytes one.now.leader one.now.fields ++ behind_one
-            ≡ record_bytes other.now.leader other.now.fields ++ behind_other →
+        ≡ record_bytes other.now.leader other.now.fields ++ behind_other →
         (one.now.leader ≡ other.now.leader) × (one.now.fields ≡ other.now.fields) × (behind_one ≡ behind_other) }
-{
-}
+{}

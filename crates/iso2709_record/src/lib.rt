@@ -2,6 +2,7 @@
 #![tactic(auto)]
 
 mod blocks;
+mod fields;
 mod laws;
 mod memory;
 mod output;

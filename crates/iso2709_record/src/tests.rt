@@ -1,7 +1,9 @@
 ghost use Rattle.std.specs.Prelude.{◌≡◌, Some};
 
 use crate::{encode, encode_into, encode_vec, encoded_len, field_len, fits, spelled_once};
-use marc_types::{makes_record, Field, Fields, Leader, NoMemory, Record, Subfield, Subfields, Tag, Text};
+use marc_types::{
+    Field, Fields, Leader, NoMemory, Record, Subfield, Subfields, Tag, Text, makes_record,
+};
 use outside::{Failed, Sink};
 use std::alloc::Global;
 use std::process::Abort;
@@ -73,7 +75,12 @@ fn authority(rt: &impl Abort, alloc: Global) -> Result<Record, NoMemory> {
     let mut fields = Vec::new(alloc);
     fields.push(control(alloc, b"001", "n79021164")?)?;
     fields.push(control(alloc, b"003", "DLC")?)?;
-    fields.push(variable(alloc, b"100", b"1 ", &[(b'a', "Twain, Mark,"), (b'd', "1835-1910")])?)?;
+    fields.push(variable(
+        alloc,
+        b"100",
+        b"1 ",
+        &[(b'a', "Twain, Mark,"), (b'd', "1835-1910")],
+    )?)?;
     fields.push(variable(
         alloc,
         b"400",
