@@ -14,3 +14,4 @@ pub mod Marked
 pub mod Leaders
 pub mod ReadAgain
 pub mod Refusals
+pub mod Terminators

@@ -5,6 +5,12 @@ ghost use Rattle.iso2709_record.specs.Written.{digit, entry_bytes, leader_bytes,
 use crate::size::field_len;
 use marc_types::{Field, Leader, Tag};
 
+pub(crate) const RECORD_TERMINATOR: u8 = 0x1d;
+
+pub(crate) const FIELD_TERMINATOR: u8 = 0x1e;
+
+pub(crate) const DELIMITER: u8 = 0x1f;
+
 /// The character of the last decimal digit.
 fn digit(number: u64) -> u8
     ensures { result ≡ digit number }

@@ -5,6 +5,7 @@ mod blocks;
 mod checking;
 mod decimal;
 mod decoding;
+mod fields;
 mod laws;
 mod layout;
 mod marks;
@@ -15,6 +16,8 @@ mod raw;
 mod reading_laws;
 mod size;
 mod subfields;
+#[cfg(test)]
+mod tests;
 
 pub use checking::check;
 pub use decoding::decode;

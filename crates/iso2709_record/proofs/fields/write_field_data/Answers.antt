@@ -3,7 +3,7 @@ use Rattle.std.specs.List.{flat_map}
 use Rattle.std.proofs.lemmas.Result.{on_ok_weaker}
 use Rattle.iso2709_record.specs.Written.{field_data, subfield_bytes}
 use Rattle.outside.proofs.Fronts.{front_more, front_then, appends_then}
-use Rattle.iso2709_record.proofs.output.write_field_data.Goals as goal
+use Rattle.iso2709_record.proofs.fields.write_field_data.Goals as goal
 
 pub returns-in-Control-clause-bytes : goal.returns-in-Control-clause-bytes
 unfolding field_data

@@ -1,7 +1,7 @@
 use Rattle.std.proofs.Common.{◌∷◌, []}
 use Rattle.iso2709_record.specs.Written.{subfield_bytes, delimiter}
 use Rattle.outside.proofs.Fronts.{front_more, front_then}
-use Rattle.iso2709_record.proofs.output.write_subfield.Goals as goal
+use Rattle.iso2709_record.proofs.fields.write_subfield.Goals as goal
 
 pub returns-in_err-write_all-clause-front : goal.returns-in_err-write_all-clause-front
 unfolding subfield_bytes

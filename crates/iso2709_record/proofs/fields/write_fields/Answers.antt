@@ -1,7 +1,7 @@
 use Rattle.iso2709_record.specs.Written.{field_bytes}
 use Rattle.iso2709_record.proofs.Progress.{writing_more, writing_failed, piece_next}
 use Rattle.std.proofs.Common.{◌∙◌, arith}
-use Rattle.iso2709_record.proofs.output.write_fields.Goals as goal
+use Rattle.iso2709_record.proofs.fields.write_fields.Goals as goal
 
 pub returns-in_err-write_field-clause-front : goal.returns-in_err-write_field-clause-front
 returns-in_err-write_field-clause-front g c =

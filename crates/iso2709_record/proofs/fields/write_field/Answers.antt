@@ -1,7 +1,7 @@
 use Rattle.std.proofs.Common.{◌∷◌, []}
 use Rattle.iso2709_record.specs.Written.{field_bytes, field_data, field_terminator}
 use Rattle.outside.proofs.Fronts.{front_more, front_then}
-use Rattle.iso2709_record.proofs.output.write_field.Goals as goal
+use Rattle.iso2709_record.proofs.fields.write_field.Goals as goal
 
 pub returns-in_err-write_field_data-clause-front : goal.returns-in_err-write_field_data-clause-front
 unfolding field_bytes

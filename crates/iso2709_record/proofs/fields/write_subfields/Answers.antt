@@ -1,7 +1,7 @@
 use Rattle.iso2709_record.specs.Written.{subfield_bytes}
 use Rattle.iso2709_record.proofs.Progress.{writing_more, writing_failed, piece_next}
 use Rattle.std.proofs.Common.{◌∙◌, arith}
-use Rattle.iso2709_record.proofs.output.write_subfields.Goals as goal
+use Rattle.iso2709_record.proofs.fields.write_subfields.Goals as goal
 
 pub returns-in_err-write_subfield-clause-front : goal.returns-in_err-write_subfield-clause-front
 returns-in_err-write_subfield-clause-front g c =

@@ -3,7 +3,7 @@ use Rattle.std.specs.Prelude.{is_some}
 use Rattle.std.specs.List.{flat_map}
 use Rattle.iso2709_record.specs.Written.{field_bytes}
 use Rattle.iso2709_record.proofs.Progress.{IsWriting}
-use Rattle.iso2709_record.proofs.output.write_fields.Given as goal
+use Rattle.iso2709_record.proofs.fields.write_fields.Given as goal
 
 abbrev pub invariant-loop-field : goal.invariant-loop-field
 invariant-loop-field g l = record {
