@@ -1,8 +1,6 @@
-ghost use Rattle.std.specs.Prelude.{◌≡◌, ◌≤◌};
-ghost use Rattle.marc_types.specs.Valid.{field_size};
-ghost use Rattle.iso2709_record.specs.Written.{digit, entry_bytes, leader_bytes, tag_of};
+ghost use Rattle.std.specs.Prelude.{◌≡◌};
+ghost use Rattle.iso2709_record.specs.Written.{digit, entry_bytes, field_length, leader_bytes, tag_of};
 
-use crate::size::field_len;
 use marc_types::{Field, Leader, Tag};
 
 pub(crate) const RECORD_TERMINATOR: u8 = 0x1d;
@@ -51,14 +49,13 @@ pub(crate) fn leader_block(leader: &Leader, size: u64, base: u64) -> [u8; 24]
     ]
 }
 
-/// The directory entry of a field that starts so many bytes behind the base address.
+/// The directory entry of a field of that length, which starts so many bytes behind the base address.
 #[tactic(auto, unfolding(crate::specs::Written::entry_bytes, crate::specs::Written::four_digits, crate::specs::Written::five_digits))]
-pub(crate) fn entry_block(field: &Field, start: u64) -> [u8; 12]
-    requires { field_size field.now ≤ 1000000 }
+pub(crate) fn entry_block(field: &Field, len: u64, start: u64) -> [u8; 12]
+    requires { len ≡ field_length field.now }
     ensures { result ≡ entry_bytes start field.now }
 {
     let tag = tag_of(field);
-    let len = field_len(field);
     [
         tag.a,
         tag.b,

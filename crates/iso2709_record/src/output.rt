@@ -3,13 +3,24 @@ ghost use Rattle.std.specs.Io.KnownBytes.{Appends};
 ghost use Rattle.outside.specs.Fault.{HasCause};
 ghost use Rattle.outside.specs.Sink.{WritesFront};
 ghost use Rattle.marc_types.specs.Valid.{fields_size};
-ghost use Rattle.iso2709_record.specs.Written.{directory_bytes, record_bytes, fits};
+ghost use Rattle.iso2709_record.specs.Written.{base_address, directory_bytes, fits, leader_bytes, record_bytes, record_length};
 
 use crate::blocks::{FIELD_TERMINATOR, RECORD_TERMINATOR, entry_block, leader_block};
 use crate::fields::write_fields;
 use crate::size::{base_len, encoded_len, field_len};
 use marc_types::{Field, Record};
 use outside::{Failed, Sink};
+
+#[tactic(auto, using(crate::proofs::Lengths::record_bounds))]
+fn write_leader<K: Sink>(rec: &Record, out: &mut K) -> Result<(), Failed>
+    ensures bytes { OnOk result (Appends (K.written out.old) (K.written out.new) (leader_bytes rec.now.leader (record_length rec.now.fields) (base_address rec.now.fields))) }
+    ensures front { WritesFront (K.written out.old) (K.written out.new) (leader_bytes rec.now.leader (record_length rec.now.fields) (base_address rec.now.fields)) }
+    ensures tells { is_some (K.written out.new) ≡ is_some (K.written out.old) }
+    ensures cause { HasCause (K.faults out.old) (K.faults out.new) result }
+{
+    let base = base_len(rec.fields.as_slice());
+    out.write_all(&leader_block(&rec.leader, encoded_len(rec), base))
+}
 
 fn write_directory<K: Sink>(fields: &[Field], out: &mut K) -> Result<(), Failed>
     requires few { length fields.now ≤ 8331 }
@@ -21,8 +32,9 @@ fn write_directory<K: Sink>(fields: &[Field], out: &mut K) -> Result<(), Failed>
 {
     let mut start = 0;
     for field in fields {
-        out.write_all(&entry_block(field, start))?;
-        start += field_len(field);
+        let len = field_len(field);
+        out.write_all(&entry_block(field, len, start))?;
+        start += len;
     }
     Ok(())
 }
@@ -38,8 +50,7 @@ pub fn encode<K: Sink>(rec: &Record, out: &mut K) -> Result<(), Failed>
     ensures cause { HasCause (K.faults out.old) (K.faults out.new) result }
 {
     let fields = rec.fields.as_slice();
-    let leader = leader_block(&rec.leader, encoded_len(rec), base_len(fields));
-    out.write_all(&leader)?;
+    write_leader(rec, out)?;
     write_directory(fields, out)?;
     out.write_all(&[FIELD_TERMINATOR])?;
     write_fields(fields, out)?;
