@@ -55,9 +55,9 @@ length-directory_bytes start [] = refl
 length-directory_bytes start (f ∷ fs) =
     omega (arith, length-append (entry_bytes start f) (directory_bytes (start + field_length f) fs), length-entry_bytes start f, length-directory_bytes (start + field_length f) fs)
 
-pub length-leader_bytes : (l : Leader) (size base : ℕ) → length (leader_bytes l size base) ≡ 24
+pub length-leader_bytes : (l : Leader) (fs : List Field) → length (leader_bytes l fs) ≡ 24
 unfolding leader_bytes five_digits
-length-leader_bytes l size base = refl
+length-leader_bytes l fs = refl
 
 pub ruleset field_lengths = (field_length-control, field_length-variable)
 

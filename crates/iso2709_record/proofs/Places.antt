@@ -22,11 +22,11 @@ behind_place : (front back : List ℕ) (from more : ℕ) → length front ≡ fr
 behind_place front back from more at = ap (λ n. drop (n + more) (front ++ back)) (sym at) ∙ drop-append-add front back more
 
 -- the first 24 bytes are the leader
-pub leader_place : (l : Leader) (fs : List Field) → take 24 (record_bytes l fs) ≡ leader_bytes l (record_length fs) (base_address fs)
+pub leader_place : (l : Leader) (fs : List Field) → take 24 (record_bytes l fs) ≡ leader_bytes l fs
 unfolding record_bytes
 leader_place l fs =
-    let leader = leader_bytes l (record_length fs) (base_address fs) in
-    simp append_assoc (take_at leader (directory_bytes 0 fs ++ (field_terminator ∷ (flat_map field_bytes fs ++ record_terminator ∷ []))) 24 (length-leader_bytes l (record_length fs) (base_address fs)))
+    let leader = leader_bytes l fs in
+    simp append_assoc (take_at leader (directory_bytes 0 fs ++ (field_terminator ∷ (flat_map field_bytes fs ++ record_terminator ∷ []))) 24 (length-leader_bytes l fs))
 
 -- behind so many entries the directory goes on with the next field, which starts behind the fields before it
 pub drop-directory_bytes : (start i : ℕ) (fs : List Field) → i ≤ length fs
@@ -65,7 +65,7 @@ pub entry_place : (l : Leader) (fs : List Field) (i : ℕ) (f : Field) → i < l
     → slice_range (record_bytes l fs) (24 + 12 * i) (36 + 12 * i) ≡ entry_bytes (fields_length (take i fs)) f
 unfolding record_bytes
 entry_place l fs i f h is =
-    let leader = leader_bytes l (record_length fs) (base_address fs) in
+    let leader = leader_bytes l fs in
     let directory = directory_bytes 0 fs in
     let rest = field_terminator ∷ (flat_map field_bytes fs ++ record_terminator ∷ []) in
     let start = fields_length (take i fs) in
@@ -78,7 +78,7 @@ entry_place l fs i f h is =
     ∙ entry_next start (field_length f) fs i f h is refl in
     ap (λ n. take n (drop (24 + 12 * i) (record_bytes l fs))) size
     ∙ ap (λ bytes. take 12 (drop (24 + 12 * i) bytes)) parts
-    ∙ ap (take 12) (behind_place leader (directory ++ rest) 24 (12 * i) (length-leader_bytes l (record_length fs) (base_address fs)))
+    ∙ ap (take 12) (behind_place leader (directory ++ rest) 24 (12 * i) (length-leader_bytes l fs))
     ∙ front_place directory rest (entry_bytes start f) (directory_bytes (start + field_length f) (drop (i + 1) fs)) (12 * i) 12 within next (length-entry_bytes start f)
 
 -- the area of a field: so many bytes from its start on, behind the base address
@@ -86,13 +86,13 @@ pub area_place : (l : Leader) (fs : List Field) (i : ℕ) (f : Field) → i < le
     → take (field_length f) (drop (base_address fs + fields_length (take i fs)) (record_bytes l fs)) ≡ field_bytes f
 unfolding record_bytes field_length
 area_place l fs i f h is =
-    let leader = leader_bytes l (record_length fs) (base_address fs) in
+    let leader = leader_bytes l fs in
     let before = leader ++ directory_bytes 0 fs ++ field_terminator ∷ [] in
     let fields = flat_map field_bytes fs in
     let start = fields_length (take i fs) in
     let parts : record_bytes l fs ≡ before ++ (fields ++ record_terminator ∷ []) = append_assoc before fields (record_terminator ∷ []) in
     let at : length before ≡ base_address fs =
-    omega (arith, length-append (leader ++ directory_bytes 0 fs) (field_terminator ∷ []), length-append leader (directory_bytes 0 fs), length-leader_bytes l (record_length fs) (base_address fs), length-directory_bytes 0 fs) in
+    omega (arith, length-append (leader ++ directory_bytes 0 fs) (field_terminator ∷ []), length-append leader (directory_bytes 0 fs), length-leader_bytes l fs, length-directory_bytes 0 fs) in
     let within : start ≤ length fields = omega (arith, length-fields fs, fields_length-take i fs) in
     let next : drop start fields ≡ field_bytes f ++ flat_map field_bytes (drop (i + 1) fs) =
     drop-fields i fs ∙ piece_next field_bytes fs i f h is in

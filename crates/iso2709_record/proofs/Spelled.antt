@@ -148,9 +148,10 @@ leader_same : (l m : Leader) → l.status ≡ m.status → l.rtype ≡ m.rtype �
 leader_same l m a b c d e f g =
     λ i. record { status = a i; rtype = b i; level = c i; control = d i; encoding = e i; form = f i; linked = g i }
 
-leader_spelled_once : (l m : Leader) (s t b c : ℕ) → leader_bytes l s b ≡ leader_bytes m t c → (l ≡ m) × (five_digits b ≡ five_digits c)
+leader_spelled_once : (l m : Leader) (fs gs : List Field) → leader_bytes l fs ≡ leader_bytes m gs
+    → (l ≡ m) × (five_digits (base_address fs) ≡ five_digits (base_address gs))
 unfolding leader_bytes five_digits
-leader_spelled_once l m s t b c e = (leader_same l m (cc) (cc) (cc) (cc) (cc) (cc) (cc), cc)
+leader_spelled_once l m fs gs e = (leader_same l m (cc) (cc) (cc) (cc) (cc) (cc) (cc), cc)
 
 -- what stands behind the directory, and the bytes that follow the record
 abbrev behind_directory : List Field → List ℕ → List ℕ
@@ -161,7 +162,7 @@ abbrev behind_leader : List Field → List ℕ → List ℕ
 behind_leader fs x = directory_bytes 0 fs ++ behind_directory fs x
 
 pub record_bytes-parts : (l : Leader) (fs : List Field) (x : List ℕ)
-    → record_bytes l fs ++ x ≡ leader_bytes l (record_length fs) (base_address fs) ++ behind_leader fs x
+    → record_bytes l fs ++ x ≡ leader_bytes l fs ++ behind_leader fs x
 unfolding record_bytes
 record_bytes-parts l fs x = simp append_assoc
 
@@ -180,14 +181,10 @@ fields_short fs h = (and_parts _ _ h).1
 pub record_spelled_once : (l m : Leader) (fs gs : List Field) (x y : List ℕ) → is_record l fs ≡ true → is_record m gs ≡ true
     → fits fs ≡ true → fits gs ≡ true → record_bytes l fs ++ x ≡ record_bytes m gs ++ y → (l ≡ m) × (fs ≡ gs) × (x ≡ y)
 record_spelled_once l m fs gs x y p q fits_f fits_g e =
-    let leaders = parts_same
-    (leader_bytes l (record_length fs) (base_address fs))
-    (leader_bytes m (record_length gs) (base_address gs))
-    (behind_leader fs x)
-    (behind_leader gs y)
-    (length-leader_bytes l (record_length fs) (base_address fs) ∙ sym (length-leader_bytes m (record_length gs) (base_address gs)))
+    let leaders = parts_same (leader_bytes l fs) (leader_bytes m gs) (behind_leader fs x) (behind_leader gs y)
+    (length-leader_bytes l fs ∙ sym (length-leader_bytes m gs))
     (sym (record_bytes-parts l fs x) ∙ e ∙ record_bytes-parts m gs y) in
-    let led = leader_spelled_once l m (record_length fs) (record_length gs) (base_address fs) (base_address gs) leaders.0 in
+    let led = leader_spelled_once l m fs gs leaders.0 in
     let bounds_f = record_bounds l fs p in
     let bounds_g = record_bounds m gs q in
     let bases = five_digits_same (base_address fs) (base_address gs) (omega arith) (omega arith) led.1 in

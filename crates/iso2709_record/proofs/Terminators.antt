@@ -118,9 +118,11 @@ printables_have_none mark (b ∷ bytes) m h =
     let parts = and_parts _ _ h in
     has-cons mark b bytes (no_printable mark b m parts.0) (printables_have_none mark bytes m parts.1)
 
-pub leader_has_none : (mark : ℕ) (l : Leader) (size base : ℕ) → IsTerminator mark → is_leader l ≡ true → has mark (leader_bytes l size base) ≡ false
+pub leader_has_none : (mark : ℕ) (l : Leader) (fs : List Field) → IsTerminator mark → is_leader l ≡ true → has mark (leader_bytes l fs) ≡ false
 unfolding leader_bytes is_leader
-leader_has_none mark l size base m h =
+leader_has_none mark l fs m h =
+    let size = record_length fs in
+    let base = base_address fs in
     let first = l.status ∷ l.rtype ∷ l.level ∷ l.control ∷ [] in
     let last = l.encoding ∷ l.form ∷ l.linked ∷ [] in
     let coding = 97 ∷ 50 ∷ 50 ∷ [] in
@@ -147,7 +149,7 @@ fields_have_no_record_terminator (f ∷ fs) h =
 -- a written record without its terminator
 abbrev pub record_front : Leader → List Field → List ℕ
 record_front l fs =
-    leader_bytes l (record_length fs) (base_address fs) ++ directory_bytes 0 fs ++ field_terminator ∷ [] ++ flat_map field_bytes fs
+    leader_bytes l fs ++ directory_bytes 0 fs ++ field_terminator ∷ [] ++ flat_map field_bytes fs
 
 pub record_bytes-front : (l : Leader) (fs : List Field) → record_bytes l fs ≡ record_front l fs ++ record_terminator ∷ []
 unfolding record_bytes
@@ -159,12 +161,12 @@ unfolding is_record
 record_front_has_none l fs h =
     let valid = and_parts _ _ (and_parts _ _ (and_parts _ _ h).0).0 in
     let mark : IsTerminator record_terminator = record { least = lit≤ tt; most = lit≤ tt } in
-    let leader = leader_bytes l (record_length fs) (base_address fs) in
+    let leader = leader_bytes l fs in
     let directory = directory_bytes 0 fs in
     has-append record_terminator (leader ++ directory ++ field_terminator ∷ []) (flat_map field_bytes fs)
     (has-append record_terminator (leader ++ directory) (field_terminator ∷ [])
     (has-append record_terminator leader directory
-    (leader_has_none record_terminator l (record_length fs) (base_address fs) mark valid.0)
+    (leader_has_none record_terminator l fs mark valid.0)
     (directory_has_none record_terminator 0 fs mark valid.1))
     refl)
     (fields_have_no_record_terminator fs valid.1)

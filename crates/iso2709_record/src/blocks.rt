@@ -1,7 +1,8 @@
 ghost use Rattle.std.specs.Prelude.{◌≡◌};
 ghost use Rattle.iso2709_record.specs.Written.{digit, entry_bytes, field_length, leader_bytes, tag_of};
 
-use marc_types::{Field, Leader, Tag};
+use crate::size::{base_len, encoded_len};
+use marc_types::{Field, Record, Tag};
 
 pub(crate) const RECORD_TERMINATOR: u8 = 0x1d;
 
@@ -16,11 +17,14 @@ fn digit(number: u64) -> u8
     b'0' + (number % 10) as u8
 }
 
-/// A leader in its written form: the record's own bytes of it, with the coding `a` for UTF-8.
-#[tactic(auto, unfolding(crate::specs::Written::leader_bytes, crate::specs::Written::five_digits))]
-pub(crate) fn leader_block(leader: &Leader, size: u64, base: u64) -> [u8; 24]
-    ensures { result ≡ leader_bytes leader.now size base }
+/// The leader in its written form: the record's own bytes of it, with the coding `a` for UTF-8.
+#[tactic(auto, using(crate::proofs::Lengths::record_bounds), unfolding(crate::specs::Written::leader_bytes, crate::specs::Written::five_digits))]
+pub(crate) fn leader_block(rec: &Record) -> [u8; 24]
+    ensures { result ≡ leader_bytes rec.now.leader rec.now.fields }
 {
+    let leader = rec.leader;
+    let size = encoded_len(rec);
+    let base = base_len(rec.fields.as_slice());
     [
         digit(size / 10_000),
         digit(size / 1_000),

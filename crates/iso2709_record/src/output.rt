@@ -3,23 +3,21 @@ ghost use Rattle.std.specs.Io.KnownBytes.{Appends};
 ghost use Rattle.outside.specs.Fault.{HasCause};
 ghost use Rattle.outside.specs.Sink.{WritesFront};
 ghost use Rattle.marc_types.specs.Valid.{fields_size};
-ghost use Rattle.iso2709_record.specs.Written.{base_address, directory_bytes, fits, leader_bytes, record_bytes, record_length};
+ghost use Rattle.iso2709_record.specs.Written.{directory_bytes, fits, leader_bytes, record_bytes};
 
 use crate::blocks::{FIELD_TERMINATOR, RECORD_TERMINATOR, entry_block, leader_block};
 use crate::fields::write_fields;
-use crate::size::{base_len, encoded_len, field_len};
+use crate::size::field_len;
 use marc_types::{Field, Record};
 use outside::{Failed, Sink};
 
-#[tactic(auto, using(crate::proofs::Lengths::record_bounds))]
 fn write_leader<K: Sink>(rec: &Record, out: &mut K) -> Result<(), Failed>
-    ensures bytes { OnOk result (Appends (K.written out.old) (K.written out.new) (leader_bytes rec.now.leader (record_length rec.now.fields) (base_address rec.now.fields))) }
-    ensures front { WritesFront (K.written out.old) (K.written out.new) (leader_bytes rec.now.leader (record_length rec.now.fields) (base_address rec.now.fields)) }
+    ensures bytes { OnOk result (Appends (K.written out.old) (K.written out.new) (leader_bytes rec.now.leader rec.now.fields)) }
+    ensures front { WritesFront (K.written out.old) (K.written out.new) (leader_bytes rec.now.leader rec.now.fields) }
     ensures tells { is_some (K.written out.new) ≡ is_some (K.written out.old) }
     ensures cause { HasCause (K.faults out.old) (K.faults out.new) result }
 {
-    let base = base_len(rec.fields.as_slice());
-    out.write_all(&leader_block(&rec.leader, encoded_len(rec), base))
+    out.write_all(&leader_block(rec))
 }
 
 fn write_directory<K: Sink>(fields: &[Field], out: &mut K) -> Result<(), Failed>
@@ -39,8 +37,8 @@ fn write_directory<K: Sink>(fields: &[Field], out: &mut K) -> Result<(), Failed>
     Ok(())
 }
 
+/// Writes a record, which has to fit. After `Failed` some front of its written form was written, maybe none or all.
 #[tactic(auto, using(crate::proofs::Lengths::record_bounds))]
-/// Writes a record. After `Failed` some front of its written form was written, maybe none or all.
 pub fn encode<K: Sink>(rec: &Record, out: &mut K) -> Result<(), Failed>
     requires { IsTrue (fits rec.now.fields) }
     ensures bytes { OnOk result

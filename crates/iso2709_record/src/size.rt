@@ -57,8 +57,8 @@ pub(crate) fn base_len(fields: &[Field]) -> u64
     25 + 12 * fields.len() as u64
 }
 
-#[tactic(auto, using(crate::proofs::Lengths::record_bounds))]
 /// The bytes of a record as it is written: 25, with 12 for each field, the fields' lengths, and 1.
+#[tactic(auto, using(crate::proofs::Lengths::record_bounds))]
 pub fn encoded_len(rec: &Record) -> u64
     ensures { result ≡ record_length rec.now.fields }
 {
