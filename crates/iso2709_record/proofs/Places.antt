@@ -26,7 +26,8 @@ pub leader_place : (l : Leader) (fs : List Field) → take 24 (record_bytes l fs
 unfolding record_bytes
 leader_place l fs =
     let leader = leader_bytes l fs in
-    simp append_assoc (take_at leader (directory_bytes 0 fs ++ (field_terminator ∷ (flat_map field_bytes fs ++ record_terminator ∷ []))) 24 (length-leader_bytes l fs))
+    let rest = directory_bytes 0 fs ++ (field_terminator ∷ (flat_map field_bytes fs ++ record_terminator ∷ [])) in
+    simp append_assoc (take_at leader rest 24 (length-leader_bytes l fs))
 
 -- behind so many entries the directory goes on with the next field, which starts behind the fields before it
 pub drop-directory_bytes : (start i : ℕ) (fs : List Field) → i ≤ length fs
@@ -58,7 +59,8 @@ fields_length-take (suc i) (f ∷ fs) = omega (arith, fields_length-take i fs)
 front_place : (front back part rest : List ℕ) (from size : ℕ) → from ≤ length front → drop from front ≡ part ++ rest → length part ≡ size
     → take size (drop from (front ++ back)) ≡ part
 front_place front back part rest from size within at long =
-    ap (take size) (drop-append-le from front back within ∙ ap (λ l. l ++ back) at ∙ append_assoc part rest back) ∙ take_at part (rest ++ back) size long
+    ap (take size) (drop-append-le from front back within ∙ ap (λ l. l ++ back) at ∙ append_assoc part rest back)
+    ∙ take_at part (rest ++ back) size long
 
 -- twelve bytes for each entry, behind the leader: each names the start of its field behind the base address
 pub entry_place : (l : Leader) (fs : List Field) (i : ℕ) (f : Field) → i < length fs → f ≡ get_or fs i f
@@ -79,7 +81,7 @@ entry_place l fs i f h is =
     ap (λ n. take n (drop (24 + 12 * i) (record_bytes l fs))) size
     ∙ ap (λ bytes. take 12 (drop (24 + 12 * i) bytes)) parts
     ∙ ap (take 12) (behind_place leader (directory ++ rest) 24 (12 * i) (length-leader_bytes l fs))
-    ∙ front_place directory rest (entry_bytes start f) (directory_bytes (start + field_length f) (drop (i + 1) fs)) (12 * i) 12 within next (length-entry_bytes start f)
+    ∙ front_place directory rest (entry_bytes start f) _ (12 * i) 12 within next (length-entry_bytes start f)
 
 -- the area of a field: so many bytes from its start on, behind the base address
 pub area_place : (l : Leader) (fs : List Field) (i : ℕ) (f : Field) → i < length fs → f ≡ get_or fs i f
@@ -92,10 +94,10 @@ area_place l fs i f h is =
     let start = fields_length (take i fs) in
     let parts : record_bytes l fs ≡ before ++ (fields ++ record_terminator ∷ []) = append_assoc before fields (record_terminator ∷ []) in
     let at : length before ≡ base_address fs =
-    omega (arith, length-append (leader ++ directory_bytes 0 fs) (field_terminator ∷ []), length-append leader (directory_bytes 0 fs), length-leader_bytes l fs, length-directory_bytes 0 fs) in
+    simp (length-append, length-leader_bytes, length-directory_bytes) (omega arith) in
     let within : start ≤ length fields = omega (arith, length-fields fs, fields_length-take i fs) in
     let next : drop start fields ≡ field_bytes f ++ flat_map field_bytes (drop (i + 1) fs) =
     drop-fields i fs ∙ piece_next field_bytes fs i f h is in
     ap (λ bytes. take (field_length f) (drop (base_address fs + start) bytes)) parts
     ∙ ap (take (field_length f)) (behind_place before (fields ++ record_terminator ∷ []) (base_address fs) start at)
-    ∙ front_place fields (record_terminator ∷ []) (field_bytes f) (flat_map field_bytes (drop (i + 1) fs)) start (field_length f) within next refl
+    ∙ front_place fields (record_terminator ∷ []) (field_bytes f) _ start (field_length f) within next refl

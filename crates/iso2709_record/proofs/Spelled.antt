@@ -136,10 +136,11 @@ fields_spelled_once s t (f ∷ fs) (g ∷ gs) x y p q m n d e =
     let short_g = and_parts _ _ n in
     let entries = parts_same (entry_bytes s f) (entry_bytes t g) _ _ (length-entry_bytes s f ∙ sym (length-entry_bytes t g)) d in
     let named = entry_spelled_once s t f g (leb-true _ _ short_f.0) (leb-true _ _ short_g.0) entries.0 in
-    let areas = parts_same (field_bytes f) (field_bytes g) (flat_map field_bytes fs ++ x) (flat_map field_bytes gs ++ y) (lengths_same f g named.1)
+    let areas = parts_same (field_bytes f) (field_bytes g) _ _ (lengths_same f g named.1)
     (sym (append_assoc (field_bytes f) (flat_map field_bytes fs) x) ∙ e ∙ append_assoc (field_bytes g) (flat_map field_bytes gs) y) in
     let first : f ≡ g = field_spelled_once f g valid_f.0 valid_g.0 named.0 (data_same f g areas.0) in
-    let rest = fields_spelled_once (s + field_length f) (t + field_length g) fs gs x y valid_f.1 valid_g.1 short_f.1 short_g.1 entries.1 areas.1 in
+    let rest = fields_spelled_once (s + field_length f) (t + field_length g) fs gs x y valid_f.1 valid_g.1
+    short_f.1 short_g.1 entries.1 areas.1 in
     let others : fs ≡ gs = rest.0 in
     (cc, rest.1)
 
@@ -181,16 +182,18 @@ fields_short fs h = (and_parts _ _ h).1
 pub record_spelled_once : (l m : Leader) (fs gs : List Field) (x y : List ℕ) → is_record l fs ≡ true → is_record m gs ≡ true
     → fits fs ≡ true → fits gs ≡ true → record_bytes l fs ++ x ≡ record_bytes m gs ++ y → (l ≡ m) × (fs ≡ gs) × (x ≡ y)
 record_spelled_once l m fs gs x y p q fits_f fits_g e =
-    let leaders = parts_same (leader_bytes l fs) (leader_bytes m gs) (behind_leader fs x) (behind_leader gs y)
+    let leaders = parts_same (leader_bytes l fs) (leader_bytes m gs) _ _
     (length-leader_bytes l fs ∙ sym (length-leader_bytes m gs))
     (sym (record_bytes-parts l fs x) ∙ e ∙ record_bytes-parts m gs y) in
     let led = leader_spelled_once l m fs gs leaders.0 in
     let bounds_f = record_bounds l fs p in
     let bounds_g = record_bounds m gs q in
     let bases = five_digits_same (base_address fs) (base_address gs) (omega arith) (omega arith) led.1 in
-    let sizes : length (directory_bytes 0 fs) ≡ length (directory_bytes 0 gs) = omega (arith, length-directory_bytes 0 fs, length-directory_bytes 0 gs) in
-    let directories = parts_same (directory_bytes 0 fs) (directory_bytes 0 gs) (behind_directory fs x) (behind_directory gs y) sizes leaders.1 in
-    let areas : flat_map field_bytes fs ++ record_terminator ∷ x ≡ flat_map field_bytes gs ++ record_terminator ∷ y = cons_tail _ _ _ _ directories.1 in
+    let sizes : length (directory_bytes 0 fs) ≡ length (directory_bytes 0 gs) =
+    omega (arith, length-directory_bytes 0 fs, length-directory_bytes 0 gs) in
+    let directories = parts_same (directory_bytes 0 fs) (directory_bytes 0 gs) _ _ sizes leaders.1 in
+    let areas : flat_map field_bytes fs ++ record_terminator ∷ x ≡ flat_map field_bytes gs ++ record_terminator ∷ y =
+    cons_tail _ _ _ _ directories.1 in
     let fields = fields_spelled_once 0 0 fs gs (record_terminator ∷ x) (record_terminator ∷ y)
     (fields_valid l fs p) (fields_valid m gs q) (fields_short fs fits_f) (fields_short gs fits_g) directories.0 areas in
     (led.0, fields.0, cons_tail _ _ _ _ fields.1)

@@ -62,7 +62,8 @@ record_length fields = base_address fields + fields_length fields + 1
 
 -- a directory entry: the tag, the field's length, and where it starts behind the base address
 unfoldable pub entry_bytes : ℕ → Field → List ℕ
-entry_bytes start f = ((tag_of f).a ∷ (tag_of f).b ∷ (tag_of f).c ∷ []) ++ four_digits (field_length f) ++ five_digits start
+entry_bytes start f =
+    ((tag_of f).a ∷ (tag_of f).b ∷ (tag_of f).c ∷ []) ++ four_digits (field_length f) ++ five_digits start
 
 -- the entries of fields that stand one behind the other
 abbrev pub directory_bytes : ℕ → List Field → List ℕ

@@ -12,8 +12,10 @@ use marc_types::{Field, Record};
 use outside::{Failed, Sink};
 
 fn write_leader<K: Sink>(rec: &Record, out: &mut K) -> Result<(), Failed>
-    ensures bytes { OnOk result (Appends (K.written out.old) (K.written out.new) (leader_bytes rec.now.leader rec.now.fields)) }
-    ensures front { WritesFront (K.written out.old) (K.written out.new) (leader_bytes rec.now.leader rec.now.fields) }
+    ensures bytes { OnOk result
+        (Appends (K.written out.old) (K.written out.new) (leader_bytes rec.now.leader rec.now.fields)) }
+    ensures front { WritesFront (K.written out.old) (K.written out.new)
+        (leader_bytes rec.now.leader rec.now.fields) }
     ensures tells { is_some (K.written out.new) ≡ is_some (K.written out.old) }
     ensures cause { HasCause (K.faults out.old) (K.faults out.new) result }
 {
@@ -23,8 +25,10 @@ fn write_leader<K: Sink>(rec: &Record, out: &mut K) -> Result<(), Failed>
 fn write_directory<K: Sink>(fields: &[Field], out: &mut K) -> Result<(), Failed>
     requires few { length fields.now ≤ 8331 }
     requires small { fields_size fields.now ≤ 1000000 }
-    ensures bytes { OnOk result (Appends (K.written out.old) (K.written out.new) (directory_bytes 0 fields.now)) }
-    ensures front { WritesFront (K.written out.old) (K.written out.new) (directory_bytes 0 fields.now) }
+    ensures bytes { OnOk result
+        (Appends (K.written out.old) (K.written out.new) (directory_bytes 0 fields.now)) }
+    ensures front { WritesFront (K.written out.old) (K.written out.new)
+        (directory_bytes 0 fields.now) }
     ensures tells { is_some (K.written out.new) ≡ is_some (K.written out.old) }
     ensures cause { HasCause (K.faults out.old) (K.faults out.new) result }
 {
@@ -43,7 +47,8 @@ pub fn encode<K: Sink>(rec: &Record, out: &mut K) -> Result<(), Failed>
     requires { IsTrue (fits rec.now.fields) }
     ensures bytes { OnOk result
         (Appends (K.written out.old) (K.written out.new) (record_bytes rec.now.leader rec.now.fields)) }
-    ensures front { WritesFront (K.written out.old) (K.written out.new) (record_bytes rec.now.leader rec.now.fields) }
+    ensures front { WritesFront (K.written out.old) (K.written out.new)
+        (record_bytes rec.now.leader rec.now.fields) }
     ensures tells { is_some (K.written out.new) ≡ is_some (K.written out.old) }
     ensures cause { HasCause (K.faults out.old) (K.faults out.new) result }
 {

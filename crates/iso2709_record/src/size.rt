@@ -22,8 +22,8 @@ fn subfields_len(subfields: &[Subfield]) -> u64
     len
 }
 
-/// The bytes of a field as it is written, with its terminator. It needs a field of at most the size that a record's fields
-/// have together.
+/// The bytes of a field as it is written, with its terminator. The field is to be no larger than all fields of a record
+/// are together.
 #[tactic(auto, using(crate::proofs::Lengths::field_lengths), unfolding(marc_types::specs::Valid::field_size))]
 pub fn field_len(field: &Field) -> u64
     requires { field_size field.now ≤ 1000000 }
