@@ -9,6 +9,7 @@ use Rattle.marc_types.specs.declared.field.Leader.{Leader}
 use Rattle.marc_types.specs.declared.field.Field.{Field}
 use Rattle.iso2709_record.specs.Written.{field_terminator, record_terminator, field_bytes, field_length, fields_length, entry_bytes, directory_bytes, leader_bytes, record_bytes, record_length, base_address}
 use Rattle.iso2709_record.proofs.Lengths.{length-leader_bytes, length-entry_bytes, length-directory_bytes, length-fields}
+use Rattle.iso2709_record.proofs.Each.{fields_length-take}
 use Rattle.iso2709_record.proofs.Progress.{entry_next, piece_next}
 
 -- the part of so many bytes that stands behind another
@@ -49,11 +50,6 @@ drop-fields i fs =
     ap (λ l. drop (fields_length (take i fs)) (flat_map field_bytes l)) (sym (take-append-drop i fs))
     ∙ ap (drop (fields_length (take i fs))) (flat_map-append field_bytes (take i fs) (drop i fs))
     ∙ drop_at (flat_map field_bytes (take i fs)) (flat_map field_bytes (drop i fs)) (fields_length (take i fs)) (length-fields (take i fs))
-
-fields_length-take : (i : ℕ) (fs : List Field) → fields_length (take i fs) ≤ fields_length fs
-fields_length-take zero fs = omega arith
-fields_length-take (suc i) [] = omega arith
-fields_length-take (suc i) (f ∷ fs) = omega (arith, fields_length-take i fs)
 
 -- a part of a front, with more behind it
 front_place : (front back part rest : List ℕ) (from size : ℕ) → from ≤ length front → drop from front ≡ part ++ rest → length part ≡ size

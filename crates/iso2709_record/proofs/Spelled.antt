@@ -12,6 +12,7 @@ use Rattle.marc_types.specs.declared.field.Field.TheVariants.{Control, Variable}
 use Rattle.marc_types.specs.Valid.{is_data, is_text, is_subfield, is_field, is_control_tag, is_record}
 use Rattle.iso2709_record.specs.Written.{field_terminator, record_terminator, delimiter, four_digits, five_digits, subfield_bytes, field_data, field_bytes, field_length, tag_of, entry_bytes, directory_bytes, leader_bytes, record_bytes, record_length, base_address, fits}
 use Rattle.iso2709_record.proofs.Lengths.{length-leader_bytes, length-entry_bytes, length-directory_bytes, record_bounds}
+use Rattle.iso2709_record.proofs.Each.{fields_valid, fields_short}
 use Rattle.iso2709_record.proofs.Digits.{four_digits_same, five_digits_same}
 
 -- the first parts of equal lists are equal where they have the same length, and so are the others
@@ -169,14 +170,6 @@ record_bytes-parts l fs x = simp append_assoc
 
 cons_tail : (a b : ℕ) (x y : List ℕ) → a ∷ x ≡ b ∷ y → x ≡ y
 cons_tail a b x y e = cc
-
-fields_valid : (l : Leader) (fs : List Field) → is_record l fs ≡ true → list_all is_field fs ≡ true
-unfolding is_record
-fields_valid l fs h = (and_parts _ _ (and_parts _ _ (and_parts _ _ h).0).0).1
-
-fields_short : (fs : List Field) → fits fs ≡ true → list_all (λ f. nat_le (field_length f) 9999) fs ≡ true
-unfolding fits
-fields_short fs h = (and_parts _ _ h).1
 
 -- the written form of a record determines it, whatever follows: none is a front of another's
 pub record_spelled_once : (l m : Leader) (fs gs : List Field) (x y : List ℕ) → is_record l fs ≡ true → is_record m gs ≡ true

@@ -11,6 +11,7 @@ use Rattle.marc_types.specs.declared.field.Subfield.{Subfield}
 use Rattle.marc_types.specs.declared.field.Field.{Field}
 use Rattle.marc_types.specs.declared.field.Field.TheVariants.{Control, Variable}
 use Rattle.marc_types.specs.Valid.{is_data, is_graphic, is_printable, is_alphanumeric, is_tag, is_leader, is_text, is_subfield, is_field, is_record}
+use Rattle.iso2709_record.proofs.Each.{leader_valid, fields_valid}
 use Rattle.iso2709_record.specs.Written.{field_terminator, record_terminator, delimiter, digit, four_digits, five_digits, subfield_bytes, field_data, field_bytes, field_length, tag_of, entry_bytes, directory_bytes, leader_bytes, record_bytes, record_length, base_address}
 
 -- no byte is the terminator
@@ -157,16 +158,14 @@ record_bytes-front l fs = refl
 
 -- the only record terminator of a written record is its last byte
 pub record_front_has_none : (l : Leader) (fs : List Field) → is_record l fs ≡ true → has record_terminator (record_front l fs) ≡ false
-unfolding is_record
 record_front_has_none l fs h =
-    let valid = and_parts _ _ (and_parts _ _ (and_parts _ _ h).0).0 in
     let mark : IsTerminator record_terminator = record { least = lit≤ tt; most = lit≤ tt } in
     let leader = leader_bytes l fs in
     let directory = directory_bytes 0 fs in
     has-append record_terminator (leader ++ directory ++ field_terminator ∷ []) (flat_map field_bytes fs)
     (has-append record_terminator (leader ++ directory) (field_terminator ∷ [])
     (has-append record_terminator leader directory
-    (leader_has_none record_terminator l fs mark valid.0)
-    (directory_has_none record_terminator 0 fs mark valid.1))
+    (leader_has_none record_terminator l fs mark (leader_valid l fs h))
+    (directory_has_none record_terminator 0 fs mark (fields_valid l fs h)))
     refl)
-    (fields_have_no_record_terminator fs valid.1)
+    (fields_have_no_record_terminator fs (fields_valid l fs h))
