@@ -14,7 +14,7 @@ use Rattle.marc_types.specs.Valid.{is_data, is_graphic, is_printable, is_alphanu
 use Rattle.iso2709_record.proofs.Each.{leader_valid, fields_valid}
 use Rattle.iso2709_record.specs.Written.{field_terminator, record_terminator, delimiter, digit, four_digits, five_digits, subfield_bytes, field_data, field_bytes, field_length, tag_of, entry_bytes, directory_bytes, leader_bytes, record_bytes, record_length, base_address}
 
--- no byte is the terminator
+-- whether a byte is the mark
 abbrev pub has : ℕ → List ℕ → Bool
 has mark bytes = list_any (λ b. b == mark) bytes
 
@@ -23,8 +23,8 @@ pub record IsTerminator (mark : ℕ) : Type 0 where
   pub least : record_terminator ≤ mark
   pub most : mark ≤ field_terminator
 
-no_data : (mark b : ℕ) → IsTerminator mark → is_data b ≡ true → (b == mark) ≡ false
-no_data mark b m h = grind (arith, nat_tests)
+no_data : (mark b : ℕ) → record_terminator ≤ mark → mark ≤ delimiter → is_data b ≡ true → (b == mark) ≡ false
+no_data mark b least most h = grind (arith, nat_tests)
 
 no_printable : (mark b : ℕ) → IsTerminator mark → is_printable b ≡ true → (b == mark) ≡ false
 no_printable mark b m h = grind (arith, nat_tests)
@@ -47,17 +47,19 @@ has-append mark xs ys p q = list_any-append (λ b. b == mark) xs ys ∙ or_from 
 has-cons : (mark b : ℕ) (xs : List ℕ) → (b == mark) ≡ false → has mark xs ≡ false → has mark (b ∷ xs) ≡ false
 has-cons mark b xs p q = or_from _ _ p q
 
-pub text_has_none : (mark : ℕ) (t : List ℕ) → IsTerminator mark → list_all is_data t ≡ true → has mark t ≡ false
-text_has_none mark [] m h = refl
-text_has_none mark (b ∷ t) m h =
+-- a text has no terminator and no delimiter
+pub text_has_none : (mark : ℕ) (t : List ℕ) → record_terminator ≤ mark → mark ≤ delimiter → list_all is_data t ≡ true → has mark t ≡ false
+text_has_none mark [] least most h = refl
+text_has_none mark (b ∷ t) least most h =
     let parts = and_parts _ _ h in
-    has-cons mark b t (no_data mark b m parts.0) (text_has_none mark t m parts.1)
+    has-cons mark b t (no_data mark b least most parts.0) (text_has_none mark t least most parts.1)
 
 subfield_has_none : (mark : ℕ) (s : Subfield) → IsTerminator mark → is_subfield s ≡ true → has mark (subfield_bytes s) ≡ false
 unfolding is_subfield is_text subfield_bytes
 subfield_has_none mark s m h =
     let parts = and_parts _ _ h in
-    has-cons mark delimiter (s.code ∷ s.text) (no_delimiter mark m) (has-cons mark s.code s.text (no_graphic mark s.code m parts.0) (text_has_none mark s.text m parts.1))
+    has-cons mark delimiter (s.code ∷ s.text) (no_delimiter mark m)
+    (has-cons mark s.code s.text (no_graphic mark s.code m parts.0) (text_has_none mark s.text m.least (omega arith) parts.1))
 
 pub subfields_have_none : (mark : ℕ) (subs : List Subfield) → IsTerminator mark → list_all is_subfield subs ≡ true
     → has mark (flat_map subfield_bytes subs) ≡ false
@@ -69,7 +71,7 @@ subfields_have_none mark (s ∷ ss) m h =
 -- no terminator stands in a field's text, or in its indicators and subfields
 pub field_data_has_none : (mark : ℕ) (f : Field) → IsTerminator mark → is_field f ≡ true → has mark (field_data f) ≡ false
 unfolding is_field is_text field_data
-field_data_has_none mark (Control t text) m h = text_has_none mark text m (and_parts _ _ h).1
+field_data_has_none mark (Control t text) m h = text_has_none mark text m.least (omega arith) (and_parts _ _ h).1
 field_data_has_none mark (Variable t i j subs) m h =
     let parts = and_parts _ _ h in
     let others = and_parts _ _ parts.0 in
