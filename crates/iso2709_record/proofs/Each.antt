@@ -1,12 +1,12 @@
 -- What holds of each field of a record that fits.
-use Rattle.std.proofs.Common.{◌≡◌, ℕ, zero, suc, ◌+◌, ◌≤◌, ◌<◌, Bool, true, List, [], ◌∷◌, length, take, get_or, sym, ap, ◌∙◌, arith}
+use Rattle.std.proofs.Common.{◌≡◌, ℕ, zero, suc, ◌≤◌, ◌<◌, Bool, true, List, [], ◌∷◌, length, take, get_or, ap, ◌∙◌, arith}
 use Rattle.std.specs.Prelude.{nat_le}
 use Rattle.std.specs.List.{list_all}
 use Rattle.std.proofs.lemmas.Bool.{and_parts, leb-true}
 use Rattle.marc_types.specs.declared.field.Leader.{Leader}
 use Rattle.marc_types.specs.declared.field.Field.{Field}
 use Rattle.marc_types.specs.Valid.{is_leader, is_field, is_record}
-use Rattle.iso2709_record.specs.Written.{field_length, fields_length, record_length, fits}
+use Rattle.iso2709_record.specs.Written.{field_length, fields_length, fits}
 use Rattle.iso2709_record.proofs.Lengths.{fits_parts}
 
 pub leader_valid : (l : Leader) (fs : List Field) → is_record l fs ≡ true → is_leader l ≡ true

@@ -7,7 +7,7 @@ use Rattle.std.proofs.lemmas.List.{drop-append-le, take_at, drop_at}
 use Rattle.std.proofs.lemmas.List.Concat.{flat_map-append}
 use Rattle.marc_types.specs.declared.field.Leader.{Leader}
 use Rattle.marc_types.specs.declared.field.Field.{Field}
-use Rattle.iso2709_record.specs.Written.{field_terminator, record_terminator, field_bytes, field_length, fields_length, entry_bytes, directory_bytes, leader_bytes, record_bytes, record_length, base_address}
+use Rattle.iso2709_record.specs.Written.{field_terminator, record_terminator, field_bytes, field_length, fields_length, entry_bytes, directory_bytes, leader_bytes, record_bytes, base_address}
 use Rattle.iso2709_record.proofs.Lengths.{length-leader_bytes, length-entry_bytes, length-directory_bytes, length-fields}
 use Rattle.iso2709_record.proofs.Each.{fields_length-take}
 use Rattle.iso2709_record.proofs.Progress.{entry_next, piece_next}
