@@ -19,7 +19,8 @@ length-subfield_bytes s = omega arith
 
 pub length-subfields : (subs : List Subfield) → length (flat_map subfield_bytes subs) ≡ subfields_size subs
 length-subfields [] = refl
-length-subfields (s ∷ ss) = omega (arith, length-append (subfield_bytes s) (flat_map subfield_bytes ss), length-subfield_bytes s, length-subfields ss)
+length-subfields (s ∷ ss) =
+    omega (arith, length-append (subfield_bytes s) (flat_map subfield_bytes ss), length-subfield_bytes s, length-subfields ss)
 
 -- a control field: its text and its terminator
 pub field_length-control : (tag : Tag) (text : List ℕ) → field_length (Control tag text) ≡ length text + 1
@@ -27,7 +28,8 @@ unfolding field_length field_bytes field_data
 field_length-control tag text = length-append text (field_terminator ∷ [])
 
 -- any other field: two indicators, the subfields, and its terminator
-pub field_length-variable : (tag : Tag) (ind1 ind2 : ℕ) (subs : List Subfield) → field_length (Variable tag ind1 ind2 subs) ≡ subfields_size subs + 3
+pub field_length-variable : (tag : Tag) (ind1 ind2 : ℕ) (subs : List Subfield)
+    → field_length (Variable tag ind1 ind2 subs) ≡ subfields_size subs + 3
 unfolding field_length field_bytes field_data
 field_length-variable tag ind1 ind2 subs =
     omega (arith, length-append (flat_map subfield_bytes subs) (field_terminator ∷ []), length-subfields subs)
@@ -53,16 +55,18 @@ length-entry_bytes start f = refl
 pub length-directory_bytes : (start : ℕ) (fs : List Field) → length (directory_bytes start fs) ≡ 12 * length fs
 length-directory_bytes start [] = refl
 length-directory_bytes start (f ∷ fs) =
-    omega (arith, length-append (entry_bytes start f) (directory_bytes (start + field_length f) fs), length-entry_bytes start f, length-directory_bytes (start + field_length f) fs)
+    let next = start + field_length f in
+    omega (arith, length-append (entry_bytes start f) (directory_bytes next fs), length-entry_bytes start f, length-directory_bytes next fs)
 
-pub length-leader_bytes : (l : Leader) (size base : ℕ) → length (leader_bytes l size base) ≡ 24
+pub length-leader_bytes : (l : Leader) (fs : List Field) → length (leader_bytes l fs) ≡ 24
 unfolding leader_bytes five_digits
-length-leader_bytes l size base = refl
+length-leader_bytes l fs = refl
 
 pub ruleset field_lengths = (field_length-control, field_length-variable)
 
 -- a record that its type keeps has few fields and few bytes
-pub record_bounds : (leader : Leader) (fields : List Field) → is_record leader fields ≡ true → (length fields ≤ 8331) × (fields_size fields ≤ 1000000)
+pub record_bounds : (leader : Leader) (fields : List Field) → is_record leader fields ≡ true
+    → (length fields ≤ 8331) × (fields_size fields ≤ 1000000)
 unfolding is_record
 record_bounds leader fields h = grind (arith, nat_tests)
 

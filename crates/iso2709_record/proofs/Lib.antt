@@ -1,4 +1,5 @@
 pub mod Digits
+pub mod Each
 pub mod Lengths
 pub mod Places
 pub mod Progress

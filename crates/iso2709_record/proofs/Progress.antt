@@ -31,7 +31,8 @@ writing_more a b c whole left piece rest w e wrote = record {
 pub writing_failed : (a b c : Option (List ℕ)) (whole left piece rest : List ℕ)
     → IsWriting a b whole left → left ≡ piece ++ rest → WritesFront b c piece → WritesFront a c whole
 writing_failed a b c whole left piece rest w e front =
-    subst (WritesFront a c) (sym (w.split ∙ ap (λ l. w.done ++ l) e)) (front_then a b c w.done (piece ++ rest) w.wrote (front_more b c piece rest front))
+    subst (WritesFront a c) (sym (w.split ∙ ap (λ l. w.done ++ l) e))
+    (front_then a b c w.done (piece ++ rest) w.wrote (front_more b c piece rest front))
 
 -- nothing is left
 pub writing_done : (a b : Option (List ℕ)) (whole : List ℕ) → IsWriting a b whole [] → Appends a b whole
@@ -50,4 +51,5 @@ piece_next f xs i x h is = ap (flat_map f) (drop_next xs i x h is)
 pub entry_next : (start n : ℕ) (fields : List Field) (i : ℕ) (f : Field) → i < length fields → f ≡ get_or fields i f → n ≡ field_length f
     → directory_bytes start (drop i fields) ≡ entry_bytes start f ++ directory_bytes (start + n) (drop (i + 1) fields)
 entry_next start n fields i f h is len =
-    ap (directory_bytes start) (drop_next fields i f h is) ∙ ap (λ m. entry_bytes start f ++ directory_bytes (start + m) (drop (i + 1) fields)) (sym len)
+    ap (directory_bytes start) (drop_next fields i f h is)
+    ∙ ap (λ m. entry_bytes start f ++ directory_bytes (start + m) (drop (i + 1) fields)) (sym len)

@@ -1,18 +1,18 @@
 -- What is spelled so is one thing: no two records have one written form, and none is a front of another's.
-use Rattle.std.proofs.Common.{◌≡◌, ℕ, zero, suc, ◌+◌, ◌*◌, ◌≤◌, ◌<◌, ◌≢◌, Bool, true, false, List, [], ◌∷◌, ◌++◌, length, refl, sym, ap, ◌∙◌, arith, subst, append_assoc}
+use Rattle.std.proofs.Common.{◌≡◌, ℕ, ◌+◌, ◌≤◌, true, false, List, [], ◌∷◌, ◌++◌, length, refl, sym, ap, ◌∙◌, arith, subst, append_assoc}
 use Rattle.std.proofs.lemmas.List.{append_cancel_right}
-use Rattle.std.specs.Prelude.{not, nat_le}
+use Rattle.std.specs.Prelude.{nat_le}
 use Rattle.std.specs.List.{flat_map, list_all}
 use Rattle.std.proofs.lemmas.Bool.{and_parts, not-true, true≢false, leb-true}
-use Rattle.std.proofs.lemmas.Bool.Decides.{nat_tests}
 use Rattle.marc_types.specs.declared.field.Tag.{Tag}
 use Rattle.marc_types.specs.declared.field.Leader.{Leader}
 use Rattle.marc_types.specs.declared.field.Subfield.{Subfield}
 use Rattle.marc_types.specs.declared.field.Field.{Field}
 use Rattle.marc_types.specs.declared.field.Field.TheVariants.{Control, Variable}
 use Rattle.marc_types.specs.Valid.{is_data, is_text, is_subfield, is_field, is_control_tag, is_record}
-use Rattle.iso2709_record.specs.Written.{field_terminator, record_terminator, delimiter, four_digits, five_digits, subfield_bytes, field_data, field_bytes, field_length, tag_of, entry_bytes, directory_bytes, leader_bytes, record_bytes, record_length, base_address, fits}
-use Rattle.iso2709_record.proofs.Lengths.{length-leader_bytes, length-entry_bytes, length-directory_bytes, record_bounds, fits_parts}
+use Rattle.iso2709_record.specs.Written.{field_terminator, record_terminator, delimiter, four_digits, five_digits, subfield_bytes, field_data, field_bytes, field_length, tag_of, entry_bytes, directory_bytes, leader_bytes, record_bytes, base_address, fits}
+use Rattle.iso2709_record.proofs.Lengths.{length-leader_bytes, length-entry_bytes, length-directory_bytes, record_bounds}
+use Rattle.iso2709_record.proofs.Each.{fields_valid, fields_short}
 use Rattle.iso2709_record.proofs.Digits.{four_digits_same, five_digits_same}
 
 -- the first parts of equal lists are equal where they have the same length, and so are the others
@@ -137,10 +137,11 @@ fields_spelled_once s t (f ∷ fs) (g ∷ gs) x y p q m n d e =
     let short_g = and_parts _ _ n in
     let entries = parts_same (entry_bytes s f) (entry_bytes t g) _ _ (length-entry_bytes s f ∙ sym (length-entry_bytes t g)) d in
     let named = entry_spelled_once s t f g (leb-true _ _ short_f.0) (leb-true _ _ short_g.0) entries.0 in
-    let areas = parts_same (field_bytes f) (field_bytes g) (flat_map field_bytes fs ++ x) (flat_map field_bytes gs ++ y) (lengths_same f g named.1)
+    let areas = parts_same (field_bytes f) (field_bytes g) _ _ (lengths_same f g named.1)
     (sym (append_assoc (field_bytes f) (flat_map field_bytes fs) x) ∙ e ∙ append_assoc (field_bytes g) (flat_map field_bytes gs) y) in
     let first : f ≡ g = field_spelled_once f g valid_f.0 valid_g.0 named.0 (data_same f g areas.0) in
-    let rest = fields_spelled_once (s + field_length f) (t + field_length g) fs gs x y valid_f.1 valid_g.1 short_f.1 short_g.1 entries.1 areas.1 in
+    let rest = fields_spelled_once (s + field_length f) (t + field_length g) fs gs x y valid_f.1 valid_g.1
+    short_f.1 short_g.1 entries.1 areas.1 in
     let others : fs ≡ gs = rest.0 in
     (cc, rest.1)
 
@@ -149,9 +150,10 @@ leader_same : (l m : Leader) → l.status ≡ m.status → l.rtype ≡ m.rtype �
 leader_same l m a b c d e f g =
     λ i. record { status = a i; rtype = b i; level = c i; control = d i; encoding = e i; form = f i; linked = g i }
 
-leader_spelled_once : (l m : Leader) (s t b c : ℕ) → leader_bytes l s b ≡ leader_bytes m t c → (l ≡ m) × (five_digits b ≡ five_digits c)
+leader_spelled_once : (l m : Leader) (fs gs : List Field) → leader_bytes l fs ≡ leader_bytes m gs
+    → (l ≡ m) × (five_digits (base_address fs) ≡ five_digits (base_address gs))
 unfolding leader_bytes five_digits
-leader_spelled_once l m s t b c e = (leader_same l m (cc) (cc) (cc) (cc) (cc) (cc) (cc), cc)
+leader_spelled_once l m fs gs e = (leader_same l m (cc) (cc) (cc) (cc) (cc) (cc) (cc), cc)
 
 -- what stands behind the directory, and the bytes that follow the record
 abbrev behind_directory : List Field → List ℕ → List ℕ
@@ -162,39 +164,29 @@ abbrev behind_leader : List Field → List ℕ → List ℕ
 behind_leader fs x = directory_bytes 0 fs ++ behind_directory fs x
 
 pub record_bytes-parts : (l : Leader) (fs : List Field) (x : List ℕ)
-    → record_bytes l fs ++ x ≡ leader_bytes l (record_length fs) (base_address fs) ++ behind_leader fs x
+    → record_bytes l fs ++ x ≡ leader_bytes l fs ++ behind_leader fs x
 unfolding record_bytes
 record_bytes-parts l fs x = simp append_assoc
 
 cons_tail : (a b : ℕ) (x y : List ℕ) → a ∷ x ≡ b ∷ y → x ≡ y
 cons_tail a b x y e = cc
 
-fields_valid : (l : Leader) (fs : List Field) → is_record l fs ≡ true → list_all is_field fs ≡ true
-unfolding is_record
-fields_valid l fs h = (and_parts _ _ (and_parts _ _ (and_parts _ _ h).0).0).1
-
-fields_short : (fs : List Field) → fits fs ≡ true → list_all (λ f. nat_le (field_length f) 9999) fs ≡ true
-unfolding fits
-fields_short fs h = (and_parts _ _ h).1
-
 -- the written form of a record determines it, whatever follows: none is a front of another's
 pub record_spelled_once : (l m : Leader) (fs gs : List Field) (x y : List ℕ) → is_record l fs ≡ true → is_record m gs ≡ true
     → fits fs ≡ true → fits gs ≡ true → record_bytes l fs ++ x ≡ record_bytes m gs ++ y → (l ≡ m) × (fs ≡ gs) × (x ≡ y)
 record_spelled_once l m fs gs x y p q fits_f fits_g e =
-    let leaders = parts_same
-    (leader_bytes l (record_length fs) (base_address fs))
-    (leader_bytes m (record_length gs) (base_address gs))
-    (behind_leader fs x)
-    (behind_leader gs y)
-    (length-leader_bytes l (record_length fs) (base_address fs) ∙ sym (length-leader_bytes m (record_length gs) (base_address gs)))
+    let leaders = parts_same (leader_bytes l fs) (leader_bytes m gs) _ _
+    (length-leader_bytes l fs ∙ sym (length-leader_bytes m gs))
     (sym (record_bytes-parts l fs x) ∙ e ∙ record_bytes-parts m gs y) in
-    let led = leader_spelled_once l m (record_length fs) (record_length gs) (base_address fs) (base_address gs) leaders.0 in
+    let led = leader_spelled_once l m fs gs leaders.0 in
     let bounds_f = record_bounds l fs p in
     let bounds_g = record_bounds m gs q in
     let bases = five_digits_same (base_address fs) (base_address gs) (omega arith) (omega arith) led.1 in
-    let sizes : length (directory_bytes 0 fs) ≡ length (directory_bytes 0 gs) = omega (arith, length-directory_bytes 0 fs, length-directory_bytes 0 gs) in
-    let directories = parts_same (directory_bytes 0 fs) (directory_bytes 0 gs) (behind_directory fs x) (behind_directory gs y) sizes leaders.1 in
-    let areas : flat_map field_bytes fs ++ record_terminator ∷ x ≡ flat_map field_bytes gs ++ record_terminator ∷ y = cons_tail _ _ _ _ directories.1 in
+    let sizes : length (directory_bytes 0 fs) ≡ length (directory_bytes 0 gs) =
+    omega (arith, length-directory_bytes 0 fs, length-directory_bytes 0 gs) in
+    let directories = parts_same (directory_bytes 0 fs) (directory_bytes 0 gs) _ _ sizes leaders.1 in
+    let areas : flat_map field_bytes fs ++ record_terminator ∷ x ≡ flat_map field_bytes gs ++ record_terminator ∷ y =
+    cons_tail _ _ _ _ directories.1 in
     let fields = fields_spelled_once 0 0 fs gs (record_terminator ∷ x) (record_terminator ∷ y)
     (fields_valid l fs p) (fields_valid m gs q) (fields_short fs fits_f) (fields_short gs fits_g) directories.0 areas in
     (led.0, fields.0, cons_tail _ _ _ _ fields.1)

@@ -1,8 +1,8 @@
 -- No terminator stands within what it ends.
-use Rattle.std.proofs.Common.{◌≡◌, ℕ, ◌+◌, ◌*◌, ◌/◌, ◌≤◌, Bool, true, false, List, [], ◌∷◌, ◌++◌, length, refl, sym, ap, ◌∙◌, arith, lit≤}
-use Rattle.std.specs.Prelude.{not, nat_le, ◌==◌, ◌&&◌, ◌||◌}
+use Rattle.std.proofs.Common.{◌≡◌, ℕ, ◌+◌, ◌/◌, ◌≤◌, Bool, true, false, List, [], ◌∷◌, ◌++◌, refl, sym, ◌∙◌, arith, lit≤}
+use Rattle.std.specs.Prelude.{◌==◌}
 use Rattle.std.specs.List.{flat_map, list_all, list_any}
-use Rattle.std.proofs.lemmas.Bool.{and_parts, or_from, ne_eqb, leb-true}
+use Rattle.std.proofs.lemmas.Bool.{and_parts, or_from, ne_eqb}
 use Rattle.std.proofs.lemmas.Bool.Decides.{nat_tests}
 use Rattle.std.proofs.lemmas.List.Folds.{list_any-append, list_all-append}
 use Rattle.marc_types.specs.declared.field.Tag.{Tag}
@@ -11,9 +11,10 @@ use Rattle.marc_types.specs.declared.field.Subfield.{Subfield}
 use Rattle.marc_types.specs.declared.field.Field.{Field}
 use Rattle.marc_types.specs.declared.field.Field.TheVariants.{Control, Variable}
 use Rattle.marc_types.specs.Valid.{is_data, is_graphic, is_printable, is_alphanumeric, is_tag, is_leader, is_text, is_subfield, is_field, is_record}
+use Rattle.iso2709_record.proofs.Each.{leader_valid, fields_valid}
 use Rattle.iso2709_record.specs.Written.{field_terminator, record_terminator, delimiter, digit, four_digits, five_digits, subfield_bytes, field_data, field_bytes, field_length, tag_of, entry_bytes, directory_bytes, leader_bytes, record_bytes, record_length, base_address}
 
--- no byte is the terminator
+-- whether a byte is the mark
 abbrev pub has : ℕ → List ℕ → Bool
 has mark bytes = list_any (λ b. b == mark) bytes
 
@@ -22,8 +23,8 @@ pub record IsTerminator (mark : ℕ) : Type 0 where
   pub least : record_terminator ≤ mark
   pub most : mark ≤ field_terminator
 
-no_data : (mark b : ℕ) → IsTerminator mark → is_data b ≡ true → (b == mark) ≡ false
-no_data mark b m h = grind (arith, nat_tests)
+no_data : (mark b : ℕ) → record_terminator ≤ mark → mark ≤ delimiter → is_data b ≡ true → (b == mark) ≡ false
+no_data mark b least most h = grind (arith, nat_tests)
 
 no_printable : (mark b : ℕ) → IsTerminator mark → is_printable b ≡ true → (b == mark) ≡ false
 no_printable mark b m h = grind (arith, nat_tests)
@@ -46,17 +47,19 @@ has-append mark xs ys p q = list_any-append (λ b. b == mark) xs ys ∙ or_from 
 has-cons : (mark b : ℕ) (xs : List ℕ) → (b == mark) ≡ false → has mark xs ≡ false → has mark (b ∷ xs) ≡ false
 has-cons mark b xs p q = or_from _ _ p q
 
-pub text_has_none : (mark : ℕ) (t : List ℕ) → IsTerminator mark → list_all is_data t ≡ true → has mark t ≡ false
-text_has_none mark [] m h = refl
-text_has_none mark (b ∷ t) m h =
+-- a text has no terminator and no delimiter
+pub text_has_none : (mark : ℕ) (t : List ℕ) → record_terminator ≤ mark → mark ≤ delimiter → list_all is_data t ≡ true → has mark t ≡ false
+text_has_none mark [] least most h = refl
+text_has_none mark (b ∷ t) least most h =
     let parts = and_parts _ _ h in
-    has-cons mark b t (no_data mark b m parts.0) (text_has_none mark t m parts.1)
+    has-cons mark b t (no_data mark b least most parts.0) (text_has_none mark t least most parts.1)
 
 subfield_has_none : (mark : ℕ) (s : Subfield) → IsTerminator mark → is_subfield s ≡ true → has mark (subfield_bytes s) ≡ false
 unfolding is_subfield is_text subfield_bytes
 subfield_has_none mark s m h =
     let parts = and_parts _ _ h in
-    has-cons mark delimiter (s.code ∷ s.text) (no_delimiter mark m) (has-cons mark s.code s.text (no_graphic mark s.code m parts.0) (text_has_none mark s.text m parts.1))
+    has-cons mark delimiter (s.code ∷ s.text) (no_delimiter mark m)
+    (has-cons mark s.code s.text (no_graphic mark s.code m parts.0) (text_has_none mark s.text m.least (omega arith) parts.1))
 
 pub subfields_have_none : (mark : ℕ) (subs : List Subfield) → IsTerminator mark → list_all is_subfield subs ≡ true
     → has mark (flat_map subfield_bytes subs) ≡ false
@@ -68,7 +71,7 @@ subfields_have_none mark (s ∷ ss) m h =
 -- no terminator stands in a field's text, or in its indicators and subfields
 pub field_data_has_none : (mark : ℕ) (f : Field) → IsTerminator mark → is_field f ≡ true → has mark (field_data f) ≡ false
 unfolding is_field is_text field_data
-field_data_has_none mark (Control t text) m h = text_has_none mark text m (and_parts _ _ h).1
+field_data_has_none mark (Control t text) m h = text_has_none mark text m.least (omega arith) (and_parts _ _ h).1
 field_data_has_none mark (Variable t i j subs) m h =
     let parts = and_parts _ _ h in
     let others = and_parts _ _ parts.0 in
@@ -118,9 +121,11 @@ printables_have_none mark (b ∷ bytes) m h =
     let parts = and_parts _ _ h in
     has-cons mark b bytes (no_printable mark b m parts.0) (printables_have_none mark bytes m parts.1)
 
-pub leader_has_none : (mark : ℕ) (l : Leader) (size base : ℕ) → IsTerminator mark → is_leader l ≡ true → has mark (leader_bytes l size base) ≡ false
+pub leader_has_none : (mark : ℕ) (l : Leader) (fs : List Field) → IsTerminator mark → is_leader l ≡ true → has mark (leader_bytes l fs) ≡ false
 unfolding leader_bytes is_leader
-leader_has_none mark l size base m h =
+leader_has_none mark l fs m h =
+    let size = record_length fs in
+    let base = base_address fs in
     let first = l.status ∷ l.rtype ∷ l.level ∷ l.control ∷ [] in
     let last = l.encoding ∷ l.form ∷ l.linked ∷ [] in
     let coding = 97 ∷ 50 ∷ 50 ∷ [] in
@@ -147,7 +152,7 @@ fields_have_no_record_terminator (f ∷ fs) h =
 -- a written record without its terminator
 abbrev pub record_front : Leader → List Field → List ℕ
 record_front l fs =
-    leader_bytes l (record_length fs) (base_address fs) ++ directory_bytes 0 fs ++ field_terminator ∷ [] ++ flat_map field_bytes fs
+    leader_bytes l fs ++ directory_bytes 0 fs ++ field_terminator ∷ [] ++ flat_map field_bytes fs
 
 pub record_bytes-front : (l : Leader) (fs : List Field) → record_bytes l fs ≡ record_front l fs ++ record_terminator ∷ []
 unfolding record_bytes
@@ -155,16 +160,14 @@ record_bytes-front l fs = refl
 
 -- the only record terminator of a written record is its last byte
 pub record_front_has_none : (l : Leader) (fs : List Field) → is_record l fs ≡ true → has record_terminator (record_front l fs) ≡ false
-unfolding is_record
 record_front_has_none l fs h =
-    let valid = and_parts _ _ (and_parts _ _ (and_parts _ _ h).0).0 in
     let mark : IsTerminator record_terminator = record { least = lit≤ tt; most = lit≤ tt } in
-    let leader = leader_bytes l (record_length fs) (base_address fs) in
+    let leader = leader_bytes l fs in
     let directory = directory_bytes 0 fs in
     has-append record_terminator (leader ++ directory ++ field_terminator ∷ []) (flat_map field_bytes fs)
     (has-append record_terminator (leader ++ directory) (field_terminator ∷ [])
     (has-append record_terminator leader directory
-    (leader_has_none record_terminator l (record_length fs) (base_address fs) mark valid.0)
-    (directory_has_none record_terminator 0 fs mark valid.1))
+    (leader_has_none record_terminator l fs mark (leader_valid l fs h))
+    (directory_has_none record_terminator 0 fs mark (fields_valid l fs h)))
     refl)
-    (fields_have_no_record_terminator fs valid.1)
+    (fields_have_no_record_terminator fs (fields_valid l fs h))

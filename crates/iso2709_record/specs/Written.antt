@@ -62,7 +62,8 @@ record_length fields = base_address fields + fields_length fields + 1
 
 -- a directory entry: the tag, the field's length, and where it starts behind the base address
 unfoldable pub entry_bytes : ℕ → Field → List ℕ
-entry_bytes start f = ((tag_of f).a ∷ (tag_of f).b ∷ (tag_of f).c ∷ []) ++ four_digits (field_length f) ++ five_digits start
+entry_bytes start f =
+    ((tag_of f).a ∷ (tag_of f).b ∷ (tag_of f).c ∷ []) ++ four_digits (field_length f) ++ five_digits start
 
 -- the entries of fields that stand one behind the other
 abbrev pub directory_bytes : ℕ → List Field → List ℕ
@@ -71,17 +72,17 @@ directory_bytes start (f ∷ fs) = entry_bytes start f ++ directory_bytes (start
 
 -- the record's length, its own leader bytes with coding `a` (UTF-8) and the counts `22` behind them, the base address, and
 -- the other leader bytes before the entry map `4500`
-unfoldable pub leader_bytes : Leader → ℕ → ℕ → List ℕ
-leader_bytes l size base =
-    five_digits size
+unfoldable pub leader_bytes : Leader → List Field → List ℕ
+leader_bytes l fields =
+    five_digits (record_length fields)
     ++ (l.status ∷ l.rtype ∷ l.level ∷ l.control ∷ 97 ∷ 50 ∷ 50 ∷ [])
-    ++ five_digits base
+    ++ five_digits (base_address fields)
     ++ (l.encoding ∷ l.form ∷ l.linked ∷ 52 ∷ 53 ∷ 48 ∷ 48 ∷ [])
 
 -- leader, directory, field terminator, fields, record terminator
 unfoldable pub record_bytes : Leader → List Field → List ℕ
 record_bytes l fields =
-    leader_bytes l (record_length fields) (base_address fields)
+    leader_bytes l fields
     ++ directory_bytes 0 fields
     ++ field_terminator ∷ []
     ++ flat_map field_bytes fields

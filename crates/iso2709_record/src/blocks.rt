@@ -1,9 +1,8 @@
-ghost use Rattle.std.specs.Prelude.{◌≡◌, ◌≤◌};
-ghost use Rattle.marc_types.specs.Valid.{field_size};
-ghost use Rattle.iso2709_record.specs.Written.{digit, entry_bytes, leader_bytes, tag_of};
+ghost use Rattle.std.specs.Prelude.{◌≡◌};
+ghost use Rattle.iso2709_record.specs.Written.{digit, entry_bytes, field_length, leader_bytes, tag_of};
 
-use crate::size::field_len;
-use marc_types::{Field, Leader, Tag};
+use crate::size::{base_len, encoded_len};
+use marc_types::{Field, Record, Tag};
 
 pub(crate) const RECORD_TERMINATOR: u8 = 0x1d;
 
@@ -18,11 +17,14 @@ fn digit(number: u64) -> u8
     b'0' + (number % 10) as u8
 }
 
-/// A leader in its written form: the record's own bytes of it, with the coding `a` for UTF-8.
-#[tactic(auto, unfolding(crate::specs::Written::leader_bytes, crate::specs::Written::five_digits))]
-pub(crate) fn leader_block(leader: &Leader, size: u64, base: u64) -> [u8; 24]
-    ensures { result ≡ leader_bytes leader.now size base }
+/// The leader in its written form: the record's own bytes of it, with the coding `a` for UTF-8.
+#[tactic(auto, using(crate::proofs::Lengths::record_bounds), unfolding(crate::specs::Written::leader_bytes, crate::specs::Written::five_digits))]
+pub(crate) fn leader_block(rec: &Record) -> [u8; 24]
+    ensures { result ≡ leader_bytes rec.now.leader rec.now.fields }
 {
+    let leader = rec.leader;
+    let size = encoded_len(rec);
+    let base = base_len(rec.fields.as_slice());
     [
         digit(size / 10_000),
         digit(size / 1_000),
@@ -51,14 +53,13 @@ pub(crate) fn leader_block(leader: &Leader, size: u64, base: u64) -> [u8; 24]
     ]
 }
 
-/// The directory entry of a field that starts so many bytes behind the base address.
+/// The directory entry of a field of that length, which starts so many bytes behind the base address.
 #[tactic(auto, unfolding(crate::specs::Written::entry_bytes, crate::specs::Written::four_digits, crate::specs::Written::five_digits))]
-pub(crate) fn entry_block(field: &Field, start: u64) -> [u8; 12]
-    requires { field_size field.now ≤ 1000000 }
+pub(crate) fn entry_block(field: &Field, len: u64, start: u64) -> [u8; 12]
+    requires { len ≡ field_length field.now }
     ensures { result ≡ entry_bytes start field.now }
 {
     let tag = tag_of(field);
-    let len = field_len(field);
     [
         tag.a,
         tag.b,

@@ -11,8 +11,10 @@ use outside::{Failed, Sink};
 
 #[tactic(auto, using(outside::proofs::Fronts::appends_then), unfolding(crate::specs::Written::subfield_bytes))]
 fn write_subfield<K: Sink>(subfield: &Subfield, out: &mut K) -> Result<(), Failed>
-    ensures bytes { OnOk result (Appends (K.written out.old) (K.written out.new) (subfield_bytes subfield.now)) }
-    ensures front { WritesFront (K.written out.old) (K.written out.new) (subfield_bytes subfield.now) }
+    ensures bytes { OnOk result
+        (Appends (K.written out.old) (K.written out.new) (subfield_bytes subfield.now)) }
+    ensures front { WritesFront (K.written out.old) (K.written out.new)
+        (subfield_bytes subfield.now) }
     ensures tells { is_some (K.written out.new) ≡ is_some (K.written out.old) }
     ensures cause { HasCause (K.faults out.old) (K.faults out.new) result }
 {
@@ -21,8 +23,10 @@ fn write_subfield<K: Sink>(subfield: &Subfield, out: &mut K) -> Result<(), Faile
 }
 
 fn write_subfields<K: Sink>(subfields: &[Subfield], out: &mut K) -> Result<(), Failed>
-    ensures bytes { OnOk result (Appends (K.written out.old) (K.written out.new) (flat_map subfield_bytes subfields.now)) }
-    ensures front { WritesFront (K.written out.old) (K.written out.new) (flat_map subfield_bytes subfields.now) }
+    ensures bytes { OnOk result
+        (Appends (K.written out.old) (K.written out.new) (flat_map subfield_bytes subfields.now)) }
+    ensures front { WritesFront (K.written out.old) (K.written out.new)
+        (flat_map subfield_bytes subfields.now) }
     ensures tells { is_some (K.written out.new) ≡ is_some (K.written out.old) }
     ensures cause { HasCause (K.faults out.old) (K.faults out.new) result }
 {
@@ -33,7 +37,8 @@ fn write_subfields<K: Sink>(subfields: &[Subfield], out: &mut K) -> Result<(), F
 }
 
 fn write_field_data<K: Sink>(field: &Field, out: &mut K) -> Result<(), Failed>
-    ensures bytes { OnOk result (Appends (K.written out.old) (K.written out.new) (field_data field.now)) }
+    ensures bytes { OnOk result
+        (Appends (K.written out.old) (K.written out.new) (field_data field.now)) }
     ensures front { WritesFront (K.written out.old) (K.written out.new) (field_data field.now) }
     ensures tells { is_some (K.written out.new) ≡ is_some (K.written out.old) }
     ensures cause { HasCause (K.faults out.old) (K.faults out.new) result }
@@ -54,7 +59,8 @@ fn write_field_data<K: Sink>(field: &Field, out: &mut K) -> Result<(), Failed>
 
 #[tactic(auto, using(outside::proofs::Fronts::appends_then), unfolding(crate::specs::Written::field_bytes))]
 fn write_field<K: Sink>(field: &Field, out: &mut K) -> Result<(), Failed>
-    ensures bytes { OnOk result (Appends (K.written out.old) (K.written out.new) (field_bytes field.now)) }
+    ensures bytes { OnOk result
+        (Appends (K.written out.old) (K.written out.new) (field_bytes field.now)) }
     ensures front { WritesFront (K.written out.old) (K.written out.new) (field_bytes field.now) }
     ensures tells { is_some (K.written out.new) ≡ is_some (K.written out.old) }
     ensures cause { HasCause (K.faults out.old) (K.faults out.new) result }
@@ -64,8 +70,10 @@ fn write_field<K: Sink>(field: &Field, out: &mut K) -> Result<(), Failed>
 }
 
 pub(crate) fn write_fields<K: Sink>(fields: &[Field], out: &mut K) -> Result<(), Failed>
-    ensures bytes { OnOk result (Appends (K.written out.old) (K.written out.new) (flat_map field_bytes fields.now)) }
-    ensures front { WritesFront (K.written out.old) (K.written out.new) (flat_map field_bytes fields.now) }
+    ensures bytes { OnOk result
+        (Appends (K.written out.old) (K.written out.new) (flat_map field_bytes fields.now)) }
+    ensures front { WritesFront (K.written out.old) (K.written out.new)
+        (flat_map field_bytes fields.now) }
     ensures tells { is_some (K.written out.new) ≡ is_some (K.written out.old) }
     ensures cause { HasCause (K.faults out.old) (K.faults out.new) result }
 {

@@ -3,8 +3,8 @@ ghost use Rattle.iso2709_record.specs.Written.{record_bytes, fits};
 
 use marc_types::Record;
 
-/// A record's written form determines it, whatever follows it. So no record's written form is a front of another's. This
-/// is a law for proofs; the call does nothing.
+/// A record's written form determines it, whatever follows it, so none is a front of another's. It is a law: the call
+/// does nothing.
 #[tactic(auto, using(crate::proofs::Spelled::record_spelled_once))]
 pub fn spelled_once(one: &Record, other: &Record)
     requires one_fits { IsTrue (fits one.now.fields) }

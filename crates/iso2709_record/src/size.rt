@@ -22,7 +22,8 @@ fn subfields_len(subfields: &[Subfield]) -> u64
     len
 }
 
-/// The bytes of a field as it is written, with its terminator.
+/// The bytes of a field as it is written, with its terminator. The field is to be no larger than all fields of a record
+/// are together.
 #[tactic(auto, using(crate::proofs::Lengths::field_lengths), unfolding(marc_types::specs::Valid::field_size))]
 pub fn field_len(field: &Field) -> u64
     requires { field_size field.now ≤ 1000000 }
@@ -56,8 +57,8 @@ pub(crate) fn base_len(fields: &[Field]) -> u64
     25 + 12 * fields.len() as u64
 }
 
-#[tactic(auto, using(crate::proofs::Lengths::record_bounds))]
 /// The bytes of a record as it is written: 25, with 12 for each field, the fields' lengths, and 1.
+#[tactic(auto, using(crate::proofs::Lengths::record_bounds))]
 pub fn encoded_len(rec: &Record) -> u64
     ensures { result ≡ record_length rec.now.fields }
 {
@@ -65,22 +66,27 @@ pub fn encoded_len(rec: &Record) -> u64
     base_len(fields) + fields_len(fields) + 1
 }
 
-fn each_field_fits(fields: &[Field]) -> bool
-    requires { fields_size fields.now ≤ 1000000 }
-    ensures { result ≡ list_all (λ f. nat_le (field_length f) 9999) fields.now }
+#[tactic(auto, using(crate::proofs::Lengths::fields_length_small), unfolding(crate::specs::Written::fits))]
+fn fields_fit(fields: &[Field]) -> bool
+    requires few { length fields.now ≤ 8331 }
+    requires small { fields_size fields.now ≤ 1000000 }
+    ensures { result ≡ fits fields.now }
 {
+    let mut record_len = base_len(fields) + 1;
     for field in fields {
-        if field_len(field) > MOST_FIELD_LEN {
+        let len = field_len(field);
+        if len > MOST_FIELD_LEN {
             return false;
         }
+        record_len += len;
     }
-    true
+    record_len <= MOST_RECORD_LEN
 }
 
 /// Whether the leader has room for the record's length, and the directory for each field's.
-#[tactic(auto, using(crate::proofs::Lengths::record_bounds), unfolding(crate::specs::Written::fits))]
+#[tactic(auto, using(crate::proofs::Lengths::record_bounds))]
 pub fn fits(rec: &Record) -> bool
     ensures { result ≡ fits rec.now.fields }
 {
-    encoded_len(rec) <= MOST_RECORD_LEN && each_field_fits(rec.fields.as_slice())
+    fields_fit(rec.fields.as_slice())
 }

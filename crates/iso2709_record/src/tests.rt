@@ -1,6 +1,6 @@
-ghost use Rattle.std.specs.Prelude.{◌≡◌, Some};
+ghost use Rattle.std.specs.Prelude.{Some};
 
-use crate::{encode, encode_into, encode_vec, encoded_len, field_len, fits, spelled_once};
+use crate::{encode, encode_into, encode_vec, encoded_len, fits, spelled_once};
 use marc_types::{
     Field, Fields, Leader, NoMemory, Record, Subfield, Subfields, Tag, Text, makes_record,
 };
@@ -8,6 +8,67 @@ use outside::{Failed, Sink};
 use std::alloc::Global;
 use std::process::Abort;
 use std::test::Fail;
+
+/// A field: its tag, a control field's text or the indicators, and the subfields.
+#[derive(Drop)]
+struct Line {
+    tag: Tag,
+    text: &'static str,
+    subfields: &'static [(u8, &'static str)],
+}
+
+const fn field_line(
+    tag: &[u8; 3],
+    text: &'static str,
+    subfields: &'static [(u8, &'static str)],
+) -> Line {
+    let [a, b, c] = *tag;
+    Line {
+        tag: Tag { a, b, c },
+        text,
+        subfields,
+    }
+}
+
+fn subfields_of(alloc: Global, list: &[(u8, &str)]) -> Result<Subfields, NoMemory> {
+    let mut subfields = Vec::with_capacity(alloc, list.len())?;
+    for (code, text) in list {
+        let text = Text::from_str(alloc, text)?;
+        subfields.push(Subfield { code: *code, text })?;
+    }
+    Ok(Subfields::from_vec(subfields))
+}
+
+fn field_of(alloc: Global, line: &Line) -> Result<Field, NoMemory> {
+    let tag = line.tag;
+    match line.text.as_bytes() {
+        [ind1, ind2] if !tag.is_control() => Ok(Field::Variable {
+            tag,
+            ind1: *ind1,
+            ind2: *ind2,
+            subs: subfields_of(alloc, line.subfields)?,
+        }),
+        _ => Ok(Field::Control {
+            tag,
+            text: Text::from_str(alloc, line.text)?,
+        }),
+    }
+}
+
+fn record_of(
+    rt: &impl Abort,
+    alloc: Global,
+    leader: Leader,
+    lines: &[Line],
+) -> Result<Record, NoMemory> {
+    let mut fields = Vec::with_capacity(alloc, lines.len())?;
+    for line in lines {
+        fields.push(field_of(alloc, line)?)?;
+    }
+    let fields = Fields::from_vec(fields);
+    assert!(rt; makes_record(&leader, fields.as_slice()));
+    Ok(Record { leader, fields })
+}
 
 const AUTHORITY: Leader = Leader {
     status: b'n',
@@ -29,90 +90,39 @@ const BOOK: Leader = Leader {
     linked: b' ',
 };
 
-fn tag(name: &[u8; 3]) -> Tag {
-    Tag {
-        a: name[0],
-        b: name[1],
-        c: name[2],
-    }
-}
-
-fn control(alloc: Global, name: &[u8; 3], text: &str) -> Result<Field, NoMemory> {
-    Ok(Field::Control {
-        tag: tag(name),
-        text: Text::from_str(alloc, text)?,
-    })
-}
-
-fn variable(
-    alloc: Global,
-    name: &[u8; 3],
-    indicators: &[u8; 2],
-    subfields: &[(u8, &str)],
-) -> Result<Field, NoMemory> {
-    let mut subs = Vec::new(alloc);
-    for (code, text) in subfields {
-        subs.push(Subfield {
-            code: *code,
-            text: Text::from_str(alloc, text)?,
-        })?;
-    }
-    Ok(Field::Variable {
-        tag: tag(name),
-        ind1: indicators[0],
-        ind2: indicators[1],
-        subs: Subfields::from_vec(subs),
-    })
-}
-
-fn record_of(rt: &impl Abort, leader: Leader, fields: Vec<Field>) -> Record {
-    let fields = Fields::from_vec(fields);
-    assert!(rt; makes_record(&leader, fields.as_slice()));
-    Record { leader, fields }
-}
-
 fn authority(rt: &impl Abort, alloc: Global) -> Result<Record, NoMemory> {
-    let mut fields = Vec::new(alloc);
-    fields.push(control(alloc, b"001", "n79021164")?)?;
-    fields.push(control(alloc, b"003", "DLC")?)?;
-    fields.push(variable(
-        alloc,
-        b"100",
-        b"1 ",
-        &[(b'a', "Twain, Mark,"), (b'd', "1835-1910")],
-    )?)?;
-    fields.push(variable(
-        alloc,
-        b"400",
-        b"1 ",
-        &[(b'a', "Clemens, Samuel Langhorne,"), (b'd', "1835-1910")],
-    )?)?;
-    Ok(record_of(rt, AUTHORITY, fields))
+    let twain = &[(b'a', "Twain, Mark,"), (b'd', "1835-1910")];
+    let clemens = &[(b'a', "Clemens, Samuel Langhorne,"), (b'd', "1835-1910")];
+    let lines = [
+        field_line(b"001", "n79021164", &[]),
+        field_line(b"003", "DLC", &[]),
+        field_line(b"100", "1 ", twain),
+        field_line(b"400", "1 ", clemens),
+    ];
+    record_of(rt, alloc, AUTHORITY, &lines)
 }
 
 fn book(rt: &impl Abort, alloc: Global) -> Result<Record, NoMemory> {
-    let mut fields = Vec::new(alloc);
-    fields.push(control(alloc, b"001", "b1")?)?;
-    fields.push(variable(
-        alloc,
-        b"100",
-        b"1 ",
-        &[
-            (b'a', "Twain, Mark,"),
-            (b'd', "1835-1910"),
-            (b'0', "(DLC)n79021164"),
-            (b'e', "author."),
-        ],
-    )?)?;
-    fields.push(variable(alloc, b"245", b"10", &[(b'a', "Roughing it.")])?)?;
-    Ok(record_of(rt, BOOK, fields))
+    let twain = &[
+        (b'a', "Twain, Mark,"),
+        (b'd', "1835-1910"),
+        (b'0', "(DLC)n79021164"),
+        (b'e', "author."),
+    ];
+    let lines = [
+        field_line(b"001", "b1", &[]),
+        field_line(b"100", "1 ", twain),
+        field_line(b"245", "10", &[(b'a', "Roughing it.")]),
+    ];
+    record_of(rt, alloc, BOOK, &lines)
 }
 
 fn accented(rt: &impl Abort, alloc: Global) -> Result<Record, NoMemory> {
-    let mut fields = Vec::new(alloc);
-    fields.push(control(alloc, b"001", "m1")?)?;
-    fields.push(variable(alloc, b"245", b"00", &[(b'a', "Cafe\u{301}")])?)?;
-    Ok(record_of(rt, BOOK, fields))
+    let lines = [
+        field_line(b"001", "m1", &[]),
+        field_line(b"245", "00", &[(b'a', "Cafe\u{301}")]),
+    ];
+    record_of(rt, alloc, BOOK, &lines)
 }
 
 const AUTHORITY_BYTES: &[u8] = b"00158nz  a2200073n  4500\
@@ -129,44 +139,47 @@ const ACCENTED_BYTES: &[u8] = b"00064nam a2200049 a 4500\
 001000300000245001100003\x1e\
 m1\x1e00\x1faCafe\xcc\x81\x1e\x1d";
 
+fn expect_written(
+    rt: &impl Abort,
+    alloc: Global,
+    rec: &Record,
+    bytes: &[u8],
+) -> Result<(), NoMemory> {
+    assert!(rt; fits(rec));
+    assert_eq!(rt; encoded_len(rec), bytes.len() as u64);
+    let mut out = encode_vec(alloc, rec)?.into_vec();
+    assert_eq!(rt; out.as_slice(), bytes);
+    encode_into(alloc, rec, &mut out)?;
+    assert_eq!(rt; &out[bytes.len()..], bytes);
+    spelled_once(rec, rec);
+    Ok(())
+}
+
 #[test]
 fn records_are_written_byte_for_byte(rt: HostRuntime) -> Result<(), Fail> {
     let alloc = rt.alloc();
-    let table = [
-        (authority(&rt, alloc)?, AUTHORITY_BYTES, 158),
-        (book(&rt, alloc)?, BOOK_BYTES, 135),
-        (accented(&rt, alloc)?, ACCENTED_BYTES, 64),
-    ];
-    for (rec, bytes, len) in &table {
-        assert_eq!(rt; encoded_len(rec), *len);
-        assert!(rt; fits(rec));
-        let written = encode_vec(alloc, rec)?;
-        assert_eq!(rt; written.as_slice(), *bytes);
-    }
+    expect_written(&rt, alloc, &authority(&rt, alloc)?, AUTHORITY_BYTES)?;
+    expect_written(&rt, alloc, &book(&rt, alloc)?, BOOK_BYTES)?;
+    expect_written(&rt, alloc, &accented(&rt, alloc)?, ACCENTED_BYTES)?;
     Ok(())
 }
 
 #[test]
-fn a_record_is_appended(rt: HostRuntime) -> Result<(), Fail> {
-    let alloc = rt.alloc();
-    let rec = book(&rt, alloc)?;
-    let mut out = b"0042".to_vec(alloc)?;
-    assert!(rt; fits(&rec));
-    encode_into(alloc, &rec, &mut out)?;
-    assert_eq!(rt; out.len(), 139);
-    assert_eq!(rt; &out[..4], b"0042".as_slice());
-    assert_eq!(rt; &out[4..], BOOK_BYTES);
-    Ok(())
-}
-
-#[test]
-fn a_long_field_does_not_fit(rt: HostRuntime) -> Result<(), Fail> {
+fn a_field_of_ten_thousand_bytes_does_not_fit(rt: HostRuntime) -> Result<(), Fail> {
     let alloc = rt.alloc();
     for (len, fitting) in [(9_998, true), (9_999, false)] {
-        let text = String::from_utf8(vec![in alloc; b'x'; len]?)?;
-        let mut fields = Vec::new(alloc);
-        fields.push(control(alloc, b"001", text.as_str())?)?;
-        let rec = record_of(&rt, AUTHORITY, fields);
+        let tag = Tag {
+            a: b'0',
+            b: b'0',
+            c: b'1',
+        };
+        let text = Text::from_string(String::from_utf8(vec![in alloc; b'x'; len]?)?);
+        let fields = Fields::from_vec(vec![in alloc; Field::Control { tag, text }]?);
+        assert!(rt; makes_record(&BOOK, fields.as_slice()));
+        let rec = Record {
+            leader: BOOK,
+            fields,
+        };
         assert_eq!(rt; fits(&rec), fitting);
     }
     Ok(())

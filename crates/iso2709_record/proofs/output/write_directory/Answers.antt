@@ -17,7 +17,7 @@ loop-field-init g c = record {
 pub returns-in_err-write_all-clause-front : goal.returns-in_err-write_all-clause-front
 returns-in_err-write_all-clause-front g c =
     writing_failed _ _ _ _ _ _ _ c.loop-field.invariant.writing
-    (entry_next c.loop-field.start _ c.args.fields.now c.loop-field.field-index c.field-item.result (omega arith) c.field-item.is refl)
+    (entry_next c.loop-field.start _ c.args.fields.now c.loop-field.field-index c.field-item.result (omega arith) c.field-item.is c.field_len-len.ensures)
     (rw c.entry_block.ensures at c.write_all.ensures.front)
 
 pub loop-field-preserved : goal.loop-field-preserved
@@ -25,10 +25,10 @@ loop-field-preserved g c =
     let next = drop_next c.args.fields.now c.loop-field.field-index c.field-item.result (omega arith) c.field-item.is in
     record {
       writing = writing_more _ _ _ _ _ _ _ c.loop-field.invariant.writing
-          (entry_next c.loop-field.start _ c.args.fields.now c.loop-field.field-index c.field-item.result (omega arith) c.field-item.is c.field_len-start.ensures)
+          (entry_next c.loop-field.start _ c.args.fields.now c.loop-field.field-index c.field-item.result (omega arith) c.field-item.is c.field_len-len.ensures)
           (rw c.entry_block.ensures at c.in_ok-write_all.ensures.bytes);
       small = omega (arith, ap fields_size next);
-      start = omega (arith, ap fields_length next, c.field_len-start.ensures);
+      start = omega (arith, ap fields_length next, c.field_len-len.ensures);
       tells = c.in_ok-write_all.ensures.tells ∙ c.loop-field.invariant.tells;
       later = omega arith;
     }
