@@ -1,16 +1,17 @@
 -- Subfields that are cut off one after the other.
-use Rattle.std.proofs.Common.{◌≡◌, ◌≢◌, ℕ, ◌+◌, ◌<◌, ◌≤◌, Bool, true, false, not, ◌&&◌, ◌||◌, ◌==◌, List, [], ◌∷◌, ◌++◌, length, get_or, take, drop, Option, Some, None, refl, sym, ap, ◌∙◌, arith, subst, inl, inr, unwrap_or}
+use Rattle.std.proofs.Common.{◌≡◌, ◌≢◌, ℕ, ◌≤◌, true, false, ◌==◌, List, [], ◌∷◌, ◌++◌, length, take, drop, Option, Some, None, lit≤, refl, sym, ap, ◌∙◌, arith, subst, unwrap_or}
 use Rattle.std.specs.List.{list_any, list_all, flat_map}
-use Rattle.std.proofs.lemmas.Bool.{and_parts, and_from, or_parts, or_from, eqb-true, ne_eqb, false_from_ne_true, both_ways, true≢false, leb-true}
-use Rattle.std.proofs.lemmas.List.{drop_more, drop_all, take_all}
+use Rattle.std.proofs.lemmas.Bool.{and_parts, and_from, or_parts, eqb-true, ne_eqb, both_ways, true≢false, leb-true}
+use Rattle.std.proofs.lemmas.List.{drop_more, drop_all}
 use Rattle.memchr.specs.Find.{IsFirstByte, is_byte}
 use Rattle.marc_types.specs.declared.field.Subfield.{Subfield}
 use Rattle.marc_types.specs.Valid.{is_graphic, is_data, is_text, is_subfield}
 use Rattle.iso2709_record.specs.declared.subfields.Cut.{Cut}
 use Rattle.iso2709_record.specs.Written.{delimiter, subfield_bytes}
-use Rattle.iso2709_record.specs.Faults.{starts_with_code, codes_follow, starts_subfield, is_subfield_data}
-use Rattle.iso2709_record.specs.Spelling.{Spells, CutsOff, IsFirstOf}
+use Rattle.iso2709_record.specs.Faults.{codes_follow, starts_subfield, is_subfield_data}
+use Rattle.iso2709_record.specs.Spelling.{Spells, IsFirstOf}
 use Rattle.iso2709_record.proofs.Endings.{none_before}
+use Rattle.iso2709_record.proofs.Terminators.{text_has_none}
 
 -- where the first delimiter stands, or the end
 pub record IsTextEnd (bytes : List ℕ) (end : ℕ) : Type 0 where
@@ -78,15 +79,9 @@ text_cut_once (a ∷ t) (b ∷ u) x y p q m n e =
     let same : t ≡ u = rest.0 in
     (cc, rest.1)
 
-data_is_no_delimiter : (b : ℕ) → is_data b ≡ true → (b == delimiter) ≡ false
-data_is_no_delimiter b h = false_from_ne_true _ (λ e. let bad = subst (λ x. is_data x ≡ true) (eqb-true b delimiter e) h in cc)
-
 -- a valid text has no delimiter
 pub text_uncut : (text : List ℕ) → list_all is_data text ≡ true → list_any (λ b. b == delimiter) text ≡ false
-text_uncut [] h = refl
-text_uncut (b ∷ text) h =
-    let parts : (is_data b ≡ true) × (list_all is_data text ≡ true) = and_parts _ _ h in
-    or_from _ _ (data_is_no_delimiter b parts.0) (text_uncut text parts.1)
+text_uncut text valid = text_has_none delimiter text (lit≤ tt) (lit≤ tt) valid
 
 pub subfield_uncut : (s : Subfield) → is_subfield s ≡ true → list_any (λ b. b == delimiter) s.text ≡ false
 unfolding is_subfield is_text

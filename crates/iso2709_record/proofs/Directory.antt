@@ -1,5 +1,5 @@
 -- Where the entries of a directory lie, and what their digits are.
-use Rattle.std.proofs.Common.{◌≡◌, ℕ, ◌+◌, ◌-◌, ◌*◌, ◌/◌, ◌%◌, ◌^◌, ◌<◌, ◌≤◌, Bool, true, false, ◌==◌, not, ◌||◌, ltb as nat_lt, List, length, take, drop, ap, arith}
+use Rattle.std.proofs.Common.{◌≡◌, ℕ, ◌+◌, ◌-◌, ◌*◌, ◌%◌, ◌^◌, ◌<◌, ◌≤◌, true, false, ◌==◌, not, ◌||◌, ltb as nat_lt, List, length, take, drop, ap, arith}
 use Rattle.std.specs.List.{list_all}
 use Rattle.std.proofs.lemmas.Bool.{or_parts, ltb-false, eqb-true, not-false, and_parts}
 use Rattle.std.proofs.lemmas.List.{length-take-le, take_all, take_rest, drop-drop}

@@ -1,38 +1,36 @@
 -- What is read of a leader and of a directory's entry that were written.
-use Rattle.std.proofs.Common.{◌≡◌, ℕ, ◌+◌, ◌-◌, ◌*◌, ◌/◌, ◌%◌, ◌≤◌, ◌<◌, Bool, true, false, not, ◌&&◌, ◌||◌, ◌==◌, List, [], ◌∷◌, ◌++◌, length, get_or, take, drop, lit<, refl, sym, ap, ◌∙◌, arith, subst}
+use Rattle.std.proofs.Common.{◌≡◌, ℕ, ◌-◌, ◌≤◌, Bool, true, false, ◌&&◌, List, [], ◌∷◌, ◌++◌, length, get_or, take, drop, lit<, refl, ap, ◌∙◌, arith}
 use Rattle.std.specs.Prelude.{slice_range, slice_index}
 use Rattle.std.specs.List.{list_all, AllPass}
-use Rattle.std.proofs.lemmas.Bool.{and_parts, and_from, or_from, le-leb, le-ltb, not_from_true, or_left}
-use Rattle.std.proofs.lemmas.Bool.Decides.{nat_tests}
+use Rattle.std.proofs.lemmas.Bool.{and_parts, and_from, or_from, le-ltb, not_from_true}
 use Rattle.std.proofs.lemmas.List.Folds.{list_all-append}
 use Rattle.std.proofs.lemmas.List.Sums.{AllPass-from_list_all}
 use Rattle.marc_types.specs.declared.field.Tag.{Tag}
 use Rattle.marc_types.specs.declared.field.Leader.{Leader}
 use Rattle.marc_types.specs.declared.field.Field.{Field}
-use Rattle.marc_types.specs.declared.field.Field.TheVariants.{Control, Variable}
-use Rattle.marc_types.specs.Valid.{is_printable, is_digit, is_alphanumeric, is_tag, is_leader, is_field}
-use Rattle.iso2709_record.specs.Written.{four_digits, five_digits, leader_bytes, entry_bytes, directory_bytes, tag_of, field_length}
+use Rattle.marc_types.specs.Valid.{is_printable, is_digit, is_alphanumeric, is_tag, is_leader}
+use Rattle.iso2709_record.specs.Written.{four_digits, five_digits, leader_bytes, entry_bytes, tag_of, field_length, base_address, record_length}
 use Rattle.iso2709_record.specs.Layout.{number, base_of, entry_at, tag_at, length_at, start_at}
 use Rattle.iso2709_record.specs.Faults.{has_bad_leader, is_good_entry}
 use Rattle.iso2709_record.specs.Raw.{leader_at}
 use Rattle.iso2709_record.proofs.Digits.{four_digits_number, five_digits_number, four_digits_are_digits, five_digits_are_digits}
 
 -- the leader's parts, whatever stands behind it
-pub size_again : (l : Leader) (size base : ℕ) (rest : List ℕ) → take 5 (leader_bytes l size base ++ rest) ≡ five_digits size
+pub size_again : (l : Leader) (fs : List Field) (rest : List ℕ) → take 5 (leader_bytes l fs ++ rest) ≡ five_digits (record_length fs)
 unfolding leader_bytes five_digits
-size_again l size base rest = refl
+size_again l fs rest = refl
 
-pub base_again : (l : Leader) (size base : ℕ) (rest : List ℕ) → base ≤ 99999 → base_of (leader_bytes l size base ++ rest) ≡ base
+pub base_again : (l : Leader) (fs : List Field) (rest : List ℕ) → base_address fs ≤ 99999 → base_of (leader_bytes l fs ++ rest) ≡ base_address fs
 unfolding leader_bytes five_digits base_of
-base_again l size base rest le = five_digits_number base le
+base_again l fs rest le = five_digits_number (base_address fs) le
 
-pub leader_again : (l : Leader) (size base : ℕ) (rest : List ℕ) → leader_at (leader_bytes l size base ++ rest) ≡ l
+pub leader_again : (l : Leader) (fs : List Field) (rest : List ℕ) → leader_at (leader_bytes l fs ++ rest) ≡ l
 unfolding leader_bytes five_digits leader_at
-leader_again l size base rest = refl
+leader_again l fs rest = refl
 
-pub coding_again : (l : Leader) (size base : ℕ) (rest : List ℕ) → slice_index (leader_bytes l size base ++ rest) 9 ≡ 97
+pub coding_again : (l : Leader) (fs : List Field) (rest : List ℕ) → slice_index (leader_bytes l fs ++ rest) 9 ≡ 97
 unfolding leader_bytes five_digits
-coding_again l size base rest = refl
+coding_again l fs rest = refl
 
 -- the bytes that a valid leader keeps
 kept_printable : (l : Leader) → is_leader l ≡ true → AllPass is_printable (l.status ∷ l.rtype ∷ l.level ∷ l.control ∷ l.encoding ∷ l.form ∷ l.linked ∷ [])
@@ -58,13 +56,13 @@ unfolding has_bad_leader
 good_leader_from bytes front back digits low high =
     or_from _ _ (or_from _ _ (or_from _ _ (or_from _ _ (not_from_true _ front) (not_from_true _ back)) (not_from_true _ digits)) (le-ltb _ _ low)) (le-ltb _ _ high)
 
-pub good_leader_again : (l : Leader) (size base : ℕ) (rest : List ℕ) → is_leader l ≡ true → 25 ≤ base → base ≤ 99999
-    → base ≤ length (leader_bytes l size base ++ rest) - 1 → has_bad_leader (leader_bytes l size base ++ rest) ≡ false
+pub good_leader_again : (l : Leader) (fs : List Field) (rest : List ℕ) → is_leader l ≡ true → base_address fs ≤ 99999
+    → base_address fs ≤ length (leader_bytes l fs ++ rest) - 1 → has_bad_leader (leader_bytes l fs ++ rest) ≡ false
 unfolding leader_bytes five_digits
-good_leader_again l size base rest valid low high within =
-    let again : base_of (leader_bytes l size base ++ rest) ≡ base = base_again l size base rest high in
-    good_leader_from (leader_bytes l size base ++ rest) (front_printable l (97 ∷ []) valid refl) (back_printable l [] valid refl) (five_digits_are_digits base)
-    (rw again low) (rw again within)
+good_leader_again l fs rest valid high within =
+    let again : base_of (leader_bytes l fs ++ rest) ≡ base_address fs = base_again l fs rest high in
+    good_leader_from (leader_bytes l fs ++ rest) (front_printable l (97 ∷ []) valid refl) (back_printable l [] valid refl) (five_digits_are_digits (base_address fs))
+    (rw again (omega arith)) (rw again within)
 
 -- tests of joined bytes
 joined : (p : ℕ → Bool) (xs ys : List ℕ) → list_all p xs ≡ true → list_all p ys ≡ true → list_all p (xs ++ ys) ≡ true

@@ -1,17 +1,14 @@
 -- Bytes without a mark, and bytes that end with their only one.
-use Rattle.std.proofs.Common.{◌≡◌, ℕ, ◌+◌, ◌≤◌, Bool, true, false, not, ◌&&◌, ◌||◌, ◌==◌, leb, List, [], ◌∷◌, ◌++◌, length, get_or, take, lit≤, refl, sym, ap, ◌∙◌, arith, subst, length-append}
+use Rattle.std.proofs.Common.{◌≡◌, ℕ, true, false, ◌==◌, leb, List, [], ◌∷◌, ◌++◌, length, lit≤, refl, sym, ◌∙◌, arith, length-append}
 use Rattle.std.specs.List.{list_any, list_all, flat_map}
-use Rattle.std.proofs.lemmas.Bool.{and_parts, and_from, or_parts, or_from, eqb-true, eq-eqb, ne_eqb, leb-true, le-leb, not-true, not_from_false, not_from_true, false_from_ne_true}
-use Rattle.std.proofs.lemmas.Bool.Decides.{nat_tests}
+use Rattle.std.proofs.lemmas.Bool.{and_parts, and_from, eq-eqb, le-leb, not-true, not_from_false}
 use Rattle.std.proofs.lemmas.List.{get_or_at, take_at}
-use Rattle.std.proofs.lemmas.List.Folds.{list_any-append}
 use Rattle.marc_types.specs.declared.field.Subfield.{Subfield}
 use Rattle.marc_types.specs.declared.field.Field.{Field}
 use Rattle.marc_types.specs.declared.field.Field.TheVariants.{Control, Variable}
-use Rattle.marc_types.specs.Valid.{is_graphic, is_printable, is_data, is_text, is_subfield, is_control_tag, is_field}
-use Rattle.iso2709_record.specs.Written.{record_terminator, field_terminator, delimiter, subfield_bytes, field_data, field_bytes, tag_of}
-use Rattle.iso2709_record.specs.Faults.{ends_once, codes_follow, starts_subfield, is_subfield_data, is_control_data, is_variable_data, fits_tag}
-use Rattle.iso2709_record.specs.Raw.{has_no_terminator}
+use Rattle.marc_types.specs.Valid.{is_printable, is_text, is_subfield, is_control_tag, is_field}
+use Rattle.iso2709_record.specs.Written.{field_terminator, subfield_bytes, field_data, field_bytes, tag_of}
+use Rattle.iso2709_record.specs.Faults.{ends_once, codes_follow, is_subfield_data, is_control_data, is_variable_data, fits_tag}
 use Rattle.iso2709_record.proofs.Endings.{ends_here}
 use Rattle.iso2709_record.proofs.Terminators.{IsTerminator, field_data_has_none}
 use Rattle.iso2709_record.proofs.Cutting.{codes_follow-text, text_uncut, subfield_uncut, starts-subfields, graphic_is_no_delimiter}

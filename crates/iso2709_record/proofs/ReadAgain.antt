@@ -1,26 +1,21 @@
 -- What was written is read again: a written record is sound, and holds the record.
-use Rattle.std.proofs.Common.{◌≡◌, ℕ, zero, suc, ◌+◌, ◌-◌, ◌*◌, ◌/◌, ◌%◌, ◌≤◌, ◌<◌, Bool, true, false, not, ◌&&◌, ◌||◌, ◌==◌, leb, List, [], ◌∷◌, ◌++◌, length, get_or, take, drop, map, refl, sym, ap, ◌∙◌, arith, subst, add-one, append_assoc, length-append}
-use Rattle.std.specs.Prelude.{slice_range, slice_index}
-use Rattle.std.specs.List.{list_all, list_any, flat_map, AllPass}
-use Rattle.std.proofs.lemmas.Bool.{and_parts, and_from, or_from, le-leb, lt-ltb, le-ltb, leb-true, eq-eqb, not_from_true, not_from_false}
-use Rattle.std.proofs.lemmas.List.{take_at, drop_at, get_or_at, get_or_default, length-map, get_or-map, take_more}
-use Rattle.std.proofs.lemmas.List.Folds.{list_any-append}
+use Rattle.std.proofs.Common.{◌≡◌, ℕ, zero, suc, ◌+◌, ◌-◌, ◌*◌, ◌%◌, ◌≤◌, ◌<◌, true, false, leb, List, [], ◌∷◌, ◌++◌, length, get_or, take, map, refl, sym, ap, ◌∙◌, arith, append_assoc, length-append}
+use Rattle.std.specs.List.{list_all, flat_map, AllPass}
+use Rattle.std.proofs.lemmas.Bool.{and_from, or_from, le-leb, lt-ltb, le-ltb, leb-true, eq-eqb, not_from_true}
+use Rattle.std.proofs.lemmas.List.{take_at, get_or_at, get_or_default, length-map, get_or-map}
 use Rattle.std.proofs.lemmas.List.FromFn.{fill_by_all}
 use Rattle.std.proofs.lemmas.List.Sums.{AllPass-from_list_all}
-use Rattle.marc_types.specs.declared.field.Tag.{Tag}
 use Rattle.marc_types.specs.declared.field.Leader.{Leader}
 use Rattle.marc_types.specs.declared.field.Field.{Field}
 use Rattle.marc_types.specs.declared.field.Field.TheVariants.{Control}
 use Rattle.marc_types.specs.Valid.{is_digit, is_leader, is_field, is_record}
-use Rattle.iso2709_record.specs.declared.raw.RawField.{RawField}
 use Rattle.iso2709_record.specs.Written.{record_terminator, field_terminator, field_data, field_bytes, field_length, fields_length, tag_of, five_digits, leader_bytes, entry_bytes, directory_bytes, base_address, record_length, record_bytes, fits}
-use Rattle.iso2709_record.specs.First.{AllGood}
 use Rattle.iso2709_record.specs.Layout.{number, base_of, entry_count, entry_at, tag_at, length_at, start_at, area_at, data_at, lengths_of}
-use Rattle.iso2709_record.specs.Faults.{has_bad_length, has_bad_leader, is_ragged, ends_once, is_good_entry, is_good_field, lies_within, lengths_fit, fits_tag, HasWholeEntries, HasDirectory, IsSound}
+use Rattle.iso2709_record.specs.Faults.{has_bad_length, has_bad_leader, is_ragged, ends_once, is_good_field, HasWholeEntries, IsSound}
 use Rattle.iso2709_record.specs.Raw.{leader_at, coding_at, raw_field, raw_fields, raw_record, raw_of, raw_of_record}
 use Rattle.iso2709_record.proofs.Lengths.{length-leader_bytes, length-directory_bytes, length-record_bytes, fits_parts}
+use Rattle.iso2709_record.proofs.Each.{leader_valid, fields_valid, fields_length-take}
 use Rattle.iso2709_record.proofs.Places.{entry_place, area_place}
-use Rattle.iso2709_record.proofs.Spelled.{record_bytes-parts}
 use Rattle.iso2709_record.proofs.Digits.{five_digits_number, five_digits_are_digits}
 use Rattle.iso2709_record.proofs.Terminators.{record_front, record_bytes-front, record_front_has_none, tag_valid}
 use Rattle.iso2709_record.proofs.Leaders.{size_again, base_again, leader_again, coding_again, good_leader_again, good_entry_again, tag_again, length_again, start_again}
@@ -35,25 +30,21 @@ record IsWritten (l : Leader) (fs : List Field) : Type 0 where
   pub short : AllPass (λ f. leb (field_length f) 9999) fs
 
 is_written : (l : Leader) (fs : List Field) → is_record l fs ≡ true → fits fs ≡ true → IsWritten l fs
-unfolding is_record
 is_written l fs valid fit =
-    let a = and_parts _ _ valid in
-    let b = and_parts _ _ a.0 in
-    let c = and_parts _ _ b.0 in
     let room = fits_parts fs fit in
-    record { valid = valid; leader = c.0; fields = c.1; size = room.0; short = room.1 }
+    record { valid = valid; leader = leader_valid l fs valid; fields = fields_valid l fs valid; size = room.0; short = room.1 }
 
 -- the leader, and what stands behind it
 behind : List Field → List ℕ
 behind fs = directory_bytes 0 fs ++ field_terminator ∷ (flat_map field_bytes fs ++ record_terminator ∷ [])
 
-parts : (l : Leader) (fs : List Field) → record_bytes l fs ≡ leader_bytes l (record_length fs) (base_address fs) ++ behind fs
+parts : (l : Leader) (fs : List Field) → record_bytes l fs ≡ leader_bytes l fs ++ behind fs
 unfolding record_bytes behind
 parts l fs = simp append_assoc
 
 base_is : (l : Leader) (fs : List Field) → IsWritten l fs → base_of (record_bytes l fs) ≡ base_address fs
 base_is l fs w =
-    ap base_of (parts l fs) ∙ base_again l (record_length fs) (base_address fs) (behind fs) (omega (arith, w.size))
+    ap base_of (parts l fs) ∙ base_again l fs (behind fs) (omega (arith, w.size))
 
 count_is : (l : Leader) (fs : List Field) → IsWritten l fs → entry_count (record_bytes l fs) ≡ length fs
 count_is l fs w = let base = base_is l fs w in omega (arith, base)
@@ -67,7 +58,7 @@ good_length : (l : Leader) (fs : List Field) → IsWritten l fs → has_bad_leng
 unfolding has_bad_length
 good_length l fs w =
     let len = length-record_bytes l fs in
-    let size : take 5 (record_bytes l fs) ≡ five_digits (record_length fs) = ap (take 5) (parts l fs) ∙ size_again l (record_length fs) (base_address fs) (behind fs) in
+    let size : take 5 (record_bytes l fs) ≡ five_digits (record_length fs) = ap (take 5) (parts l fs) ∙ size_again l fs (behind fs) in
     let digits : list_all is_digit (take 5 (record_bytes l fs)) ≡ true = ap (list_all is_digit) size ∙ five_digits_are_digits (record_length fs) in
     let same : number (take 5 (record_bytes l fs)) ≡ length (record_bytes l fs) = ap number size ∙ five_digits_number (record_length fs) w.size ∙ sym len in
     or_from _ _ (or_from _ _ (or_from _ _ (le-ltb (length (record_bytes l fs)) 26 (omega (arith, len))) (not_from_true _ digits)) (not_from_true _ (eq-eqb _ _ same)))
@@ -75,19 +66,19 @@ good_length l fs w =
 
 good_leader : (l : Leader) (fs : List Field) → IsWritten l fs → has_bad_leader (record_bytes l fs) ≡ false
 good_leader l fs w =
-    let len : length (leader_bytes l (record_length fs) (base_address fs) ++ behind fs) ≡ record_length fs = sym (ap length (parts l fs)) ∙ length-record_bytes l fs in
+    let len : length (leader_bytes l fs ++ behind fs) ≡ record_length fs = sym (ap length (parts l fs)) ∙ length-record_bytes l fs in
     ap has_bad_leader (parts l fs)
-    ∙ good_leader_again l (record_length fs) (base_address fs) (behind fs) w.leader (omega arith) (omega (arith, w.size)) (omega (arith, len))
+    ∙ good_leader_again l fs (behind fs) w.leader (omega (arith, w.size)) (omega (arith, len))
 
 -- the byte before the first field is a field terminator
 directory_ends : (l : Leader) (fs : List Field) → get_or (record_bytes l fs) (24 + 12 * length fs) 0 ≡ field_terminator
 unfolding behind
 directory_ends l fs =
-    let leader = leader_bytes l (record_length fs) (base_address fs) in
+    let leader = leader_bytes l fs in
     let fields = flat_map field_bytes fs ++ record_terminator ∷ [] in
     let regrouped : record_bytes l fs ≡ (leader ++ directory_bytes 0 fs) ++ field_terminator ∷ fields = parts l fs ∙ sym (append_assoc leader (directory_bytes 0 fs) (field_terminator ∷ fields)) in
     let at : length (leader ++ directory_bytes 0 fs) ≡ 24 + 12 * length fs =
-    omega (arith, length-append leader (directory_bytes 0 fs), length-leader_bytes l (record_length fs) (base_address fs), length-directory_bytes 0 fs) in
+    omega (arith, length-append leader (directory_bytes 0 fs), length-leader_bytes l fs, length-directory_bytes 0 fs) in
     ap (λ bytes. get_or bytes (24 + 12 * length fs) 0) regrouped ∙ get_or_at (leader ++ directory_bytes 0 fs) field_terminator fields 0 (24 + 12 * length fs) at
 
 not_ragged : (l : Leader) (fs : List Field) → IsWritten l fs → is_ragged (record_bytes l fs) ≡ false
@@ -108,11 +99,6 @@ fields_length-take_more : (fs : List Field) (i : ℕ) (f : Field) → i < length
 fields_length-take_more [] i f lt is = absurd (omega arith)
 fields_length-take_more (x ∷ xs) zero f lt is = let same : field_length f ≡ field_length x = ap field_length is in omega arith
 fields_length-take_more (x ∷ xs) (suc i) f lt is = let more = fields_length-take_more xs i f (omega arith) is in omega arith
-
-fields_length-front : (fs : List Field) (i : ℕ) → fields_length (take i fs) ≤ fields_length fs
-fields_length-front fs zero = omega arith
-fields_length-front [] (suc i) = omega arith
-fields_length-front (f ∷ fs) (suc i) = let front = fields_length-front fs i in omega arith
 
 -- a field at its place
 record IsAt (fs : List Field) (i : ℕ) (f : Field) : Type 0 where
@@ -138,7 +124,7 @@ entry_is l fs i f at = entry_place l fs i f at.within at.is
 
 start_is : (l : Leader) (fs : List Field) (i : ℕ) (f : Field) → IsWritten l fs → IsAt fs i f → start_at (record_bytes l fs) i ≡ fields_length (take i fs)
 start_is l fs i f w at =
-    let front = fields_length-front fs i in
+    let front = fields_length-take i fs in
     start_again (record_bytes l fs) i (fields_length (take i fs)) f (entry_is l fs i f at) (omega (arith, w.size))
 
 length_is : (l : Leader) (fs : List Field) (i : ℕ) (f : Field) → IsAt fs i f → length_at (record_bytes l fs) i ≡ field_length f
@@ -184,7 +170,7 @@ good_field_at l fs i f w at =
     let base = base_is l fs w in
     let start = start_is l fs i f w at in
     let size = length_is l fs i f at in
-    let front = fields_length-front fs (suc i) in
+    let front = fields_length-take (suc i) fs in
     let more = fields_length-take_more fs i f at.within at.is in
     let lengths = lengths_are l fs (suc i) w (omega (arith, at.within)) in
     let some : 0 < length_at (record_bytes l fs) i = omega (arith, size, some_length f) in
@@ -220,8 +206,8 @@ raw_field_is l fs i w lt =
 pub written_holds : (l : Leader) (fs : List Field) → is_record l fs ≡ true → fits fs ≡ true → raw_record (record_bytes l fs) ≡ raw_of_record l fs
 written_holds l fs valid fit =
     let w = is_written l fs valid fit in
-    let leader : leader_at (record_bytes l fs) ≡ l = ap leader_at (parts l fs) ∙ leader_again l (record_length fs) (base_address fs) (behind fs) in
-    let coding : coding_at (record_bytes l fs) ≡ 97 = ap coding_at (parts l fs) ∙ coding_again l (record_length fs) (base_address fs) (behind fs) in
+    let leader : leader_at (record_bytes l fs) ≡ l = ap leader_at (parts l fs) ∙ leader_again l fs (behind fs) in
+    let coding : coding_at (record_bytes l fs) ≡ 97 = ap coding_at (parts l fs) ∙ coding_again l fs (behind fs) in
     let listed : map raw_of fs ≡ raw_fields (record_bytes l fs) (length fs) =
     fill_by_all (raw_field (record_bytes l fs)) (map raw_of fs) (length fs) (raw_of no_field) (length-map fs raw_of) (λ i lt. raw_field_is l fs i w lt) in
     let fields : raw_fields (record_bytes l fs) (entry_count (record_bytes l fs)) ≡ map raw_of fs = ap (raw_fields (record_bytes l fs)) (count_is l fs w) ∙ sym listed in

@@ -1,12 +1,11 @@
 -- A record's bytes have one answer.
-use Rattle.std.proofs.Common.{◌≡◌, ℕ, ◌<◌, Bool, true, false, List, refl, sym, ap, ◌∙◌, arith, inl, inr}
+use Rattle.std.proofs.Common.{◌≡◌, ℕ, Bool, true, false, List, refl, sym, ap, ◌∙◌, inl, inr}
 use Rattle.std.specs.Bool.{MatchBool}
 use Rattle.std.proofs.lemmas.Bool.{both_ways, cases_order}
 use Rattle.marc_types.specs.declared.refusal.Refusal.{Refusal}
-use Rattle.marc_types.specs.declared.refusal.Refusal.TheVariants.{Overlong, Unfinished, BadLength, BadLeader, BadDirectory, BadField, UnknownCoding, BadText, OtherType, NoNumber, BadCode, NoHeading, HeadingTooLong, NoRoom, OtherSet, NotYet}
+use Rattle.marc_types.specs.declared.refusal.Refusal.TheVariants.{BadLength, BadLeader, BadDirectory, BadField}
 use Rattle.iso2709_record.specs.First.{AllGood, IsFirstBad}
-use Rattle.iso2709_record.specs.Layout.{entry_count}
-use Rattle.iso2709_record.specs.Faults.{has_bad_length, has_bad_leader, is_ragged, is_good_entry, is_good_field, IsBadDirectory, HasDirectory, IsSound, IsFirstFault}
+use Rattle.iso2709_record.specs.Faults.{IsSound, IsFirstFault}
 
 -- there is one first place
 first_once : (test : ℕ → Bool) (count j k : ℕ) → IsFirstBad test count j → IsFirstBad test count k → j ≡ k

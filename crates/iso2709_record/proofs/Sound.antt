@@ -1,6 +1,6 @@
 -- What a sound record's bytes keep.
-use Rattle.std.proofs.Common.{◌≡◌, ℕ, zero, suc, ◌+◌, ◌-◌, ◌*◌, ◌<◌, ◌≤◌, Bool, true, false, not, ◌&&◌, ◌||◌, ◌==◌, ltb as nat_lt, leb as nat_le, List, length, get_or, take, drop, refl, lit<, ◌∙◌, arith}
-use Rattle.std.specs.List.{list_all, list_any}
+use Rattle.std.proofs.Common.{◌≡◌, ℕ, zero, suc, ◌+◌, ◌-◌, ◌*◌, ◌<◌, ◌≤◌, Bool, true, false, ◌||◌, ◌==◌, ltb as nat_lt, leb as nat_le, List, length, get_or, take, drop, refl, lit<, ◌∙◌, arith}
+use Rattle.std.specs.List.{list_all}
 use Rattle.std.proofs.lemmas.Bool.{and_parts, and_from, or_parts, or_from, ltb-true, leb-true, not-false, not_from_false}
 use Rattle.std.proofs.lemmas.List.{length-take, length-drop, get_or-take, get_or-drop, get_or_default}
 use Rattle.std.proofs.lemmas.List.Folds.{list_any_none}
@@ -8,7 +8,7 @@ use Rattle.std.proofs.lemmas.List.Sums.{AllPass-from_list_all}
 use Rattle.marc_types.specs.Valid.{is_printable, is_tag, is_leader, is_alphanumeric}
 use Rattle.iso2709_record.specs.Written.{record_terminator, field_terminator}
 use Rattle.iso2709_record.specs.Layout.{base_of, entry_count, entry_at, tag_at, length_at, start_at, area_at, data_at, lengths_of}
-use Rattle.iso2709_record.specs.Faults.{ends_once, has_bad_length, has_bad_leader, lies_within, lengths_fit, is_good_entry, is_good_field, fits_tag, IsSound}
+use Rattle.iso2709_record.specs.Faults.{ends_once, has_bad_length, has_bad_leader, lengths_fit, is_good_entry, is_good_field, fits_tag, IsSound}
 use Rattle.iso2709_record.specs.Raw.{leader_at, has_no_terminator}
 use Rattle.iso2709_record.proofs.Directory.{extent, size_parts}
 use Rattle.iso2709_record.proofs.Endings.{unmarked_before}

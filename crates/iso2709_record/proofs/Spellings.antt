@@ -1,5 +1,5 @@
 -- The bytes of subfields spell some subfields, and the data of a sound entry are those of some field.
-use Rattle.std.proofs.Common.{◌≡◌, ℕ, ◌+◌, ◌<◌, ◌≤◌, Bool, true, false, not, ◌&&◌, ◌||◌, ◌==◌, cond, List, [], ◌∷◌, ◌++◌, length, take, drop, refl, sym, ap, ◌∙◌, arith, subst, inl, inr}
+use Rattle.std.proofs.Common.{◌≡◌, ℕ, true, false, ◌&&◌, ◌||◌, ◌==◌, cond, List, [], ◌∷◌, ◌++◌, refl, sym, ap, ◌∙◌, arith, subst, inl, inr}
 use Rattle.std.specs.List.{list_any, list_all, flat_map}
 use Rattle.std.proofs.lemmas.Bool.{and_parts, and_from, or_parts, cases_Bool, eqb-true, not-true, true≢false, not_from_false}
 use Rattle.std.proofs.lemmas.Bool.Decides.{nat_tests}
@@ -8,7 +8,7 @@ use Rattle.marc_types.specs.declared.field.Subfield.{Subfield}
 use Rattle.marc_types.specs.declared.field.Field.{Field}
 use Rattle.marc_types.specs.declared.field.Field.TheVariants.{Control, Variable}
 use Rattle.marc_types.specs.Valid.{is_graphic, is_printable, is_data, is_text, is_subfield, is_tag, is_control_tag, is_field}
-use Rattle.iso2709_record.specs.Written.{record_terminator, field_terminator, delimiter, subfield_bytes, field_data, tag_of}
+use Rattle.iso2709_record.specs.Written.{record_terminator, field_terminator, delimiter, subfield_bytes, field_data}
 use Rattle.iso2709_record.specs.Faults.{starts_with_code, codes_follow, starts_subfield, is_subfield_data, is_control_data, is_variable_data, fits_tag}
 use Rattle.iso2709_record.specs.Raw.{has_no_terminator}
 use Rattle.iso2709_record.specs.Spelling.{Spells, IsFieldOf}

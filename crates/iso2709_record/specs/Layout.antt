@@ -1,7 +1,7 @@
 -- Where the parts of a record stand: a leader of 24 bytes, a directory of twelve bytes for each field and a field
 -- terminator, the fields' areas, and a record terminator. Source: ISO 2709, as the MARC 21 Specifications for Record
 -- Structure use it. Places and entries count from 0.
-use Rattle.std.specs.Prelude.{ℕ, zero, suc, ◌+◌, ◌-◌, ◌*◌, ◌/◌, List, length, take, drop, fold, slice_index, slice_range}
+use Rattle.std.specs.Prelude.{ℕ, zero, suc, ◌+◌, ◌-◌, ◌*◌, ◌/◌, List, length, take, fold, slice_index, slice_range}
 use Rattle.marc_types.specs.declared.field.Tag.{Tag}
 use Rattle.iso2709_record.specs.declared.layout.Layout.{Layout}
 
