@@ -1,0 +1,11 @@
+//! MARC-8 text with the sets Basic Latin and Extended Latin, converted to UTF-8.
+//!
+//! A text is cut into parts: bytes that stand for a character, escape sequences that designate a set, and subfield
+//! delimiters with their codes. In MARC-8 marks stand before their base; in UTF-8 they stand behind it.
+#![tactic(auto)]
+
+pub use fault::Marc8Fault;
+
+mod charset;
+mod fault;
+mod part;
