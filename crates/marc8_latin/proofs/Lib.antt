@@ -1,1 +1,5 @@
 pub mod Fronts
+pub mod Places
+pub mod Plain
+pub mod Writing
+pub mod Readings

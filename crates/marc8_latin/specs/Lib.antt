@@ -1,3 +1,4 @@
 pub mod Parts
+pub mod Progress
 pub mod Tables
 pub mod Text

@@ -43,3 +43,21 @@ impl From<AllocError> for Marc8Fault {
         Marc8Fault::NoMemory
     }
 }
+
+impl Marc8Fault {
+    ghost use Rattle.std.specs.Prelude.{◌+◌, ◌^◌, ◌<◌};
+    ghost use Rattle.marc8_latin.specs.Text.{moved};
+    ghost use Rattle.marc8_latin.specs.Progress.{place_of};
+
+    /// The fault as it stands in the whole, of which so many bytes are before.
+    pub(crate) fn moved(self, by: u32) -> Marc8Fault
+        requires { by + place_of self < 2 ^ 32 }
+        ensures { result ≡ moved by self }
+    {
+        match self {
+            Marc8Fault::BadByte(place) => Marc8Fault::BadByte(by + place),
+            Marc8Fault::OtherSet(set, place) => Marc8Fault::OtherSet(set, by + place),
+            Marc8Fault::NoMemory => Marc8Fault::NoMemory,
+        }
+    }
+}

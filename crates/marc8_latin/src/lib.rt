@@ -5,7 +5,10 @@
 #![tactic(auto)]
 
 pub use fault::Marc8Fault;
+pub use text::to_utf8;
 
 mod charset;
 mod fault;
 mod part;
+mod text;
+mod writer;

@@ -19,6 +19,31 @@ pub struct Designations {
     pub g1: Charset,
 }
 
+impl Designations {
+    ghost use Rattle.marc8_latin.specs.Text.{after, latin};
+
+    /// As a field's text starts.
+    pub fn latin() -> Designations
+        ensures { result ≡ latin }
+    {
+        Designations {
+            g0: Charset::BasicLatin,
+            g1: Charset::ExtendedLatin,
+        }
+    }
+
+    /// The sets behind a part of this meaning.
+    pub fn after(self, meaning: Meaning) -> Designations
+        ensures { result ≡ after self meaning }
+    {
+        match meaning {
+            Meaning::DesignatesG0(set) => Designations { g0: set, ..self },
+            Meaning::DesignatesG1(set) => Designations { g1: set, ..self },
+            _ => self,
+        }
+    }
+}
+
 /// What a part of a text means.
 #[derive(Clone, Copy)]
 pub enum Meaning {
