@@ -1,5 +1,8 @@
+pub mod Cases
 pub mod Fronts
+pub mod OneCut
+pub mod OneReading
 pub mod Places
 pub mod Plain
-pub mod Writing
 pub mod Readings
+pub mod Writing

@@ -5,10 +5,12 @@
 #![tactic(auto)]
 
 pub use fault::Marc8Fault;
+pub use laws::one_reading;
 pub use text::to_utf8;
 
 mod charset;
 mod fault;
+mod laws;
 mod part;
 mod text;
 mod writer;
