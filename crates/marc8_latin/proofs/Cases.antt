@@ -2,6 +2,7 @@
 use Rattle.std.proofs.Common.{◌≡◌, ◌≢◌, ℕ, ◌==◌, ◌&&◌, ◌||◌, Bool, true, false, cond, List, [], ◌∷◌, ◌++◌, length, take, Option, Some, None, ◌⊎◌, inl, inr, ⊎_elim, refl, sym, ap, subst, ◌∙◌, ne_eqb, eqb-true, arith}
 use Rattle.std.proofs.lemmas.List.{take_at}
 use Rattle.std.proofs.lemmas.Bool.Decides.{nat_tests}
+use Rattle.marc8_latin.proofs.Choices.{some_then, one_of_two, both, third, first_second}
 use Rattle.marc_types.specs.Valid.{is_graphic}
 use Rattle.marc8_latin.specs.declared.charset.Charset.{Charset}
 use Rattle.marc8_latin.specs.declared.charset.Charset.TheVariants.{BasicLatin, ExtendedLatin}
@@ -10,20 +11,7 @@ use Rattle.marc8_latin.specs.declared.part.Meaning.{Meaning}
 use Rattle.marc8_latin.specs.declared.part.Meaning.TheVariants.{DesignatesG0, DesignatesG1, Subfield}
 use Rattle.marc8_latin.specs.Parts.{is_first_side, is_second_side, designates, character, designation_fault, byte_fault, meaning_of, fault_of}
 
-some_then : {A : Type 0} (b : Bool) (x : Option A) (m : A) → cond b x None ≡ Some m → (b ≡ true) × (x ≡ Some m)
-some_then true x m h = (refl, h)
-some_then false x m h = absurd (cc)
-
-one_of_two : {A : Type 0} (b c : Bool) (x y m : A) → cond b (Some x) (cond c (Some y) None) ≡ Some m → ((b ≡ true) × (x ≡ m)) ⊎ ((c ≡ true) × (y ≡ m))
-one_of_two true c x y m h = inl (refl, (cc))
-one_of_two false true x y m h = inr (refl, (cc))
-one_of_two false false x y m h = absurd (cc)
-
-both : (b c : Bool) → (b && c) ≡ true → (b ≡ true) × (c ≡ true)
-both true c h = (refl, h)
-both false c h = absurd (cc)
-
-abbrev is_side : ℕ → Bool
+abbrev pub is_side : ℕ → Bool
 is_side side = is_first_side side || is_second_side side
 
 -- a fact of each row of the table is a fact of each part
@@ -59,7 +47,7 @@ rows sets P r (a ∷ side ∷ b ∷ c ∷ []) m h =
 rows sets P r (a ∷ b ∷ c ∷ d ∷ e ∷ rest) m h = absurd (cc)
 
 -- a designation has a side
-side_of : (side : ℕ) (set : Charset) (m : Meaning) → designates side set ≡ Some m → is_side side ≡ true
+pub side_of : (side : ℕ) (set : Charset) (m : Meaning) → designates side set ≡ Some m → is_side side ≡ true
 side_of side set m h = by (is_first_side side) (is_second_side side) h
   where
     by : (b c : Bool) → cond b (Some (DesignatesG0 set)) (cond c (Some (DesignatesG1 set)) None) ≡ Some m → (b || c) ≡ true
@@ -67,7 +55,7 @@ side_of side set m h = by (is_first_side side) (is_second_side side) h
     by false true h = refl
     by false false h = absurd (cc)
 
-byte_ends : (sets : Designations) (b : ℕ) (m : Meaning) → character sets b ≡ Some m → (b ≢ 0x1b) × (b ≢ 0x1f)
+pub byte_ends : (sets : Designations) (b : ℕ) (m : Meaning) → character sets b ≡ Some m → (b ≢ 0x1b) × (b ≢ 0x1f)
 byte_ends sets b m h =
     (λ e. let k = subst (λ x. character sets x ≡ Some m) e h in cc, λ e. let k = subst (λ x. character sets x ≡ Some m) e h in cc)
 
@@ -83,9 +71,6 @@ escape_len (b ∷ rest) = cond (b == 0x73) 2 (set_len rest)
 abbrev front_len : List ℕ → ℕ
 front_len [] = 0
 front_len (a ∷ rest) = cond (a == 0x1b) (escape_len rest) (cond (a == 0x1f) 2 1)
-
-third : {A : Type 0} (p q : Bool) (x y z : A) → p ≡ false → q ≡ false → cond p x (cond q y z) ≡ z
-third p q x y z e d = rw (e, d) refl
 
 other_side : (side : ℕ) → is_side side ≡ true → (side == 0x73) ≡ false
 other_side side h = grind (arith, nat_tests)
@@ -106,9 +91,6 @@ same_part sets p q x y m n h k e =
     let second = rows sets (λ part m. front_len (part ++ y) ≡ length part) (len_rows sets y) q n k in
     let len : length p ≡ length q = sym first ∙ ap front_len e ∙ second in
     sym (take_at p x (length p) refl) ∙ ap (take (length p)) e ∙ take_at q y (length p) (sym len)
-
-first_second : {A : Type 0} (b : Bool) (x y : A) → b ≡ true → cond b x y ≡ x
-first_second b x y e = rw e refl
 
 fault_rows : (sets : Designations) (rest : List ℕ) → Rows sets (λ part m. fault_of sets (part ++ rest) ≡ None)
 unfolding fault_of

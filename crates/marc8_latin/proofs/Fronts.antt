@@ -2,6 +2,7 @@
 use Rattle.std.proofs.Common.{◌≡◌, ℕ, ◌+◌, ◌<◌, ◌≤◌, ◌==◌, Bool, true, false, List, [], ◌∷◌, length, take, drop, get_or, Option, Some, None, Result, MatchResult, refl, sym, ◌∙◌, ap, arith, cond, ltb, ne_eqb, ◌≢◌, ◌-◌, Ok, Err, length-take}
 use Rattle.std.proofs.lemmas.Grind.{common_steps}
 use Rattle.std.proofs.lemmas.Bool.Decides.{nat_tests}
+use Rattle.marc8_latin.proofs.Choices.{third}
 use Rattle.std.proofs.lemmas.List.{get_or_past}
 use Rattle.marc8_latin.specs.Tables.{spacing}
 use Rattle.marc_types.specs.Valid.{is_graphic}
@@ -72,9 +73,6 @@ pub front_delimiter : (sets : Designations) (bytes after : List ℕ) (head : ℕ
 unfolding fault_of
 front_delimiter sets bytes after head (Ok front) e b h = rw (e, b) (h sets)
 front_delimiter sets bytes after head (Err fault) e b h = rw (e, b) h
-
-third : {A : Type 0} (p q : Bool) (x y z : A) → p ≡ false → q ≡ false → cond p x (cond q y z) ≡ z
-third p q x y z e d = rw (e, d) refl
 
 pub fault_byte : (sets : Designations) (bytes : List ℕ) → 0 < length bytes → get_or bytes 0 0 ≢ 0x1b → get_or bytes 0 0 ≢ 0x1f → character sets (get_or bytes 0 0) ≡ None → fault_of sets bytes ≡ Some (BadByte 0)
 unfolding fault_of

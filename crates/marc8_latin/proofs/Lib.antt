@@ -1,8 +1,13 @@
+pub mod Carried
 pub mod Cases
+pub mod Choices
+pub mod Encoded
 pub mod Fronts
 pub mod OneCut
 pub mod OneReading
 pub mod Places
 pub mod Plain
+pub mod Points
 pub mod Readings
+pub mod Splits
 pub mod Writing

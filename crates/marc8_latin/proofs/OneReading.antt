@@ -40,7 +40,7 @@ arranged-groups (g ∷ gs) last =
     ∙ sym (append_assoc (group_points g) (flat_map group_points gs) last)
 
 -- the parts decide the text
-text_by_parts : (bytes text : List ℕ) (t : IsText bytes text) → text ≡ encode_utf8_all (arranged [] (shown_of t.parts))
+pub text_by_parts : (bytes text : List ℕ) (t : IsText bytes text) → text ≡ encode_utf8_all (arranged [] (shown_of t.parts))
 text_by_parts bytes text t =
     t.written ∙ ap encode_utf8_all (sym (ap (arranged []) t.grouped ∙ arranged-groups t.groups t.last))
 
