@@ -48,7 +48,7 @@ codes_fit p (Control c) h = refl
 codes_fit p (Subfield code) h = absurd (cc)
 
 -- a designation shows nothing
-hidden : (side : ℕ) (set : Charset) (m : Meaning) → designates side set ≡ Some m → shown m ≡ []
+pub hidden : (side : ℕ) (set : Charset) (m : Meaning) → designates side set ≡ Some m → shown m ≡ []
 hidden side set m h = by (is_first_side side) (is_second_side side) h
   where
     by : (b c : Bool) → cond b (Some (DesignatesG0 set)) (cond c (Some (DesignatesG1 set)) None) ≡ Some m → shown m ≡ []
@@ -69,7 +69,7 @@ sound_rows sets =
       extended = λ side m h e. rw (hidden side ExtendedLatin m h) refl;
     }
 
-sound_parts : (sets : Designations) (parts : List Part) → AreParts sets parts → list_all no_end (joined parts) ≡ true → list_all is_sound (shown_of parts) ≡ true
+pub sound_parts : (sets : Designations) (parts : List Part) → AreParts sets parts → list_all no_end (joined parts) ≡ true → list_all is_sound (shown_of parts) ≡ true
 sound_parts sets [] k h = refl
 sound_parts sets (p ∷ ps) k h =
     let t = all_parts no_end p.bytes (joined ps) h in
@@ -102,7 +102,7 @@ codes_of-append (Mark _ ∷ xs) ys = codes_of-append xs ys
 codes_of-append (Control _ ∷ xs) ys = codes_of-append xs ys
 codes_of-append (Subfield code ∷ xs) ys = ap (λ cs. code ∷ cs) (codes_of-append xs ys)
 
-codes_parts : (sets : Designations) (parts : List Part) → AreParts sets parts → codes_in false (joined parts) ≡ codes_of (shown_of parts)
+pub codes_parts : (sets : Designations) (parts : List Part) → AreParts sets parts → codes_in false (joined parts) ≡ codes_of (shown_of parts)
 codes_parts sets [] k = refl
 codes_parts sets (p ∷ ps) k =
     rows sets (λ part m. codes_in false (part ++ joined ps) ≡ codes_of (shown m) ++ codes_in false (joined ps)) (codes_rows sets (joined ps)) p.bytes p.meaning k.0
@@ -110,10 +110,10 @@ codes_parts sets (p ∷ ps) k =
     ∙ sym (codes_of-append (shown p.meaning) (shown_of ps))
 
 -- bytes that begin with a delimiter show a subfield first
-record Begins (shows : List Meaning) : Type 0 where
-  code : ℕ
-  more : List Meaning
-  is : shows ≡ Subfield code ∷ more
+pub record Begins (shows : List Meaning) : Type 0 where
+  pub code : ℕ
+  pub more : List Meaning
+  pub is : shows ≡ Subfield code ∷ more
 
 clash : (a b : ℕ) (xs ys : List ℕ) → a ∷ xs ≡ b ∷ ys → a ≡ b
 clash a b xs ys e = ap (λ l. get_or l 0 0) e
@@ -128,7 +128,7 @@ begins_rows sets rest after =
       extended = λ side m h e. let k = clash _ _ _ _ e in absurd (omega (arith, k));
     }
 
-begins_parts : (sets : Designations) (parts : List Part) (after : List ℕ) → AreParts sets parts → joined parts ≡ 0x1f ∷ after → Begins (shown_of parts)
+pub begins_parts : (sets : Designations) (parts : List Part) (after : List ℕ) → AreParts sets parts → joined parts ≡ 0x1f ∷ after → Begins (shown_of parts)
 begins_parts sets [] after k e = absurd (cc)
 begins_parts sets (p ∷ ps) after k e =
     let b = rows sets (λ part m. part ++ joined ps ≡ 0x1f ∷ after → Begins (shown m)) (begins_rows sets (joined ps) after) p.bytes p.meaning k.0 e in

@@ -9,5 +9,7 @@ pub mod Places
 pub mod Plain
 pub mod Points
 pub mod Readings
+pub mod Sizes
 pub mod Splits
+pub mod Subfielded
 pub mod Writing

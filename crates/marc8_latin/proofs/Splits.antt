@@ -104,3 +104,9 @@ split_of run (Subfield code ∷ cs) h k =
       plain = data_encodes run h;
       splits = rw (encoded_code run code (arranged [] cs) t.0) (parted (encode_utf8_all run) _ code _ t.0 (split_of [] cs refl t.1));
     }
+
+-- behind a delimiter at the start there is no head
+pub splits_from : (code : ℕ) (characters : List Meaning) → list_all is_sound (Subfield code ∷ characters) ≡ true → Splits (encode_utf8_all (arranged [] (Subfield code ∷ characters))) [] (code ∷ codes_of characters)
+splits_from code cs k =
+    let t = both (is_graphic code) (list_all is_sound cs) k in
+    rw (encoded_code [] code (arranged [] cs) t.0) (parted [] _ code _ t.0 (split_of [] cs refl t.1))

@@ -1,4 +1,5 @@
-ghost use Rattle.std.specs.Prelude.{◌≡◌, ◌≢◌, ◌≤◌, ◌++◌, length, false, IfOk, IfErr};
+ghost use Rattle.std.specs.Prelude.{◌≡◌, ◌≢◌, ◌≤◌, ◌*◌, length, false, IfOk, IfErr};
+ghost use Rattle.marc8_latin.specs.Subfields.{KeepsSubfields};
 ghost use Rattle.marc8_latin.specs.Text.{IsText, IsFault};
 ghost use Rattle.marc8_latin.specs.Progress.{stand_as_themselves};
 
@@ -15,6 +16,10 @@ pub fn to_utf8(alloc: Global, bytes: &[u8]) -> Result<Text, Marc8Fault>
     requires { length bytes.now ≤ 99999 }
     ensures text { IfOk result (λ text. IsText bytes.now text) }
     ensures fault { IfErr result (λ fault. fault ≢ Marc8Fault.NoMemory → IsFault bytes.now fault) }
+
+    // What follows from the text, for callers that cut it into subfields.
+    ensures size { IfOk result (λ text. length text ≤ 3 * length bytes.now) }
+    ensures subfields { IfOk result (λ text. KeepsSubfields bytes.now text) }
 {
     if stand_as_themselves(bytes) {
         // Every byte is ASCII, so no second scan has to show that this is UTF-8.
