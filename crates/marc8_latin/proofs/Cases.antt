@@ -29,11 +29,11 @@ rows sets P r (b ∷ []) m h = r.byte b m h
 rows sets P r (a ∷ b ∷ []) m h =
     ⊎_elim
     (λ u.
-        let t = both (a == 0x1f) (is_graphic b) u.0 in
-        rw (eqb-true a 0x1f t.0, ← u.1) (r.code b t.1))
+    let t = both (a == 0x1f) (is_graphic b) u.0 in
+    rw (eqb-true a 0x1f t.0, ← u.1) (r.code b t.1))
     (λ u.
-        let t = both (a == 0x1b) (b == 0x73) u.0 in
-        rw (eqb-true a 0x1b t.0, eqb-true b 0x73 t.1, ← u.1) r.reset)
+    let t = both (a == 0x1b) (b == 0x73) u.0 in
+    rw (eqb-true a 0x1b t.0, eqb-true b 0x73 t.1, ← u.1) r.reset)
     (one_of_two ((a == 0x1f) && is_graphic b) ((a == 0x1b) && (b == 0x73)) (Subfield b) (DesignatesG0 BasicLatin) m h)
 rows sets P r (a ∷ side ∷ b ∷ []) m h =
     let u = some_then ((a == 0x1b) && (b == 0x42)) (designates side BasicLatin) m h in

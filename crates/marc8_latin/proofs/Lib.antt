@@ -6,7 +6,8 @@ pub mod Fronts
 pub mod OneCut
 pub mod OneReading
 pub mod Places
-pub mod Plain
+pub mod PlainRuns
+pub mod PlainText
 pub mod Points
 pub mod Readings
 pub mod Sizes

@@ -33,13 +33,13 @@ same_parts sets (p ∷ ps) [] rest left k l e s t =
     absurd (t p.bytes (joined ps ++ rest) p.meaning k.0 (sym e ∙ append_assoc p.bytes (joined ps) rest))
 same_parts sets (p ∷ ps) (q ∷ qs) rest left k l e s t =
     let tails : p.bytes ++ (joined ps ++ rest) ≡ q.bytes ++ (joined qs ++ left) =
-      sym (append_assoc p.bytes (joined ps) rest) ∙ e ∙ append_assoc q.bytes (joined qs) left in
+    sym (append_assoc p.bytes (joined ps) rest) ∙ e ∙ append_assoc q.bytes (joined qs) left in
     let bytes : p.bytes ≡ q.bytes = same_part sets p.bytes q.bytes _ _ p.meaning q.meaning k.0 l.0 tails in
     let some : Some p.meaning ≡ Some q.meaning = sym k.0 ∙ ap (meaning_of sets) bytes ∙ l.0 in
     let meaning : p.meaning ≡ q.meaning = cc in
     let part : p ≡ q = λ i. record { bytes = bytes i; meaning = meaning i } in
     let more : q.bytes ++ (joined ps ++ rest) ≡ q.bytes ++ (joined qs ++ left) = subst (λ b. b ++ (joined ps ++ rest) ≡ q.bytes ++ (joined qs ++ left)) bytes tails in
     let u =
-      same_parts (after sets p.meaning) ps qs rest left k.1 (subst (λ m. AreParts (after sets m) qs) (sym meaning) l.1)
-      (append_cancel_left q.bytes _ _ more) s (subst (λ m. Stuck (after_all (after sets m) qs) left) (sym meaning) t) in
+    same_parts (after sets p.meaning) ps qs rest left k.1 (subst (λ m. AreParts (after sets m) qs) (sym meaning) l.1)
+    (append_cancel_left q.bytes _ _ more) s (subst (λ m. Stuck (after_all (after sets m) qs) left) (sym meaning) t) in
     ((λ i. part i ∷ u.0 i), u.1)

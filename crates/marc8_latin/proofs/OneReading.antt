@@ -75,5 +75,5 @@ one_fault bytes first second f g =
     let cuts : joined f.parts ++ f.rest ≡ joined g.parts ++ g.rest = f.cut ∙ sym g.cut in
     let same = same_parts latin f.parts g.parts f.rest g.rest f.known g.known cuts (stuck_at_fault _ _ near.0 near.1) (stuck_at_fault _ _ next.0 next.1) in
     let stops : Some first ≡ Some second =
-      sym f.stops ∙ (λ i. option_map (moved (length (joined (same.0 i)))) (fault_of (after_all latin (same.0 i)) (same.1 i))) ∙ g.stops in
+    sym f.stops ∙ (λ i. option_map (moved (length (joined (same.0 i)))) (fault_of (after_all latin (same.0 i)) (same.1 i))) ∙ g.stops in
     cc

@@ -22,19 +22,26 @@ after_all-push : (sets : Designations) (parts : List Part) (part : Part) → aft
 after_all-push sets [] part = refl
 after_all-push sets (p ∷ ps) part = after_all-push (after sets p.meaning) ps part
 
+pub read_part : (front part text run text' run' : List ℕ) (sets next : Designations) (meaning : Meaning) →
+    IsRead front sets text run → meaning_of sets part ≡ Some meaning → next ≡ after sets meaning →
+    ((characters : List Meaning) → IsWritten characters text run → IsWritten (characters ++ shown meaning) text' run') →
+    IsRead (front ++ part) next text' run'
+read_part front bytes text run text' run' sets next meaning r k n put =
+    let part : Part = record { bytes = bytes; meaning = meaning } in
+    record {
+      parts = r.parts ++ part ∷ [];
+      cut = rw (flat_map-append, r.cut) (simp append-nil);
+      known = AreParts-push latin r.parts part r.known (rw r.sets_are k);
+      sets_are = after_all-push latin r.parts part ∙ rw r.sets_are (sym n);
+      written = rw flat_map-append (simp append-nil (put (shown_of r.parts) r.written));
+    }
+
 pub read_more : (bytes : List ℕ) (at len : ℕ) (sets next : Designations) (meaning : Meaning) (text run text' run' : List ℕ) →
     IsRead (take at bytes) sets text run → IsFront sets (drop at bytes) meaning len → next ≡ after sets meaning →
     ((characters : List Meaning) → IsWritten characters text run → IsWritten (characters ++ shown meaning) text' run') →
     IsRead (take (at + len) bytes) next text' run'
 read_more bytes at len sets next meaning text run text' run' r f n put =
-    let part : Part = record { bytes = take len (drop at bytes); meaning = meaning } in
-    record {
-      parts = r.parts ++ part ∷ [];
-      cut = rw (flat_map-append, take-add at len bytes, r.cut) (simp append-nil);
-      known = AreParts-push latin r.parts part r.known (rw r.sets_are f.known);
-      sets_are = after_all-push latin r.parts part ∙ rw r.sets_are (sym n);
-      written = rw (flat_map-append) (simp append-nil (put (shown_of r.parts) r.written));
-    }
+    rw (take-add at len bytes) (read_part (take at bytes) (take len (drop at bytes)) text run text' run' sets next meaning r f.known n put)
 
 pub read_none : (bytes : List ℕ) → IsRead (take 0 bytes) latin [] []
 read_none bytes =

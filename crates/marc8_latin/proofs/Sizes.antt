@@ -80,8 +80,13 @@ width_of-append (x ∷ xs) ys = omega (arith, width_of-append xs ys)
 parts_len : (sets : Designations) (parts : List Part) → AreParts sets parts → width_of (shown_of parts) ≤ 3 * length (joined parts)
 parts_len sets [] k = omega arith
 parts_len sets (p ∷ ps) k =
-    omega (arith, width_of-append (shown p.meaning) (shown_of ps), length-append p.bytes (joined ps), parts_len (after sets p.meaning) ps k.1,
-      rows sets (λ part m. width_of (shown m) ≤ 3 * length part) (width_rows sets) p.bytes p.meaning k.0)
+    omega (
+      arith,
+      width_of-append (shown p.meaning) (shown_of ps),
+      length-append p.bytes (joined ps),
+      parts_len (after sets p.meaning) ps k.1,
+      rows sets (λ part m. width_of (shown m) ≤ 3 * length part) (width_rows sets) p.bytes p.meaning k.0,
+    )
 
 pub text_size : (bytes text : List ℕ) → IsText bytes text → length text ≤ 3 * length bytes
 text_size bytes text t =

@@ -33,11 +33,10 @@ spelled_text bytes text rest t h e =
     let codes : codes_of (shown_of t.parts) ≡ codes_in false bytes = sym (codes_parts latin t.parts t.known) ∙ ap (codes_in false) t.cut in
     let begins = begins_parts latin t.parts rest t.known (t.cut ∙ e) in
     let sound' : list_all is_sound (Subfield begins.code ∷ begins.more) ≡ true = subst (λ ms. list_all is_sound ms ≡ true) begins.is sound in
-    let s = splits_from begins.code begins.more sound' in
-    (
+    let s = splits_from begins.code begins.more sound' in (
       s.pieces,
       record { spells = sym s.is ∙ ap (λ ms. encode_utf8_all (arranged [] ms)) (sym begins.is) ∙ sym (text_by_parts bytes text t); valid = s.valid },
-      s.coded ∙ ap codes_of (sym begins.is) ∙ codes
+      s.coded ∙ ap codes_of (sym begins.is) ∙ codes,
     )
 
 no_parts : (sets : Designations) (parts : List Part) → AreParts sets parts → joined parts ≡ [] → shown_of parts ≡ []
@@ -76,10 +75,9 @@ source_facts [] h = (refl, refl)
 source_facts (s ∷ ss) h =
     let t = both (is_graphic s.code && list_all is_data s.text) (list_all is_subfield ss) h in
     let u = both (is_graphic s.code) (list_all is_data s.text) t.0 in
-    let more = source_facts ss t.1 in
-    (
+    let more = source_facts ss t.1 in (
       rw (graphic_end s.code u.0) (all_then no_end s.text (flat_map spelled ss) (data_no_end s.text u.1) more.0),
-      ap (λ cs. s.code ∷ cs) (codes_in-data s.text (flat_map spelled ss) u.1 ∙ more.1)
+      ap (λ cs. s.code ∷ cs) (codes_in-data s.text (flat_map spelled ss) u.1 ∙ more.1),
     )
 
 carried : (bytes text : List ℕ) (source : List Piece) → IsText bytes text → Spells bytes source → (pieces : List Piece) × Spells text pieces × (map (λ s. s.code) pieces ≡ map (λ s. s.code) source)

@@ -1,5 +1,5 @@
 -- A text in the making.
-use Rattle.std.specs.Prelude.{◌≡◌, ℕ, Bool, true, false, ◌&&◌, ◌==◌, not, nat_lt, List, [], ◌∷◌, ◌++◌, map, if◌then◌else◌, encode_utf8_all}
+use Rattle.std.specs.Prelude.{◌≡◌, ℕ, Bool, true, false, ◌&&◌, ◌||◌, ◌==◌, not, nat_lt, List, [], ◌∷◌, ◌++◌, map, if◌then◌else◌, encode_utf8_all}
 use Rattle.std.specs.List.{flat_map}
 use Rattle.marc_types.specs.Valid.{is_graphic}
 use Rattle.marc8_latin.specs.declared.fault.Marc8Fault.{Marc8Fault}
@@ -31,12 +31,12 @@ place_of (BadByte place) = place
 place_of (OtherSet set place) = place
 place_of NoMemory = 0
 
--- a byte that stands as itself under the first sets, wherever no delimiter is before it
+-- a byte that stands as itself wherever G0 is Basic Latin
 abbrev pub is_plain : ℕ → Bool
-is_plain byte = nat_lt byte 0x80 && not (byte == 0x1b)
+is_plain byte = nat_lt byte 0x80 && not (byte == 0x1b) && not (byte == 0x1f)
 
--- plain bytes, each delimiter with its code; the flag says that a delimiter stands before these bytes
+-- plain bytes, and delimiters, each with its code; the flag says that a delimiter stands before these bytes
 abbrev pub stand_as_themselves : Bool → List ℕ → Bool
 stand_as_themselves delimited [] = not delimited
 stand_as_themselves delimited (byte ∷ bytes) =
-    (if delimited then is_graphic byte else is_plain byte) && stand_as_themselves (byte == 0x1f) bytes
+    (if delimited then is_graphic byte else (is_plain byte || (byte == 0x1f))) && stand_as_themselves (byte == 0x1f) bytes

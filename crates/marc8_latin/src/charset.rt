@@ -3,7 +3,7 @@ ghost use Rattle.marc_types.specs.Valid.{is_graphic};
 ghost use Rattle.marc8_latin.specs.Parts.{graphic, character};
 ghost use Rattle.marc8_latin.specs.declared.charset.Charset.TheVariants.{ExtendedLatin};
 
-use crate::part::{Designations, Meaning, DELIMITER, ESCAPE};
+use crate::part::{DELIMITER, Designations, ESCAPE, Meaning};
 
 /// A character set that is read.
 #[derive(Clone, Copy)]
@@ -18,16 +18,16 @@ const NONE: char = '\0';
 /// The spacing characters of Extended Latin, at A1 to C8.
 const SPACING: [char; 40] = [
     'Ł', 'Ø', 'Đ', 'Þ', 'Æ', 'Œ', 'ʹ', '·', '♭', '®', '±', 'Ơ', 'Ư', 'ʼ', NONE, 'ʻ', 'ł', 'ø', 'đ',
-    'þ', 'æ', 'œ', 'ʺ', 'ı', '£', 'ð', NONE, 'ơ', 'ư', NONE, NONE, '°', 'ℓ', '℗', '©', '♯', '¿', '¡',
-    'ß', '€',
+    'þ', 'æ', 'œ', 'ʺ', 'ı', '£', 'ð', NONE, 'ơ', 'ư', NONE, NONE, '°', 'ℓ', '℗', '©', '♯', '¿',
+    '¡', 'ß', '€',
 ];
 
 /// The marks of Extended Latin, at E0 to FE.
 const MARKS: [char; 31] = [
-    '\u{309}', '\u{300}', '\u{301}', '\u{302}', '\u{303}', '\u{304}', '\u{306}', '\u{307}', '\u{308}',
-    '\u{30c}', '\u{30a}', '\u{fe20}', '\u{fe21}', '\u{315}', '\u{30b}', '\u{310}', '\u{327}', '\u{328}',
-    '\u{323}', '\u{324}', '\u{325}', '\u{333}', '\u{332}', '\u{326}', '\u{31c}', '\u{32e}', '\u{fe22}',
-    '\u{fe23}', NONE, NONE, '\u{313}',
+    '\u{309}', '\u{300}', '\u{301}', '\u{302}', '\u{303}', '\u{304}', '\u{306}', '\u{307}',
+    '\u{308}', '\u{30c}', '\u{30a}', '\u{fe20}', '\u{fe21}', '\u{315}', '\u{30b}', '\u{310}',
+    '\u{327}', '\u{328}', '\u{323}', '\u{324}', '\u{325}', '\u{333}', '\u{332}', '\u{326}',
+    '\u{31c}', '\u{32e}', '\u{fe22}', '\u{fe23}', NONE, NONE, '\u{313}',
 ];
 
 impl Charset {

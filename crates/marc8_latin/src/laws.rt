@@ -7,5 +7,4 @@ pub fn one_reading()
     ensures text { (bytes first second : List ℕ) → IsText bytes first → IsText bytes second → first ≡ second }
     ensures kind { (bytes text : List ℕ) (fault : Marc8Fault) → IsText bytes text → ¬ (IsFault bytes fault) }
     ensures fault { (bytes : List ℕ) (first second : Marc8Fault) → IsFault bytes first → IsFault bytes second → first ≡ second }
-{
-}
+{}

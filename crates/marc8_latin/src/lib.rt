@@ -12,5 +12,8 @@ mod charset;
 mod fault;
 mod laws;
 mod part;
+mod plain;
+#[cfg(test)]
+mod tests;
 mod text;
 mod writer;

@@ -2,9 +2,9 @@ ghost use Rattle.std.specs.Prelude.{◌≡◌, ◌<◌, ◌∷◌, length, take,
 ghost use Rattle.marc8_latin.specs.declared.part.Designations.{Designations};
 ghost use Rattle.marc8_latin.specs.Parts.{other_set, multibyte_set, designation_code, designation_fault, code_fault, escape_fault, fault_of, IsFront};
 
-use crate::charset::{character, Charset};
+use crate::charset::{Charset, character};
 use crate::fault::Marc8Fault;
-use marc_types::{is_graphic_byte, Set};
+use marc_types::{Set, is_graphic_byte};
 
 /// Begins an escape sequence.
 pub const ESCAPE: u8 = 0x1b;
@@ -106,13 +106,22 @@ fn escape_sequence(after: &[u8]) -> Result<Front, Marc8Fault>
     match after {
         [b'(' | b',', code @ ..] => {
             let set = designated(code)?;
-            Ok(Front { meaning: Meaning::DesignatesG0(set), len: 2 + code_len(set) })
+            Ok(Front {
+                meaning: Meaning::DesignatesG0(set),
+                len: 2 + code_len(set),
+            })
         }
         [b')' | b'-', code @ ..] => {
             let set = designated(code)?;
-            Ok(Front { meaning: Meaning::DesignatesG1(set), len: 2 + code_len(set) })
+            Ok(Front {
+                meaning: Meaning::DesignatesG1(set),
+                len: 2 + code_len(set),
+            })
         }
-        [b's', ..] => Ok(Front { meaning: Meaning::DesignatesG0(Charset::BasicLatin), len: 2 }),
+        [b's', ..] => Ok(Front {
+            meaning: Meaning::DesignatesG0(Charset::BasicLatin),
+            len: 2,
+        }),
         [b'$', code @ ..] => Err(Marc8Fault::OtherSet(multibyte_set(code), 0)),
         [b'g', ..] => Err(Marc8Fault::OtherSet(Set::GreekSymbols, 0)),
         [b'b', ..] => Err(Marc8Fault::OtherSet(Set::Subscripts, 0)),

@@ -1,12 +1,16 @@
-ghost use Rattle.std.specs.Prelude.{◌≡◌, ◌≢◌, ◌≤◌, ◌*◌, length, false, IfOk, IfErr};
+ghost use Rattle.std.specs.Prelude.{◌≡◌, ◌≢◌, ◌<◌, ◌≤◌, ◌*◌, [], length, take, true, string_bytes, IfOk, IfErr};
+ghost use Rattle.std.specs.List.{list_all};
 ghost use Rattle.marc8_latin.specs.Subfields.{KeepsSubfields};
 ghost use Rattle.marc8_latin.specs.Text.{IsText, IsFault};
-ghost use Rattle.marc8_latin.specs.Progress.{stand_as_themselves};
+ghost use Rattle.marc8_latin.specs.Progress.{is_plain};
+ghost use Rattle.marc8_latin.specs.declared.charset.Charset.TheVariants.{BasicLatin};
 
+use crate::charset::Charset;
 use crate::fault::Marc8Fault;
-use crate::part::{first_part, Designations, DELIMITER, ESCAPE};
+use crate::part::{Designations, first_part};
+use crate::plain::{plain_len, stand_as_themselves};
 use crate::writer::Writer;
-use marc_types::{is_graphic_byte, Text};
+use marc_types::Text;
 use std::alloc::Global;
 
 /// The text of MARC-8 bytes, in UTF-8.
@@ -29,24 +33,6 @@ pub fn to_utf8(alloc: Global, bytes: &[u8]) -> Result<Text, Marc8Fault>
     convert(alloc, bytes)
 }
 
-/// Whether the bytes are their own text.
-fn stand_as_themselves(bytes: &[u8]) -> bool
-    ensures { result ≡ stand_as_themselves false bytes.now }
-{
-    let mut delimited = false;
-    for byte in bytes {
-        if delimited {
-            if !is_graphic_byte(*byte) {
-                return false;
-            }
-        } else if *byte >= 0x80 || *byte == ESCAPE {
-            return false;
-        }
-        delimited = *byte == DELIMITER;
-    }
-    !delimited
-}
-
 /// The text, part for part.
 fn convert(alloc: Global, bytes: &[u8]) -> Result<Text, Marc8Fault>
     requires { length bytes.now ≤ 99999 }
@@ -57,7 +43,14 @@ fn convert(alloc: Global, bytes: &[u8]) -> Result<Text, Marc8Fault>
     let mut sets = Designations::latin();
     let mut at = 0;
     while at < bytes.len() {
-        match first_part(sets, &bytes[at..]) {
+        let rest = &bytes[at..];
+        let plain = plain_front(sets, &writer, rest);
+        if plain > 0 {
+            writer.put_plain(&rest[..plain])?;
+            at += plain;
+            continue;
+        }
+        match first_part(sets, rest) {
             Ok(front) => {
                 writer.put(front.meaning)?;
                 sets = sets.after(front.meaning);
@@ -67,4 +60,18 @@ fn convert(alloc: Global, bytes: &[u8]) -> Result<Text, Marc8Fault>
         }
     }
     Ok(Text::from_string(writer.finish()?))
+}
+
+/// The number of bytes in front that can be written as they are.
+fn plain_front(sets: Designations, writer: &Writer, rest: &[u8]) -> usize
+    ensures within { result ≤ length rest.now }
+    ensures plain { list_all is_plain (take result rest.now) ≡ true }
+    ensures basic { 0 < result → sets.g0 ≡ BasicLatin }
+    ensures settled { 0 < result → string_bytes writer.now.run ≡ [] }
+{
+    if matches!(sets.g0, Charset::BasicLatin) && writer.is_settled() {
+        plain_len(rest)
+    } else {
+        0
+    }
 }

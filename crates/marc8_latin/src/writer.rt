@@ -1,7 +1,8 @@
-ghost use Rattle.std.specs.Prelude.{◌≡◌, ◌++◌, List, [], OnOk, IfOk, string_bytes};
+ghost use Rattle.std.specs.Prelude.{◌≡◌, ◌++◌, ◌↔◌, List, [], true, IsTrue, OnOk, IfOk, string_bytes};
 ghost use Rattle.marc8_latin.specs.declared.part.Meaning.{Meaning};
 ghost use Rattle.marc8_latin.specs.Text.{shown};
-ghost use Rattle.marc8_latin.specs.Progress.{IsWritten};
+ghost use Rattle.marc8_latin.specs.Progress.{is_plain, IsWritten};
+ghost use Rattle.std.specs.List.{list_all};
 
 use crate::part::Meaning;
 use std::alloc::{AllocError, Global};
@@ -26,6 +27,24 @@ impl Writer {
             text: String::with_capacity(alloc, capacity)?,
             run: String::new(alloc),
         })
+    }
+
+    /// Whether no mark waits.
+    pub fn is_settled(&self) -> bool
+        ensures { IsTrue result ↔ (string_bytes self.now.run ≡ []) }
+    {
+        self.run.as_bytes().is_empty()
+    }
+
+    /// Bytes that are their own text stand behind what was written.
+    pub fn put_plain(&mut self, bytes: &[u8]) -> Result<(), AllocError>
+        requires { list_all is_plain bytes.now ≡ true }
+        ensures text { OnOk result (string_bytes self.new.text ≡ string_bytes self.old.text ++ bytes.now) }
+        ensures run { string_bytes self.new.run ≡ string_bytes self.old.run }
+    {
+        // Plain bytes are ASCII, so no second scan has to show that this is UTF-8.
+        self.text
+            .push_str(unsafe { std::str::from_utf8_unchecked(bytes) })
     }
 
     /// What a part shows stands behind what was written.

@@ -4,7 +4,7 @@ use Rattle.marc8_latin.specs.Progress.{stand_as_themselves}
 use Rattle.std.proofs.lemmas.Result.{IfOk-weaker}
 use Rattle.marc8_latin.proofs.Sizes.{text_size}
 use Rattle.marc8_latin.proofs.Subfielded.{keeps_subfields}
-use Rattle.marc8_latin.proofs.Plain.{plain_text, ascii_plain}
+use Rattle.marc8_latin.proofs.PlainText.{plain_text, ascii_plain}
 use Rattle.marc8_latin.proofs.text.to_utf8.Goals as goal
 
 pub from_utf8_unchecked-text-requires : goal.from_utf8_unchecked-text-requires

@@ -1,5 +1,5 @@
 -- Plain bytes are their own text.
-use Rattle.std.proofs.Common.{◌≡◌, ◌≢◌, ◌⊎◌, inl, inr, lit<, ⊎_elim,  ℕ, ◌+◌, ◌<◌, ◌≤◌, ◌==◌, ◌&&◌, ◌||◌, not, ltb, leb, Bool, true, false, cond, List, [], ◌∷◌, ◌++◌, Option, Some, None, refl, sym, ap, ◌∙◌, subst, eq-eqb, ne_eqb, arith}
+use Rattle.std.proofs.Common.{◌≡◌, ◌≢◌, ◌⊎◌, inl, inr, lit<, ⊎_elim, ℕ, ◌+◌, ◌<◌, ◌≤◌, ◌==◌, ◌&&◌, ◌||◌, not, ltb, leb, Bool, true, false, cond, List, [], ◌∷◌, ◌++◌, Option, Some, None, refl, sym, ap, ◌∙◌, subst, eq-eqb, ne_eqb, arith}
 use Rattle.std.proofs.lemmas.Bool.{lt-ltb, cases_eq, false≢true}
 use Rattle.std.proofs.lemmas.Bool.Decides.{nat_tests}
 use Rattle.std.proofs.lemmas.Str.{encode_ascii}
@@ -10,6 +10,8 @@ use Rattle.marc_types.specs.Valid.{is_graphic}
 use Rattle.marc8_latin.specs.declared.part.Meaning.{Meaning}
 use Rattle.marc8_latin.specs.declared.part.Meaning.TheVariants.{Base, Control, Subfield}
 use Rattle.marc8_latin.specs.Parts.{control, character, meaning_of}
+use Rattle.marc8_latin.specs.declared.charset.Charset.TheVariants.{ExtendedLatin}
+use Rattle.marc8_latin.proofs.PlainRuns.{plain_meaning}
 use Rattle.marc8_latin.specs.Text.{latin, Group, Based, Stopped, Parted, IsText}
 use Rattle.marc8_latin.specs.Progress.{is_plain, stand_as_themselves}
 
@@ -52,28 +54,12 @@ text_subfield code bytes text e t =
       written = ap (λ rest. encode_utf8 0x1f ++ (encode_utf8 code ++ rest)) t.written;
     }
 
-one_of : {A : Type 0} (q r : Bool) (a c : A) → (cond q a (cond r a c) ≡ a) ⊎ (cond q a (cond r a c) ≡ c)
-one_of true r a c = inl refl
-one_of false true a c = inl refl
-one_of false false a c = inr refl
-
--- what a plain byte means
-character-plain : (byte : ℕ) → byte < 0x80 → byte ≢ 0x1b → byte ≢ 0x1f → character latin byte ≡ cond (byte == 0x20) (Some (Base byte)) (cond (is_graphic byte) (Some (Base byte)) (Some (Control byte)))
-character-plain byte small escape delimiter =
-    let below : ltb byte 0xa0 ≡ true = lt-ltb byte 0xa0 (omega arith) in
-    rw (ne_eqb byte 0x1b escape, ne_eqb byte 0x1f delimiter, below, ne_eqb byte 0x88 (λ e. omega arith), ne_eqb byte 0x89 (λ e. omega arith), ne_eqb byte 0x8d (λ e. omega arith), ne_eqb byte 0x8e (λ e. omega arith)) refl
-
-plain_meaning : (byte : ℕ) → byte < 0x80 → byte ≢ 0x1b → byte ≢ 0x1f → (meaning_of latin (byte ∷ []) ≡ Some (Base byte)) ⊎ (meaning_of latin (byte ∷ []) ≡ Some (Control byte))
-unfolding meaning_of
-plain_meaning byte small escape delimiter =
-    rw (character-plain byte small escape delimiter) (one_of (byte == 0x20) (is_graphic byte) (Some (Base byte)) (Some (Control byte)))
-
 text_plain : (byte : ℕ) (bytes : List ℕ) → byte < 0x80 → byte ≢ 0x1b → byte ≢ 0x1f → IsText bytes bytes → IsText (byte ∷ bytes) (byte ∷ bytes)
 text_plain byte bytes small escape delimiter t =
     ⊎_elim
     (λ base. rw encode_ascii at (text_base byte byte bytes bytes base t))
     (λ control. rw encode_ascii at (text_control byte byte bytes bytes control t))
-    (plain_meaning byte small escape delimiter)
+    (plain_meaning ExtendedLatin byte small escape delimiter)
 
 text_code : (code : ℕ) (bytes : List ℕ) → is_graphic code ≡ true → IsText bytes bytes → IsText (0x1f ∷ code ∷ bytes) (0x1f ∷ code ∷ bytes)
 unfolding meaning_of
@@ -102,8 +88,8 @@ plain_step byte next bytes h one two =
     let t = first_test byte (next ∷ bytes) h in
     ⊎_elim
     (λ e.
-        let u : stand_as_themselves true (next ∷ bytes) ≡ true = subst (λ b. stand_as_themselves b (next ∷ bytes) ≡ true) (eq-eqb byte 0x1f e) t.2 in
-        subst (λ b. IsText (b ∷ next ∷ bytes) (b ∷ next ∷ bytes)) (sym e) (text_code next bytes (code_test next bytes u).0 (two (after_graphic next bytes u))))
+    let u : stand_as_themselves true (next ∷ bytes) ≡ true = subst (λ b. stand_as_themselves b (next ∷ bytes) ≡ true) (eq-eqb byte 0x1f e) t.2 in
+    subst (λ b. IsText (b ∷ next ∷ bytes) (b ∷ next ∷ bytes)) (sym e) (text_code next bytes (code_test next bytes u).0 (two (after_graphic next bytes u))))
     (λ other. text_plain byte (next ∷ bytes) t.0 t.1 other (one (rw (ne_eqb byte 0x1f other) at t.2)))
     (cases_eq byte 0x1f)
 
