@@ -1,26 +1,20 @@
 -- Subfields are carried from the bytes into their text.
-use Rattle.std.proofs.Common.{◌≡◌, ◌≢◌, ℕ, ◌<◌, ◌≤◌, ◌==◌, ◌&&◌, not, Bool, true, false, cond, List, [], ◌∷◌, ◌++◌, get_or, map, Option, Some, None, refl, sym, ap, subst, ◌∙◌, append_assoc, ne_eqb, arith}
+use Rattle.std.proofs.Common.{◌≡◌, ◌≢◌, ℕ, ◌<◌, ◌==◌, ◌&&◌, not, Bool, true, false, cond, List, [], ◌∷◌, ◌++◌, get_or, Some, None, refl, sym, ap, ◌∙◌, ne_eqb, arith}
 use Rattle.std.proofs.lemmas.Bool.Decides.{nat_tests}
-use Rattle.std.proofs.lemmas.List.{append-nil}
-use Rattle.std.specs.List.{flat_map, list_all}
-use Rattle.std.specs.Prelude.{encode_utf8_all}
-use Rattle.marc_types.specs.Valid.{is_graphic, is_data, is_text, is_subfield}
-use Rattle.marc_types.specs.declared.field.Subfield.{Subfield as Piece}
+use Rattle.std.specs.List.{list_all}
+use Rattle.marc_types.specs.Valid.{is_data}
 use Rattle.marc8_latin.specs.declared.charset.Charset.{Charset}
 use Rattle.marc8_latin.specs.declared.charset.Charset.TheVariants.{BasicLatin, ExtendedLatin}
 use Rattle.marc8_latin.specs.declared.part.Designations.{Designations}
 use Rattle.marc8_latin.specs.declared.part.Meaning.{Meaning}
 use Rattle.marc8_latin.specs.declared.part.Meaning.TheVariants.{DesignatesG0, DesignatesG1, Base, Mark, Control, Subfield}
-use Rattle.marc8_latin.specs.Parts.{is_first_side, is_second_side, character, designates, meaning_of}
-use Rattle.marc8_latin.specs.Text.{Part, joined, AreParts, after, shown, shown_of, latin, IsText}
-use Rattle.marc8_latin.specs.Subfields.{spelled, Spells, KeepsSubfields}
+use Rattle.marc8_latin.specs.Parts.{is_first_side, is_second_side, designates}
+use Rattle.marc8_latin.specs.Text.{Part, joined, AreParts, after, shown, shown_of}
 use Rattle.marc8_latin.proofs.Choices.{both}
 use Rattle.marc8_latin.proofs.Cases.{Rows, rows, byte_ends, is_side, side_of}
 use Rattle.marc8_latin.proofs.Encoded.{all_then, all_parts}
-use Rattle.marc8_latin.proofs.OneCut.{stuck_at_end}
-use Rattle.marc8_latin.proofs.OneReading.{arranged, text_by_parts}
-use Rattle.marc8_latin.proofs.Points.{fits, is_basic, character_fits, data_passes, basic_passes}
-use Rattle.marc8_latin.proofs.Splits.{is_sound, codes_of, Splits, Split, split_of}
+use Rattle.marc8_latin.proofs.Points.{fits, is_basic, character_fits, data_passes, basic_passes, small_basic}
+use Rattle.marc8_latin.proofs.Splits.{is_sound, codes_of}
 
 -- neither a record's nor a field's terminator
 abbrev pub no_end : ℕ → Bool
@@ -76,9 +70,6 @@ sound_parts sets (p ∷ ps) k h =
     all_then is_sound (shown p.meaning) (shown_of ps)
     (rows sets (λ part m. list_all no_end part ≡ true → list_all is_sound (shown m) ≡ true) (sound_rows sets) p.bytes p.meaning k.0 t.0)
     (sound_parts (after sets p.meaning) ps k.1 t.1)
-
-small_basic : (b : ℕ) → b < 0xa0 → is_basic b ≡ true
-small_basic b h = grind (arith, nat_tests)
 
 no_delimiter : (side : ℕ) → is_side side ≡ true → (side == 0x1f) ≡ false
 no_delimiter side h = grind (arith, nat_tests)

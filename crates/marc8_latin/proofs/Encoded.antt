@@ -1,5 +1,5 @@
 -- Code points in UTF-8: which bytes they take, and how many.
-use Rattle.std.proofs.Common.{◌≡◌, ℕ, ◌+◌, ◌*◌, ◌<◌, ◌≤◌, ◌/◌, ◌%◌, ◌&&◌, not, ltb, leb, Bool, true, false, cond, List, [], ◌∷◌, ◌++◌, length, length-append, refl, sym, ap, ◌∙◌, ⊎_elim, ◌⊎◌, inl, inr, arith}
+use Rattle.std.proofs.Common.{◌≡◌, ℕ, ◌+◌, ◌≤◌, ◌/◌, ◌%◌, ltb, Bool, true, List, [], ◌∷◌, ◌++◌, length, refl, sym, ◌∙◌, ⊎_elim, arith}
 use Rattle.std.proofs.lemmas.Bool.{ltb-true, cases_lt}
 use Rattle.std.proofs.lemmas.Bool.Decides.{nat_tests}
 use Rattle.std.proofs.lemmas.List.Folds.{list_all-append}
@@ -8,7 +8,7 @@ use Rattle.std.specs.Char.{len_utf8}
 use Rattle.std.specs.List.{list_all}
 use Rattle.std.specs.Prelude.{encode_utf8_all}
 use lib.Utf8.{encode}
-use Rattle.marc_types.specs.Valid.{is_data, is_text}
+use Rattle.marc_types.specs.Valid.{is_data}
 use Rattle.marc8_latin.proofs.Choices.{both, by_test}
 use Rattle.marc8_latin.proofs.Points.{is_basic}
 

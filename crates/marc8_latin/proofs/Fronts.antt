@@ -1,6 +1,5 @@
 -- What stands in front of some bytes.
-use Rattle.std.proofs.Common.{◌≡◌, ℕ, ◌+◌, ◌<◌, ◌≤◌, ◌==◌, Bool, true, false, List, [], ◌∷◌, length, take, drop, get_or, Option, Some, None, Result, MatchResult, refl, sym, ◌∙◌, ap, arith, cond, ltb, ne_eqb, ◌≢◌, ◌-◌, Ok, Err, length-take}
-use Rattle.std.proofs.lemmas.Grind.{common_steps}
+use Rattle.std.proofs.Common.{◌≡◌, ℕ, ◌+◌, ◌<◌, ◌≤◌, ◌==◌, true, false, List, [], ◌∷◌, length, take, get_or, Some, None, Result, MatchResult, refl, ◌∙◌, ap, arith, ltb, ne_eqb, ◌≢◌, ◌-◌, Ok, Err, length-take}
 use Rattle.std.proofs.lemmas.Bool.Decides.{nat_tests}
 use Rattle.marc8_latin.proofs.Choices.{third}
 use Rattle.std.proofs.lemmas.List.{get_or_past}
@@ -13,8 +12,8 @@ use Rattle.marc8_latin.specs.declared.charset.Charset.TheVariants.{BasicLatin, E
 use Rattle.marc8_latin.specs.declared.part.Designations.{Designations}
 use Rattle.marc8_latin.specs.declared.part.Front.{Front}
 use Rattle.marc8_latin.specs.declared.part.Meaning.{Meaning}
-use Rattle.marc8_latin.specs.declared.part.Meaning.TheVariants.{DesignatesG0, DesignatesG1, Base, Mark, Control, Subfield}
-use Rattle.marc8_latin.specs.Parts.{graphic, character, designation_code, designates, is_first_side, is_second_side, meaning_of, escape_fault, code_fault, byte_fault, fault_of, IsFront}
+use Rattle.marc8_latin.specs.declared.part.Meaning.TheVariants.{DesignatesG0, DesignatesG1, Subfield}
+use Rattle.marc8_latin.specs.Parts.{graphic, character, designation_code, is_first_side, is_second_side, meaning_of, escape_fault, code_fault, byte_fault, fault_of, IsFront}
 
 -- codes of Extended Latin between its two tables
 pub between_tables : (code : ℕ) → 0x49 ≤ code → code < 0x60 → graphic ExtendedLatin code ≡ None

@@ -1,5 +1,5 @@
 -- Bytes are cut into parts in one way, as far as parts begin.
-use Rattle.std.proofs.Common.{◌≡◌, ◌≢◌, ℕ, List, [], ◌∷◌, ◌++◌, Option, Some, None, refl, sym, ap, subst, ◌∙◌, append_assoc}
+use Rattle.std.proofs.Common.{◌≡◌, ◌≢◌, ℕ, List, [], ◌∷◌, ◌++◌, Some, None, refl, sym, ap, subst, ◌∙◌, append_assoc}
 use Rattle.std.proofs.lemmas.List.{append_cancel_left}
 use Rattle.marc8_latin.specs.declared.fault.Marc8Fault.{Marc8Fault}
 use Rattle.marc8_latin.specs.declared.part.Designations.{Designations}

@@ -1,5 +1,5 @@
 -- Bytes have one text, or one fault.
-use Rattle.std.proofs.Common.{◌≡◌, ◌≢◌, ℕ, List, [], ◌∷◌, ◌++◌, length, map, Option, Some, None, refl, sym, ap, subst, ◌∙◌, append_assoc}
+use Rattle.std.proofs.Common.{◌≡◌, ℕ, List, [], ◌∷◌, ◌++◌, length, map, Option, Some, None, refl, sym, ap, subst, ◌∙◌, append_assoc}
 use Rattle.std.proofs.lemmas.List.{append-nil}
 use Rattle.std.specs.Prelude.{encode_utf8_all}
 use Rattle.std.specs.List.{flat_map}
@@ -9,8 +9,8 @@ use Rattle.marc8_latin.specs.declared.part.Designations.{Designations}
 use Rattle.marc8_latin.specs.declared.part.Meaning.{Meaning}
 use Rattle.marc8_latin.specs.declared.part.Meaning.TheVariants.{DesignatesG0, DesignatesG1, Base, Mark, Control, Subfield}
 use Rattle.marc8_latin.specs.Parts.{fault_of}
-use Rattle.marc8_latin.specs.Text.{Part, joined, AreParts, after_all, latin, shown_of, Group, Based, Stopped, Parted, group_characters, group_points, moved, IsText, IsFault}
-use Rattle.marc8_latin.proofs.OneCut.{Stuck, stuck_at_end, stuck_at_fault, same_parts}
+use Rattle.marc8_latin.specs.Text.{joined, after_all, latin, shown_of, Group, Based, Stopped, Parted, group_characters, group_points, moved, IsText, IsFault}
+use Rattle.marc8_latin.proofs.OneCut.{stuck_at_end, stuck_at_fault, same_parts}
 
 -- the text of characters behind a run of marks that waits
 abbrev pub arranged : List ℕ → List Meaning → List ℕ

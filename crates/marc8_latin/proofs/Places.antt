@@ -3,7 +3,6 @@ use Rattle.std.proofs.Common.{◌≡◌, ℕ, ◌≤◌, ◌==◌, ◌||◌, Boo
 use Rattle.std.proofs.lemmas.Bool.Decides.{nat_tests}
 use Rattle.marc_types.specs.Valid.{is_graphic}
 use Rattle.marc8_latin.specs.declared.fault.Marc8Fault.{Marc8Fault}
-use Rattle.marc8_latin.specs.declared.fault.Marc8Fault.TheVariants.{BadByte}
 use Rattle.marc8_latin.specs.declared.part.Designations.{Designations}
 use Rattle.marc8_latin.specs.declared.part.Meaning.{Meaning}
 use Rattle.marc8_latin.specs.Parts.{is_first_side, is_second_side, character, designation_fault, escape_fault, code_fault, byte_fault, fault_of}

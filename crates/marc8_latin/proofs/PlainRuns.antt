@@ -1,5 +1,5 @@
 -- Plain bytes mean themselves, and a run of them is written as it is.
-use Rattle.std.proofs.Common.{◌≡◌, ◌≢◌, ◌⊎◌, inl, inr, ⊎_elim, ℕ, ◌+◌, ◌<◌, ◌≤◌, ◌==◌, ◌&&◌, not, ltb, leb, Bool, true, false, cond, List, [], ◌∷◌, ◌++◌, length, take, drop, Option, Some, None, refl, sym, ap, subst, ◌∙◌, append_assoc, eqb, ne_eqb, arith}
+use Rattle.std.proofs.Common.{◌≡◌, ◌≢◌, ◌⊎◌, inl, inr, ⊎_elim, ℕ, ◌+◌, ◌<◌, ◌==◌, ltb, Bool, true, false, cond, List, [], ◌∷◌, ◌++◌, take, drop, Some, refl, sym, subst, append_assoc, ne_eqb, arith}
 use Rattle.std.proofs.Math.Seq.{take-add}
 use Rattle.std.proofs.lemmas.List.{append-nil}
 use Rattle.std.proofs.lemmas.Bool.{lt-ltb}
@@ -13,9 +13,8 @@ use Rattle.marc_types.specs.Valid.{is_graphic}
 use Rattle.marc8_latin.specs.declared.charset.Charset.{Charset}
 use Rattle.marc8_latin.specs.declared.charset.Charset.TheVariants.{BasicLatin}
 use Rattle.marc8_latin.specs.declared.part.Designations.{Designations}
-use Rattle.marc8_latin.specs.declared.part.Meaning.{Meaning}
 use Rattle.marc8_latin.specs.declared.part.Meaning.TheVariants.{Base, Control}
-use Rattle.marc8_latin.specs.Parts.{control, character, meaning_of}
+use Rattle.marc8_latin.specs.Parts.{character, meaning_of}
 use Rattle.marc8_latin.specs.Progress.{is_plain, IsRead}
 use Rattle.marc8_latin.proofs.Choices.{both}
 use Rattle.marc8_latin.proofs.Readings.{read_part}

@@ -1,19 +1,18 @@
 -- Plain bytes are their own text.
-use Rattle.std.proofs.Common.{◌≡◌, ◌≢◌, ◌⊎◌, inl, inr, lit<, ⊎_elim, ℕ, ◌+◌, ◌<◌, ◌≤◌, ◌==◌, ◌&&◌, ◌||◌, not, ltb, leb, Bool, true, false, cond, List, [], ◌∷◌, ◌++◌, Option, Some, None, refl, sym, ap, ◌∙◌, subst, eq-eqb, ne_eqb, arith}
-use Rattle.std.proofs.lemmas.Bool.{lt-ltb, cases_eq, false≢true}
+use Rattle.std.proofs.Common.{◌≡◌, ◌≢◌, lit<, ⊎_elim, ℕ, ◌<◌, ◌==◌, not, Bool, true, false, List, [], ◌∷◌, ◌++◌, Some, refl, sym, ap, ◌∙◌, subst, eq-eqb, ne_eqb, arith}
+use Rattle.std.proofs.lemmas.Bool.{cases_eq, false≢true}
 use Rattle.std.proofs.lemmas.Bool.Decides.{nat_tests}
 use Rattle.std.proofs.lemmas.Str.{encode_ascii}
 use Rattle.std.proofs.lemmas.Str.Ascii.{IsAscii-nil, IsAscii-cons}
-use Rattle.std.specs.Prelude.{encode_utf8, encode_utf8_all}
+use Rattle.std.specs.Prelude.{encode_utf8}
 use Rattle.std.specs.Str.{IsAscii}
 use Rattle.marc_types.specs.Valid.{is_graphic}
-use Rattle.marc8_latin.specs.declared.part.Meaning.{Meaning}
 use Rattle.marc8_latin.specs.declared.part.Meaning.TheVariants.{Base, Control, Subfield}
-use Rattle.marc8_latin.specs.Parts.{control, character, meaning_of}
+use Rattle.marc8_latin.specs.Parts.{meaning_of}
 use Rattle.marc8_latin.specs.declared.charset.Charset.TheVariants.{ExtendedLatin}
 use Rattle.marc8_latin.proofs.PlainRuns.{plain_meaning}
-use Rattle.marc8_latin.specs.Text.{latin, Group, Based, Stopped, Parted, IsText}
-use Rattle.marc8_latin.specs.Progress.{is_plain, stand_as_themselves}
+use Rattle.marc8_latin.specs.Text.{latin, Based, Stopped, Parted, IsText}
+use Rattle.marc8_latin.specs.Progress.{stand_as_themselves}
 
 pub text_nil : IsText [] []
 text_nil = record { parts = []; cut = refl; known = tt; groups = []; last = []; grouped = refl; written = refl }

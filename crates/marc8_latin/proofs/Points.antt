@@ -1,5 +1,5 @@
 -- Which code points the characters of a text have.
-use Rattle.std.proofs.Common.{◌≡◌, ◌≢◌, ℕ, zero, suc, ◌+◌, ◌-◌, ◌<◌, ◌≤◌, ◌==◌, ◌&&◌, ◌||◌, not, ltb, leb, Bool, true, false, cond, List, [], ◌∷◌, ◌++◌, get_or, Option, Some, None, refl, sym, ap, subst, ◌∙◌, arith}
+use Rattle.std.proofs.Common.{◌≡◌, ℕ, zero, suc, ◌-◌, ◌<◌, ◌==◌, ◌&&◌, ◌||◌, ltb, leb, Bool, true, false, List, [], ◌∷◌, get_or, Option, Some, None, refl, sym, ap, ◌∙◌, arith}
 use Rattle.std.proofs.lemmas.Bool.Decides.{nat_tests}
 use Rattle.std.specs.List.{list_all}
 use Rattle.marc8_latin.proofs.Choices.{both, by_test}
@@ -101,3 +101,6 @@ data_passes =
       joiner_passes = refl;
       nonjoiner_passes = refl;
     }
+
+pub small_basic : (b : ℕ) → b < 0xa0 → is_basic b ≡ true
+small_basic b h = grind (arith, nat_tests)

@@ -1,17 +1,14 @@
 -- One more part that was read, and what a reading ends in.
-use Rattle.std.proofs.Common.{◌≡◌, ℕ, ◌+◌, ◌≤◌, List, [], ◌∷◌, ◌++◌, length, take, drop, map, Option, Some, refl, sym, ap, ◌∙◌, append_assoc, length-take}
+use Rattle.std.proofs.Common.{◌≡◌, ℕ, ◌+◌, ◌≤◌, List, [], ◌∷◌, ◌++◌, length, take, drop, Some, refl, sym, ◌∙◌}
 use Rattle.std.proofs.Math.Seq.{take-add}
 use Rattle.std.proofs.lemmas.List.{append-nil, take-append-drop, length-take-le}
 use Rattle.std.proofs.lemmas.List.Concat.{flat_map-append}
 use Rattle.std.proofs.lemmas.Str.{encodes-append}
-use Rattle.std.specs.Prelude.{encode_utf8_all}
-use Rattle.std.specs.List.{flat_map}
-use Rattle.std.specs.Option.{option_map}
 use Rattle.marc8_latin.specs.declared.fault.Marc8Fault.{Marc8Fault}
 use Rattle.marc8_latin.specs.declared.part.Designations.{Designations}
 use Rattle.marc8_latin.specs.declared.part.Meaning.{Meaning}
 use Rattle.marc8_latin.specs.Parts.{meaning_of, fault_of, IsFront}
-use Rattle.marc8_latin.specs.Text.{Part, joined, AreParts, after, after_all, latin, shown, shown_of, moved, IsText, IsFault}
+use Rattle.marc8_latin.specs.Text.{Part, AreParts, after, after_all, latin, shown, shown_of, moved, IsText, IsFault}
 use Rattle.marc8_latin.specs.Progress.{IsWritten, IsRead}
 
 AreParts-push : (sets : Designations) (parts : List Part) (part : Part) → AreParts sets parts → meaning_of (after_all sets parts) part.bytes ≡ Some part.meaning → AreParts sets (parts ++ part ∷ [])

@@ -1,8 +1,7 @@
 -- A text has at most three bytes for each of its source.
-use Rattle.std.proofs.Common.{◌≡◌, ℕ, ◌+◌, ◌*◌, ◌<◌, ◌≤◌, ◌&&◌, Bool, true, false, List, [], ◌∷◌, ◌++◌, length, length-append, Option, Some, refl, sym, ap, subst, ◌∙◌, lit<, arith}
+use Rattle.std.proofs.Common.{◌≡◌, ℕ, ◌+◌, ◌*◌, ◌<◌, ◌≤◌, true, List, [], ◌∷◌, ◌++◌, length, length-append, refl, ap, ◌∙◌, arith}
 use Rattle.std.proofs.lemmas.Bool.Decides.{nat_tests}
-use Rattle.std.proofs.lemmas.Str.{encode_ascii, encodes-append}
-use Rattle.std.specs.List.{flat_map, list_all}
+use Rattle.std.proofs.lemmas.Str.{encodes-append}
 use Rattle.std.specs.Prelude.{encode_utf8, encode_utf8_all}
 use Rattle.marc_types.specs.Valid.{is_graphic}
 use Rattle.marc8_latin.specs.declared.charset.Charset.TheVariants.{BasicLatin, ExtendedLatin}
@@ -10,12 +9,11 @@ use Rattle.marc8_latin.specs.declared.part.Designations.{Designations}
 use Rattle.marc8_latin.specs.declared.part.Meaning.{Meaning}
 use Rattle.marc8_latin.specs.declared.part.Meaning.TheVariants.{DesignatesG0, DesignatesG1, Base, Mark, Control, Subfield}
 use Rattle.marc8_latin.specs.Text.{Part, joined, AreParts, after, shown, shown_of, latin, IsText}
-use Rattle.marc8_latin.proofs.Choices.{both}
 use Rattle.marc8_latin.proofs.Cases.{Rows, rows}
 use Rattle.marc8_latin.proofs.Carried.{hidden}
 use Rattle.marc8_latin.proofs.Encoded.{basic_len}
 use Rattle.marc8_latin.proofs.OneReading.{arranged, text_by_parts}
-use Rattle.marc8_latin.proofs.Points.{fits, is_basic, character_fits, basic_passes}
+use Rattle.marc8_latin.proofs.Points.{fits, is_basic, character_fits, basic_passes, small_basic}
 
 -- the most bytes of a character in UTF-8
 abbrev width : Meaning → ℕ
@@ -53,9 +51,6 @@ fits_width (Base c) h = omega (arith, basic_len c h)
 fits_width (Mark c) h = omega (arith, basic_len c h)
 fits_width (Control c) h = omega (arith, basic_len c h)
 fits_width (Subfield code) h = absurd (cc)
-
-small_basic : (b : ℕ) → b < 0xa0 → is_basic b ≡ true
-small_basic b h = grind (arith, nat_tests)
 
 graphic_basic : (b : ℕ) → is_graphic b ≡ true → is_basic b ≡ true
 graphic_basic b h = grind (arith, nat_tests)

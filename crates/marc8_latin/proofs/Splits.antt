@@ -1,24 +1,18 @@
 -- A text falls into a head without delimiters and subfields, as its characters say.
-use Rattle.std.proofs.Common.{◌≡◌, ◌≢◌, ℕ, ◌+◌, ◌*◌, ◌<◌, ◌≤◌, ◌==◌, ◌&&◌, Bool, true, false, cond, List, [], ◌∷◌, ◌++◌, length, length-append, get_or, map, Option, Some, None, lit<, refl, sym, ap, subst, ◌∙◌, append_assoc, ne_eqb, eqb-true, arith}
+use Rattle.std.proofs.Common.{◌≡◌, ℕ, ◌<◌, Bool, true, List, [], ◌∷◌, ◌++◌, map, lit<, refl, sym, ap, ◌∙◌, append_assoc, arith}
 use Rattle.std.proofs.lemmas.Bool.Decides.{nat_tests}
 use Rattle.std.proofs.lemmas.List.{append-nil}
 use Rattle.std.proofs.lemmas.Str.{encode_ascii, encodes-append}
 use Rattle.std.specs.List.{flat_map, list_all}
-use Rattle.std.specs.Prelude.{encode_utf8, encode_utf8_all}
+use Rattle.std.specs.Prelude.{encode_utf8_all}
 use Rattle.marc_types.specs.Valid.{is_graphic, is_data, is_text, is_subfield}
 use Rattle.marc_types.specs.declared.field.Subfield.{Subfield as Piece}
-use Rattle.marc8_latin.specs.declared.charset.Charset.TheVariants.{BasicLatin, ExtendedLatin}
-use Rattle.marc8_latin.specs.declared.part.Designations.{Designations}
 use Rattle.marc8_latin.specs.declared.part.Meaning.{Meaning}
 use Rattle.marc8_latin.specs.declared.part.Meaning.TheVariants.{DesignatesG0, DesignatesG1, Base, Mark, Control, Subfield}
-use Rattle.marc8_latin.specs.Parts.{character, designates, meaning_of}
-use Rattle.marc8_latin.specs.Text.{Part, joined, AreParts, after, shown, shown_of, latin, IsText}
-use Rattle.marc8_latin.specs.Subfields.{spelled, Spells, KeepsSubfields}
+use Rattle.marc8_latin.specs.Subfields.{spelled}
 use Rattle.marc8_latin.proofs.Choices.{both}
-use Rattle.marc8_latin.proofs.Cases.{Rows, rows}
-use Rattle.marc8_latin.proofs.Encoded.{all_then, all_parts, data_encodes}
-use Rattle.marc8_latin.proofs.OneReading.{arranged, text_by_parts}
-use Rattle.marc8_latin.proofs.Points.{fits, character_fits, data_passes}
+use Rattle.marc8_latin.proofs.Encoded.{all_then, data_encodes}
+use Rattle.marc8_latin.proofs.OneReading.{arranged}
 
 -- a character that leaves each delimiter and terminator where it is
 abbrev pub is_sound : Meaning → Bool

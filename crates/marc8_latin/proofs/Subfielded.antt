@@ -1,5 +1,5 @@
 -- What a text keeps of its bytes: the size, and the subfields.
-use Rattle.std.proofs.Common.{◌≡◌, ◌≢◌, ℕ, ◌+◌, ◌*◌, ◌<◌, ◌≤◌, ◌==◌, ◌&&◌, not, Bool, true, false, cond, List, [], ◌∷◌, ◌++◌, length, length-append, map, Option, Some, None, refl, sym, ap, subst, ◌∙◌, append_assoc, arith}
+use Rattle.std.proofs.Common.{◌≡◌, ℕ, ◌==◌, ◌&&◌, true, false, List, [], ◌∷◌, ◌++◌, map, refl, sym, ap, subst, ◌∙◌, arith}
 use Rattle.std.proofs.lemmas.Bool.Decides.{nat_tests}
 use Rattle.std.proofs.lemmas.List.{append-nil}
 use Rattle.std.specs.List.{flat_map, list_all}
@@ -7,16 +7,15 @@ use Rattle.std.specs.Prelude.{encode_utf8_all}
 use Rattle.marc_types.specs.Valid.{is_graphic, is_data, is_text, is_subfield}
 use Rattle.marc_types.specs.declared.field.Subfield.{Subfield as Piece}
 use Rattle.marc8_latin.specs.declared.part.Designations.{Designations}
-use Rattle.marc8_latin.specs.declared.part.Meaning.{Meaning}
 use Rattle.marc8_latin.specs.declared.part.Meaning.TheVariants.{Subfield}
-use Rattle.marc8_latin.specs.Text.{Part, joined, AreParts, after, shown_of, latin, IsText}
+use Rattle.marc8_latin.specs.Text.{Part, joined, AreParts, shown_of, latin, IsText}
 use Rattle.marc8_latin.specs.Subfields.{spelled, Spells, KeepsSubfields}
 use Rattle.marc8_latin.proofs.Choices.{both}
 use Rattle.marc8_latin.proofs.Encoded.{all_then}
 use Rattle.marc8_latin.proofs.OneCut.{stuck_at_end}
 use Rattle.marc8_latin.proofs.OneReading.{arranged, text_by_parts}
-use Rattle.marc8_latin.proofs.Splits.{is_sound, codes_of, Splits, Split, split_of, splits_from}
-use Rattle.marc8_latin.proofs.Carried.{no_end, codes_in, sound_parts, codes_parts, Begins, begins_parts}
+use Rattle.marc8_latin.proofs.Splits.{is_sound, codes_of, Split, split_of, splits_from}
+use Rattle.marc8_latin.proofs.Carried.{no_end, codes_in, sound_parts, codes_parts, begins_parts}
 
 split_text : (bytes text : List ℕ) → IsText bytes text → list_all no_end bytes ≡ true → Split text (codes_in false bytes)
 split_text bytes text t h =

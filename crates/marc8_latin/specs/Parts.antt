@@ -1,6 +1,6 @@
 -- The parts of a MARC-8 text, and the faults where no part begins. Source: MARC 21 Specifications for Record Structure,
 -- Character Sets, and Exchange Media, MARC-8 (escape sequences, Basic and Extended Latin). Bytes are in hexadecimal.
-use Rattle.std.specs.Prelude.{◌≡◌, ℕ, ◌+◌, ◌-◌, ◌<◌, ◌≤◌, ◌==◌, Bool, ◌&&◌, ◌||◌, nat_le, nat_lt, List, [], ◌∷◌, length, take, slice_index, if◌then◌else◌, Option, Some, None}
+use Rattle.std.specs.Prelude.{◌≡◌, ℕ, ◌-◌, ◌<◌, ◌≤◌, ◌==◌, Bool, ◌&&◌, ◌||◌, nat_le, nat_lt, List, [], ◌∷◌, length, take, slice_index, if◌then◌else◌, Option, Some, None}
 use Rattle.marc_types.specs.Valid.{is_graphic}
 use Rattle.marc_types.specs.declared.refusal.Set.{Set}
 use Rattle.marc_types.specs.declared.refusal.Set.TheVariants.{Eacc, BasicHebrew, BasicArabic, ExtendedArabic, BasicCyrillic, ExtendedCyrillic, BasicGreek, GreekSymbols, Subscripts, Superscripts, Unknown}

@@ -1,4 +1,4 @@
-use Rattle.std.proofs.Common.{◌≡◌, Bool, true, false, get_or, arith}
+use Rattle.std.proofs.Common.{◌≡◌, true, false, get_or, arith}
 use Rattle.std.proofs.lemmas.Slice.{first_rest}
 use Rattle.std.proofs.lemmas.Bool.Decides.{nat_tests}
 use Rattle.marc8_latin.specs.Parts.{is_first_side, is_second_side}

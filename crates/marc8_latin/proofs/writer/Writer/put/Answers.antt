@@ -1,4 +1,3 @@
-use Rattle.std.proofs.Common.{◌≡◌}
 use Rattle.marc8_latin.proofs.Writing.{put_mark, put_base, put_control, put_subfield}
 use Rattle.marc8_latin.proofs.writer.Writer.put.Goals as goal
 
