@@ -1,0 +1,105 @@
+-- What clauses see of a `Pieces`, and what its `next` does.
+use Rattle.std.specs.Prelude.{◌≡◌, ℕ, ◌+◌, ◌≤◌, ◌<◌, ⊤, Bool, true, false, List, [], ◌∷◌, length, All, Option, Some, None, IfSome}
+use Rattle.std.specs.Io.KnownBytes.{Consumes, IsAtEnd}
+use Rattle.std.specs.Io.BufRead.{ends_with_byte}
+use Rattle.core.specs.Option.{option_map}
+use Rattle.outside.specs.Fault.{Rose}
+use Rattle.marc_types.specs.declared.refusal.Refusal.{Refusal}
+use Rattle.marc_stream.specs.Pieces.{Item, items_behind, end_of, refusal_of, record_terminator}
+use Rattle.marc_stream.specs.View.{View}
+use Rattle.marc_stream.specs.Window.{Gives, ahead_of, given_of, most_of}
+
+-- a file that is being cut
+pub record Stream : Type 0 where
+  -- how many items were answered
+  pub answered : ℕ
+  -- the place behind the last of them
+  pub offset : ℕ
+  -- the bytes from there on, where the source tells its bytes
+  pub ahead : Option (List ℕ)
+  -- those of them that the source still has
+  pub left : Option (List ℕ)
+  -- how many bytes the source gave
+  pub given : ℕ
+  -- at most so many bytes are ahead
+  pub most : ℕ
+  -- the source's faults so far
+  pub faults : ℕ
+  -- whether the end or a fault was answered
+  pub over : Bool
+
+abbrev pub stream_of : ℕ → Bool → View → Stream
+stream_of answered over v = record {
+  answered = answered;
+  offset = v.offset;
+  ahead = ahead_of v;
+  left = v.left;
+  given = given_of v;
+  most = most_of v;
+  faults = v.faults;
+  over = over;
+}
+
+-- a source's file from its next byte on
+abbrev pub opened : Option (List ℕ) → ℕ → ℕ → Stream
+opened left bound faults = record {
+  answered = 0;
+  offset = 0;
+  ahead = left;
+  left = left;
+  given = 0;
+  most = bound;
+  faults = faults;
+  over = false;
+}
+
+-- the items that are still to come, where the source tells its bytes
+abbrev pub coming : Stream → Option (List Item)
+coming s = option_map (items_behind s.answered s.offset) s.ahead
+
+-- the item was the first of those to come
+abbrev pub TakesFirst : Option (List Item) → Option (List Item) → Item → Type 0
+TakesFirst None new item = ⊤
+TakesFirst (Some items) None item = ⊥
+TakesFirst (Some items) (Some rest) item = items ≡ item ∷ rest
+
+-- the source was read on, and its faults don't fall
+pub record ReadsOn (old new : Stream) : Type 0 where
+  pub gives : Gives old.left new.left old.given new.given
+  pub faults : old.faults ≤ new.faults
+
+-- the next item was answered
+pub record Answers (old new : Stream) (item : Item) : Type 0 where
+  -- the item is the next, whatever the source tells: its number, its place, and what its bytes make of it
+  pub ordinal : item.ordinal ≡ old.answered + 1
+  pub place : old.offset ≤ item.offset
+  pub refusal : item.refusal ≡ refusal_of item.bytes
+  -- it is the first of the items to come, and the others are still to come
+  pub coming : TakesFirst (coming old) (coming new) item
+  pub answered : new.answered ≡ old.answered + 1
+  pub offset : new.offset ≡ end_of item
+  pub over : new.over ≡ false
+  -- fewer bytes are ahead
+  pub falls : new.most < old.most
+  pub reads : ReadsOn old new
+
+-- no item is left, and the source was read to its end
+pub record Ends (old new : Stream) : Type 0 where
+  pub coming : IfSome (coming old) (λ items. items ≡ [])
+  pub read_all : IsAtEnd new.left
+  pub answered : new.answered ≡ old.answered
+  pub over : new.over ≡ true
+  pub reads : ReadsOn old new
+
+-- the item has its terminator, and ends within so many bytes of the file
+pub record EndsWithin (given : ℕ) (item : Item) : Type 0 where
+  pub ended : ends_with_byte record_terminator item.bytes ≡ true
+  pub within : end_of item ≤ given
+
+-- the source's count of faults rose, and no item that ends, with its terminator, within the bytes given is still to come
+pub record Fails (old new : Stream) : Type 0 where
+  pub rose : Rose old.faults new.faults
+  pub coming : IfSome (coming old) (All (λ item. ¬ EndsWithin new.given item))
+  pub answered : new.answered ≡ old.answered
+  pub over : new.over ≡ true
+  pub reads : ReadsOn old new
