@@ -2,3 +2,4 @@ pub mod Windows
 pub mod Scans
 pub mod Cuts
 pub mod Items
+pub mod Streams

@@ -1,3 +1,4 @@
+pub mod Next
 pub mod Pieces
 pub mod Stream
 pub mod View

@@ -1,8 +1,8 @@
 -- What clauses see of a `Pieces`, and what its `next` does.
-use Rattle.std.specs.Prelude.{◌≡◌, ℕ, ◌+◌, ◌≤◌, ◌<◌, ⊤, Bool, true, false, List, [], ◌∷◌, length, All, Option, Some, None, IfSome}
+use Rattle.std.specs.Prelude.{◌≡◌, ℕ, ◌+◌, ◌≤◌, ◌<◌, ◌^◌, ⊤, Bool, true, false, List, [], ◌∷◌, length, All, Option, Some, None, IfSome}
 use Rattle.std.specs.Io.KnownBytes.{Consumes, IsAtEnd}
 use Rattle.std.specs.Io.BufRead.{ends_with_byte}
-use Rattle.core.specs.Option.{option_map}
+use Rattle.std.specs.Option.{option_map}
 use Rattle.outside.specs.Fault.{Rose}
 use Rattle.marc_types.specs.declared.refusal.Refusal.{Refusal}
 use Rattle.marc_stream.specs.Pieces.{Item, items_behind, end_of, refusal_of, record_terminator}
@@ -39,6 +39,11 @@ stream_of answered over v = record {
   faults = v.faults;
   over = over;
 }
+
+-- there are no more items than bytes, and no offset will pass a u64
+pub record IsCounted (answered : ℕ) (v : View) : Type 0 where
+  pub items : answered ≤ v.offset
+  pub fits : v.offset + most_of v < 2 ^ 64
 
 -- a source's file from its next byte on
 abbrev pub opened : Option (List ℕ) → ℕ → ℕ → Stream

@@ -4,5 +4,8 @@
 //! `items` of `specs/Pieces.antt`, and see a [`Pieces`] as the items that are still to come.
 #![tactic(auto)]
 
+mod pieces;
 mod scan;
 mod window;
+
+pub use pieces::{Next, Pieces};

@@ -71,7 +71,7 @@ impl<S: Source> Window<S> {
     pub fn cut(&mut self) -> Result<Option<Cut>, Failed>
         ensures cuts { IfOk result (λ found. MatchOption found (CutsNone self.old self.new)
             (λ cut. Cuts self.old cut self.new)) }
-        ensures blocks { OnErr result (Blocks self.old self.new) }
+        ensures blocked { OnErr result (Blocks self.old self.new) }
     {
         if !self.skip_line_ends()? {
             return Ok(None);
@@ -83,7 +83,7 @@ impl<S: Source> Window<S> {
     fn cut_item(&mut self) -> Result<Cut, Failed>
         requires { BeginsItem self.old.buffered }
         ensures cuts { IfOk result (λ cut. Cuts self.old cut self.new) }
-        ensures blocks { OnErr result (Blocks self.old self.new) }
+        ensures blocked { OnErr result (Blocks self.old self.new) }
     {
         let offset = self.offset();
         match self.find_end()? {
@@ -118,7 +118,7 @@ impl<S: Source> Window<S> {
     // Takes the line ends in front, and answers whether any other byte is there.
     fn skip_line_ends(&mut self) -> Result<bool, Failed>
         ensures skips { IfOk result (SkipsLineEnds self.old self.new) }
-        ensures blocks { OnErr result (Blocks self.old self.new) }
+        ensures blocked { OnErr result (Blocks self.old self.new) }
     {
         'line_ends: loop {
             let count = line_ends(self.bytes());
@@ -137,7 +137,7 @@ impl<S: Source> Window<S> {
         ensures moves { Moves self.old self.new [] }
         ensures begins { BeginsWith self.new.buffered self.old.buffered }
         ensures ends { IfOk result (EndsAs self.new) }
-        ensures blocks { OnErr result (Blocks self.old self.new) }
+        ensures blocked { OnErr result (Blocks self.old self.new) }
     {
         let mut searched = 0;
         'reads: loop {
@@ -158,7 +158,7 @@ impl<S: Source> Window<S> {
     fn skip_item(&mut self) -> Result<(), Failed>
         requires { EndsNone self.old.buffered }
         ensures skips { IfOk result (λ _. Skips self.old self.new) }
-        ensures blocks { OnErr result (Blocks self.old self.new) }
+        ensures blocked { OnErr result (Blocks self.old self.new) }
     {
         'reads: loop {
             self.take(self.len());

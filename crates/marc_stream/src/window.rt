@@ -1,4 +1,4 @@
-ghost use Rattle.std.specs.Prelude.{◌≡◌, ◌↔◌, ◌+◌, ◌-◌, ◌<◌, ◌≤◌, ℕ, [], ◌++◌, length, take, drop, Some, IsTrue, IfOk, OnErr, IfErr};
+ghost use Rattle.std.specs.Prelude.{◌≡◌, ◌+◌, ◌-◌, ◌<◌, ◌≤◌, ◌^◌, [], ◌++◌, length, take, drop, IfOk, OnErr, IfErr};
 ghost use Rattle.std.specs.Io.KnownBytes.{IsAtEnd, ReadConsumes};
 ghost use Rattle.outside.specs.Fault.{HasCause};
 ghost use Rattle.marc_stream.specs.Window.{Moves, Grows};
@@ -63,6 +63,7 @@ impl<S: Source> Window<S> {
           offset = 0;
         }) }
         ensures back { IfErr result (λ refused. refused.0 ≡ source) }
+        ensures bounded { S.bound source < 2 ^ 64 }
     {
         // A bound in a `u64` keeps every offset in one.
         let _bound = source.remaining();

@@ -3,9 +3,9 @@ use Rattle.marc_stream.proofs.Windows.{on_err, blocks_then}
 use Rattle.marc_stream.proofs.Cuts.{still_begins, cuts_piece, cuts_overlong, cuts_unfinished, cuts_skipped, none_in_none}
 use Rattle.marc_stream.proofs.window.Window.cut_item.Goals as goal
 
-pub returns-in_err-skip_item-in-Beyond-clause-blocks : goal.returns-in_err-skip_item-in-Beyond-clause-blocks
-returns-in_err-skip_item-in-Beyond-clause-blocks g c =
-    on_err _ (blocks_then _ _ _ [] c.find_end.ensures.moves none_in_none c.in_err-skip_item-in-Beyond.ensures.blocks)
+pub returns-in_err-skip_item-in-Beyond-clause-blocked : goal.returns-in_err-skip_item-in-Beyond-clause-blocked
+returns-in_err-skip_item-in-Beyond-clause-blocked g c =
+    on_err _ (blocks_then _ _ _ [] c.find_end.ensures.moves none_in_none c.in_err-skip_item-in-Beyond.ensures.blocked)
 
 pub returns-then-len-gt-MAX_PIECE_LEN-clause-cuts : goal.returns-then-len-gt-MAX_PIECE_LEN-clause-cuts
 returns-then-len-gt-MAX_PIECE_LEN-clause-cuts g c =

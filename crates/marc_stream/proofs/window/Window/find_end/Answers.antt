@@ -12,8 +12,8 @@ returns-then-searched-gt-MAX_PIECE_LEN-clause-ends g c = (subst EndsNone c.bytes
 pub returns-in_err-fill-clause-moves : goal.returns-in_err-fill-clause-moves
 returns-in_err-fill-clause-moves g c = moves_then _ _ _ [] [] c.reads.invariant.moves c.fill.ensures.moves
 
-pub returns-in_err-fill-clause-blocks : goal.returns-in_err-fill-clause-blocks
-returns-in_err-fill-clause-blocks g c =
+pub returns-in_err-fill-clause-blocked : goal.returns-in_err-fill-clause-blocked
+returns-in_err-fill-clause-blocked g c =
     on_err _ (blocked _ _ _ [] c.reads.invariant.moves (subst EndsNone c.bytes.ensures c.in_default.ensures) c.fill.ensures.moves c.in_err-fill.ensures.err
     c.in_err-fill.ensures.cause.failed)
 

@@ -3,8 +3,8 @@ use Rattle.marc_stream.specs.Window.{EndsNone, IsEnded}
 use Rattle.marc_stream.proofs.Windows.{on_err, blocked, all_taken, skip_all, skip_more, skips_cut, skips_ended}
 use Rattle.marc_stream.proofs.window.Window.skip_item.Goals as goal
 
-pub returns-in_err-fill-clause-blocks : goal.returns-in_err-fill-clause-blocks
-returns-in_err-fill-clause-blocks g c =
+pub returns-in_err-fill-clause-blocked : goal.returns-in_err-fill-clause-blocked
+returns-in_err-fill-clause-blocked g c =
     let empty = all_taken c.reads.self c.take.new.self _ c.len.ensures c.take.ensures.buffered in
     let all = skip_all _ _ _ _ c.reads.invariant c.len.ensures c.take.ensures.moves empty in
     on_err _ (blocked _ _ _ all.taken all.moves all.none c.fill.ensures.moves c.in_err-fill.ensures.err c.in_err-fill.ensures.cause.failed)

@@ -13,8 +13,8 @@ returns-then-len-gt0-clause-skips g c =
         ap (drop c.line_ends-count.result) c.bytes.ensures ∙ sym c.take.ensures.buffered in
     ends_found _ _ skipped (subst BeginsItem same (c.line_ends-count.ensures.begins more))
 
-pub returns-in_err-fill-clause-blocks : goal.returns-in_err-fill-clause-blocks
-returns-in_err-fill-clause-blocks g c =
+pub returns-in_err-fill-clause-blocked : goal.returns-in_err-fill-clause-blocked
+returns-in_err-fill-clause-blocked g c =
     let skipped = skip_ends _ _ _ _ _ c.line_ends.invariant c.bytes.ensures c.line_ends-count.ensures.skipped c.take.ensures.moves in
     let empty : c.take.new.self.buffered ≡ [] = nil_from_length _ (omega arith) in
     on_err _ (blocked _ _ _ skipped.taken skipped.moves (ends_no_record _ _ skipped empty) c.fill.ensures.moves c.in_err-fill.ensures.err
