@@ -1,14 +1,13 @@
 -- The items of bytes, one item at a time.
-use Rattle.std.proofs.Common.{◌≡◌, ◌≢◌, ℕ, zero, suc, ◌+◌, ◌-◌, ◌≤◌, ◌<◌, ◌==◌, Bool, true, false, ◌&&◌, nat_lt, List, [], ◌∷◌, ◌++◌, length, take, drop, get_or, Option, Some, None, IfSome, refl, sym, ap, ◌∙◌, append_assoc, append-nil, length-append, length-take, length-drop, arith, subst, eqb-true, ltb-true}
+use Rattle.std.proofs.Common.{◌≡◌, ◌≢◌, ℕ, zero, suc, ◌+◌, ◌-◌, ◌≤◌, ◌<◌, ◌==◌, Bool, true, false, ◌&&◌, nat_lt, List, [], ◌∷◌, ◌++◌, length, take, drop, get_or, Option, Some, None, is_some, IfSome, refl, sym, ap, ◌∙◌, append_assoc, append-nil, length-append, length-take, length-drop, arith, subst, eqb-true, ltb-true}
 use Rattle.std.specs.Prelude.{if◌then◌else◌}
 use Rattle.std.specs.Io.KnownBytes.{Consumes, IsAtEnd, prepend_known}
 use Rattle.std.specs.Io.BufRead.{take_through, drop_through, ends_with_byte}
-use Rattle.std.specs.Option.{option_map}
 use Rattle.std.specs.List.{All}
 use Rattle.std.proofs.lemmas.List.{get_or-take, get_or-drop, get_or_append_left, take_at, drop_at}
 use Rattle.std.proofs.lemmas.List.Elements.{All-nil, All-cons, All-head, All-tail, All-get_or, All-from_get_or, All-weaker}
 use Rattle.marc_stream.specs.Pieces.{Item, record_terminator, is_line_end, skip_line_ends, item_at, end_of, unless_none, first_items, items_behind, refusal_of}
-use Rattle.marc_stream.specs.Stream.{TakesFirst, EndsWithin}
+use Rattle.marc_stream.specs.Stream.{EndsWithin, told}
 use Rattle.marc_stream.specs.Window.{AreLineEnds, BeginsItem, IsItemBefore, EndsNone}
 use Rattle.marc_stream.proofs.Scans.{begins_append}
 
@@ -135,23 +134,27 @@ items_none before offset ends are =
 -- ---- where the source tells its bytes
 
 pub takes_first : (before offset : ℕ) (a b : Option (List ℕ)) (ends text : List ℕ) → Consumes a b (ends ++ text) → AreLineEnds ends → BeginsItem text
-    → IfSome b (IsItemBefore text)
-    → TakesFirst (option_map (items_behind before offset) a) (option_map (items_behind (before + 1) (offset + length (ends ++ text))) b)
-        (item_at (before + 1) (offset + length ends) text)
-takes_first before offset None b ends text read are begins whole = tt
-takes_first before offset (Some x) None ends text read are begins whole = absurd read
-takes_first before offset (Some x) (Some rest) ends text read are begins whole =
+    → IfSome b (IsItemBefore text) → is_some a ≡ true
+    → items_behind before offset (told a) ≡ item_at (before + 1) (offset + length ends) text ∷ items_behind (before + 1) (offset + length (ends ++ text)) (told b)
+takes_first before offset None b ends text read are begins whole tells = cc
+takes_first before offset (Some x) None ends text read are begins whole tells = absurd read
+takes_first before offset (Some x) (Some rest) ends text read are begins whole tells =
     let place : offset + length ends + length text ≡ offset + length (ends ++ text) = omega (arith, length-append ends text) in
     ap (items_behind before offset) (read ∙ append_assoc ends text rest)
     ∙ items_cut before offset ends text rest are begins whole
     ∙ ap (λ n. item_at (before + 1) (offset + length ends) text ∷ items_behind (before + 1) n rest) place
 
-pub none_coming : (before offset : ℕ) (a b : Option (List ℕ)) (ends : List ℕ) → Consumes a b ends → AreLineEnds ends → IsAtEnd b
-    → IfSome (option_map (items_behind before offset) a) (λ items. items ≡ [])
-none_coming before offset None b ends read are end = tt
-none_coming before offset (Some x) None ends read are end = absurd read
-none_coming before offset (Some x) (Some rest) ends read are end =
+pub none_coming : (before offset : ℕ) (a b : Option (List ℕ)) (ends : List ℕ) → Consumes a b ends → AreLineEnds ends → IsAtEnd b → is_some a ≡ true
+    → items_behind before offset (told a) ≡ []
+none_coming before offset None b ends read are end tells = cc
+none_coming before offset (Some x) None ends read are end tells = absurd read
+none_coming before offset (Some x) (Some rest) ends read are end tells =
     ap (items_behind before offset) (read ∙ ap (λ l. ends ++ l) end ∙ append-nil ends) ∙ items_none before offset ends are
+
+-- the bytes ahead are told where those left are
+pub ahead_told : (bytes : List ℕ) (left : Option (List ℕ)) → is_some (prepend_known bytes left) ≡ is_some left
+ahead_told bytes None = refl
+ahead_told bytes (Some rest) = refl
 
 -- ---- what a fault leaves
 
@@ -219,11 +222,12 @@ none_within (suc most) before offset n bytes none =
                   later (record { ended = w.ended; within = omega arith })) _ others))
 
 pub none_coming_within : (before offset n : ℕ) (a left : Option (List ℕ)) (taken more : List ℕ) → Consumes a (prepend_known more left) taken
-    → EndsNone (taken ++ more) → n ≡ offset + length (taken ++ more) → IfSome (option_map (items_behind before offset) a) (All (λ item. ¬ EndsWithin n item))
+    → EndsNone (taken ++ more) → n ≡ offset + length (taken ++ more) → is_some a ≡ true
+    → All (λ item. ¬ EndsWithin n item) (items_behind before offset (told a))
 unfolding items_behind
-none_coming_within before offset n None left taken more read none count = tt
-none_coming_within before offset n (Some x) None taken more read none count = absurd read
-none_coming_within before offset n (Some x) (Some rest) taken more read none count =
+none_coming_within before offset n None left taken more read none count tells = absurd (cc)
+none_coming_within before offset n (Some x) None taken more read none count tells = absurd read
+none_coming_within before offset n (Some x) (Some rest) taken more read none count tells =
     let given : take (length (taken ++ more)) x ≡ taken ++ more =
         ap (take (length (taken ++ more))) (read ∙ sym (append_assoc taken more rest)) ∙ take_at (taken ++ more) rest (length (taken ++ more)) refl in
     let within = none_within (length x) before offset (length (taken ++ more)) x (subst EndsNone (sym given) none) in

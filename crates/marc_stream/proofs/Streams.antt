@@ -9,7 +9,7 @@ use Rattle.marc_stream.specs.Window.{Cuts, CutsItem, CutsNone, Blocks, ahead_of,
 use Rattle.marc_stream.specs.declared.scan.Cut.TheVariants.{Piece, Refused}
 use Rattle.marc_stream.specs.Next.{GivesPiece, GivesRefusal}
 use Rattle.marc_stream.specs.Stream.{Stream, stream_of, IsCounted, Answers, Ends, Fails}
-use Rattle.marc_stream.proofs.Items.{takes_first, none_coming, none_coming_within, begins_some}
+use Rattle.marc_stream.proofs.Items.{takes_first, none_coming, none_coming_within, ahead_told, begins_some}
 
 pub answers : (before offset : ℕ) (old new : View) (text : List ℕ) (refusal : Option Refusal) → CutsItem old new text offset refusal
     → Answers (stream_of before false old) (stream_of (before + 1) false new) (record { ordinal = before + 1; offset = offset; bytes = text; refusal = refusal })
@@ -20,22 +20,24 @@ answers before offset old new text refusal cut =
       ordinal = refl;
       place = omega (arith, cut.place);
       refusal = cut.reason;
-      coming = rw (cut.place, cut.reason, cut.moves.offset)
-          (takes_first before old.offset (ahead_of old) (ahead_of new) cut.line_ends text cut.moves.bytes cut.skipped cut.begins cut.whole);
+      coming = λ tells. rw (cut.place, cut.reason, cut.moves.offset)
+          (takes_first before old.offset (ahead_of old) (ahead_of new) cut.line_ends text cut.moves.bytes cut.skipped cut.begins cut.whole
+          (ahead_told old.buffered old.left ∙ tells));
       answered = refl;
       offset = omega (arith, cut.place, cut.moves.offset);
       over = refl;
       falls = omega (arith, cut.moves.most);
-      reads = record { gives = cut.moves.gives; faults = cut.moves.faults };
+      reads = record { gives = cut.moves.gives; tells = cut.moves.tells; faults = cut.moves.faults };
     }
 
 pub ends : (before : ℕ) (old new : View) → CutsNone old new → Ends (stream_of before false old) (stream_of before true new)
 ends before old new cut = record {
-  coming = none_coming before old.offset (ahead_of old) (ahead_of new) cut.line_ends cut.moves.bytes cut.skipped cut.none_left;
+  coming = λ tells. none_coming before old.offset (ahead_of old) (ahead_of new) cut.line_ends cut.moves.bytes cut.skipped cut.none_left
+      (ahead_told old.buffered old.left ∙ tells);
   read_all = cut.read_all;
   answered = refl;
   over = refl;
-  reads = record { gives = cut.moves.gives; faults = cut.moves.faults };
+  reads = record { gives = cut.moves.gives; tells = cut.moves.tells; faults = cut.moves.faults };
 }
 
 pub fails : (before : ℕ) (old new : View) → Blocks old new → Fails (stream_of before false old) (stream_of before true new)
@@ -43,11 +45,11 @@ fails before old new blocks =
     let size : length (blocks.taken ++ new.buffered) ≡ length blocks.taken + length new.buffered = length-append blocks.taken new.buffered in
     record {
       rose = blocks.rose;
-      coming = none_coming_within before old.offset (given_of new) (ahead_of old) new.left blocks.taken new.buffered blocks.moves.bytes blocks.none
-          (omega (arith, blocks.moves.offset));
+      coming = λ tells. none_coming_within before old.offset (given_of new) (ahead_of old) new.left blocks.taken new.buffered blocks.moves.bytes blocks.none
+          (omega (arith, blocks.moves.offset)) (ahead_told old.buffered old.left ∙ tells);
       answered = refl;
       over = refl;
-      reads = record { gives = blocks.moves.gives; faults = blocks.moves.faults };
+      reads = record { gives = blocks.moves.gives; tells = blocks.moves.tells; faults = blocks.moves.faults };
     }
 
 -- an item counts one, and has a byte

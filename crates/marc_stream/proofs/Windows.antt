@@ -1,5 +1,5 @@
 -- How the calls of a window move it.
-use Rattle.std.proofs.Common.{◌≡◌, ℕ, ◌+◌, ◌≤◌, List, [], ◌++◌, length, take, drop, true, false, Option, Some, None, Result, Ok, Err, OnErr, refl, sym, ap, ◌∙◌, append_assoc, append-nil, take-append-drop, length-append, length-take, length-drop, arith, subst, ◌-◌}
+use Rattle.std.proofs.Common.{◌≡◌, ℕ, ◌+◌, ◌≤◌, List, [], ◌++◌, length, take, drop, true, false, Option, Some, None, is_some, Result, Ok, Err, OnErr, refl, sym, ap, ◌∙◌, append_assoc, append-nil, take-append-drop, length-append, length-take, length-drop, arith, subst, ◌-◌}
 use Rattle.std.proofs.lemmas.List.{take-take, drop-append-le, nil_from_length, take_at, take_all, drop_all}
 use Rattle.std.proofs.Math.Seq.{take-add}
 use Rattle.std.specs.Io.KnownBytes.{prepend_known, Consumes, Keeps, IsAtEnd}
@@ -42,18 +42,20 @@ moves_taken old new count within buffered left bound faults offset =
       offset = omega arith;
       most = omega arith;
       faults = omega arith;
+      tells = ap is_some left;
       gives = rw (left, same) (gives_none old.left (given_of old));
     }
 
 pub moves_filled : (old new : View) (came : List ℕ) → new.buffered ≡ old.buffered ++ came → Consumes old.left new.left came
-    → new.bound + length came ≤ old.bound → old.faults ≤ new.faults → new.offset ≡ old.offset → Moves old new []
-moves_filled old new came buffered read bound faults offset =
+    → is_some new.left ≡ is_some old.left → new.bound + length came ≤ old.bound → old.faults ≤ new.faults → new.offset ≡ old.offset → Moves old new []
+moves_filled old new came buffered read tells bound faults offset =
     let more : length new.buffered ≡ length old.buffered + length came = ap length buffered ∙ length-append old.buffered came in
     record {
       bytes = rw buffered (consumes_filled old.left new.left old.buffered came read);
       offset = omega arith;
       most = omega arith;
       faults = faults;
+      tells = tells;
       gives = record { bytes = came; consumed = read; count = omega arith };
     }
 
@@ -70,6 +72,7 @@ moves_none v = record {
   offset = omega arith;
   most = omega arith;
   faults = omega arith;
+  tells = refl;
   gives = gives_none v.left (given_of v);
 }
 
@@ -81,6 +84,7 @@ moves_then a b c p q first second =
       offset = omega (arith, first.offset, second.offset);
       most = omega (arith, first.most, second.most);
       faults = omega (arith, first.faults, second.faults);
+      tells = second.tells ∙ first.tells;
       gives = gives_then a.left b.left c.left (given_of a) (given_of b) (given_of c) first.gives second.gives;
     }
 

@@ -1,41 +1,46 @@
 -- What clauses see of a `Pieces`, and what its `next` does.
-use Rattle.std.specs.Prelude.{◌≡◌, ℕ, ◌+◌, ◌≤◌, ◌<◌, ◌^◌, ⊤, Bool, true, false, List, [], ◌∷◌, length, All, Option, Some, None, IfSome}
-use Rattle.std.specs.Io.KnownBytes.{Consumes, IsAtEnd}
+use Rattle.std.specs.Prelude.{◌≡◌, ℕ, ◌+◌, ◌≤◌, ◌<◌, ◌^◌, Bool, true, false, List, [], ◌∷◌, All, Option, is_some, unwrap_or}
+use Rattle.std.specs.Io.KnownBytes.{IsAtEnd}
 use Rattle.std.specs.Io.BufRead.{ends_with_byte}
-use Rattle.std.specs.Option.{option_map}
 use Rattle.outside.specs.Fault.{Rose}
-use Rattle.marc_types.specs.declared.refusal.Refusal.{Refusal}
-use Rattle.marc_stream.specs.Pieces.{Item, items_behind, end_of, refusal_of, record_terminator}
+use Rattle.marc_stream.specs.Pieces.{Item, items, items_behind, end_of, refusal_of, record_terminator}
 use Rattle.marc_stream.specs.View.{View}
 use Rattle.marc_stream.specs.Window.{Gives, ahead_of, given_of, most_of}
 
 -- a file that is being cut
 pub record Stream : Type 0 where
+  -- whether the source tells its bytes
+  pub tells : Bool
+  -- the items that are still to come, where it does
+  pub coming : List Item
   -- how many items were answered
   pub answered : ℕ
   -- the place behind the last of them
   pub offset : ℕ
-  -- the bytes from there on, where the source tells its bytes
-  pub ahead : Option (List ℕ)
-  -- those of them that the source still has
-  pub left : Option (List ℕ)
+  -- at most so many bytes stand behind that place
+  pub most : ℕ
   -- how many bytes the source gave
   pub given : ℕ
-  -- at most so many bytes are ahead
-  pub most : ℕ
+  -- the bytes that the source has left, where it tells them
+  pub left : Option (List ℕ)
   -- the source's faults so far
   pub faults : ℕ
   -- whether the end or a fault was answered
   pub over : Bool
 
+-- the bytes, or none where they aren't told
+abbrev pub told : Option (List ℕ) → List ℕ
+told bytes = unwrap_or bytes []
+
 abbrev pub stream_of : ℕ → Bool → View → Stream
 stream_of answered over v = record {
+  tells = is_some v.left;
+  coming = items_behind answered v.offset (told (ahead_of v));
   answered = answered;
   offset = v.offset;
-  ahead = ahead_of v;
-  left = v.left;
-  given = given_of v;
   most = most_of v;
+  given = given_of v;
+  left = v.left;
   faults = v.faults;
   over = over;
 }
@@ -45,32 +50,24 @@ pub record IsCounted (answered : ℕ) (v : View) : Type 0 where
   pub items : answered ≤ v.offset
   pub fits : v.offset + most_of v < 2 ^ 64
 
--- a source's file from its next byte on
+-- a source's file from its next byte on: all items of its bytes are to come
 abbrev pub opened : Option (List ℕ) → ℕ → ℕ → Stream
 opened left bound faults = record {
+  tells = is_some left;
+  coming = items (told left);
   answered = 0;
   offset = 0;
-  ahead = left;
-  left = left;
-  given = 0;
   most = bound;
+  given = 0;
+  left = left;
   faults = faults;
   over = false;
 }
 
--- the items that are still to come, where the source tells its bytes
-abbrev pub coming : Stream → Option (List Item)
-coming s = option_map (items_behind s.answered s.offset) s.ahead
-
--- the item was the first of those to come
-abbrev pub TakesFirst : Option (List Item) → Option (List Item) → Item → Type 0
-TakesFirst None new item = ⊤
-TakesFirst (Some items) None item = ⊥
-TakesFirst (Some items) (Some rest) item = items ≡ item ∷ rest
-
 -- the source was read on, and its faults don't fall
 pub record ReadsOn (old new : Stream) : Type 0 where
   pub gives : Gives old.left new.left old.given new.given
+  pub tells : new.tells ≡ old.tells
   pub faults : old.faults ≤ new.faults
 
 -- the next item was answered
@@ -80,7 +77,7 @@ pub record Answers (old new : Stream) (item : Item) : Type 0 where
   pub place : old.offset ≤ item.offset
   pub refusal : item.refusal ≡ refusal_of item.bytes
   -- it is the first of the items to come, and the others are still to come
-  pub coming : TakesFirst (coming old) (coming new) item
+  pub coming : old.tells ≡ true → old.coming ≡ item ∷ new.coming
   pub answered : new.answered ≡ old.answered + 1
   pub offset : new.offset ≡ end_of item
   pub over : new.over ≡ false
@@ -90,7 +87,7 @@ pub record Answers (old new : Stream) (item : Item) : Type 0 where
 
 -- no item is left, and the source was read to its end
 pub record Ends (old new : Stream) : Type 0 where
-  pub coming : IfSome (coming old) (λ items. items ≡ [])
+  pub coming : old.tells ≡ true → old.coming ≡ []
   pub read_all : IsAtEnd new.left
   pub answered : new.answered ≡ old.answered
   pub over : new.over ≡ true
@@ -104,7 +101,7 @@ pub record EndsWithin (given : ℕ) (item : Item) : Type 0 where
 -- the source's count of faults rose, and no item that ends, with its terminator, within the bytes given is still to come
 pub record Fails (old new : Stream) : Type 0 where
   pub rose : Rose old.faults new.faults
-  pub coming : IfSome (coming old) (All (λ item. ¬ EndsWithin new.given item))
+  pub coming : old.tells ≡ true → All (λ item. ¬ EndsWithin new.given item) old.coming
   pub answered : new.answered ≡ old.answered
   pub over : new.over ≡ true
   pub reads : ReadsOn old new

@@ -1,5 +1,5 @@
 -- What clauses see of a window on a source's bytes, and how its calls move it.
-use Rattle.std.specs.Prelude.{◌≡◌, ◌≢◌, ℕ, ◌+◌, ◌-◌, ◌≤◌, ◌<◌, Bool, true, false, List, [], ◌∷◌, ◌++◌, length, take, drop, All, Option, Some, None, IfSome}
+use Rattle.std.specs.Prelude.{◌≡◌, ◌≢◌, ℕ, ◌+◌, ◌-◌, ◌≤◌, ◌<◌, Bool, true, false, List, [], ◌∷◌, ◌++◌, length, take, drop, All, Option, Some, None, is_some, IfSome}
 use Rattle.std.specs.Io.KnownBytes.{prepend_known, Consumes, IsAtEnd}
 use Rattle.std.specs.Io.BufRead.{take_through, drop_through}
 use Rattle.outside.specs.Fault.{Rose}
@@ -35,6 +35,7 @@ pub record Moves (old new : View) (taken : List ℕ) : Type 0 where
   pub offset : new.offset ≡ old.offset + length taken
   pub most : most_of new + length taken ≤ most_of old
   pub faults : old.faults ≤ new.faults
+  pub tells : is_some new.left ≡ is_some old.left
   pub gives : Gives old.left new.left (given_of old) (given_of new)
 
 -- the new bytes begin with the old

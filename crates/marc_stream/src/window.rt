@@ -1,4 +1,4 @@
-ghost use Rattle.std.specs.Prelude.{◌≡◌, ◌+◌, ◌-◌, ◌<◌, ◌≤◌, ◌^◌, [], ◌++◌, length, take, drop, IfOk, OnErr, IfErr};
+ghost use Rattle.std.specs.Prelude.{◌≡◌, ◌+◌, ◌-◌, ◌<◌, ◌≤◌, ◌^◌, [], ◌++◌, length, take, drop, is_some, IfOk, OnErr, IfErr};
 ghost use Rattle.std.specs.Io.KnownBytes.{IsAtEnd, ReadConsumes};
 ghost use Rattle.outside.specs.Fault.{HasCause};
 ghost use Rattle.marc_stream.specs.Window.{Moves, Grows};
@@ -44,6 +44,7 @@ fn read_behind<S: Source>(source: &mut S, buffer: &mut [u8], to: usize) -> Resul
     ensures front { take to buffer.new ≡ take to buffer.old }
     ensures within { IfOk result (λ count. to + count ≤ length buffer.new) }
     ensures bytes { ReadConsumes (S.left source.old) (S.left source.new) result (drop to buffer.new) }
+    ensures tells { is_some (S.left source.new) ≡ is_some (S.left source.old) }
     ensures falls { IfOk result (λ count. S.bound source.new + count ≤ S.bound source.old) }
     ensures bounded { S.bound source.new ≤ S.bound source.old }
     ensures cause { HasCause (S.faults source.old) (S.faults source.new) result }

@@ -1,4 +1,4 @@
-use Rattle.std.proofs.Common.{◌≡◌, ◌+◌, ◌≤◌, ◌++◌, length, take, drop, ap, sym, ◌∙◌, subst, arith}
+use Rattle.std.proofs.Common.{◌≡◌, ◌+◌, ◌≤◌, ◌++◌, length, take, drop, is_some, ap, sym, ◌∙◌, subst, arith}
 use Rattle.std.specs.Io.KnownBytes.{Consumes}
 use Rattle.std.specs.Vec.{with_items}
 use Rattle.std.proofs.lemmas.List.{with_items_is}
@@ -22,6 +22,7 @@ returns-clause-moves g c =
     moves_filled c.args.self.now _ (take count (drop to read))
     (rw whole (filled items read from to count c.self.invariant.ordered c.self.invariant.within front ∙ ap (λ l. l ++ take count (drop to read)) buffered))
     (subst (λ l. Consumes l (g.S.Source.left c.read_behind.new.source) (take count (drop to read))) left c.in_ok-count.ensures.bytes.0)
+    (c.read_behind.ensures.tells ∙ ap is_some left)
     (omega (arith, c.in_ok-count.ensures.falls))
     (omega (arith, c.read_behind.ensures.cause.later))
     (ap (λ v. v.offset) c.self.view_is ∙ c.close_up.ensures.offset)
