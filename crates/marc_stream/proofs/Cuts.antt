@@ -40,11 +40,10 @@ pub cuts_piece : (a b c : View) (len offset : ℕ) → Moves a b [] → BeginsIt
 cuts_piece a b c len offset first begins within found taken behind place short =
     let size : length (take len b.buffered) ≡ len = omega (arith, length-take len b.buffered) in
     let last : drop (length c.behind - len) c.behind ≡ take len b.buffered =
-        ap (λ l. drop (length l - len) l) behind
-        ∙ ap (λ n. drop (length (b.behind ++ take len b.buffered) - n) (b.behind ++ take len b.buffered)) (sym size)
-        ∙ last_taken b.behind (take len b.buffered) in
-    let reason : None ≡ refusal_of (take len b.buffered) = sym (refusal_none (take len b.buffered) (omega arith) found) in
-    (
+    ap (λ l. drop (length l - len) l) behind
+    ∙ ap (λ n. drop (length (b.behind ++ take len b.buffered) - n) (b.behind ++ take len b.buffered)) (sym size)
+    ∙ last_taken b.behind (take len b.buffered) in
+    let reason : None ≡ refusal_of (take len b.buffered) = sym (refusal_none (take len b.buffered) (omega arith) found) in (
       omega (arith, ap length behind, length-append b.behind (take len b.buffered)),
       subst (λ l. CutsItem a c l offset None) (sym last) (cuts_ended a b c len offset None first begins found taken place reason),
     )
@@ -60,29 +59,33 @@ pub cuts_unfinished : (a b c : View) (len offset : ℕ) → Moves a b [] → Beg
     → offset ≡ a.offset → Cuts a (Refused offset Unfinished) c
 cuts_unfinished a b c len offset first begins all none end short taken rest left place =
     let whole : take len b.buffered ≡ b.buffered = take_all len b.buffered (omega arith) in
-    let empty : c.buffered ≡ [] = rest ∙ drop_all len b.buffered (omega arith) in
-    (b.buffered, record {
-      line_ends = [];
-      moves = moves_then a b c [] b.buffered first (subst (Moves b c) whole taken);
-      skipped = λ k d none. absurd (omega arith);
-      begins = begins;
-      whole = item_cut_told (ahead_of c) b.buffered none (ahead_end c.left c.buffered empty (subst IsAtEnd (sym left) end));
-      place = omega arith;
-      reason = sym (refusal_unfinished b.buffered short none);
-    })
+    let empty : c.buffered ≡ [] = rest ∙ drop_all len b.buffered (omega arith) in (
+      b.buffered,
+      record {
+        line_ends = [];
+        moves = moves_then a b c [] b.buffered first (subst (Moves b c) whole taken);
+        skipped = λ k d none. absurd (omega arith);
+        begins = begins;
+        whole = item_cut_told (ahead_of c) b.buffered none (ahead_end c.left c.buffered empty (subst IsAtEnd (sym left) end));
+        place = omega arith;
+        reason = sym (refusal_unfinished b.buffered short none);
+      },
+    )
 
 pub cuts_skipped : (a b c : View) (offset : ℕ) → Moves a b [] → BeginsItem b.buffered → longest_piece < length b.buffered → Skips b c → offset ≡ a.offset
     → Cuts a (Refused offset Overlong) c
-cuts_skipped a b c offset first begins long skips place =
-    (skips.text, record {
-      line_ends = [];
-      moves = moves_then a b c [] skips.text first skips.moves;
-      skipped = λ k d none. absurd (omega arith);
-      begins = subst BeginsItem (sym skips.begins.grown) (begins_append b.buffered skips.begins.more begins);
-      whole = skips.whole;
-      place = omega arith;
-      reason = sym (refusal_overlong skips.text (omega (arith, ap length skips.begins.grown, length-append b.buffered skips.begins.more)));
-    })
+cuts_skipped a b c offset first begins long skips place = (
+  skips.text,
+  record {
+    line_ends = [];
+    moves = moves_then a b c [] skips.text first skips.moves;
+    skipped = λ k d none. absurd (omega arith);
+    begins = subst BeginsItem (sym skips.begins.grown) (begins_append b.buffered skips.begins.more begins);
+    whole = skips.whole;
+    place = omega arith;
+    reason = sym (refusal_overlong skips.text (omega (arith, ap length skips.begins.grown, length-append b.buffered skips.begins.more)));
+  },
+)
 
 -- an item behind line ends
 item_behind : (a b c : View) (text : List ℕ) (offset : ℕ) (refusal : Option Refusal) → SkipsLineEnds a b true → CutsItem b c text offset refusal

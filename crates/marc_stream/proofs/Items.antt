@@ -49,8 +49,12 @@ take_through_some (b ∷ bytes) some = some_when (b == record_terminator) b byte
 -- a rest is shorter than what it is left of
 rest_shorter : (bytes : List ℕ) → 0 < length bytes → length (drop_through record_terminator bytes) < length bytes
 rest_shorter bytes some =
-    omega (arith, take_through_some bytes some, ap length (take_through-drop_through bytes),
-    length-append (take_through record_terminator bytes) (drop_through record_terminator bytes))
+    omega (
+      arith,
+      take_through_some bytes some,
+      ap length (take_through-drop_through bytes),
+      length-append (take_through record_terminator bytes) (drop_through record_terminator bytes),
+    )
 
 -- ---- one item and those behind it
 
@@ -75,14 +79,14 @@ first_items-enough (suc m) (suc n) before offset bytes enough also =
     let item = item_at (before + 1) (offset + (length bytes - length start)) (take_through record_terminator start) in
     same_unless start _ _
     (λ some.
-        let shorter : length (drop_through record_terminator start) < length bytes = omega (arith, rest_shorter start some, (skip_is_drop bytes).1) in
-        ap (λ l. item ∷ l) (first_items-enough m n (before + 1) (end_of item) (drop_through record_terminator start) (omega arith) (omega arith)))
+    let shorter : length (drop_through record_terminator start) < length bytes = omega (arith, rest_shorter start some, (skip_is_drop bytes).1) in
+    ap (λ l. item ∷ l) (first_items-enough m n (before + 1) (end_of item) (drop_through record_terminator start) (omega arith) (omega arith)))
 
 -- the first item, and the others
 first_items_at : (most before offset : ℕ) (bytes start text rest : List ℕ) → skip_line_ends bytes ≡ start → take_through record_terminator start ≡ text
     → drop_through record_terminator start ≡ rest → 0 < length start
     → first_items (suc most) before offset bytes ≡ item_at (before + 1) (offset + (length bytes - length start)) text
-        ∷ first_items most (before + 1) (offset + (length bytes - length start) + length text) rest
+    ∷ first_items most (before + 1) (offset + (length bytes - length start) + length text) rest
 unfolding first_items
 first_items_at most before offset bytes start text rest skipped taken left some = rw (skipped, taken, left) (unless_some start _ some)
 
@@ -112,7 +116,7 @@ items_cut before offset ends text rest are begins item =
     ∙ first_items_at (length bytes) before offset bytes start text rest (skip_line_ends_all ends start are start_begins) item.taken item.left (begins_some start start_begins)
     ∙ ap (λ n. item_at (before + 1) (offset + n) text ∷ first_items (length bytes) (before + 1) (offset + n + length text) rest) skipped
     ∙ ap (λ l. item_at (before + 1) (offset + length ends) text ∷ l)
-        (first_items-enough (length bytes) (length rest) (before + 1) (offset + length ends + length text) rest (omega arith) (omega arith))
+    (first_items-enough (length bytes) (length rest) (before + 1) (offset + length ends + length text) rest (omega arith) (omega arith))
 
 skip_all_line_ends : (ends : List ℕ) → AreLineEnds ends → skip_line_ends ends ≡ []
 skip_all_line_ends [] are = refl
@@ -162,11 +166,11 @@ none_window : (bytes : List ℕ) (n m : ℕ) → EndsNone (take n bytes) → End
 none_window bytes n m none =
     All-from_get_or (λ b. b ≢ record_terminator) (take (n - m) (drop m bytes)) 0
     (λ i within same.
-        let low : i < n - m = omega (arith, length-take (n - m) (drop m bytes)) in
-        let inside : m + i < length (take n bytes) = omega (arith, length-take (n - m) (drop m bytes), length-drop m bytes, length-take n bytes) in
-        let there : get_or (take n bytes) (m + i) 0 ≡ get_or (take (n - m) (drop m bytes)) i 0 =
-            get_or-take n bytes (m + i) 0 (omega arith) ∙ sym (get_or-drop m bytes i 0) ∙ sym (get_or-take (n - m) (drop m bytes) i 0 low) in
-        All-get_or (λ b. b ≢ record_terminator) (take n bytes) (m + i) 0 inside none (there ∙ same))
+    let low : i < n - m = omega (arith, length-take (n - m) (drop m bytes)) in
+    let inside : m + i < length (take n bytes) = omega (arith, length-take (n - m) (drop m bytes), length-drop m bytes, length-take n bytes) in
+    let there : get_or (take n bytes) (m + i) 0 ≡ get_or (take (n - m) (drop m bytes)) i 0 =
+    get_or-take n bytes (m + i) 0 (omega arith) ∙ sym (get_or-drop m bytes i 0) ∙ sym (get_or-take (n - m) (drop m bytes) i 0 low) in
+    All-get_or (λ b. b ≢ record_terminator) (take n bytes) (m + i) 0 inside none (there ∙ same))
 
 and_both : (a b : Bool) → (a && b) ≡ true → (a ≡ true) × (b ≡ true)
 and_both true b both = (refl, both)
@@ -182,11 +186,11 @@ longer_than bytes rest n none ended =
     let some : 0 < length bytes = ltb-true 0 (length bytes) both.0 in
     let last : get_or bytes (length bytes - 1) 0 ≡ record_terminator = eqb-true _ _ both.1 in
     let wrong : length bytes ≤ n → ⊥ =
-        λ within.
-        let inside : length bytes - 1 < length (take n (bytes ++ rest)) = omega (arith, length-take n (bytes ++ rest), length-append bytes rest) in
-        let there : get_or (take n (bytes ++ rest)) (length bytes - 1) 0 ≡ get_or bytes (length bytes - 1) 0 =
-            get_or-take n (bytes ++ rest) (length bytes - 1) 0 (omega arith) ∙ get_or_append_left bytes rest 0 (length bytes - 1) (omega arith) in
-        All-get_or (λ b. b ≢ record_terminator) (take n (bytes ++ rest)) (length bytes - 1) 0 inside none (there ∙ last) in
+    λ within.
+    let inside : length bytes - 1 < length (take n (bytes ++ rest)) = omega (arith, length-take n (bytes ++ rest), length-append bytes rest) in
+    let there : get_or (take n (bytes ++ rest)) (length bytes - 1) 0 ≡ get_or bytes (length bytes - 1) 0 =
+    get_or-take n (bytes ++ rest) (length bytes - 1) 0 (omega arith) ∙ get_or_append_left bytes rest 0 (length bytes - 1) (omega arith) in
+    All-get_or (λ b. b ≢ record_terminator) (take n (bytes ++ rest)) (length bytes - 1) 0 inside none (there ∙ last) in
     below n (length bytes) wrong
 
 all_unless : (P : Item → Type 0) (start : List ℕ) (items : List Item) → All P items → All P (unless_none start items)
@@ -205,21 +209,21 @@ none_within (suc most) before offset n bytes none =
     let item = item_at (before + 1) (offset + skipped) text in
     let split : text ++ rest ≡ start = take_through-drop_through start in
     let none_start : EndsNone (take (n - skipped) start) =
-        subst (λ l. EndsNone (take (n - skipped) l)) (sym (skip_is_drop bytes).0) (none_window bytes n skipped none) in
+    subst (λ l. EndsNone (take (n - skipped) l)) (sym (skip_is_drop bytes).0) (none_window bytes n skipped none) in
     let none_text : EndsNone (take (n - skipped) (text ++ rest)) = subst (λ l. EndsNone (take (n - skipped) l)) (sym split) none_start in
     let behind : drop (length text) start ≡ rest = ap (drop (length text)) (sym split) ∙ drop_at text rest (length text) refl in
     let none_rest : EndsNone (take (n - skipped - length text) rest) =
-        subst (λ l. EndsNone (take (n - skipped - length text) l)) behind (none_window start (n - skipped) (length text) none_start) in
+    subst (λ l. EndsNone (take (n - skipped - length text) l)) behind (none_window start (n - skipped) (length text) none_start) in
     let first : ¬ EndsWithin (offset + n) item =
-        λ w. let long : n - skipped < length text = longer_than text rest (n - skipped) none_text w.ended in
-             let within : offset + skipped + length text ≤ offset + n = w.within in
-             omega arith in
+    λ w. let long : n - skipped < length text = longer_than text rest (n - skipped) none_text w.ended in
+    let within : offset + skipped + length text ≤ offset + n = w.within in
+    omega arith in
     let others = none_within most (before + 1) (end_of item) (n - skipped - length text) rest none_rest in
     all_unless (λ i. ¬ EndsWithin (offset + n) i) start _
     (All-cons (λ i. ¬ EndsWithin (offset + n) i) item _ first
     (All-weaker (λ i. ¬ EndsWithin (end_of item + (n - skipped - length text)) i) (λ i. ¬ EndsWithin (offset + n) i)
     (λ i later w. let sooner : end_of i ≤ offset + n = w.within in
-                  later (record { ended = w.ended; within = omega arith })) _ others))
+    later (record { ended = w.ended; within = omega arith })) _ others))
 
 pub none_coming_within : (before offset n : ℕ) (a left : Option (List ℕ)) (taken more : List ℕ) → Consumes a (prepend_known more left) taken
     → EndsNone (taken ++ more) → n ≡ offset + length (taken ++ more) → is_some a ≡ true
@@ -229,6 +233,6 @@ none_coming_within before offset n None left taken more read none count tells = 
 none_coming_within before offset n (Some x) None taken more read none count tells = absurd read
 none_coming_within before offset n (Some x) (Some rest) taken more read none count tells =
     let given : take (length (taken ++ more)) x ≡ taken ++ more =
-        ap (take (length (taken ++ more))) (read ∙ sym (append_assoc taken more rest)) ∙ take_at (taken ++ more) rest (length (taken ++ more)) refl in
+    ap (take (length (taken ++ more))) (read ∙ sym (append_assoc taken more rest)) ∙ take_at (taken ++ more) rest (length (taken ++ more)) refl in
     let within = none_within (length x) before offset (length (taken ++ more)) x (subst EndsNone (sym given) none) in
     subst (λ k. All (λ item. ¬ EndsWithin k item) (first_items (length x) before offset x)) (sym count) within

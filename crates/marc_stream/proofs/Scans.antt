@@ -93,7 +93,7 @@ drop_through_none (b ∷ front) bytes none =
 pub item_ended : (bytes rest : List ℕ) → IsEnded bytes → IsItemBefore bytes rest
 item_ended bytes rest found =
     let split : bytes ++ rest ≡ found.front ++ (record_terminator ∷ rest) =
-        ap (λ l. l ++ rest) found.ended ∙ append_assoc found.front (record_terminator ∷ []) rest in
+    ap (λ l. l ++ rest) found.ended ∙ append_assoc found.front (record_terminator ∷ []) rest in
     record {
       taken = ap (take_through record_terminator) split ∙ take_through_none found.front (record_terminator ∷ rest) found.none ∙ sym found.ended;
       left = ap (drop_through record_terminator) split ∙ drop_through_none found.front (record_terminator ∷ rest) found.none;

@@ -128,7 +128,7 @@ grows_by old new came count size grown =
 pub grows_none : (old new : List ℕ) (count : ℕ) → Grows old new count → count ≡ 0 → new ≡ old
 grows_none old new count grows zero =
     let none : grows.begins.more ≡ [] =
-        nil_from_length grows.begins.more (omega (arith, ap length grows.begins.grown, length-append old grows.begins.more, grows.longer)) in
+    nil_from_length grows.begins.more (omega (arith, ap length grows.begins.grown, length-append old grows.begins.more, grows.longer)) in
     grows.begins.grown ∙ ap (λ l. old ++ l) none ∙ append-nil old
 
 pub begins_more : (new more old : List ℕ) → BeginsWith new old → BeginsWith (new ++ more) old
@@ -185,7 +185,7 @@ pub skip_all : (a b c : View) (count : ℕ) → Skipping a b → count ≡ lengt
 skip_all a b c count s all moved empty =
     let whole : take count b.buffered ≡ b.buffered = take_all count b.buffered (omega arith) in
     let none_more : (s.taken ++ b.buffered) ++ c.buffered ≡ s.taken ++ b.buffered =
-        ap (λ l. (s.taken ++ b.buffered) ++ l) empty ∙ append-nil (s.taken ++ b.buffered) in
+    ap (λ l. (s.taken ++ b.buffered) ++ l) empty ∙ append-nil (s.taken ++ b.buffered) in
     record {
       taken = s.taken ++ b.buffered;
       moves = moves_then a b c s.taken b.buffered s.moves (subst (Moves b c) whole moved);

@@ -6,6 +6,8 @@
 
 mod pieces;
 mod scan;
+#[cfg(test)]
+mod tests;
 mod window;
 
 pub use pieces::{Next, Pieces};

@@ -13,6 +13,7 @@ use std::alloc::Global;
 use std::marker::Model;
 
 /// What stands next in a file. Ordinals count items from 1, offsets count bytes of the file from 0.
+#[derive(Clone, Copy, Debug)]
 pub enum Next<'a> {
     /// A piece: all its bytes, its terminator the last of them.
     Piece {
@@ -33,6 +34,7 @@ pub enum Next<'a> {
 }
 
 /// The items of a source's bytes, one after another.
+#[derive(Drop)]
 pub struct Pieces<S: Source> {
     window: Window<S>,
     answered: u64,

@@ -17,6 +17,7 @@ const LINE_FEED: u8 = 0x0A;
 const CARRIAGE_RETURN: u8 = 0x0D;
 
 /// How the item ends with which the buffered bytes begin.
+#[derive(Clone, Copy, Debug)]
 pub enum Ending {
     /// With its terminator, after so many bytes.
     At(usize),
@@ -27,6 +28,7 @@ pub enum Ending {
 }
 
 /// An item that was cut.
+#[derive(Clone, Copy, Debug)]
 pub enum Cut {
     /// A piece: the place in the file of its first byte, and how many of the bytes taken last are its.
     Piece { offset: u64, len: usize },

@@ -12,6 +12,7 @@ use std::marker::Model;
 pub const BUFFER_LEN: usize = 131_072;
 
 /// A window on a source's bytes: one buffer of fixed size, filled from the source at its end and taken from at its front.
+#[derive(Drop)]
 pub struct Window<S: Source> {
     source: S,
     buffer: Vec<u8>,

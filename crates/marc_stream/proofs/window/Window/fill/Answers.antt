@@ -35,7 +35,7 @@ returns-clause-grows g c =
     let to = c.self.inside.to in
     let count = c.in_ok-count.count in
     let whole : (with_items c.self.inside.buffer read).items ≡ read =
-        with_items_is c.self.inside.buffer read (omega (arith, c.read_behind.auto.buffer, c.as_mut_slice.ensures.len)) in
+    with_items_is c.self.inside.buffer read (omega (arith, c.read_behind.auto.buffer, c.as_mut_slice.ensures.len)) in
     let front : take to read ≡ take to items = c.read_behind.ensures.front ∙ ap (take to) c.as_mut_slice.ensures.value in
     let buffered : drop from (take to items) ≡ c.args.self.now.buffered = ap (λ v. v.buffered) c.self.view_is ∙ c.close_up.ensures.buffered in
     let came : length (take count (drop to read)) ≡ count = length_came read to count c.in_ok-count.ensures.within in

@@ -8,9 +8,9 @@ pub returns-then-len-gt0-clause-skips : goal.returns-then-len-gt0-clause-skips
 returns-then-len-gt0-clause-skips g c =
     let skipped = skip_ends _ _ _ _ _ c.line_ends.invariant c.bytes.ensures c.line_ends-count.ensures.skipped c.take.ensures.moves in
     let more : c.line_ends-count.result < length c.bytes.result.now =
-        omega (arith, ap length c.bytes.ensures, ap length c.take.ensures.buffered, length-drop c.line_ends-count.result c.line_ends.self.buffered) in
+    omega (arith, ap length c.bytes.ensures, ap length c.take.ensures.buffered, length-drop c.line_ends-count.result c.line_ends.self.buffered) in
     let same : drop c.line_ends-count.result c.bytes.result.now ≡ c.take.new.self.buffered =
-        ap (drop c.line_ends-count.result) c.bytes.ensures ∙ sym c.take.ensures.buffered in
+    ap (drop c.line_ends-count.result) c.bytes.ensures ∙ sym c.take.ensures.buffered in
     ends_found _ _ skipped (subst BeginsItem same (c.line_ends-count.ensures.begins more))
 
 pub returns-in_err-fill-clause-blocked : goal.returns-in_err-fill-clause-blocked
