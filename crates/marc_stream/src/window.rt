@@ -165,8 +165,10 @@ impl<S: Source> Window<S> {
         ensures faults { self.new.faults ≡ self.old.faults }
         ensures offset { self.new.offset ≡ self.old.offset }
     {
-        self.buffer.copy_within(self.from..self.to, 0);
-        self.to -= self.from;
-        self.from = 0;
+        if self.from > 0 {
+            self.buffer.copy_within(self.from..self.to, 0);
+            self.to -= self.from;
+            self.from = 0;
+        }
     }
 }
