@@ -1,12 +1,12 @@
 -- The items of bytes, one item at a time.
-use Rattle.std.proofs.Common.{◌≡◌, ◌≢◌, ℕ, zero, suc, ◌+◌, ◌-◌, ◌≤◌, ◌<◌, ◌==◌, Bool, true, false, ◌&&◌, nat_lt, List, [], ◌∷◌, ◌++◌, length, take, drop, get_or, Option, Some, None, is_some, IfSome, refl, sym, ap, ◌∙◌, append_assoc, append-nil, length-append, length-take, length-drop, arith, subst, eqb-true, ltb-true}
+use Rattle.std.proofs.Common.{◌≡◌, ◌≢◌, ℕ, zero, suc, ◌+◌, ◌-◌, ◌≤◌, ◌<◌, ◌==◌, Bool, true, false, ◌&&◌, List, [], ◌∷◌, ◌++◌, length, take, drop, get_or, Option, Some, None, is_some, IfSome, refl, sym, ap, ◌∙◌, append_assoc, append-nil, length-append, length-take, length-drop, arith, subst, eqb-true, ltb-true}
 use Rattle.std.specs.Prelude.{if◌then◌else◌}
 use Rattle.std.specs.Io.KnownBytes.{Consumes, IsAtEnd, prepend_known}
 use Rattle.std.specs.Io.BufRead.{take_through, drop_through, ends_with_byte}
 use Rattle.std.specs.List.{All}
 use Rattle.std.proofs.lemmas.List.{get_or-take, get_or-drop, get_or_append_left, take_at, drop_at}
 use Rattle.std.proofs.lemmas.List.Elements.{All-nil, All-cons, All-head, All-tail, All-get_or, All-from_get_or, All-weaker}
-use Rattle.marc_stream.specs.Pieces.{Item, record_terminator, is_line_end, skip_line_ends, item_at, end_of, unless_none, first_items, items_behind, refusal_of}
+use Rattle.marc_stream.specs.Pieces.{Item, record_terminator, is_line_end, skip_line_ends, item_at, end_of, unless_none, first_items, items_behind}
 use Rattle.marc_stream.specs.Stream.{EndsWithin, told}
 use Rattle.marc_stream.specs.Window.{AreLineEnds, BeginsItem, IsItemBefore, EndsNone}
 use Rattle.marc_stream.proofs.Scans.{begins_append}

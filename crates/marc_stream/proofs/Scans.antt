@@ -1,11 +1,10 @@
 -- Where records end, and where line ends stand.
-use Rattle.std.proofs.Common.{◌≡◌, ◌≢◌, ℕ, zero, suc, ◌+◌, ◌-◌, ◌≤◌, ◌<◌, ◌==◌, Bool, true, false, List, [], ◌∷◌, ◌++◌, length, take, drop, get_or, Option, Some, None, IfSome, refl, sym, ap, ◌∙◌, append_assoc, append-nil, take-append-drop, length-append, length-take, length-drop, arith, eq-eqb, eqb-true, zero-add, subst, ne_eqb, lt-ltb, le-ltb, nat_lt, ◌&&◌}
+use Rattle.std.proofs.Common.{◌≡◌, ◌≢◌, ℕ, zero, suc, ◌+◌, ◌-◌, ◌≤◌, ◌<◌, ◌==◌, Bool, true, false, List, [], ◌∷◌, ◌++◌, length, take, drop, get_or, Option, Some, None, IfSome, refl, sym, ap, ◌∙◌, append_assoc, append-nil, take-append-drop, length-append, length-take, length-drop, arith, eq-eqb, eqb-true, subst, ne_eqb, lt-ltb, le-ltb, nat_lt, ◌&&◌}
 use Rattle.std.specs.Io.KnownBytes.{IsAtEnd}
 use Rattle.std.specs.Io.BufRead.{take_through, drop_through, ends_with_byte}
-use Rattle.std.specs.List.{All}
 use Rattle.std.proofs.lemmas.List.{take_more, take_rest, get_or-take, length_push, get_or_push}
 use Rattle.std.proofs.Math.Seq.{take-add}
-use Rattle.std.proofs.lemmas.List.Elements.{All-append, All-nil, All-cons, All-head, All-tail, All-from_get_or, All-get_or, All-weaker}
+use Rattle.std.proofs.lemmas.List.Elements.{All-append, All-head, All-tail, All-from_get_or, All-get_or, All-weaker}
 use Rattle.memchr.specs.Find.{IsFirstByte, Nowhere, NoneBefore, Passes, is_byte}
 use Rattle.marc_types.specs.declared.refusal.Refusal.TheVariants.{Overlong, Unfinished}
 use Rattle.marc_stream.specs.Pieces.{record_terminator, longest_piece, is_line_end, refusal_of}

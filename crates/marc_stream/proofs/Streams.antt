@@ -1,5 +1,5 @@
 -- What an item that was cut off the window is to a file's items.
-use Rattle.std.proofs.Common.{◌≡◌, ℕ, ◌+◌, ◌-◌, ◌≤◌, ◌<◌, Bool, true, false, drop, nat_lt, ltb-false, List, [], ◌++◌, length, Option, Some, None, refl, sym, ap, ◌∙◌, length-append, arith, subst}
+use Rattle.std.proofs.Common.{◌≡◌, ℕ, ◌+◌, ◌-◌, ◌≤◌, ◌<◌, Bool, true, false, drop, ltb-false, List, ◌++◌, length, Option, Some, None, refl, sym, ap, ◌∙◌, length-append, arith, subst}
 use Rattle.std.specs.Prelude.{if◌then◌else◌}
 use Rattle.marc_types.specs.declared.refusal.Refusal.{Refusal}
 use Rattle.marc_types.specs.declared.refusal.Refusal.TheVariants.{Overlong}
@@ -8,7 +8,8 @@ use Rattle.marc_stream.specs.View.{View}
 use Rattle.marc_stream.specs.Window.{Cuts, CutsItem, CutsNone, Blocks, ahead_of, given_of}
 use Rattle.marc_stream.specs.declared.scan.Cut.TheVariants.{Piece, Refused}
 use Rattle.marc_stream.specs.Next.{GivesPiece, GivesRefusal}
-use Rattle.marc_stream.specs.Stream.{Stream, stream_of, IsCounted, Answers, Ends, Fails}
+use Rattle.marc_stream.specs.Stream.{Stream, stream_of, IsCounted, Answers, Ends, Fails, ReadsOn}
+use Rattle.marc_stream.proofs.Windows.{gives_none, gives_then}
 use Rattle.marc_stream.proofs.Items.{takes_first, none_coming, none_coming_within, ahead_told, begins_some}
 
 pub answers : (before offset : ℕ) (old new : View) (text : List ℕ) (refusal : Option Refusal) → CutsItem old new text offset refusal
@@ -91,3 +92,15 @@ pub gives_fault : (before : ℕ) (over : Bool) (old new : View) (s : Stream) →
 gives_fault before over old new s same going blocks =
     let goes_on : over ≡ false = ap (λ t. t.over) same ∙ going in
     rw (← same, goes_on) (fails before old new blocks)
+
+-- ---- for callers: what the source gave over several calls
+
+pub reads_none : (s : Stream) → ReadsOn s s
+reads_none s = record { gives = gives_none s.left s.given; tells = refl; faults = omega arith }
+
+pub reads_then : (a b c : Stream) → ReadsOn a b → ReadsOn b c → ReadsOn a c
+reads_then a b c first second = record {
+  gives = gives_then a.left b.left c.left a.given b.given c.given first.gives second.gives;
+  tells = second.tells ∙ first.tells;
+  faults = omega (arith, first.faults, second.faults);
+}

@@ -8,7 +8,7 @@ use Rattle.outside.specs.Fault.{Rose}
 use Rattle.outside.proofs.Counts.{rose_since}
 use Rattle.marc_stream.specs.View.{View}
 use Rattle.marc_stream.proofs.Scans.{ends_none_append, ended_append, item_cut_told, item_ended_told, line_ends_append, line_ends_end_none}
-use Rattle.marc_stream.specs.Window.{Moves, Gives, Grows, Blocks, EndsNone, IsEnded, AreLineEnds, BeginsWith, BeginsItem, Skips, SkipsLineEnds, ahead_of, given_of, most_of}
+use Rattle.marc_stream.specs.Window.{Moves, Gives, Grows, Blocks, EndsNone, IsEnded, AreLineEnds, BeginsWith, BeginsItem, Skips, SkipsLineEnds, ahead_of, given_of}
 
 -- the first bytes of those buffered were taken
 pub consumes_taken : (left : Option (List ℕ)) (bytes : List ℕ) (count : ℕ) → Consumes (prepend_known bytes left) (prepend_known (drop count bytes) left) (take count bytes)

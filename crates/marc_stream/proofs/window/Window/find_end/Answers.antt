@@ -1,4 +1,4 @@
-use Rattle.std.proofs.Common.{[], ◌++◌, length, subst, arith}
+use Rattle.std.proofs.Common.{[], subst, arith}
 use Rattle.marc_stream.specs.Window.{EndsNone}
 use Rattle.marc_stream.proofs.Windows.{moves_then, on_err, blocked, grows_none, none_grown, begins_then}
 use Rattle.marc_stream.proofs.window.Window.find_end.Goals as goal

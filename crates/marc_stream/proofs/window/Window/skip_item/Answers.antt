@@ -1,5 +1,5 @@
-use Rattle.std.proofs.Common.{◌≡◌, [], ◌++◌, subst, ap}
-use Rattle.marc_stream.specs.Window.{EndsNone, IsEnded}
+use Rattle.std.proofs.Common.{subst}
+use Rattle.marc_stream.specs.Window.{EndsNone}
 use Rattle.marc_stream.proofs.Windows.{on_err, blocked, all_taken, skip_all, skip_more, skips_cut, skips_ended}
 use Rattle.marc_stream.proofs.window.Window.skip_item.Goals as goal
 
