@@ -1,12 +1,12 @@
 -- How an item is cut off a window.
-use Rattle.std.proofs.Common.{◌≡◌, ℕ, ◌-◌, ◌≤◌, ◌<◌, List, [], ◌++◌, length, take, drop, Option, Some, None, refl, sym, ap, ◌∙◌, append_assoc, length-append, length-take, arith, subst, true, false}
+use Rattle.std.proofs.Common.{◌≡◌, ℕ, ◌-◌, ◌≤◌, ◌<◌, List, [], ◌++◌, length, take, drop, Option, Some, None, sym, ap, ◌∙◌, append_assoc, length-append, length-take, arith, subst, true}
 use Rattle.std.specs.Io.KnownBytes.{IsAtEnd}
 use Rattle.std.proofs.lemmas.List.{take_all, drop_all, drop_at}
 use Rattle.marc_types.specs.declared.refusal.Refusal.{Refusal}
 use Rattle.marc_types.specs.declared.refusal.Refusal.TheVariants.{Overlong, Unfinished}
 use Rattle.marc_stream.specs.Pieces.{longest_piece, refusal_of}
 use Rattle.marc_stream.specs.View.{View}
-use Rattle.marc_stream.specs.Window.{Moves, BeginsWith, EndsNone, IsEnded, BeginsItem, Skips, SkipsLineEnds, Cuts, CutsItem, CutsNone, ahead_of}
+use Rattle.marc_stream.specs.Window.{Moves, BeginsWith, EndsNone, IsEnded, BeginsItem, Skips, SkipsLineEnds, Cuts, CutsItem, ahead_of}
 use Rattle.marc_stream.specs.declared.scan.Cut.{Cut}
 use Rattle.marc_stream.specs.declared.scan.Cut.TheVariants.{Piece, Refused}
 use Rattle.marc_stream.proofs.Scans.{begins_append, begins_take, line_ends_append, ended_some, item_ended_told, item_cut_told, refusal_overlong, refusal_none, refusal_unfinished}
@@ -105,17 +105,6 @@ item_behind a b c text offset refusal ends item =
 pub cuts_behind : (a b c : View) (cut : Cut) → SkipsLineEnds a b true → Cuts b cut c → Cuts a cut c
 cuts_behind a b c (Piece offset len) ends cut = (cut.0, item_behind a b c _ offset None ends cut.1)
 cuts_behind a b c (Refused offset refusal) ends cut = (cut.0, item_behind a b c cut.0 offset (Some refusal) ends cut.1)
-
-pub cuts_none : (a b : View) → SkipsLineEnds a b false → CutsNone a b
-cuts_none a b ends =
-    let end = ends.none refl in
-    record {
-      line_ends = ends.line_ends;
-      moves = ends.moves;
-      skipped = ends.skipped;
-      none_left = ahead_end b.left b.buffered end.0 end.1;
-      read_all = end.1;
-    }
 
 pub none_in_none : EndsNone []
 none_in_none k d none = absurd (omega arith)

@@ -66,16 +66,6 @@ gives_then a b c i j k first second = record {
   count = omega (arith, first.count, second.count, length-append first.bytes second.bytes);
 }
 
-pub moves_none : (v : View) → Moves v v []
-moves_none v = record {
-  bytes = Consumes-nil (ahead_of v);
-  offset = omega arith;
-  most = omega arith;
-  faults = omega arith;
-  tells = refl;
-  gives = gives_none v.left (given_of v);
-}
-
 pub moves_then : (a b c : View) (p q : List ℕ) → Moves a b p → Moves b c q → Moves a c (p ++ q)
 moves_then a b c p q first second =
     let both : length (p ++ q) ≡ length p + length q = length-append p q in
