@@ -1,0 +1,63 @@
+-- What each step tells its seat.
+use Rattle.std.specs.Prelude.{◌≡◌, ◌≢◌, ℕ, ◌≤◌, List, [], ◌∷◌, length, Option, Some, None}
+use mathlib.Core.List.{IsPrefix}
+use Rattle.atomic_table.specs.Table.{Me, Step}
+use Rattle.catalogue_lock.specs.declared.view.Numbered.{Numbered}
+use Rattle.catalogue_lock.specs.declared.view.Stage.TheVariants.{Waits, InTurn}
+use Rattle.catalogue_lock.specs.declared.view.View.{View}
+use Rattle.catalogue_lock.specs.History.{items, items_by}
+use Rattle.catalogue_lock.specs.Views.{drawn, admitted, settled, raised, brought_in, passed, opened_up}
+use Rattle.catalogue_lock.specs.Rule.{Each}
+
+-- a seat's view, with the slot where it holds it
+abbrev pub Mine : Type 0 → Type 0 → Type 0
+Mine O I = Me (Option O) (View O I)
+
+module _ {O I : Type 0} where
+  -- the ticket drawn is the seat's
+  abbrev pub Draws : Step (Option O) → Mine O I → ℕ → Mine O I → Type 0
+  Draws s m found n = (n.0 ≡ drawn m.0 found) × (n.1 ≡ m.1)
+
+  -- the seat is in turn, has the object, and has seen the history, which goes on from what it had seen
+  pub record Admitted {Origin : Type 0} (history : O → List I) (origin : O → Origin) (ticket : ℕ) (m n : Mine O I) : Type 0 where
+    pub log : List (Numbered I)
+    pub object : O
+    pub view : n.0 ≡ admitted m.0 ticket log
+    pub hands : n.1 ≡ (0, Some object) ∷ []
+    pub begins : IsPrefix m.0.seen log
+    pub whole : history object ≡ items log
+    pub origin_is : (x : O) → m.0.opened ≡ Some x → origin object ≡ origin x
+    pub own : Each (λ c. items_by (Some c.number) log ≡ c.items) m.0.claims
+
+  -- a seat that waits is admitted where its ticket is served, and else nothing changed
+  abbrev pub Looks : {Origin : Type 0} → (O → List I) → (O → Origin) → Step (Option O) → Mine O I → ℕ → Mine O I → Type 0
+  Looks history origin s m found n =
+      (ticket : ℕ) → m.0.stage ≡ Waits ticket → (found ≡ ticket → Admitted history origin ticket m n) × (found ≢ ticket → n ≡ m)
+
+  -- What a seat that holds no ticket finds: the history goes on from what it has seen and from its olds, and has its own items
+  pub record Settled (m n : Mine O I) : Type 0 where
+    pub log : List (Numbered I)
+    pub view : n.0 ≡ settled m.0
+    pub hands : n.1 ≡ m.1
+    pub begins : IsPrefix m.0.seen log
+    pub olds : Each (λ old. IsPrefix old log) m.0.olds
+    pub own : Each (λ c. items_by (Some c.number) log ≡ c.items) m.0.claims
+
+  abbrev pub Settles : Step (Option O) → Mine O I → ℕ → Mine O I → Type 0
+  Settles s m found n = Settled m n
+
+  abbrev pub Raises : List I → Step (Option O) → Mine O I → ℕ → Mine O I → Type 0
+  Raises added s m found n = (n.0 ≡ raised m.0 added) × (n.1 ≡ m.1)
+
+  abbrev pub PassesOn : Step (Option O) → Mine O I → ℕ → Mine O I → Type 0
+  PassesOn s m found n = (n.0 ≡ passed m.0) × (n.1 ≡ [])
+
+  -- the opening's steps
+  abbrev pub BeginsOpening : Step (Option O) → Mine O I → ℕ → Mine O I → Type 0
+  BeginsOpening s m found n = (n.0 ≡ record m.0 { stage = InTurn 0 }) × (n.1 ≡ (0, None) ∷ [])
+
+  abbrev pub BringsIn : List I → Step (Option O) → Mine O I → ℕ → Mine O I → Type 0
+  BringsIn added s m found n = (n.0 ≡ brought_in m.0 added) × (n.1 ≡ m.1)
+
+  abbrev pub EndsOpening : Step (Option O) → Mine O I → ℕ → Mine O I → Type 0
+  EndsOpening s m found n = (n.0 ≡ opened_up m.0) × (n.1 ≡ [])
