@@ -97,6 +97,7 @@ module _ {O I : Type 0} where
     -- the lock once it is open, over plain numbers
     pub record Running (ticket serving count : ℕ) (homes : List (Home (Option O))) (views : List (View O I)) : Type 0 where
       pub log : List (Numbered I)
+      pub few : key.callers < 4294967296
       pub counted : length log ≡ count
       pub queue : Queue ticket serving views
       pub shared : Shared key.callers views log

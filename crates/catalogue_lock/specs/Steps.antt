@@ -1,9 +1,11 @@
 -- What each step tells its seat.
-use Rattle.std.specs.Prelude.{◌≡◌, ◌≢◌, ℕ, ◌≤◌, List, [], ◌∷◌, length, Option, Some, None}
+use Rattle.std.specs.Prelude.{◌≡◌, ◌≢◌, ℕ, false, List, [], ◌∷◌, ◌++◌, length, Option, Some, None}
 use mathlib.Core.List.{IsPrefix}
 use Rattle.atomic_table.specs.Table.{Me, Step}
 use Rattle.catalogue_lock.specs.declared.view.Numbered.{Numbered}
-use Rattle.catalogue_lock.specs.declared.view.Stage.TheVariants.{Waits, InTurn}
+use Rattle.atomic_table.specs.Seated.{TableId}
+use Rattle.atomic_table.specs.declared.shared.Seat.{Seat}
+use Rattle.catalogue_lock.specs.declared.view.Stage.TheVariants.{Idle, Waits, InTurn}
 use Rattle.catalogue_lock.specs.declared.view.View.{View}
 use Rattle.catalogue_lock.specs.History.{items, items_by}
 use Rattle.catalogue_lock.specs.Views.{drawn, admitted, settled, raised, brought_in, passed, opened_up}
@@ -61,3 +63,49 @@ module _ {O I : Type 0} where
 
   abbrev pub EndsOpening : Step (Option O) → Mine O I → ℕ → Mine O I → Type 0
   EndsOpening s m found n = (n.0 ≡ opened_up m.0) × (n.1 ≡ [])
+
+-- the table has three words and one slot
+abbrev pub IsTable : TableId → Type 0
+IsTable id = (id.words ≡ 3) × (id.slots ≡ 1)
+
+module _ {O I : Type 0} where
+  abbrev pub IsSameSeat : Seat (Option O) (View O I) → Seat (Option O) (View O I) → Type 0
+  IsSameSeat p q = (q.table_id ≡ p.table_id) × (q.id ≡ p.id)
+
+  -- the seat between two calls: it has one number, no ticket and no slot, and no olds
+  pub record IsFree (s : Seat (Option O) (View O I)) : Type 0 where
+    pub single : length s.me.0.claims ≡ 1
+    pub running : s.me.0.opening ≡ false
+    pub idle : s.me.0.stage ≡ Idle
+    pub hands : s.me.1 ≡ []
+
+  -- The seat has drawn a ticket, was admitted with it, and has taken the object out of the slot.
+  pub record Entered {Origin : Type 0} (history : O → List I) (origin : O → Origin) (m n : Mine O I) (object : O) : Type 0 where
+    pub ticket : ℕ
+    pub log : List (Numbered I)
+    pub view : n.0 ≡ admitted (drawn m.0 ticket) ticket log
+    pub hands : n.1 ≡ (0, None) ∷ []
+    pub begins : IsPrefix m.0.seen log
+    pub whole : history object ≡ items log
+    pub origin_is : (x : O) → m.0.opened ≡ Some x → origin object ≡ origin x
+    pub own : Each (λ c. items_by (Some c.number) log ≡ c.items) m.0.claims
+
+  -- The seat is in turn with an object whose history goes on from what it has seen, and with an empty slot.
+  pub record IsInTurn {Origin : Type 0} (history : O → List I) (origin : O → Origin) (m : Mine O I) (object : O) (added : List I) : Type 0 where
+    pub ticket : ℕ
+    pub stage : m.0.stage ≡ InTurn ticket
+    pub single : length m.0.claims ≡ 1
+    pub running : m.0.opening ≡ false
+    pub hands : m.1 ≡ (0, None) ∷ []
+    pub whole : history object ≡ items m.0.seen ++ added
+    pub opened : (x : O) × (m.0.opened ≡ Some x) × (origin object ≡ origin x)
+
+  -- The seat is in turn, and its slot has the object with the history that it has seen.
+  pub record HasPutBack {Origin : Type 0} (history : O → List I) (origin : O → Origin) (m : Mine O I) : Type 0 where
+    pub ticket : ℕ
+    pub object : O
+    pub stage : m.0.stage ≡ InTurn ticket
+    pub running : m.0.opening ≡ false
+    pub hands : m.1 ≡ (0, Some object) ∷ []
+    pub whole : history object ≡ items m.0.seen
+    pub opened : (x : O) × (m.0.opened ≡ Some x) × (origin object ≡ origin x)

@@ -4,6 +4,7 @@
 mod object;
 mod pass;
 mod rule;
+mod turns;
 mod view;
 
 pub use object::Object;

@@ -1,12 +1,14 @@
 //! The passes of a lock.
+ghost use Rattle.std.specs.Prelude.{◌≡◌, length};
+ghost use Rattle.catalogue_lock.specs.Views.{pass_of, IsAtRest};
+
 use crate::object::Object;
-use crate::view::View;
-use atomic_table::Seat;
+use crate::rule::Place;
 use std::marker::Model;
 
 /// The right of one caller to take turns at a lock, and what that caller has seen of its history. It has no bytes.
 pub struct Pass<O: Object> {
-    pub(crate) seat: Seat<Option<O>, View<O, O::Item>>,
+    pub(crate) seat: Place<O>,
 }
 
 impl<O: Object> Model for Pass<O> {
@@ -21,6 +23,16 @@ impl<O: Object> Model for Pass<O> {
     ghost invariant = { λ p. IsAtRest p.seat };
 }
 
+impl<O: Object> Pass<O> {
+    pub(crate) fn into_seat(self) -> Place<O>
+        ensures seat { pass_of result ≡ self }
+        ensures rest { IsAtRest result }
+    {
+        let Self { seat } = self;
+        seat
+    }
+}
+
 impl<O: Object> Drop for Pass<O> {
     fn drop(self) {
         let Self { seat: _ } = self;
@@ -28,6 +40,7 @@ impl<O: Object> Drop for Pass<O> {
 }
 
 /// A list of passes. Contracts see it as one.
+#[derive(Drop)]
 pub struct Passes<O: Object> {
     items: Vec<Pass<O>>,
 }
@@ -39,4 +52,27 @@ impl<O: Object> Model for Passes<O> {
     ghost Value = { List (PassFacts O O.Item) };
 
     ghost view = { λ p. p.items.items };
+}
+
+impl<O: Object> Passes<O> {
+    /// The list of these passes.
+    pub fn from_vec(items: Vec<Pass<O>>) -> Passes<O>
+        ensures { result ≡ items.items }
+    {
+        Passes { items }
+    }
+
+    /// Gives the passes back.
+    pub fn into_vec(self) -> Vec<Pass<O>>
+        ensures { result.items ≡ self }
+    {
+        self.items
+    }
+
+    /// The number of passes.
+    pub fn len(&self) -> usize
+        ensures { result ≡ length self.now }
+    {
+        self.items.len()
+    }
 }

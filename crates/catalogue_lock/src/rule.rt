@@ -3,7 +3,7 @@ ghost use Rattle.std.specs.Prelude.{List};
 
 use crate::object::Object;
 use crate::view::{Terms, View};
-use atomic_table::{Join, Play, Shared, Split, Table, TableRule};
+use atomic_table::{Join, Play, Seat, Shared, Split, Table, TableRule};
 use std::alloc::Global;
 use std::marker::{Brand, PhantomData};
 
@@ -33,6 +33,8 @@ impl<O: Object> TableRule<Option<O>, View<O, O::Item>, Terms<O>> for Law {
 pub(crate) type LockTable<O> = Table<Option<O>, View<O, <O as Object>::Item>, Terms<O>, Law, Global>;
 
 pub(crate) type Steps<O> = Shared<Option<O>, View<O, <O as Object>::Item>, Terms<O>, Law>;
+
+pub(crate) type Place<O> = Seat<Option<O>, View<O, <O as Object>::Item>>;
 
 /// The items that one turn adds, which each raise picks.
 pub(crate) trait Adding<I> {
