@@ -6,7 +6,7 @@ use mathlib.Core.Logic.{dite}
 use mathlib.Core.Option.{Option as Home, none, some, some-injective, some-ne-none}
 use native.Mathlib.Decide.{ℕ_discrete}
 use lib.ListN.{get_elem?}
-use Rattle.atomic_table.specs.Table.{State, Me, Step, keeps, takes, gives, Allows, put_back, carried_after}
+use Rattle.atomic_table.specs.Table.{State, Me, Step, step, keeps, takes, gives, Allows, put_back, rest, carried_after}
 use Rattle.atomic_table.proofs.Lists.{set_again}
 use Rattle.catalogue_lock.specs.declared.view.Numbered.{Numbered}
 use Rattle.catalogue_lock.specs.declared.view.Claim.{Claim}
@@ -24,6 +24,10 @@ use Rattle.catalogue_lock.proofs.Totals.{total-set, total-at}
 use Rattle.catalogue_lock.proofs.Words.{on_ticket, on_serving, on_count}
 use Rattle.catalogue_lock.proofs.Queues.{draws_ticket, keeps_ticket, passes_ticket, none_in_turn, one_in_turn, other_not_in_turn}
 use Rattle.catalogue_lock.proofs.Fitting.{each_seat, each_map, fits_else, fits_more, fits_raised, draws_in_all, shared_same, shared_more, not_shared, claimed-grown, length-grown, claims_itself, OwnIn}
+
+-- what a step tells here doesn't depend on its operands
+abbrev pub no_step : (O : Type 0) → Step (Option O)
+no_step O = step 0 0 0 0 none
 
 module _ {O I Origin : Type 0} (history : O → List I) (origin : O → Origin) (key : Terms O) where
   abbrev pub Stand : ℕ → ℕ → ℕ → List (Home (Option O)) → List (View O I) → Type 0
@@ -83,9 +87,9 @@ module _ {O I Origin : Type 0} (history : O → List I) (origin : O → Origin) 
   unwrapped : (n k : ℕ) → n + k < 18446744073709551616 → (n + k) % 2 ^ 64 ≡ n + k
   unwrapped n k h = omega arith
 
-  pub draws : (slots id : ℕ) (me : Mine O I) (st : Step (Option O)) → me.0.opening ≡ false → me.0.stage ≡ Idle → length me.0.claims ≡ 1 → me.0.draws < 2147483648
-      → Allows (Kept history origin key) slots id me 0 (λ n. (n + 1) % 2 ^ 64) (Draws st me)
-  draws slots id me st not idle one room = on_ticket history origin key slots id me (λ n. (n + 1) % 2 ^ 64) (Draws st me) (λ ticket serving count homes views stands long at small.
+  pub draws : (slots id : ℕ) (me : Mine O I) → me.0.opening ≡ false → me.0.stage ≡ Idle → length me.0.claims ≡ 1 → me.0.draws < 2147483648
+      → Allows (Kept history origin key) slots id me 0 (λ n. (n + 1) % 2 ^ 64) (Draws (no_step O) me)
+  draws slots id me not idle one room = on_ticket history origin key slots id me (λ n. (n + 1) % 2 ^ 64) (Draws (no_step O) me) (λ ticket serving count homes views stands long at small.
       let r = is_running ticket serving count homes views id me.0 stands at not in
       let fits = few_tickets ticket serving count homes views r in
       let next : Run (ticket + 1) serving count homes (set views id (drawn me.0 ticket)) = running_draws ticket serving count homes views id me.0 r at idle one room in
@@ -131,9 +135,9 @@ module _ {O I Origin : Type 0} (history : O → List I) (origin : O → Origin) 
   own_claims : (log : List (Numbered I)) (cs : List (Claim I)) → Each (OwnIn key log) cs → Each (λ c. items_by (Some c.number) log ≡ c.items) cs
   own_claims log cs h = each_map (OwnIn key log) (λ c. items_by (Some c.number) log ≡ c.items) (λ c t. t.1) cs h
 
-  pub looks : (slots id : ℕ) (me : Mine O I) (st : Step (Option O)) (mine : ℕ) → me.0.opening ≡ false → me.0.stage ≡ Waits mine → me.1 ≡ []
-      → Allows (Kept history origin key) slots id me 1 (λ n. n) (Looks history origin st me)
-  looks slots id me st mine not waits hands = on_serving history origin key slots id me (λ n. n) (Looks history origin st me) (λ ticket serving count homes views stands long at small.
+  pub looks : (slots id : ℕ) (me : Mine O I) (mine : ℕ) → me.0.opening ≡ false → me.0.stage ≡ Waits mine → me.1 ≡ []
+      → Allows (Kept history origin key) slots id me 1 (λ n. n) (Looks history origin (no_step O) me)
+  looks slots id me mine not waits hands = on_serving history origin key slots id me (λ n. n) (Looks history origin (no_step O) me) (λ ticket serving count homes views stands long at small.
       let r = is_running ticket serving count homes views id me.0 stands at not in
       dite (ℕ_discrete serving mine)
         (λ here.
@@ -180,8 +184,8 @@ module _ {O I Origin : Type 0} (history : O → List I) (origin : O → Origin) 
     brought = r.brought;
   }
 
-  pub settles : (slots id : ℕ) (me : Mine O I) (st : Step (Option O)) → me.0.opening ≡ false → Allows (Kept history origin key) slots id me 1 (λ n. n) (Settles st me)
-  settles slots id me st not = on_serving history origin key slots id me (λ n. n) (Settles st me) (λ ticket serving count homes views stands long at small.
+  pub settles : (slots id : ℕ) (me : Mine O I) → me.0.opening ≡ false → Allows (Kept history origin key) slots id me 1 (λ n. n) (Settles (no_step O) me)
+  settles slots id me not = on_serving history origin key slots id me (λ n. n) (Settles (no_step O) me) (λ ticket serving count homes views stands long at small.
       let r = is_running ticket serving count homes views id me.0 stands at not in
       let f = r.fits id me.0 at in
       (settled me.0, keeps, tt, inr (running_settles ticket serving count homes views id me.0 r at), record {
@@ -230,9 +234,9 @@ module _ {O I Origin : Type 0} (history : O → List I) (origin : O → Origin) 
   in_turn : (serving t : ℕ) (log : List (Numbered I)) (v : View O I) → v.stage ≡ InTurn t → Fits key log serving v → (t ≡ serving) × (v.seen ≡ log)
   in_turn serving t log v turn f = subst (λ (st : Stage). IsServed serving log st v.seen) turn f.served
 
-  pub raises : (slots id : ℕ) (me : Mine O I) (st : Step (Option O)) (added : List I) (t by : ℕ) → me.0.opening ≡ false → me.0.stage ≡ InTurn t → length me.0.claims ≡ 1 → by ≡ length added
-      → length me.0.seen + by < 18446744073709551616 → Allows (Kept history origin key) slots id me 2 (λ n. (n + by) % 2 ^ 64) (Raises added st me)
-  raises slots id me st added t by not turn one is fit = on_count history origin key slots id me (λ n. (n + by) % 2 ^ 64) (Raises added st me) (λ ticket serving count homes views stands long at small.
+  pub raises : (slots id : ℕ) (me : Mine O I) (added : List I) (t by : ℕ) → me.0.opening ≡ false → me.0.stage ≡ InTurn t → length me.0.claims ≡ 1 → by ≡ length added
+      → length me.0.seen + by < 18446744073709551616 → Allows (Kept history origin key) slots id me 2 (λ n. (n + by) % 2 ^ 64) (Raises added (no_step O) me)
+  raises slots id me added t by not turn one is fit = on_count history origin key slots id me (λ n. (n + by) % 2 ^ 64) (Raises added (no_step O) me) (λ ticket serving count homes views stands long at small.
       let r = is_running ticket serving count homes views id me.0 stands at not in
       let h = in_turn serving t r.log me.0 turn (r.fits id me.0 at) in
       let counted : length me.0.seen ≡ count = ap length h.1 ∙ r.counted in
@@ -283,8 +287,8 @@ module _ {O I Origin : Type 0} (history : O → List I) (origin : O → Origin) 
       let h = r.queue.held in
       omega (arith, total-at (λ (u : View O I). tickets u.stage) views id v at)
 
-  pub passes_on : (slots id : ℕ) (me : Mine O I) (st : Step (Option O)) → HasPutBack history origin me → Allows (Kept history origin key) slots id me 1 (λ n. (n + 1) % 2 ^ 64) (PassesOn st me)
-  passes_on slots id me st b = on_serving history origin key slots id me (λ n. (n + 1) % 2 ^ 64) (PassesOn st me) (λ ticket serving count homes views stands long at small.
+  pub passes_on : (slots id : ℕ) (me : Mine O I) → HasPutBack history origin me → Allows (Kept history origin key) slots id me 1 (λ n. (n + 1) % 2 ^ 64) (PassesOn (no_step O) me)
+  passes_on slots id me b = on_serving history origin key slots id me (λ n. (n + 1) % 2 ^ 64) (PassesOn (no_step O) me) (λ ticket serving count homes views stands long at small.
       let r = is_running ticket serving count homes views id me.0 stands at b.running in
       let f = r.fits id me.0 at in
       let h = in_turn serving b.ticket r.log me.0 b.stage f in
@@ -298,3 +302,24 @@ module _ {O I Origin : Type 0} (history : O → List I) (origin : O → Origin) 
           (subst (λ (hs : List (Home (Option O))). Stand ticket (serving + 1) count hs (set views id (passed me.0))) (sym back) (inr next)),
       (refl, ap (λ (c : List (ℕ × Option O)). carried_after c gives) b.hands)))
 
+module _ {O I Origin : Type 0} (history : O → List I) (origin : O → Origin) where
+  -- after the raise and the put back the seat may pass on
+  pub has_put_back : (m n : Mine O I) (object : O) (added : List I) → IsInTurn history origin m object added → n ≡ (raised m.0 added, (0, Some object) ∷ rest m.1) → HasPutBack history origin n
+  has_put_back m n object added turn is = subst (HasPutBack history origin) (sym is) record {
+    ticket = turn.ticket;
+    object = object;
+    stage = turn.stage;
+    running = turn.running;
+    hands = ap (λ (c : List (ℕ × Option O)). (0, Some object) ∷ rest c) turn.hands;
+    whole = turn.whole ∙ (ap (λ z. items m.0.seen ++ z) (sym (items-numbered (Some (first_number m.0.claims)) added)) ∙ sym (items-append m.0.seen (numbered (Some (first_number m.0.claims)) added)));
+    opened = turn.opened;
+  }
+
+  -- a seat that waits and isn't served stays as it was
+  pub still_waits : (start me n : Mine O I) (ticket found : ℕ) → Looks history origin (no_step O) me found n → me ≡ start → start.0.stage ≡ Waits ticket → found ≢ ticket → n ≡ start
+  still_waits start me n ticket found look same waits other = (look ticket (ap (λ (m : Mine O I). m.0.stage) same ∙ waits)).1 other ∙ same
+
+module _ {S : Type 0} where
+  -- a seat that holds the slot 0 alone holds it first
+  pub holds_slot : (hands : List (ℕ × S)) (x : S) → hands ≡ (0, x) ∷ [] → hands ≡ (0, x) ∷ rest hands
+  holds_slot hands x e = e ∙ ap (λ (c : List (ℕ × S)). (0, x) ∷ rest c) (sym e)
