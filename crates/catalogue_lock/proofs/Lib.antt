@@ -5,3 +5,5 @@ pub mod Words
 pub mod Queues
 pub mod Fitting
 pub mod Turning
+pub mod Splitting
+pub mod Meeting

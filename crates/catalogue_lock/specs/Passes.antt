@@ -21,19 +21,22 @@ pub record Pass (O I : Type 0) : Type 0 where
   pub added : List I
   pub seen : List (Numbered I)
 
+-- the lock is that of this object, for so many callers
+abbrev pub IsLockOf : {O : Type 0} → Lock O → O → ℕ → Type 0
+IsLockOf l object callers = (l.opened ≡ object) × (l.callers ≡ callers)
+
 module _ {O I : Type 0} where
   -- the pass is one of this lock's
   abbrev pub IsPassOf : Lock O → Pass O I → Type 0
   IsPassOf l p = (p.lock ≡ l.id) × (p.opened ≡ Some l.opened)
 
-  -- a pass that has made no turn, and has seen what the object brought
-  abbrev pub fresh_pass : Lock O → List I → ℕ → Pass O I
-  fresh_pass l brought number =
-      record { lock = l.id; opened = Some l.opened; number = number; turns = 0; added = []; seen = numbered None brought }
+  -- a pass with this number that has made no turn
+  abbrev pub new_pass : TableId → Option O → List (Numbered I) → ℕ → Pass O I
+  new_pass lock opened seen number = record { lock = lock; opened = opened; number = number; turns = 0; added = []; seen = seen }
 
-  -- the passes of a new lock, by their numbers
-  abbrev pub fresh_passes : Lock O → List I → List (Pass O I)
-  fresh_passes l brought = map (fresh_pass l brought) (range_with_len 0 l.callers)
+  -- the passes of a new lock, by their numbers: each has seen what the object brought
+  abbrev pub new_passes : Lock O → List I → List (Pass O I)
+  new_passes l brought = map (new_pass l.id (Some l.opened) (numbered None brought)) (range_with_len 0 l.callers)
 
   -- the items with the pass's number are those that its own turns added, each once, in its order
   abbrev pub HasSeenItsOwn : Pass O I → Type 0
@@ -42,6 +45,10 @@ module _ {O I : Type 0} where
   -- the same pass, which has seen another history
   abbrev pub having_seen : Pass O I → List (Numbered I) → Pass O I
   having_seen p history = record p { seen = history }
+
+  -- the same after a look
+  abbrev pub having_looked : Pass O I → List (Numbered I) → Pass O I
+  having_looked p history = record p { turns = p.turns + 1; seen = history }
 
   -- the same after one more turn, which added these items
   abbrev pub having_turned : Pass O I → List I → List (Numbered I) → Pass O I

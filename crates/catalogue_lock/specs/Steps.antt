@@ -1,5 +1,5 @@
 -- What each step tells its seat.
-use Rattle.std.specs.Prelude.{◌≡◌, ◌≢◌, ℕ, false, List, [], ◌∷◌, ◌++◌, length, Option, Some, None}
+use Rattle.std.specs.Prelude.{◌≡◌, ◌≢◌, ℕ, true, false, List, [], ◌∷◌, ◌++◌, map, length, Option, Some, None}
 use mathlib.Core.List.{IsPrefix}
 use Rattle.atomic_table.specs.Table.{Me, Step}
 use Rattle.catalogue_lock.specs.declared.view.Numbered.{Numbered}
@@ -7,8 +7,10 @@ use Rattle.atomic_table.specs.Seated.{TableId}
 use Rattle.atomic_table.specs.declared.shared.Seat.{Seat}
 use Rattle.catalogue_lock.specs.declared.view.Stage.TheVariants.{Idle, Waits, InTurn}
 use Rattle.catalogue_lock.specs.declared.view.View.{View}
-use Rattle.catalogue_lock.specs.History.{items, items_by}
-use Rattle.catalogue_lock.specs.Views.{drawn, admitted, settled, raised, brought_in, passed, opened_up}
+use Rattle.catalogue_lock.specs.declared.view.Terms.{Terms}
+use Rattle.catalogue_lock.specs.History.{items, items_by, numbered}
+use Rattle.catalogue_lock.specs.Passes.{Pass}
+use Rattle.catalogue_lock.specs.Views.{claim_of, drawn, admitted, settled, raised, brought_in, passed, opened_up}
 use Rattle.catalogue_lock.specs.Rule.{Each}
 
 -- a seat's view, with the slot where it holds it
@@ -109,3 +111,31 @@ module _ {O I : Type 0} where
     pub hands : m.1 ≡ (0, Some object) ∷ []
     pub whole : history object ≡ items m.0.seen
     pub opened : (x : O) × (m.0.opened ≡ Some x) × (origin object ≡ origin x)
+
+  -- The seat opens the lock, and holds its empty slot; the object brings these items.
+  pub record IsOpening (key : Terms O) (m : Mine O I) : Type 0 where
+    pub mark : m.0.opening ≡ true
+    pub stage : m.0.stage ≡ InTurn 0
+    pub seen : m.0.seen ≡ []
+
+  -- The seat opens the lock, and its slot has the object, whose items are the history.
+  pub record HasBroughtIn (history : O → List I) (key : Terms O) (m : Mine O I) : Type 0 where
+    pub mark : m.0.opening ≡ true
+    pub stage : m.0.stage ≡ InTurn 0
+    pub seen : m.0.seen ≡ numbered None (history key.object)
+    pub hands : m.1 ≡ (0, Some key.object) ∷ []
+
+  -- One seat has the numbers and the items of all these passes, and has seen what each of them has seen.
+  pub record Gathered (passes : List (Pass O I)) (m : Mine O I) : Type 0 where
+    pub running : m.0.opening ≡ false
+    pub idle : m.0.stage ≡ Idle
+    pub hands : m.1 ≡ []
+    pub claims : m.0.claims ≡ map claim_of passes
+    pub begins : Each (λ p. IsPrefix p.seen m.0.seen) passes
+
+  -- The same while some are left: these are all passes but those that the seat has.
+  pub record Gathers (lock : TableId) (all left : List (Pass O I)) (m : Mine O I) : Type 0 where
+    pub done : List (Pass O I)
+    pub split : all ≡ left ++ done
+    pub own : Each (λ p. p.lock ≡ lock) left
+    pub gathered : Gathered done m

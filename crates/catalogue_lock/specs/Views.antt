@@ -1,5 +1,7 @@
 -- The views of the seats, and how each step changes one. A view is plain data, which exists in the proofs alone.
 use Rattle.std.specs.Prelude.{◌≡◌, ℕ, zero, suc, ◌+◌, true, false, List, [], ◌∷◌, ◌++◌, Option, Some, None}
+use Rattle.atomic_table.specs.Table.{Me}
+use Rattle.atomic_table.specs.Seated.{TableId}
 use Rattle.atomic_table.specs.declared.shared.Seat.{Seat}
 use Rattle.catalogue_lock.specs.declared.view.Numbered.{Numbered}
 use Rattle.catalogue_lock.specs.declared.view.Claim.{Claim}
@@ -71,6 +73,10 @@ module _ {O I : Type 0} where
   abbrev pub opened_up : View O I → View O I
   opened_up v = record v { opening = false; stage = Idle }
 
+  -- the view that opened the lock, with the numbers that it still has
+  abbrev pub open_view : O → List (Numbered I) → List (Claim I) → View O I
+  open_view object seen claims = record { opening = false; opened = Some object; stage = Idle; draws = 0; claims = claims; seen = seen; olds = [] }
+
   -- split in `new`: the new seat gets the first number, and the other keeps the rest
   abbrev pub without_first : View O I → View O I
   without_first v = record v { claims = other_claims v.claims }
@@ -90,22 +96,30 @@ module _ {O I : Type 0} where
   spent = record { opening = false; opened = None; stage = Idle; draws = 0; claims = []; seen = []; olds = [] }
 
   -- a pass between two calls: one number, no ticket, no slot, and the items with its number in what it has seen are its own
-  pub record IsAtRest (s : Seat (Option O) (View O I)) : Type 0 where
+  pub record IsAtRest (m : Me (Option O) (View O I)) : Type 0 where
     pub claim : Claim I
-    pub claims : s.me.0.claims ≡ claim ∷ []
-    pub running : s.me.0.opening ≡ false
-    pub idle : s.me.0.stage ≡ Idle
-    pub olds : s.me.0.olds ≡ []
-    pub hands : s.me.1 ≡ []
-    pub own : items_by (Some claim.number) s.me.0.seen ≡ claim.items
+    pub claims : m.0.claims ≡ claim ∷ []
+    pub running : m.0.opening ≡ false
+    pub idle : m.0.stage ≡ Idle
+    pub olds : m.0.olds ≡ []
+    pub hands : m.1 ≡ []
+    pub own : items_by (Some claim.number) m.0.seen ≡ claim.items
+
+  -- a pass's number and its items
+  abbrev pub claim_of : Pass O I → Claim I
+  claim_of p = record { number = p.number; items = p.added }
+
+  -- what contracts see of a view of this table
+  abbrev pub pass_at : TableId → View O I → Pass O I
+  pass_at table v = record {
+    lock = table;
+    opened = v.opened;
+    number = first_number v.claims;
+    turns = v.draws;
+    added = first_items v.claims;
+    seen = v.seen;
+  }
 
   -- what contracts see of a seat
   abbrev pub pass_of : Seat (Option O) (View O I) → Pass O I
-  pass_of s = record {
-    lock = s.table_id;
-    opened = s.me.0.opened;
-    number = first_number s.me.0.claims;
-    turns = s.me.0.draws;
-    added = first_items s.me.0.claims;
-    seen = s.me.0.seen;
-  }
+  pass_of s = pass_at s.table_id s.me.0

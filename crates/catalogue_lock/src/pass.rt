@@ -20,13 +20,13 @@ impl<O: Object> Model for Pass<O> {
 
     ghost view = { λ p. pass_of p.seat };
 
-    ghost invariant = { λ p. IsAtRest p.seat };
+    ghost invariant = { λ p. IsAtRest p.seat.me };
 }
 
 impl<O: Object> Pass<O> {
     pub(crate) fn into_seat(self) -> Place<O>
         ensures seat { pass_of result ≡ self }
-        ensures rest { IsAtRest result }
+        ensures rest { IsAtRest result.me }
     {
         let Self { seat } = self;
         seat
