@@ -7,3 +7,5 @@ pub mod Fitting
 pub mod Turning
 pub mod Splitting
 pub mod Meeting
+pub mod Openings
+pub mod Dealing

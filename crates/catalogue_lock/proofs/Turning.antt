@@ -44,7 +44,7 @@ module _ {O I Origin : Type 0} (history : O → List I) (origin : O → Origin) 
   pub is_running : (ticket serving count : ℕ) (homes : List (Home (Option O))) (views : List (View O I)) (id : ℕ) (v : View O I) → Stand ticket serving count homes views
       → get_elem? views id ≡ some v → v.opening ≡ false → Run ticket serving count homes views
   is_running ticket serving count homes views id v stands at not = ⊎_elim
-      (λ (o : Opening history origin key ticket serving count homes views). absurd (alone_opens o.view v id o.mark (subst (λ (vs : List (View O I)). get_elem? vs id ≡ some v) o.alone at) not))
+      (λ (o : (view : View O I) × Opening history origin key ticket serving count homes views view). absurd (alone_opens o.0 v id o.1.mark (subst (λ (vs : List (View O I)). get_elem? vs id ≡ some v) o.1.alone at) not))
       (λ (r : Run ticket serving count homes views). r) stands
 
   -- the slot stays where no view comes into turn or ends it

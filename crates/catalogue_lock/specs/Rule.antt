@@ -112,8 +112,8 @@ module _ {O I : Type 0} where
     OpeningSlot (InTurn t) log homes = (t ≡ 0) × (homes ≡ none ∷ [])
 
     -- the lock while its first view opens it: that view is alone, has all numbers, and has seen the history
-    pub record Opening (ticket serving count : ℕ) (homes : List (Home (Option O))) (views : List (View O I)) : Type 0 where
-      pub view : View O I
+    pub record Opening (ticket serving count : ℕ) (homes : List (Home (Option O))) (views : List (View O I)) (view : View O I) : Type 0 where
+      pub few : key.callers < 4294967296
       pub alone : views ≡ view ∷ []
       pub mark : view.opening ≡ true
       pub opened : view.opened ≡ Some key.object
@@ -125,8 +125,10 @@ module _ {O I : Type 0} where
       pub counted : length view.seen ≡ count
       pub slot : OpeningSlot view.stage view.seen homes
 
+    -- the lock is being opened, or it is open
     abbrev pub Stands : ℕ → ℕ → ℕ → List (Home (Option O)) → List (View O I) → Type 0
-    Stands ticket serving count homes views = Opening ticket serving count homes views ⊎ Running ticket serving count homes views
+    Stands ticket serving count homes views =
+        ((view : View O I) × Opening ticket serving count homes views view) ⊎ Running ticket serving count homes views
 
     -- the words are the ticket, the number served and the count
     pub record Kept (s : State (Option O) (View O I)) : Type 0 where

@@ -1,5 +1,6 @@
 -- What each step tells its seat.
-use Rattle.std.specs.Prelude.{◌≡◌, ◌≢◌, ℕ, true, false, List, [], ◌∷◌, ◌++◌, map, length, Option, Some, None}
+use Rattle.std.specs.Prelude.{◌≡◌, ◌≢◌, ℕ, suc, ◌+◌, true, false, List, [], ◌∷◌, ◌++◌, map, length, Option, Some, None}
+use Rattle.std.specs.List.{range_with_len}
 use mathlib.Core.List.{IsPrefix}
 use Rattle.atomic_table.specs.Table.{Me, Step}
 use Rattle.catalogue_lock.specs.declared.view.Numbered.{Numbered}
@@ -9,8 +10,8 @@ use Rattle.catalogue_lock.specs.declared.view.Stage.TheVariants.{Idle, Waits, In
 use Rattle.catalogue_lock.specs.declared.view.View.{View}
 use Rattle.catalogue_lock.specs.declared.view.Terms.{Terms}
 use Rattle.catalogue_lock.specs.History.{items, items_by, numbered}
-use Rattle.catalogue_lock.specs.Passes.{Pass}
-use Rattle.catalogue_lock.specs.Views.{claim_of, drawn, admitted, settled, raised, brought_in, passed, opened_up}
+use Rattle.catalogue_lock.specs.Passes.{Pass, new_pass}
+use Rattle.catalogue_lock.specs.Views.{claim_of, open_view, unused_from, drawn, admitted, settled, raised, brought_in, passed, opened_up}
 use Rattle.catalogue_lock.specs.Rule.{Each}
 
 -- a seat's view, with the slot where it holds it
@@ -139,3 +140,10 @@ module _ {O I : Type 0} where
     pub split : all ≡ left ++ done
     pub own : Each (λ p. p.lock ≡ lock) left
     pub gathered : Gathered done m
+
+  -- So many passes have their numbers, and the seat has the others.
+  pub record Deals (table : TableId) (object : O) (seen : List (Numbered I)) (callers : ℕ) (passes : List (Pass O I)) (m : Mine O I) : Type 0 where
+    pub left : ℕ
+    pub all : length passes + suc left ≡ callers
+    pub view : m ≡ (open_view object seen (unused_from (length passes) (suc left)), [])
+    pub dealt : passes ≡ map (new_pass table (Some object) seen) (range_with_len 0 (length passes))

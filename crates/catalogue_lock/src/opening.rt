@@ -1,7 +1,7 @@
 //! How a lock is opened, and its passes are dealt.
-ghost use Rattle.std.specs.Prelude.{◌≡◌, ◌<◌, ◌≤◌, ◌∷◌, [], length, map, vec_capacity, Option, Some, None};
+ghost use Rattle.std.specs.Prelude.{◌≡◌, ℕ, ◌<◌, ◌≤◌, ◌∷◌, [], length, map, vec_capacity, Option, Some, None};
 ghost use Rattle.std.specs.List.{range_with_len};
-ghost use Rattle.catalogue_lock.specs.History.{numbered};
+ghost use Rattle.catalogue_lock.specs.History.{items_by, numbered};
 ghost use Rattle.catalogue_lock.specs.Passes.{new_pass};
 ghost use Rattle.catalogue_lock.specs.Steps.{IsTable, IsSameSeat, IsOpening};
 ghost use Rattle.catalogue_lock.specs.Views.{opener, open_view, brought_in, unused_from};
@@ -52,12 +52,13 @@ pub(crate) fn deal<O: Object>(
     requires table { IsTable steps.now.table_id × (seat.table_id ≡ steps.now.table_id) }
     requires callers { (callers ≡ steps.now.key.callers) × (0 < callers) }
     requires seat { seat.me ≡ (open_view steps.now.key.object seat.me.0.seen (unused_from 0 callers), []) }
+    requires seen { (k : ℕ) → items_by (Some k) seat.me.0.seen ≡ [] }
     requires room { (passes.items ≡ []) × (callers ≤ vec_capacity passes) }
     ensures { result.items ≡ map (new_pass seat.table_id (Some steps.now.key.object) seat.me.0.seen) (range_with_len 0 callers) }
 {
     let mut seat = seat;
     let mut passes = passes;
-    for _number in 0..callers - 1 {
+    while passes.len() + 1 < callers as usize {
         let next = steps.split_seat::<Deal>(&mut seat);
         passes.push_reserved(Pass { seat: next });
     }
