@@ -9,3 +9,4 @@ pub mod Splitting
 pub mod Meeting
 pub mod Openings
 pub mod Dealing
+pub mod Returning
