@@ -10,3 +10,4 @@ pub mod Meeting
 pub mod Openings
 pub mod Dealing
 pub mod Returning
+pub mod Closing

@@ -8,14 +8,14 @@ use Rattle.catalogue_lock.specs.declared.view.Claim.{Claim}
 use Rattle.catalogue_lock.specs.declared.view.Stage.TheVariants.{Idle}
 use Rattle.catalogue_lock.specs.declared.view.View.{View}
 use Rattle.catalogue_lock.specs.History.{items_by, longer}
-use Rattle.catalogue_lock.specs.Passes.{Pass, having_seen}
+use Rattle.catalogue_lock.specs.Passes.{Pass, having_seen, HasSeenItsOwn}
 use Rattle.catalogue_lock.specs.Views.{IsAtRest, joined, copy_of, settled, pass_at, claim_of, first_number, first_items}
 use Rattle.catalogue_lock.specs.Rule.{Each}
 use Rattle.catalogue_lock.specs.Steps.{Mine, Settled, Gathered, Gathers}
 use Rattle.catalogue_lock.proofs.Prefixes.{prefix_shorter, prefix_trans}
 use Rattle.catalogue_lock.proofs.Numbers.{own_between}
 use Rattle.catalogue_lock.proofs.Fitting.{each_map}
-use Rattle.catalogue_lock.proofs.Splitting.{longer_first, longer_second}
+use Rattle.catalogue_lock.proofs.Splitting.{longer_first, longer_second, longer_again}
 
 module _ {I : Type 0} where
   first_own : (log : List (Numbered I)) (cs : List (Claim I)) (c : Claim I) → cs ≡ c ∷ [] → Each (λ d. items_by (Some d.number) log ≡ d.items) cs → items_by (Some c.number) log ≡ c.items
@@ -129,3 +129,23 @@ module _ {O I : Type 0} (lock : TableId) where
 
   pub gathers_all : (all left : List (Pass O I)) (m : Mine O I) → Gathers lock all left m → left ≡ [] → Gathered all m
   gathers_all all left m g none = subst (λ z. Gathered z m) (sym (g.split ∙ ap (λ z. z ++ g.done) none)) g.gathered
+
+pub begins_from : {A : Type 0} (xs ys zs ws : List A) → xs ≡ ys → zs ≡ ws → IsPrefix xs zs → IsPrefix ys ws
+begins_from xs ys zs ws e f h = subst (IsPrefix ys) f (subst (λ z. IsPrefix z zs) e h)
+
+module _ {O I : Type 0} where
+  abbrev pub Seen : Pass O I → List (Numbered I)
+  Seen p = p.seen
+
+  -- two passes that met, each after the other, have seen the same
+  pub met_twice : (a b a1 b1 a2 b2 va vb : Pass O I) → a1 ≡ a → b1 ≡ having_seen b (longer b.seen a.seen) → a2 ≡ having_seen a1 (longer a1.seen b1.seen) → b2 ≡ b1 → a ≡ va → b ≡ vb
+      → (a2 ≡ having_seen va (longer vb.seen va.seen)) × (b2 ≡ having_seen vb (longer vb.seen va.seen))
+  met_twice a b a1 b1 a2 b2 va vb first second third fourth here there =
+      let both : longer a1.seen b1.seen ≡ longer b.seen a.seen = (λ i. longer (first i).seen (second i).seen) ∙ longer_again a.seen (longer b.seen a.seen) (longer_second b.seen a.seen) in
+      let e : a2 ≡ having_seen a (longer b.seen a.seen) = third ∙ (λ i. having_seen (first i) (both i)) in
+      let f : b2 ≡ having_seen b (longer b.seen a.seen) = fourth ∙ second in
+      (e ∙ (λ i. having_seen (here i) (longer (there i).seen (here i).seen)), f ∙ (λ i. having_seen (there i) (longer (there i).seen (here i).seen)))
+
+  -- a pass at rest has seen its own items
+  pub own_seen : (table : TableId) (m : Mine O I) → IsAtRest m → HasSeenItsOwn (pass_at table m.0)
+  own_seen table m rest = ap (λ (k : ℕ). items_by (Some k) m.0.seen) (ap first_number rest.claims) ∙ (rest.own ∙ sym (ap first_items rest.claims))

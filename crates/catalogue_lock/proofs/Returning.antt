@@ -113,3 +113,7 @@ module _ {O I : Type 0} where
         pass = t.pass ∙ again;
         own = t.own;
       }
+
+-- an answer over equal data
+pub same_answer : {Origin I Q A : Type 0} (answers : Origin → List I → Q → A → Type 0) (o p : Origin) (h k : List I) (q : Q) (a : A) → o ≡ p → h ≡ k → answers o h q a → answers p k q a
+same_answer answers o p h k q a here there told = subst (λ z. answers p z q a) there (subst (λ z. answers z h q a) here told)

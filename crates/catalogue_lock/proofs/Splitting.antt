@@ -43,6 +43,14 @@ module _ {X : Type 0} where
   pub longer_second : (xs ys : List X) → length ys ≤ length (longer xs ys)
   longer_second xs ys = (longest xs ys (nat_lt (length ys) (length xs)) refl).1
 
+  not_chosen : (xs ys : List X) (b : Bool) → nat_lt (length ys) (length xs) ≡ b → length xs ≤ length ys → (if b then xs else ys) ≡ ys
+  not_chosen xs ys true e le = let lt : length ys < length xs = grind (arith, nat_tests) in absurd (omega arith)
+  not_chosen xs ys false e le = refl
+
+  -- the second of two lists is the longer where it is no shorter
+  pub longer_again : (xs ys : List X) → length xs ≤ length ys → longer xs ys ≡ ys
+  longer_again xs ys le = not_chosen xs ys (nat_lt (length ys) (length xs)) refl le
+
 module _ {O I Origin : Type 0} (history : O → List I) (origin : O → Origin) (key : Terms O) where
   -- two views have together what one had
   record Divides (v left right : View O I) : Type 0 where
