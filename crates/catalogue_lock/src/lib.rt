@@ -1,6 +1,7 @@
 //! A lock that makes the calls of many threads on one object into one history.
 #![tactic(auto)]
 
+pub mod laws;
 mod lock;
 mod object;
 mod opening;

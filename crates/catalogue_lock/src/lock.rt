@@ -1,6 +1,8 @@
 //! The lock.
-ghost use Rattle.std.specs.Prelude.{◌≡◌, ◌^◌, ◌<◌, ◌+◌, All, IfOk, IfErr, length};
+ghost use Rattle.std.specs.Prelude.{◌≡◌, ◌^◌, ◌<◌, [], All, IfOk, IfErr, length, vec_capacity};
 ghost use mathlib.Core.List.{IsPrefix};
+ghost use Rattle.catalogue_lock.specs.Steps.{IsTable};
+ghost use Rattle.catalogue_lock.specs.Views.{opener};
 ghost use Rattle.catalogue_lock.specs.History.{items, longer};
 ghost use Rattle.catalogue_lock.specs.Passes.{IsLockOf, IsPassOf, HasSeenItsOwn, Turned, Closed, new_passes, having_seen, having_looked};
 
@@ -8,7 +10,7 @@ use crate::NoMemory;
 use crate::object::Object;
 use crate::opening::{deal, open};
 use crate::pass::{Pass, Passes};
-use crate::rule::{LockTable, OBJECT};
+use crate::rule::{LockTable, OBJECT, Place};
 use crate::sharing::{gather, show};
 use crate::turns::{enter, leave};
 use crate::view::Terms;
@@ -53,12 +55,30 @@ impl<O: Object> HistoryLock<O> {
         let terms = Terms { object, callers };
         let made = LockTable::<O>::vacant(alloc, &[1, 0, 0], 1, &terms);
         let Terms { object, callers } = terms;
-        let Ok((table, mut seat)) = made else {
+        let Ok((table, seat)) = made else {
             return Err((object, NoMemory));
         };
+        Ok(HistoryLock::opened(table, seat, object, passes))
+    }
+
+    /// Puts the object into its table, and deals the passes.
+    fn opened(
+        table: LockTable<O>,
+        seat: Place<O>,
+        object: O,
+        passes: Vec<Pass<O>>,
+    ) -> (HistoryLock<O>, Passes<O>)
+        requires table { IsTable table.shared.table_id × (seat.table_id ≡ table.shared.table_id) }
+        requires terms { (table.shared.key.object ≡ object) × (0 < table.shared.key.callers) }
+        requires opener { seat.me ≡ (opener table.shared.key, []) }
+        requires room { (passes.items ≡ []) × (vec_capacity passes ≡ table.shared.key.callers) }
+        ensures lock { IsLockOf result.0 object table.shared.key.callers }
+        ensures passes { result.1 ≡ new_passes result.0 (O.history object) }
+    {
+        let mut seat = seat;
         open(&table.shared, &mut seat, object);
-        let passes = deal(&table.shared, seat, passes, callers);
-        Ok((HistoryLock { table }, Passes::from_vec(passes)))
+        let passes = deal(&table.shared, seat, passes);
+        (HistoryLock { table }, Passes::from_vec(passes))
     }
 
     /// Waits for its turn and makes one call.

@@ -47,18 +47,17 @@ pub(crate) fn deal<O: Object>(
     steps: &Steps<O>,
     seat: Place<O>,
     passes: Vec<Pass<O>>,
-    callers: u32,
 ) -> Vec<Pass<O>>
     requires table { IsTable steps.now.table_id × (seat.table_id ≡ steps.now.table_id) }
-    requires callers { (callers ≡ steps.now.key.callers) × (0 < callers) }
-    requires seat { seat.me ≡ (open_view steps.now.key.object seat.me.0.seen (unused_from 0 callers), []) }
+    requires callers { 0 < steps.now.key.callers }
+    requires seat { seat.me ≡ (open_view steps.now.key.object seat.me.0.seen (unused_from 0 steps.now.key.callers), []) }
     requires seen { (k : ℕ) → items_by (Some k) seat.me.0.seen ≡ [] }
-    requires room { (passes.items ≡ []) × (callers ≤ vec_capacity passes) }
-    ensures { result.items ≡ map (new_pass seat.table_id (Some steps.now.key.object) seat.me.0.seen) (range_with_len 0 callers) }
+    requires room { (passes.items ≡ []) × (vec_capacity passes ≡ steps.now.key.callers) }
+    ensures { result.items ≡ map (new_pass seat.table_id (Some steps.now.key.object) seat.me.0.seen) (range_with_len 0 steps.now.key.callers) }
 {
     let mut seat = seat;
     let mut passes = passes;
-    while passes.len() + 1 < callers as usize {
+    while passes.len() + 1 < passes.capacity() {
         let next = steps.split_seat::<Deal>(&mut seat);
         passes.push_reserved(Pass { seat: next });
     }
