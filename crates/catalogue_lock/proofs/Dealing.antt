@@ -1,5 +1,5 @@
 -- The passes are dealt by their numbers.
-use Rattle.std.proofs.Common.{◌≡◌, ℕ, zero, suc, ◌+◌, ◌<◌, ◌≤◌, List, [], ◌∷◌, ◌++◌, map, length, Option, Some, None, refl, ap, sym, subst, ◌∙◌, arith, length-append}
+use Rattle.std.proofs.Common.{◌≡◌, ℕ, zero, suc, ◌+◌, ◌<◌, ◌≤◌, List, [], ◌∷◌, ◌++◌, map, length, All, Option, Some, None, refl, ap, sym, subst, ◌∙◌, arith, length-append}
 use Rattle.std.specs.List.{range_with_len}
 use mathlib.Core.List.{map-append}
 use Rattle.atomic_table.specs.Seated.{TableId}
@@ -87,3 +87,14 @@ module _ {O I : Type 0} (table : TableId) (object : O) (seen : List (Numbered I)
       let all = d.all in
       let count : suc (length passes) ≡ callers = omega arith in
       snoc passes p d.dealt (same ∙ ap (λ (w : Mine O I). pass_at table w.0) (last_view m passes d le)) ∙ ap (λ (k : ℕ). map Dealt (range_with_len 0 k)) count
+
+module _ {X : Type 0} (f : ℕ → X) where
+  pub length-numbered_from : (a n : ℕ) → length (map f (range_with_len a n)) ≡ n
+  length-numbered_from a zero = refl
+  length-numbered_from a (suc n) = omega (arith, length-numbered_from (a + 1) n)
+
+  -- what holds of the pass of each number holds of all
+  pub all_numbered : (P : X → Type 0) → ((k : ℕ) → P (f k)) → (a n : ℕ) → All P (map f (range_with_len a n))
+  all_numbered P each a zero k d lt = absurd (omega arith)
+  all_numbered P each a (suc n) zero d lt = each a
+  all_numbered P each a (suc n) (suc k) d lt = all_numbered P each (a + 1) n k d (omega arith)

@@ -30,6 +30,10 @@ module _ {O I : Type 0} where
   abbrev pub IsPassOf : Lock O → Pass O I → Type 0
   IsPassOf l p = (p.lock ≡ l.id) × (p.opened ≡ Some l.opened)
 
+  -- it is one of the lock's, and has made no turn
+  abbrev pub IsReady : Lock O → Pass O I → Type 0
+  IsReady l p = IsPassOf l p × (p.turns ≡ 0)
+
   -- a pass with this number that has made no turn
   abbrev pub new_pass : TableId → Option O → List (Numbered I) → ℕ → Pass O I
   new_pass lock opened seen number = record { lock = lock; opened = opened; number = number; turns = 0; added = []; seen = seen }

@@ -4,7 +4,7 @@ ghost use mathlib.Core.List.{IsPrefix};
 ghost use Rattle.catalogue_lock.specs.Steps.{IsTable};
 ghost use Rattle.catalogue_lock.specs.Views.{opener};
 ghost use Rattle.catalogue_lock.specs.History.{items, longer};
-ghost use Rattle.catalogue_lock.specs.Passes.{IsLockOf, IsPassOf, HasSeenItsOwn, Turned, Closed, new_passes, having_seen, having_looked};
+ghost use Rattle.catalogue_lock.specs.Passes.{IsLockOf, IsPassOf, IsReady, HasSeenItsOwn, Turned, Closed, new_passes, having_seen, having_looked};
 
 use crate::NoMemory;
 use crate::object::Object;
@@ -47,6 +47,8 @@ impl<O: Object> HistoryLock<O> {
         requires { 0 < callers }
         ensures lock { IfOk result (λ r. IsLockOf r.0 object callers) }
         ensures passes { IfOk result (λ r. r.1 ≡ new_passes r.0 (O.history object)) }
+        ensures len { IfOk result (λ r. length r.1 ≡ callers) }
+        ensures ready { IfOk result (λ r. All (IsReady r.0) r.1) }
         ensures err { IfErr result (λ e. e.0 ≡ object) }
     {
         let Ok(passes) = Vec::with_capacity(alloc, callers as usize) else {
@@ -74,6 +76,8 @@ impl<O: Object> HistoryLock<O> {
         requires room { (passes.items ≡ []) × (vec_capacity passes ≡ table.shared.key.callers) }
         ensures lock { IsLockOf result.0 object table.shared.key.callers }
         ensures passes { result.1 ≡ new_passes result.0 (O.history object) }
+        ensures len { length result.1 ≡ table.shared.key.callers }
+        ensures ready { All (IsReady result.0) result.1 }
     {
         let mut seat = seat;
         open(&table.shared, &mut seat, object);
