@@ -1,20 +1,19 @@
 -- The lock at the end.
-use Rattle.std.proofs.Common.{◌≡◌, ℕ, zero, suc, ◌+◌, ◌<◌, ◌≤◌, ◌==◌, false, List, [], ◌∷◌, ◌++◌, map, length, slice_get, All, Option, Some, None, refl, ap, sym, subst, ◌∙◌, arith}
+use Rattle.std.proofs.Common.{◌≡◌, ℕ, zero, suc, ◌+◌, ◌<◌, ◌≤◌, ◌==◌, List, [], ◌∷◌, map, length, slice_get, All, Option, Some, None, refl, ap, sym, subst, ◌∙◌, arith}
 use Rattle.std.proofs.lemmas.Bool.Decides.{nat_tests}
 use mathlib.Core.List.{IsPrefix}
-use mathlib.Core.Option.{Option as Home, none, some, some-injective, some-ne-none}
+use mathlib.Core.Option.{Option as Home, some, some-injective}
 use lib.ListN.{get_elem?}
-use Rattle.atomic_table.specs.Table.{State, Final, Seen}
-use Rattle.catalogue_lock.specs.declared.view.Numbered.{Numbered}
+use Rattle.atomic_table.specs.Table.{Final, Seen}
 use Rattle.catalogue_lock.specs.declared.view.Claim.{Claim}
 use Rattle.catalogue_lock.specs.declared.view.Stage.{Stage}
 use Rattle.catalogue_lock.specs.declared.view.Stage.TheVariants.{Idle, Waits, InTurn}
 use Rattle.catalogue_lock.specs.declared.view.View.{View}
 use Rattle.catalogue_lock.specs.declared.view.Terms.{Terms}
-use Rattle.catalogue_lock.specs.History.{items, items_by}
+use Rattle.catalogue_lock.specs.History.{items_by}
 use Rattle.catalogue_lock.specs.Passes.{Pass, Closed}
 use Rattle.catalogue_lock.specs.Views.{claim_of}
-use Rattle.catalogue_lock.specs.Rule.{total, Each, one_if, tickets, turns_of, claimed, Fits, Running, Kept}
+use Rattle.catalogue_lock.specs.Rule.{total, Each, one_if, tickets, turns_of, claimed, Running, Kept}
 use Rattle.catalogue_lock.specs.Steps.{Mine, Gathered}
 use Rattle.catalogue_lock.proofs.Prefixes.{prefix_trans}
 use Rattle.catalogue_lock.proofs.Totals.{total-gap}
@@ -51,7 +50,7 @@ module _ {O I : Type 0} where
   find_pass : (n : ℕ) (passes : List (Pass O I)) → 1 ≤ claimed n (map claim_of passes) → (k : ℕ) × (p : Pass O I) × (slice_get passes k ≡ Some p) × (p.number ≡ n)
   find_pass n [] h = absurd (omega arith)
   find_pass n (p ∷ passes) h = elim (claimed n (map claim_of passes)) as (λ r. 1 ≤ one_if (p.number == n) + r → (r ≡ claimed n (map claim_of passes)) → (k : ℕ) × (q : Pass O I) × (slice_get (p ∷ passes) k ≡ Some q) × (q.number ≡ n)) [
-    zero ↦ λ some_one is. (0, p, refl, found_here p.number n 0 some_one refl)
+    | zero ↦ λ some_one is. (0, p, refl, found_here p.number n 0 some_one refl)
     | suc r ↦ λ some_one is. (let t = find_pass n passes (omega arith) in (suc t.0, t.1, t.2, t.3))
   ] h refl
 

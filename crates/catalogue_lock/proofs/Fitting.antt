@@ -1,5 +1,5 @@
 -- What holds of each view, and of the pass numbers, after each step.
-use Rattle.std.proofs.Common.{◌≡◌, ◌≢◌, ℕ, ◌+◌, ◌*◌, ◌<◌, ◌≤◌, ◌==◌, Bool, true, false, List, [], ◌∷◌, ◌++◌, length, set, Option, Some, None, refl, ap, sym, subst, ◌∙◌, arith, ⊎_elim}
+use Rattle.std.proofs.Common.{◌≡◌, ◌≢◌, ℕ, ◌+◌, ◌*◌, ◌<◌, ◌≤◌, ◌==◌, List, [], ◌∷◌, ◌++◌, length, set, Some, refl, ap, sym, subst, ◌∙◌, arith, ⊎_elim}
 use Rattle.std.proofs.lemmas.Bool.Decides.{nat_tests}
 use Rattle.std.proofs.lemmas.List.{append-nil}
 use mathlib.Core.List.{IsPrefix}
@@ -9,15 +9,15 @@ use Rattle.atomic_table.proofs.Lists.{at_set}
 use Rattle.catalogue_lock.specs.declared.view.Numbered.{Numbered}
 use Rattle.catalogue_lock.specs.declared.view.Claim.{Claim}
 use Rattle.catalogue_lock.specs.declared.view.Stage.{Stage}
-use Rattle.catalogue_lock.specs.declared.view.Stage.TheVariants.{Idle, Waits, InTurn}
+use Rattle.catalogue_lock.specs.declared.view.Stage.TheVariants.{InTurn}
 use Rattle.catalogue_lock.specs.declared.view.View.{View}
 use Rattle.catalogue_lock.specs.declared.view.Terms.{Terms}
 use Rattle.catalogue_lock.specs.History.{items_by, numbered}
 use Rattle.catalogue_lock.specs.Views.{grown, first_number, raised}
-use Rattle.catalogue_lock.specs.Rule.{total, Each, one_if, claimed, turns_of, tickets, Fits, Shared, IsServed}
+use Rattle.catalogue_lock.specs.Rule.{total, Each, one_if, claimed, turns_of, Fits, Shared, IsServed}
 use Rattle.catalogue_lock.proofs.Prefixes.{prefix_append, prefix_self}
 use Rattle.catalogue_lock.proofs.Numbers.{items_by-append, items_by-own, items_by-other, other_number}
-use Rattle.catalogue_lock.proofs.Totals.{total-set, total-at, total-two, total-below}
+use Rattle.catalogue_lock.proofs.Totals.{total-set, total-two, total-below}
 use Rattle.catalogue_lock.proofs.Queues.{served_else}
 
 pub each_map : {X : Type 0} (P Q : X → Type 0) → ((x : X) → P x → Q x) → (xs : List X) → Each P xs → Each Q xs

@@ -1,11 +1,9 @@
 -- What a join and the look behind it tell.
-use Rattle.std.proofs.Common.{◌≡◌, ℕ, ◌+◌, ◌<◌, ◌≤◌, false, List, [], ◌∷◌, ◌++◌, map, length, Option, Some, None, refl, ap, sym, subst, ◌∙◌, arith, add-zero, append_assoc}
+use Rattle.std.proofs.Common.{◌≡◌, ℕ, List, [], ◌∷◌, ◌++◌, map, Option, Some, refl, ap, sym, subst, ◌∙◌, add-zero, append_assoc}
 use mathlib.Core.List.{IsPrefix}
 use Rattle.atomic_table.specs.Seated.{TableId}
-use Rattle.atomic_table.specs.declared.shared.Seat.{Seat}
 use Rattle.catalogue_lock.specs.declared.view.Numbered.{Numbered}
 use Rattle.catalogue_lock.specs.declared.view.Claim.{Claim}
-use Rattle.catalogue_lock.specs.declared.view.Stage.TheVariants.{Idle}
 use Rattle.catalogue_lock.specs.declared.view.View.{View}
 use Rattle.catalogue_lock.specs.History.{items_by, longer}
 use Rattle.catalogue_lock.specs.Passes.{Pass, having_seen, HasSeenItsOwn}
@@ -67,7 +65,7 @@ module _ {O I : Type 0} where
   shows table then v u n here met =
       let e : pass_at then n.0 ≡ pass_at table (settled (joined v (copy_of u))) = λ i. pass_at (here i) (met.after i).0 in
       let f : pass_at table (settled (joined v (copy_of u))) ≡ having_seen (pass_at table v) (longer v.seen u.seen) =
-          λ i. record { lock = table; opened = v.opened; number = first_number v.claims; turns = add-zero v.draws i; added = first_items v.claims; seen = longer v.seen u.seen } in
+      λ i. record { lock = table; opened = v.opened; number = first_number v.claims; turns = add-zero v.draws i; added = first_items v.claims; seen = longer v.seen u.seen } in
       e ∙ f
 
   -- a seat that took in a pass has what it had, and all of the pass

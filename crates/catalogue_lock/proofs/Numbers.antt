@@ -1,5 +1,5 @@
 -- Items and their numbers.
-use Rattle.std.proofs.Common.{◌≡◌, ◌≢◌, ℕ, ◌+◌, ◌==◌, Bool, true, false, List, [], ◌∷◌, ◌++◌, map, length, Option, Some, None, if◌then◌else◌, refl, ap, sym, ◌∙◌, arith, eq-eqb, ne_eqb, length-append}
+use Rattle.std.proofs.Common.{◌≡◌, ◌≢◌, ℕ, Bool, true, false, List, [], ◌∷◌, ◌++◌, length, Option, Some, None, if◌then◌else◌, refl, ap, sym, ◌∙◌, arith, eq-eqb, ne_eqb, length-append}
 use mathlib.Core.List.{IsPrefix, map-append}
 use Rattle.std.proofs.lemmas.List.{append-nil}
 use Rattle.catalogue_lock.specs.declared.view.Numbered.{Numbered}
@@ -56,5 +56,5 @@ module _ {I : Type 0} where
       let first : items_by by ys ≡ own ++ items_by by p.0 = ap (items_by by) (sym p.1) ∙ (items_by-append by xs p.0 ∙ ap (λ z. z ++ items_by by p.0) before) in
       let second : own ≡ (own ++ items_by by p.0) ++ items_by by q.0 = sym after ∙ (ap (items_by by) (sym q.1) ∙ (items_by-append by ys q.0 ∙ ap (λ z. z ++ items_by by q.0) first)) in
       let none : items_by by p.0 ≡ [] = none_left own (items_by by p.0)
-          (omega (arith, ap length second, length-append (own ++ items_by by p.0) (items_by by q.0), length-append own (items_by by p.0))) in
+      (omega (arith, ap length second, length-append (own ++ items_by by p.0) (items_by by q.0), length-append own (items_by by p.0))) in
       first ∙ (ap (λ z. own ++ z) none ∙ append-nil own)

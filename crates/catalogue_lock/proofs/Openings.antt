@@ -1,19 +1,19 @@
 -- The opening keeps the rule, and ends with the lock open.
-use Rattle.std.proofs.Common.{◌≡◌, ◌≢◌, ℕ, zero, suc, ◌+◌, ◌%◌, ◌^◌, ◌<◌, ◌≤◌, ◌⊎◌, ◌==◌, Bool, true, false, List, [], ◌∷◌, ◌++◌, length, set, Option, Some, None, refl, ap, sym, subst, ◌∙◌, arith, ⊎_elim, inl, inr, length-append}
+use Rattle.std.proofs.Common.{◌≡◌, ◌≢◌, ℕ, zero, suc, ◌+◌, ◌%◌, ◌^◌, ◌<◌, ◌≤◌, ◌==◌, true, List, [], ◌∷◌, ◌++◌, length, set, Option, Some, None, refl, ap, sym, subst, ◌∙◌, arith, ⊎_elim, inl, inr, length-append}
 use Rattle.std.proofs.lemmas.Bool.Decides.{nat_tests}
 use mathlib.Core.List.{IsPrefix}
 use mathlib.Core.Option.{Option as Home, none, some, some-injective, some-ne-none}
 use lib.ListN.{get_elem?}
-use Rattle.atomic_table.specs.Table.{State, Me, keeps, takes, gives, Allows, opening, put_back, rest, carried_after}
+use Rattle.atomic_table.specs.Table.{keeps, takes, gives, Allows, opening, put_back, rest, carried_after}
 use Rattle.catalogue_lock.specs.declared.view.Numbered.{Numbered}
 use Rattle.catalogue_lock.specs.declared.view.Claim.{Claim}
 use Rattle.catalogue_lock.specs.declared.view.Stage.{Stage}
-use Rattle.catalogue_lock.specs.declared.view.Stage.TheVariants.{Idle, Waits, InTurn}
+use Rattle.catalogue_lock.specs.declared.view.Stage.TheVariants.{Waits, InTurn}
 use Rattle.catalogue_lock.specs.declared.view.View.{View}
 use Rattle.catalogue_lock.specs.declared.view.Terms.{Terms}
 use Rattle.catalogue_lock.specs.History.{items, items_by, numbered}
 use Rattle.catalogue_lock.specs.Views.{opener, open_view, brought_in, opened_up, unused_from}
-use Rattle.catalogue_lock.specs.Rule.{total, Each, one_if, within, claimed, tickets, Opening, OpeningSlot, Running, Fits, Stands, Kept}
+use Rattle.catalogue_lock.specs.Rule.{Each, one_if, within, claimed, Opening, OpeningSlot, Running, Fits, Stands, Kept}
 use Rattle.catalogue_lock.specs.Steps.{Mine, BeginsOpening, BringsIn, EndsOpening, IsOpening, HasBroughtIn}
 use Rattle.catalogue_lock.proofs.Prefixes.{prefix_self}
 use Rattle.catalogue_lock.proofs.Numbers.{items_by-own, items_by-other, items-numbered, length-numbered}
@@ -62,8 +62,8 @@ module _ {O I Origin : Type 0} (history : O → List I) (origin : O → Origin) 
       → get_elem? views id ≡ some v → v.opening ≡ true → (id ≡ 0) × Opens ticket serving count homes views v
   is_opening ticket serving count homes views id v stands at mark = ⊎_elim
       (λ (o : (view : View O I) × Opens ticket serving count homes views view).
-        let only = only_view o.0 v id (subst (λ (vs : List (View O I)). get_elem? vs id ≡ some v) o.1.alone at) in
-        (only.0, subst (Opens ticket serving count homes views) only.1 o.1))
+      let only = only_view o.0 v id (subst (λ (vs : List (View O I)). get_elem? vs id ≡ some v) o.1.alone at) in
+      (only.0, subst (Opens ticket serving count homes views) only.1 o.1))
       (λ (r : Running history origin key ticket serving count homes views). absurd (cc (r.fits id v at).running)) stands
 
   alone_again : (views : List (View O I)) (id : ℕ) (v w : View O I) → id ≡ 0 → views ≡ v ∷ [] → set views id w ≡ w ∷ []
@@ -76,19 +76,22 @@ module _ {O I Origin : Type 0} (history : O → List I) (origin : O → Origin) 
     serving = 0;
     count = 0;
     words = refl;
-    stands = inl (opener key, record {
-      few = few;
-      alone = refl;
-      mark = refl;
-      opened = refl;
-      draws = refl;
-      claims = refl;
-      olds = refl;
-      first_ticket = refl;
-      none_served = refl;
-      counted = refl;
-      slot = (refl, refl, refl);
-    });
+    stands = inl (
+      opener key,
+      record {
+        few = few;
+        alone = refl;
+        mark = refl;
+        opened = refl;
+        draws = refl;
+        claims = refl;
+        olds = refl;
+        first_ticket = refl;
+        none_served = refl;
+        counted = refl;
+        slot = (refl, refl, refl);
+      },
+    );
   }
 
   -- the first view comes in turn, and holds the empty slot
@@ -98,20 +101,28 @@ module _ {O I Origin : Type 0} (history : O → List I) (origin : O → Origin) 
       let o = h.1 in
       let stage : me.0.stage ≡ Waits 0 = ap (λ (m : Mine O I). m.0.stage) is in
       let slot : OpeningSlot history origin key (Waits 0) me.0.seen homes = subst (λ (st : Stage). OpeningSlot history origin key st me.0.seen homes) stage o.slot in
-      let w : View O I = record me.0 { stage = InTurn 0 } in
-      (w, takes 0 None, ap (λ (hs : List (Home (Option O))). get_elem? hs 0) slot.2, inl (w, record {
-        few = o.few;
-        alone = alone_again views id me.0 w h.0 o.alone;
-        mark = o.mark;
-        opened = o.opened;
-        draws = o.draws;
-        claims = o.claims;
-        olds = o.olds;
-        first_ticket = o.first_ticket;
-        none_served = o.none_served;
-        counted = o.counted;
-        slot = (refl, ap (λ (hs : List (Home (Option O))). set hs 0 none) slot.2);
-      }), (refl, ap (λ (m : Mine O I). (0, None) ∷ m.1) is)))
+      let w : View O I = record me.0 { stage = InTurn 0 } in (
+        w,
+        takes 0 None,
+        ap (λ (hs : List (Home (Option O))). get_elem? hs 0) slot.2,
+        inl (
+          w,
+          record {
+            few = o.few;
+            alone = alone_again views id me.0 w h.0 o.alone;
+            mark = o.mark;
+            opened = o.opened;
+            draws = o.draws;
+            claims = o.claims;
+            olds = o.olds;
+            first_ticket = o.first_ticket;
+            none_served = o.none_served;
+            counted = o.counted;
+            slot = (refl, ap (λ (hs : List (Home (Option O))). set hs 0 none) slot.2);
+          },
+        ),
+        (refl, ap (λ (m : Mine O I). (0, None) ∷ m.1) is),
+      ))
 
   -- the items that the object brought are counted
   pub brings : (slots id : ℕ) (me : Mine O I) (added : List I) (by : ℕ) → IsOpening key me → by ≡ length added → by < 18446744073709551616
@@ -124,20 +135,28 @@ module _ {O I Origin : Type 0} (history : O → List I) (origin : O → Origin) 
       let before : length me.0.seen ≡ 0 = ap length is.seen in
       let was = o.counted in
       let slot : OpeningSlot history origin key (InTurn 0) me.0.seen homes = subst (λ (st : Stage). OpeningSlot history origin key st me.0.seen homes) is.stage o.slot in
-      let count_is : length (me.0.seen ++ more) ≡ (count + by) % 2 ^ 64 = omega (arith, length-append me.0.seen more, length-numbered None added) in
-      (w, keeps, tt, inl (w, record {
-        few = o.few;
-        alone = alone_again views id me.0 w h.0 o.alone;
-        mark = o.mark;
-        opened = o.opened;
-        draws = o.draws;
-        claims = o.claims;
-        olds = o.olds;
-        first_ticket = o.first_ticket;
-        none_served = o.none_served;
-        counted = count_is;
-        slot = subst (λ (st : Stage). OpeningSlot history origin key st (me.0.seen ++ more) homes) (sym is.stage) slot;
-      }), (refl, refl)))
+      let count_is : length (me.0.seen ++ more) ≡ (count + by) % 2 ^ 64 = omega (arith, length-append me.0.seen more, length-numbered None added) in (
+        w,
+        keeps,
+        tt,
+        inl (
+          w,
+          record {
+            few = o.few;
+            alone = alone_again views id me.0 w h.0 o.alone;
+            mark = o.mark;
+            opened = o.opened;
+            draws = o.draws;
+            claims = o.claims;
+            olds = o.olds;
+            first_ticket = o.first_ticket;
+            none_served = o.none_served;
+            counted = count_is;
+            slot = subst (λ (st : Stage). OpeningSlot history origin key st (me.0.seen ++ more) homes) (sym is.stage) slot;
+          },
+        ),
+        (refl, refl),
+      ))
 
   fits_open : (v : View O I) (log : List (Numbered I)) (serving : ℕ) → v.opened ≡ Some key.object → v.draws ≡ 0 → v.claims ≡ unused_from 0 key.callers → v.olds ≡ [] → log ≡ v.seen
       → v.seen ≡ numbered None (history key.object) → Fits key log serving (opened_up v)
@@ -151,7 +170,7 @@ module _ {O I Origin : Type 0} (history : O → List I) (origin : O → Origin) 
     olds = subst (Each (λ old. IsPrefix old log)) (sym olds) tt;
     claims = subst (Each (λ c. (c.number < key.callers) × (items_by (Some c.number) log ≡ c.items))) (sym claims)
         (unused_each I (λ c. (c.number < key.callers) × (items_by (Some c.number) log ≡ c.items)) 0 key.callers
-            (λ k lt. (omega arith, ap (items_by (Some k)) (whole ∙ seen) ∙ items_by-other (Some k) None (history key.object) refl)));
+        (λ k lt. (omega arith, ap (items_by (Some k)) (whole ∙ seen) ∙ items_by-other (Some k) None (history key.object) refl)));
   }
 
   -- the lock is open, with one view that has all numbers
@@ -187,10 +206,10 @@ module _ {O I Origin : Type 0} (history : O → List I) (origin : O → Origin) 
       let served : (serving + 1) % 2 ^ 64 ≡ 1 = ap (λ (n : ℕ). (n + 1) % 2 ^ 64) o.none_served in
       let open_now : Running history origin key 1 1 count (some (Some key.object) ∷ []) (w ∷ []) = is_open count me.0 o.few o.opened o.draws o.claims o.olds b.seen o.counted in
       let now : Stands history origin key ticket ((serving + 1) % 2 ^ 64) count (put_back homes me.1) (set views id w) =
-          subst (λ (n : ℕ). Stands history origin key n ((serving + 1) % 2 ^ 64) count (put_back homes me.1) (set views id w)) (sym o.first_ticket)
-          (subst (λ (n : ℕ). Stands history origin key 1 n count (put_back homes me.1) (set views id w)) (sym served)
-          (subst (λ (hs : List (Home (Option O))). Stands history origin key 1 1 count hs (set views id w)) (sym home)
-          (subst (λ (vs : List (View O I)). Stands history origin key 1 1 count (some (Some key.object) ∷ []) vs) (sym alone) (inr open_now)))) in
+      subst (λ (n : ℕ). Stands history origin key n ((serving + 1) % 2 ^ 64) count (put_back homes me.1) (set views id w)) (sym o.first_ticket)
+      (subst (λ (n : ℕ). Stands history origin key 1 n count (put_back homes me.1) (set views id w)) (sym served)
+      (subst (λ (hs : List (Home (Option O))). Stands history origin key 1 1 count hs (set views id w)) (sym home)
+      (subst (λ (vs : List (View O I)). Stands history origin key 1 1 count (some (Some key.object) ∷ []) vs) (sym alone) (inr open_now)))) in
       (w, gives, tt, now, (refl, ap (λ (c : List (ℕ × Option O)). carried_after c gives) b.hands)))
 
 module _ {O I : Type 0} (history : O → List I) (key : Terms O) where

@@ -1,5 +1,5 @@
 -- The tickets after each step.
-use Rattle.std.proofs.Common.{◌≡◌, ◌≢◌, ℕ, ◌+◌, ◌<◌, ◌≤◌, ◌==◌, ◌&&◌, Bool, true, false, nat_lt, nat_le, List, [], ◌∷◌, set, refl, ap, sym, subst, ◌∙◌, arith}
+use Rattle.std.proofs.Common.{◌≡◌, ◌≢◌, ℕ, ◌+◌, ◌<◌, ◌≤◌, ◌==◌, List, set, ap, sym, ◌∙◌, arith}
 use Rattle.std.proofs.lemmas.Bool.Decides.{nat_tests}
 use mathlib.Core.Option.{some}
 use lib.ListN.{get_elem?}
@@ -7,7 +7,7 @@ use Rattle.catalogue_lock.specs.declared.view.Numbered.{Numbered}
 use Rattle.catalogue_lock.specs.declared.view.Stage.{Stage}
 use Rattle.catalogue_lock.specs.declared.view.Stage.TheVariants.{Idle, Waits, InTurn}
 use Rattle.catalogue_lock.specs.declared.view.View.{View}
-use Rattle.catalogue_lock.specs.Views.{drawn, passed}
+use Rattle.catalogue_lock.specs.Views.{drawn}
 use Rattle.catalogue_lock.specs.Rule.{total, one_if, within, tickets, holds_ticket, turns_of, Queue, IsServed}
 use Rattle.catalogue_lock.proofs.Totals.{total-set, total-at, total-two, total-gap}
 

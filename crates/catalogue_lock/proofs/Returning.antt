@@ -1,20 +1,17 @@
 -- What a pass has after a turn or a look.
-use Rattle.std.proofs.Common.{◌≡◌, ℕ, ◌+◌, List, [], ◌∷◌, ◌++◌, length, drop, Option, Some, None, refl, ap, sym, subst, ◌∙◌, arith, append_assoc}
+use Rattle.std.proofs.Common.{◌≡◌, ℕ, ◌+◌, List, [], ◌∷◌, ◌++◌, length, drop, Some, refl, ap, sym, subst, ◌∙◌}
 use Rattle.std.proofs.lemmas.List.{append-nil}
 use Rattle.std.proofs.Math.Seq.{drop-append_seam}
 use mathlib.Core.List.{IsPrefix}
 use Rattle.atomic_table.specs.Seated.{TableId}
 use Rattle.catalogue_lock.specs.declared.view.Numbered.{Numbered}
 use Rattle.catalogue_lock.specs.declared.view.Claim.{Claim}
-use Rattle.catalogue_lock.specs.declared.view.Stage.TheVariants.{InTurn}
 use Rattle.catalogue_lock.specs.declared.view.View.{View}
 use Rattle.catalogue_lock.specs.History.{items, items_by, numbered}
 use Rattle.catalogue_lock.specs.Passes.{Pass, HasSeenItsOwn, having_turned, having_looked, Turned}
 use Rattle.catalogue_lock.specs.Views.{IsAtRest, drawn, admitted, raised, passed, first_number, first_items, grown, pass_at}
 use Rattle.catalogue_lock.specs.Rule.{Each}
 use Rattle.catalogue_lock.specs.Steps.{Mine, Entered, IsInTurn}
-use Rattle.catalogue_lock.proofs.Prefixes.{prefix_append}
-use Rattle.catalogue_lock.proofs.Numbers.{items-append}
 use Rattle.catalogue_lock.proofs.Fitting.{own_grows}
 
 module _ {O I Origin : Type 0} (history : O → List I) (origin : O → Origin) where
@@ -83,7 +80,7 @@ module _ {O I Origin : Type 0} (history : O → List I) (origin : O → Origin) 
       → IsAtRest m → q ≡ Left m e.ticket e.log added → then ≡ table → pass_at table m.0 ≡ old → replies (history x) call reply added → Turned replies call reply old (pass_at then q.0)
   turned replies call reply table then old m n q x added e rest is here view replied =
       let after : pass_at then q.0 ≡ having_turned (pass_at table m.0) added (e.log ++ numbered (Some (first_number m.0.claims)) added) =
-          (λ i. pass_at (here i) (is i).0) ∙ pass_after table m n x added e rest in
+      (λ i. pass_at (here i) (is i).0) ∙ pass_after table m n x added e rest in
       subst (λ (p : Pass O I). Turned replies call reply p (pass_at then q.0)) view record {
         before = e.log;
         added = added;
@@ -106,8 +103,8 @@ module _ {O I : Type 0} where
       let none = t.replied.1 in
       let seen : new.seen ≡ t.before = ap (λ (p : Pass O I). p.seen) t.pass ∙ (ap (λ z. t.before ++ numbered (Some old.number) z) none ∙ append-nil t.before) in
       let again : having_turned old t.added (t.before ++ numbered (Some old.number) t.added) ≡ having_looked old new.seen =
-          (λ i. having_turned old (none i) (t.before ++ numbered (Some old.number) (none i)))
-          ∙ (λ i. record { lock = old.lock; opened = old.opened; number = old.number; turns = old.turns + 1; added = append-nil old.added i; seen = (append-nil t.before ∙ sym seen) i }) in record {
+      (λ i. having_turned old (none i) (t.before ++ numbered (Some old.number) (none i)))
+      ∙ (λ i. record { lock = old.lock; opened = old.opened; number = old.number; turns = old.turns + 1; added = append-nil old.added i; seen = (append-nil t.before ∙ sym seen) i }) in record {
         whole = t.replied.0 ∙ ap items (sym seen);
         begins = subst (IsPrefix old.seen) (sym seen) t.begins;
         pass = t.pass ∙ again;

@@ -1,15 +1,14 @@
 -- A split and a join keep the rule.
-use Rattle.std.proofs.Common.{◌≡◌, ◌≢◌, ℕ, ◌+◌, ◌*◌, ◌<◌, ◌≤◌, ◌⊎◌, Bool, true, false, nat_lt, List, [], ◌∷◌, ◌++◌, length, set, Option, Some, None, if◌then◌else◌, refl, ap, sym, subst, ◌∙◌, arith, ⊎_elim, inl, inr, length-append}
+use Rattle.std.proofs.Common.{◌≡◌, ◌≢◌, ℕ, ◌+◌, ◌<◌, ◌≤◌, Bool, true, false, nat_lt, List, [], ◌∷◌, ◌++◌, length, set, Option, if◌then◌else◌, refl, ap, sym, subst, ◌∙◌, arith, ⊎_elim, inr, length-append}
 use Rattle.std.proofs.lemmas.Bool.Decides.{nat_tests}
 use mathlib.Core.List.{IsPrefix}
-use mathlib.Core.Option.{Option as Home, none, some}
+use mathlib.Core.Option.{Option as Home, some}
 use lib.ListN.{get_elem?}
-use Rattle.atomic_table.specs.Table.{State, Splits, Joins}
+use Rattle.atomic_table.specs.Table.{Splits, Joins}
 use Rattle.atomic_table.proofs.Lists.{at_snoc, set_else}
 use Rattle.catalogue_lock.specs.declared.view.Numbered.{Numbered}
 use Rattle.catalogue_lock.specs.declared.view.Claim.{Claim}
-use Rattle.catalogue_lock.specs.declared.view.Stage.{Stage}
-use Rattle.catalogue_lock.specs.declared.view.Stage.TheVariants.{Idle, Waits, InTurn}
+use Rattle.catalogue_lock.specs.declared.view.Stage.TheVariants.{Idle}
 use Rattle.catalogue_lock.specs.declared.view.View.{View}
 use Rattle.catalogue_lock.specs.declared.view.Terms.{Terms}
 use Rattle.catalogue_lock.specs.History.{longer}
@@ -129,40 +128,46 @@ module _ {O I Origin : Type 0} (history : O → List I) (origin : O → Origin) 
   pub deals : (id : ℕ) (v : View O I) → v.opening ≡ false → v.stage ≡ Idle → v.draws ≡ 0 → Splits (Kept history origin key) id v (without_first v) (with_first v)
   deals id v not idle unused = stands_split id v (without_first v) (with_first v) not
       record { stage = refl; idle = refl; draws = omega arith; numbers = λ k. cut_numbers k v.claims; count = cut_count v.claims }
-      (λ log serving f. let cut = cut_each (OwnIn key log) v.claims f.claims in let holds : tickets v.stage ≡ 0 = ap tickets idle in (record {
-        running = f.running;
-        opened = f.opened;
-        draws = omega arith;
-        single = λ e. absurd (omega arith);
-        served = f.served;
-        seen = f.seen;
-        olds = f.olds;
-        claims = cut.0;
-      }, record {
-        running = refl;
-        opened = f.opened;
-        draws = omega arith;
-        single = λ e. absurd (omega arith);
-        served = tt;
-        seen = f.seen;
-        olds = tt;
-        claims = cut.1;
-      }))
+      (λ log serving f. let cut = cut_each (OwnIn key log) v.claims f.claims in let holds : tickets v.stage ≡ 0 = ap tickets idle in (
+        record {
+          running = f.running;
+          opened = f.opened;
+          draws = omega arith;
+          single = λ e. absurd (omega arith);
+          served = f.served;
+          seen = f.seen;
+          olds = f.olds;
+          claims = cut.0;
+        },
+        record {
+          running = refl;
+          opened = f.opened;
+          draws = omega arith;
+          single = λ e. absurd (omega arith);
+          served = tt;
+          seen = f.seen;
+          olds = tt;
+          claims = cut.1;
+        },
+      ))
 
   -- the split in `meet`
   pub copies : (id : ℕ) (v : View O I) → v.opening ≡ false → Splits (Kept history origin key) id v v (copy_of v)
   copies id v not = stands_split id v v (copy_of v) not
       record { stage = refl; idle = refl; draws = omega arith; numbers = λ k. omega arith; count = omega arith }
-      (λ log serving f. (f, record {
-        running = refl;
-        opened = f.opened;
-        draws = omega arith;
-        single = λ e. absurd (omega arith);
-        served = tt;
-        seen = f.seen;
-        olds = tt;
-        claims = tt;
-      }))
+      (λ log serving f. (
+        f,
+        record {
+          running = refl;
+          opened = f.opened;
+          draws = omega arith;
+          single = λ e. absurd (omega arith);
+          served = tt;
+          seen = f.seen;
+          olds = tt;
+          claims = tt;
+        },
+      ))
 
   -- a measure of the views, after a join
   merged : (f : View O I → ℕ) (views : List (View O I)) (id other : ℕ) (v w both gone : View O I) → get_elem? views id ≡ some v → get_elem? (set views id both) other ≡ some w → f both + f gone ≡ f v + f w
@@ -223,7 +228,7 @@ module _ {O I Origin : Type 0} (history : O → List I) (origin : O → Origin) 
         };
         fits = each_seat (Fits key r.log serving) (Fits key r.log serving) (set views id both) other spent
             (λ j u apart t. each_seat (Fits key r.log serving) (Fits key r.log serving) views id both (λ i x far q. r.fits i x q)
-                (fits_joined r.log serving v w idle (r.fits id v at) (r.fits other w was)) j u t)
+            (fits_joined r.log serving v w idle (r.fits id v at) (r.fits other w was)) j u t)
             (fits_spent r.log serving);
         brought = r.brought;
       }

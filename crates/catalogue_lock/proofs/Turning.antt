@@ -1,12 +1,11 @@
 -- Each step of a turn keeps the rule, and tells what it tells.
-use Rattle.std.proofs.Common.{◌≡◌, ◌≢◌, ℕ, zero, suc, ◌+◌, ◌*◌, ◌%◌, ◌^◌, ◌<◌, ◌≤◌, ◌⊎◌, Bool, true, false, List, [], ◌∷◌, ◌++◌, length, set, Option, Some, None, refl, ap, sym, subst, ◌∙◌, arith, ⊎_elim, inl, inr, length-append}
+use Rattle.std.proofs.Common.{◌≡◌, ◌≢◌, ℕ, zero, suc, ◌+◌, ◌%◌, ◌^◌, ◌<◌, true, false, List, [], ◌∷◌, ◌++◌, length, set, Option, Some, None, refl, ap, sym, subst, ◌∙◌, arith, ⊎_elim, inr, length-append}
 use Rattle.std.proofs.lemmas.List.{append-nil}
-use mathlib.Core.List.{IsPrefix}
 use mathlib.Core.Logic.{dite}
 use mathlib.Core.Option.{Option as Home, none, some, some-injective, some-ne-none}
 use native.Mathlib.Decide.{ℕ_discrete}
 use lib.ListN.{get_elem?}
-use Rattle.atomic_table.specs.Table.{State, Me, Step, step, keeps, takes, gives, Allows, put_back, rest, carried_after}
+use Rattle.atomic_table.specs.Table.{Step, step, keeps, takes, gives, Allows, put_back, rest, carried_after}
 use Rattle.atomic_table.proofs.Lists.{set_again}
 use Rattle.catalogue_lock.specs.declared.view.Numbered.{Numbered}
 use Rattle.catalogue_lock.specs.declared.view.Claim.{Claim}
@@ -15,11 +14,11 @@ use Rattle.catalogue_lock.specs.declared.view.Stage.TheVariants.{Idle, Waits, In
 use Rattle.catalogue_lock.specs.declared.view.View.{View}
 use Rattle.catalogue_lock.specs.declared.view.Terms.{Terms}
 use Rattle.catalogue_lock.specs.History.{items, items_by, numbered}
-use Rattle.catalogue_lock.specs.Views.{drawn, admitted, settled, raised, passed, first_number, grown}
-use Rattle.catalogue_lock.specs.Rule.{total, Each, tickets, holds_ticket, turns_of, claimed, Queue, Shared, IsServed, Fits, Slot, Running, Opening, Stands, Kept}
-use Rattle.catalogue_lock.specs.Steps.{Mine, Draws, Looks, Admitted, Settles, Settled, Raises, PassesOn, IsInTurn, HasPutBack}
+use Rattle.catalogue_lock.specs.Views.{drawn, admitted, settled, raised, passed, first_number}
+use Rattle.catalogue_lock.specs.Rule.{Each, tickets, holds_ticket, turns_of, IsServed, Fits, Slot, Running, Opening, Stands, Kept}
+use Rattle.catalogue_lock.specs.Steps.{Mine, Draws, Looks, Settles, Raises, PassesOn, IsInTurn, HasPutBack}
 use Rattle.catalogue_lock.proofs.Prefixes.{prefix_self}
-use Rattle.catalogue_lock.proofs.Numbers.{items_by-append, items_by-other, items-append, items-numbered, length-items, length-numbered}
+use Rattle.catalogue_lock.proofs.Numbers.{items_by-append, items_by-other, items-append, items-numbered, length-numbered}
 use Rattle.catalogue_lock.proofs.Totals.{total-set, total-at}
 use Rattle.catalogue_lock.proofs.Words.{on_ticket, on_serving, on_count}
 use Rattle.catalogue_lock.proofs.Queues.{draws_ticket, keeps_ticket, passes_ticket, none_in_turn, one_in_turn, other_not_in_turn}
@@ -140,14 +139,17 @@ module _ {O I Origin : Type 0} (history : O → List I) (origin : O → Origin) 
   looks slots id me mine not waits hands = on_serving history origin key slots id me (λ n. n) (Looks history origin (no_step O) me) (λ ticket serving count homes views stands long at small.
       let r = is_running ticket serving count homes views id me.0 stands at not in
       dite (ℕ_discrete serving mine)
-        (λ here.
-          let waits' : me.0.stage ≡ Waits serving = waits ∙ ap Waits (sym here) in
-          let none = none_in_turn ticket serving r.log views id me.0 r.queue (served_all ticket serving count homes views r) at waits' in
-          let h = r.slot.home none in
-          let f = r.fits id me.0 at in
-          (admitted me.0 serving r.log, takes 0 (Some h.0), ap (λ (hs : List (Home (Option O))). get_elem? hs 0) h.1,
-          inr (running_admits ticket serving count homes views id me.0 r at waits' h.0 h.1),
-          λ own stage. (λ found. record {
+      (λ here.
+      let waits' : me.0.stage ≡ Waits serving = waits ∙ ap Waits (sym here) in
+      let none = none_in_turn ticket serving r.log views id me.0 r.queue (served_all ticket serving count homes views r) at waits' in
+      let h = r.slot.home none in
+      let f = r.fits id me.0 at in (
+        admitted me.0 serving r.log,
+        takes 0 (Some h.0),
+        ap (λ (hs : List (Home (Option O))). get_elem? hs 0) h.1,
+        inr (running_admits ticket serving count homes views id me.0 r at waits' h.0 h.1),
+        λ own stage. (
+          λ found. record {
             log = r.log;
             object = h.0;
             view = ap (λ (n : ℕ). admitted me.0 n r.log) found;
@@ -156,10 +158,17 @@ module _ {O I Origin : Type 0} (history : O → List I) (origin : O → Origin) 
             whole = h.2;
             origin_is = λ y e. h.3 ∙ ap origin (sym (f.opened y e));
             own = own_claims r.log me.0.claims f.claims;
-          }, λ other. absurd (other (same_ticket serving own me.0.stage waits' stage)))))
-        (λ elsewhere.
-          (me.0, keeps, tt, subst (λ (vs : List (View O I)). Stand ticket serving count homes vs) (sym (set_again views id me.0 at)) stands,
-          λ own stage. (λ found. absurd (elsewhere (found ∙ same_ticket own mine me.0.stage stage waits)), λ _. refl))))
+          },
+          λ other. absurd (other (same_ticket serving own me.0.stage waits' stage)),
+        ),
+      ))
+      (λ elsewhere. (
+        me.0,
+        keeps,
+        tt,
+        subst (λ (vs : List (View O I)). Stand ticket serving count homes vs) (sym (set_again views id me.0 at)) stands,
+        λ own stage. (λ found. absurd (elsewhere (found ∙ same_ticket own mine me.0.stage stage waits)), λ _. refl),
+      )))
 
   -- look at serving, by a seat that holds no ticket
   running_settles : (ticket serving count : ℕ) (homes : List (Home (Option O))) (views : List (View O I)) (id : ℕ) (v : View O I) → Run ticket serving count homes views → get_elem? views id ≡ some v
@@ -187,15 +196,20 @@ module _ {O I Origin : Type 0} (history : O → List I) (origin : O → Origin) 
   pub settles : (slots id : ℕ) (me : Mine O I) → me.0.opening ≡ false → Allows (Kept history origin key) slots id me 1 (λ n. n) (Settles (no_step O) me)
   settles slots id me not = on_serving history origin key slots id me (λ n. n) (Settles (no_step O) me) (λ ticket serving count homes views stands long at small.
       let r = is_running ticket serving count homes views id me.0 stands at not in
-      let f = r.fits id me.0 at in
-      (settled me.0, keeps, tt, inr (running_settles ticket serving count homes views id me.0 r at), record {
-        log = r.log;
-        view = refl;
-        hands = refl;
-        begins = f.seen;
-        olds = f.olds;
-        own = own_claims r.log me.0.claims f.claims;
-      }))
+      let f = r.fits id me.0 at in (
+        settled me.0,
+        keeps,
+        tt,
+        inr (running_settles ticket serving count homes views id me.0 r at),
+        record {
+          log = r.log;
+          view = refl;
+          hands = refl;
+          begins = f.seen;
+          olds = f.olds;
+          own = own_claims r.log me.0.claims f.claims;
+        },
+      ))
 
   -- raise: the core's event
   first_below : (log : List (Numbered I)) (cs : List (Claim I)) → length cs ≡ 1 → Each (OwnIn key log) cs → first_number cs < key.callers
@@ -225,7 +239,7 @@ module _ {O I Origin : Type 0} (history : O → List I) (origin : O → Origin) 
         };
         fits = each_seat (Fits key r.log serving) (Fits key (r.log ++ more) serving) views id w
             (λ j u ne there. fits_more key r.log serving k added u (other_not_in_turn views id j v u alone at mine ne there)
-                (not_shared key.callers views r.log id j k v u r.shared below at (claims_itself v.claims one) ne there) (r.fits j u there))
+            (not_shared key.callers views r.log id j k v u r.shared below at (claims_itself v.claims one) ne there) (r.fits j u there))
             (fits_raised key r.log serving added v turn one f);
         brought = items_by-append None r.log more ∙ (ap (λ z. items_by None r.log ++ z) (items_by-other None (Some k) added refl) ∙ (append-nil (items_by None r.log) ∙ r.brought));
       }
@@ -296,11 +310,14 @@ module _ {O I Origin : Type 0} (history : O → List I) (origin : O → Origin) 
       let o = b.opened in
       let next = running_passes ticket serving count homes views id me.0 b.object r at turn (b.whole ∙ ap items h.1) (o.2 ∙ ap origin (f.opened o.0 o.1)) in
       let back : put_back homes me.1 ≡ set homes 0 (some (Some b.object)) = ap (put_back homes) b.hands in
-      let wraps : (serving + 1) % 2 ^ 64 ≡ serving + 1 = unwrapped serving 1 (served_below ticket serving count homes views id me.0 r at turn) in
-      (passed me.0, gives, tt,
-      subst (λ (n : ℕ). Stand ticket n count (put_back homes me.1) (set views id (passed me.0))) (sym wraps)
-          (subst (λ (hs : List (Home (Option O))). Stand ticket (serving + 1) count hs (set views id (passed me.0))) (sym back) (inr next)),
-      (refl, ap (λ (c : List (ℕ × Option O)). carried_after c gives) b.hands)))
+      let wraps : (serving + 1) % 2 ^ 64 ≡ serving + 1 = unwrapped serving 1 (served_below ticket serving count homes views id me.0 r at turn) in (
+        passed me.0,
+        gives,
+        tt,
+        subst (λ (n : ℕ). Stand ticket n count (put_back homes me.1) (set views id (passed me.0))) (sym wraps)
+            (subst (λ (hs : List (Home (Option O))). Stand ticket (serving + 1) count hs (set views id (passed me.0))) (sym back) (inr next)),
+        (refl, ap (λ (c : List (ℕ × Option O)). carried_after c gives) b.hands),
+      ))
 
 module _ {O I Origin : Type 0} (history : O → List I) (origin : O → Origin) where
   -- after the raise and the put back the seat may pass on

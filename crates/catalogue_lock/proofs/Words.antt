@@ -1,8 +1,8 @@
 -- A step on one of the three words is a step over plain numbers.
-use Rattle.std.proofs.Common.{◌≡◌, ℕ, ◌<◌, List, [], ◌∷◌, length, Option, sym, ap, subst, slice_index, slice_set, set}
-use mathlib.Core.Option.{Option as Home, none, some}
+use Rattle.std.proofs.Common.{◌≡◌, ℕ, ◌<◌, List, length, Option, sym, ap, subst, slice_index, slice_set, set}
+use mathlib.Core.Option.{Option as Home, some}
 use lib.ListN.{get_elem?}
-use Rattle.atomic_table.specs.Table.{State, Me, Act, Valid, Allows, Splits, Joins, homes_after, carried_after, stepped}
+use Rattle.atomic_table.specs.Table.{Me, Act, Valid, Allows, homes_after, carried_after}
 use Rattle.catalogue_lock.specs.declared.view.View.{View}
 use Rattle.catalogue_lock.specs.declared.view.Terms.{Terms}
 use Rattle.catalogue_lock.specs.Rule.{Stands, Kept}
@@ -29,9 +29,13 @@ module _ {O I Origin : Type 0} (history : O → List I) (origin : O → Origin) 
   on_ticket f then go s kept long at small =
       let e = kept.words in
       let found : slice_index s.words 0 ≡ kept.ticket = ap (λ (ws : List ℕ). slice_index ws 0) e in
-      let r = go kept.ticket kept.serving kept.count s.homes s.views kept.stands long at (subst (λ (n : ℕ). n < 18446744073709551616) found small) in
-      (r.0, r.1, r.2, record { ticket = f kept.ticket; serving = kept.serving; count = kept.count; words = ap (λ (ws : List ℕ). slice_set ws 0 (f (slice_index ws 0))) e; stands = r.3 },
-      subst (λ (n : ℕ). then n (r.0, carried_after me.1 r.1)) (sym found) r.4)
+      let r = go kept.ticket kept.serving kept.count s.homes s.views kept.stands long at (subst (λ (n : ℕ). n < 18446744073709551616) found small) in (
+        r.0,
+        r.1,
+        r.2,
+        record { ticket = f kept.ticket; serving = kept.serving; count = kept.count; words = ap (λ (ws : List ℕ). slice_set ws 0 (f (slice_index ws 0))) e; stands = r.3 },
+        subst (λ (n : ℕ). then n (r.0, carried_after me.1 r.1)) (sym found) r.4,
+      )
 
   pub on_serving : (f : ℕ → ℕ) (then : ℕ → Me S V → Type 0)
       → FromAll (λ ticket serving count homes views. serving < 18446744073709551616 → Goes then serving homes views ticket (f serving) count)
@@ -39,9 +43,13 @@ module _ {O I Origin : Type 0} (history : O → List I) (origin : O → Origin) 
   on_serving f then go s kept long at small =
       let e = kept.words in
       let found : slice_index s.words 1 ≡ kept.serving = ap (λ (ws : List ℕ). slice_index ws 1) e in
-      let r = go kept.ticket kept.serving kept.count s.homes s.views kept.stands long at (subst (λ (n : ℕ). n < 18446744073709551616) found small) in
-      (r.0, r.1, r.2, record { ticket = kept.ticket; serving = f kept.serving; count = kept.count; words = ap (λ (ws : List ℕ). slice_set ws 1 (f (slice_index ws 1))) e; stands = r.3 },
-      subst (λ (n : ℕ). then n (r.0, carried_after me.1 r.1)) (sym found) r.4)
+      let r = go kept.ticket kept.serving kept.count s.homes s.views kept.stands long at (subst (λ (n : ℕ). n < 18446744073709551616) found small) in (
+        r.0,
+        r.1,
+        r.2,
+        record { ticket = kept.ticket; serving = f kept.serving; count = kept.count; words = ap (λ (ws : List ℕ). slice_set ws 1 (f (slice_index ws 1))) e; stands = r.3 },
+        subst (λ (n : ℕ). then n (r.0, carried_after me.1 r.1)) (sym found) r.4,
+      )
 
   pub on_count : (f : ℕ → ℕ) (then : ℕ → Me S V → Type 0)
       → FromAll (λ ticket serving count homes views. count < 18446744073709551616 → Goes then count homes views ticket serving (f count))
@@ -49,6 +57,10 @@ module _ {O I Origin : Type 0} (history : O → List I) (origin : O → Origin) 
   on_count f then go s kept long at small =
       let e = kept.words in
       let found : slice_index s.words 2 ≡ kept.count = ap (λ (ws : List ℕ). slice_index ws 2) e in
-      let r = go kept.ticket kept.serving kept.count s.homes s.views kept.stands long at (subst (λ (n : ℕ). n < 18446744073709551616) found small) in
-      (r.0, r.1, r.2, record { ticket = kept.ticket; serving = kept.serving; count = f kept.count; words = ap (λ (ws : List ℕ). slice_set ws 2 (f (slice_index ws 2))) e; stands = r.3 },
-      subst (λ (n : ℕ). then n (r.0, carried_after me.1 r.1)) (sym found) r.4)
+      let r = go kept.ticket kept.serving kept.count s.homes s.views kept.stands long at (subst (λ (n : ℕ). n < 18446744073709551616) found small) in (
+        r.0,
+        r.1,
+        r.2,
+        record { ticket = kept.ticket; serving = kept.serving; count = f kept.count; words = ap (λ (ws : List ℕ). slice_set ws 2 (f (slice_index ws 2))) e; stands = r.3 },
+        subst (λ (n : ℕ). then n (r.0, carried_after me.1 r.1)) (sym found) r.4,
+      )

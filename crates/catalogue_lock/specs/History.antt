@@ -1,5 +1,5 @@
 -- The one history of a lock: the object's items, each with the number of the pass whose turn added it.
-use Rattle.std.specs.Prelude.{ℕ, Bool, true, false, ◌==◌, List, [], ◌∷◌, ◌++◌, map, length, nat_lt, Option, Some, None, if◌then◌else◌}
+use Rattle.std.specs.Prelude.{ℕ, Bool, true, false, ◌==◌, List, [], ◌∷◌, map, length, nat_lt, Option, Some, None, if◌then◌else◌}
 use Rattle.catalogue_lock.specs.declared.view.Numbered.{Numbered}
 
 -- two numbers are one, or there is none on either side

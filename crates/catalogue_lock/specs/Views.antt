@@ -5,7 +5,6 @@ use Rattle.atomic_table.specs.Seated.{TableId}
 use Rattle.atomic_table.specs.declared.shared.Seat.{Seat}
 use Rattle.catalogue_lock.specs.declared.view.Numbered.{Numbered}
 use Rattle.catalogue_lock.specs.declared.view.Claim.{Claim}
-use Rattle.catalogue_lock.specs.declared.view.Stage.{Stage}
 use Rattle.catalogue_lock.specs.declared.view.Stage.TheVariants.{Idle, Waits, InTurn}
 use Rattle.catalogue_lock.specs.declared.view.View.{View}
 use Rattle.catalogue_lock.specs.declared.view.Terms.{Terms}

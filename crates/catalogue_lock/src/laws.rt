@@ -38,9 +38,13 @@ impl Object for Tally {
     ghost use Rattle.catalogue_lock.specs.Tally.{Tallies, Counts};
 
     type Item = u64;
+
     type Call = u64;
+
     type Reply = Option<u64>;
+
     type Question = ();
+
     type Answer = u64;
 
     ghost Origin = { ℕ };
@@ -65,7 +69,7 @@ impl Object for Tally {
     }
 
     fn look(&self, _question: &()) -> u64 {
-        self.numbers.len() as u64
+        self.numbers().len() as u64
     }
 
     fn count(&self) -> u64 {

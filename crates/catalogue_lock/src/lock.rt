@@ -148,9 +148,7 @@ impl<O: Object> HistoryLock<O> {
         let mut closed = table.close_with(seat);
         let held = closed.take(OBJECT);
         closed.free();
-        let Some(object) = held else {
-            unreachable!()
-        };
+        let Some(object) = held else { unreachable!() };
         object
     }
 }

@@ -8,9 +8,13 @@ ghost use Rattle.std.specs.Prelude.{◌≡◌, ◌++◌, List, length};
 /// origin, the history, the question and the answer.
 pub trait Object {
     type Item;
+
     type Call;
+
     type Reply;
+
     type Question;
+
     type Answer;
 
     ghost Origin: { Type 0 };

@@ -36,9 +36,7 @@ pub(crate) fn open<O: Object>(steps: &Steps<O>, seat: &mut Place<O>, object: O)
     steps.load::<BeginOpening>(seat, SERVING);
     bring_in::<O, Brand>(steps, seat, &object);
     let vacant = steps.exchange(seat, OBJECT, Some(object));
-    let None = vacant else {
-        unreachable!()
-    };
+    let None = vacant else { unreachable!() };
     steps.fetch_add::<EndOpening>(seat, SERVING, 1);
 }
 

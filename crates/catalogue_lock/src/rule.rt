@@ -30,7 +30,13 @@ impl<O: Object> TableRule<Option<O>, View<O, O::Item>, Terms<O>> for Law {
     ghost first = { opener };
 }
 
-pub(crate) type LockTable<O> = Table<Option<O>, View<O, <O as Object>::Item>, Terms<O>, Law, Global>;
+pub(crate) type LockTable<O> = Table<
+    Option<O>,
+    View<O, <O as Object>::Item>,
+    Terms<O>,
+    Law,
+    Global,
+>;
 
 pub(crate) type Steps<O> = Shared<Option<O>, View<O, <O as Object>::Item>, Terms<O>, Law>;
 

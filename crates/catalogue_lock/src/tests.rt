@@ -9,11 +9,7 @@ use std::test::Fail;
 use std::thread::{Threads, for_each_mut};
 
 /// A lock round an empty tally, with its passes.
-fn opened(
-    alloc: Global,
-    room: u32,
-    callers: u32,
-) -> Option<(HistoryLock<Tally>, Vec<Pass<Tally>>)>
+fn opened(alloc: Global, room: u32, callers: u32) -> Option<(HistoryLock<Tally>, Vec<Pass<Tally>>)>
     requires { 0 < callers }
     ensures lock { IfSome result (λ r. r.0.callers ≡ callers) }
     ensures len { IfSome result (λ r. length r.1.items ≡ callers) }

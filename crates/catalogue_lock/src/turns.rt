@@ -5,7 +5,9 @@ ghost use Rattle.catalogue_lock.specs.Views.{passed, raised};
 ghost use Rattle.catalogue_lock.specs.Steps.{IsTable, IsSameSeat, IsFree, Admitted, Entered, IsInTurn, HasPutBack};
 
 use crate::object::Object;
-use crate::rule::{Adding, COUNT, Draw, Look, OBJECT, PassOn, Place, Raise, SERVING, Steps, TICKET};
+use crate::rule::{
+    Adding, COUNT, Draw, Look, OBJECT, PassOn, Place, Raise, SERVING, Steps, TICKET,
+};
 use std::marker::Brand;
 use std::sync::Wait;
 use std::thread;
@@ -47,9 +49,7 @@ pub(crate) fn enter<O: Object, R: Wait>(rt: &R, steps: &Steps<O>, seat: &mut Pla
     let ticket = steps.fetch_add::<Draw>(seat, TICKET, 1);
     wait_for(rt, steps, seat, ticket);
     let held = steps.exchange(seat, OBJECT, None);
-    let Some(object) = held else {
-        unreachable!()
-    };
+    let Some(object) = held else { unreachable!() };
     object
 }
 
@@ -93,8 +93,6 @@ pub(crate) fn leave<O: Object>(steps: &Steps<O>, seat: &mut Place<O>, object: O,
 {
     raise::<O, Brand>(steps, seat, &object, before);
     let empty = steps.exchange(seat, OBJECT, Some(object));
-    let None = empty else {
-        unreachable!()
-    };
+    let None = empty else { unreachable!() };
     pass_on(steps, seat);
 }

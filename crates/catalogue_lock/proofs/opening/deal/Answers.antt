@@ -1,4 +1,4 @@
-use Rattle.std.proofs.Common.{◌≡◌, ◌+◌, ◌<◌, ◌≤◌, length, rules, refl, ap, sym, subst, ◌∙◌, arith}
+use Rattle.std.proofs.Common.{◌+◌, ◌<◌, ◌≤◌, length, rules, refl, ap, sym, subst, ◌∙◌, arith}
 use Rattle.catalogue_lock.specs.Views.{pass_at}
 use Rattle.catalogue_lock.specs.Steps.{Deals}
 use Rattle.catalogue_lock.proofs.Splitting.{deals}
@@ -17,11 +17,13 @@ pub loop-seat-preserved : goal.loop-seat-preserved
 loop-seat-preserved g c =
     let inv = c.loop-seat.invariant in
     let cut = c.split_seat-next.ensures in
-    let more : length c.loop-seat.passes.items + 1 < c.args.steps.now.key.callers = omega (arith, c.len.ensures, c.capacity.ensures, c.loop-seat.invariant.1, c.loop-seat-test.true) in
-    (cut.0 ∙ inv.0, search rules,
-    subst (λ items. Deals c.args.seat.table_id c.args.steps.now.key.object c.args.seat.me.0.seen c.args.steps.now.key.callers items c.split_seat-next.new.seat.me)
-    (sym c.push_reserved.ensures.items)
-    (deals_more _ _ _ _ _ _ c.loop-seat.passes.items _ inv.2 more cut.2 (λ i. pass_at ((cut.3 ∙ inv.0) i) (cut.4 i).0)))
+    let more : length c.loop-seat.passes.items + 1 < c.args.steps.now.key.callers = omega (arith, c.len.ensures, c.capacity.ensures, c.loop-seat.invariant.1, c.loop-seat-test.true) in (
+      cut.0 ∙ inv.0,
+      search rules,
+      subst (λ items. Deals c.args.seat.table_id c.args.steps.now.key.object c.args.seat.me.0.seen c.args.steps.now.key.callers items c.split_seat-next.new.seat.me)
+          (sym c.push_reserved.ensures.items)
+          (deals_more _ _ _ _ _ _ c.loop-seat.passes.items _ inv.2 more cut.2 (λ i. pass_at ((cut.3 ∙ inv.0) i) (cut.4 i).0)),
+    )
 
 pub invariant_of-push_reserved : goal.invariant_of-push_reserved
 invariant_of-push_reserved g c = dealt_rests _ _ _ _ _ _ _ c.loop-seat.invariant.2 c.requires.seen c.split_seat-next.ensures.4

@@ -1,4 +1,4 @@
-use Rattle.std.proofs.Common.{◌≡◌, ◌≤◌, ◌-◌, vec_len, vec_capacity}
+use Rattle.std.proofs.Common.{◌≡◌, ◌-◌, vec_len, vec_capacity}
 use Rattle.catalogue_lock.specs.Steps.{Deals}
 use Rattle.catalogue_lock.proofs.opening.deal.Given as goal
 

@@ -17,10 +17,12 @@ exchange-vacant-requires g c = (search rules, (None, holds_slot _ _ (ap (λ m. m
 pub fetch_add-requires : goal.fetch_add-requires
 fetch_add-requires g c =
     let told = c.load.ensures.2 in
-    let first = first_turn g.O.Object.history c.args.steps.now.key _ _ c.requires.opener told.0 told.1 in
-    (search rules, search rules,
-    ends _ _ _ _ _ _
-    (has_brought_in _ _ _ (is_brought g.O.Object.history c.args.steps.now.key _ _ _ c.args.object first c.bring_in.ensures.brought c.exchange-vacant.ensures.3 c.requires.object)))
+    let first = first_turn g.O.Object.history c.args.steps.now.key _ _ c.requires.opener told.0 told.1 in (
+      search rules,
+      search rules,
+      ends _ _ _ _ _ _
+          (has_brought_in _ _ _ (is_brought g.O.Object.history c.args.steps.now.key _ _ _ c.args.object first c.bring_in.ensures.brought c.exchange-vacant.ensures.3 c.requires.object)),
+    )
 
 pub returns-clause-open : goal.returns-clause-open
 returns-clause-open g c =

@@ -9,9 +9,13 @@ pub split_seat-copy-requires : goal.split_seat-copy-requires
 split_seat-copy-requires g c = (search rules, search rules, copies _ _ _ _ _ c.requires.from.running)
 
 pub join_seat-requires : goal.join_seat-requires
-join_seat-requires g c =
-    (search rules, search rules, search rules, search rules,
-    joins _ _ _ _ _ _ _ c.requires.to.running c.requires.to.idle (ap (λ m. m.0.stage) c.split_seat-copy.ensures.4))
+join_seat-requires g c = (
+  search rules,
+  search rules,
+  search rules,
+  search rules,
+  joins _ _ _ _ _ _ _ c.requires.to.running c.requires.to.idle (ap (λ m. m.0.stage) c.split_seat-copy.ensures.4),
+)
 
 pub load-requires : goal.load-requires
 load-requires g c = (search rules, search rules, settles _ _ _ _ _ _ (ap (λ m. m.0.opening) c.join_seat.ensures.2 ∙ c.requires.to.running))

@@ -1,4 +1,4 @@
-use Rattle.std.proofs.Common.{[], ◌∷◌, rules, refl, ap, subst, ◌∙◌}
+use Rattle.std.proofs.Common.{◌∷◌, rules, refl, ap, subst, ◌∙◌}
 use Rattle.catalogue_lock.specs.Views.{IsAtRest}
 use Rattle.catalogue_lock.specs.Steps.{Gathered}
 use Rattle.catalogue_lock.proofs.Turning.{settles}

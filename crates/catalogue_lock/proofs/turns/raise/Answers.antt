@@ -1,4 +1,4 @@
-use Rattle.std.proofs.Common.{◌≡◌, ◌-◌, ◌+◌, ◌<◌, ℕ, length, rules, ap, arith, length-append}
+use Rattle.std.proofs.Common.{◌≡◌, ◌-◌, ◌+◌, ◌<◌, length, rules, ap, arith, length-append}
 use Rattle.catalogue_lock.specs.History.{items}
 use Rattle.catalogue_lock.proofs.Numbers.{length-items}
 use Rattle.catalogue_lock.proofs.Turning.{raises}

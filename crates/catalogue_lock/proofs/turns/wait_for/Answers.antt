@@ -5,9 +5,11 @@ use Rattle.catalogue_lock.proofs.turns.wait_for.Goals as goal
 pub load-serving-requires : goal.load-serving-requires
 load-serving-requires g c =
     let same = c.loop.invariant in
-    let waits = c.requires.waits in
-    (search rules, search rules,
-    looks _ _ _ _ _ _ c.args.ticket (ap (λ m. m.0.opening) same.2 ∙ waits.1) (ap (λ m. m.0.stage) same.2 ∙ waits.0) (ap (λ m. m.1) same.2 ∙ waits.2))
+    let waits = c.requires.waits in (
+      search rules,
+      search rules,
+      looks _ _ _ _ _ _ c.args.ticket (ap (λ m. m.0.opening) same.2 ∙ waits.1) (ap (λ m. m.0.stage) same.2 ∙ waits.0) (ap (λ m. m.1) same.2 ∙ waits.2),
+    )
 
 pub loop-preserved-then-looks-lt-YIELDS : goal.loop-preserved-then-looks-lt-YIELDS
 loop-preserved-then-looks-lt-YIELDS g c =

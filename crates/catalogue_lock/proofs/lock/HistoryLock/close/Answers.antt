@@ -1,4 +1,4 @@
-use Rattle.std.proofs.Common.{◌≡◌, rules, ap, sym, subst, ◌∙◌}
+use Rattle.std.proofs.Common.{◌≡◌, ap, sym, subst, ◌∙◌}
 use mathlib.Core.Option.{some}
 use Rattle.catalogue_lock.specs.Passes.{IsPassOf, Closed}
 use Rattle.catalogue_lock.specs.Steps.{Gathered}
@@ -15,19 +15,19 @@ gather-seat-requires-clause-own g c =
 pub unreachable-requires : goal.unreachable-requires
 unreachable-requires g c =
     let ended = closes g.O.Object.history g.O.Object.origin c.self.inside.table.shared.key _ _ _ _ c.args.passes c.close_with-closed.ensures.values.2
-        (subst (λ ps. Gathered ps c.gather-seat.result.me) c.into_vec.ensures c.gather-seat.ensures.all) (c.requires.all ∙ sym (ap (λ l. l.callers) c.self.view_is)) in
+    (subst (λ ps. Gathered ps c.gather-seat.result.me) c.into_vec.ensures c.gather-seat.ensures.all) (c.requires.all ∙ sym (ap (λ l. l.callers) c.self.view_is)) in
     has_object _ _ _ _ _ ended (c.take-held.ensures.value ∙ ap some c.in_default.is)
 
 pub returns-clause-history : goal.returns-clause-history
 returns-clause-history g c =
     let ended = closes g.O.Object.history g.O.Object.origin c.self.inside.table.shared.key _ _ _ _ c.args.passes c.close_with-closed.ensures.values.2
-        (subst (λ ps. Gathered ps c.gather-seat.result.me) c.into_vec.ensures c.gather-seat.ensures.all) (c.requires.all ∙ sym (ap (λ l. l.callers) c.self.view_is)) in
+    (subst (λ ps. Gathered ps c.gather-seat.result.me) c.into_vec.ensures c.gather-seat.ensures.all) (c.requires.all ∙ sym (ap (λ l. l.callers) c.self.view_is)) in
     subst (λ l. Closed l.callers c.args.passes (g.O.Object.history l.opened) (g.O.Object.history c.in-Some.object)) c.self.view_is
     (same_object _ _ _ _ _ c.in-Some.object ended (c.take-held.ensures.value ∙ ap some c.in-Some.is)).0
 
 pub returns-clause-origin : goal.returns-clause-origin
 returns-clause-origin g c =
     let ended = closes g.O.Object.history g.O.Object.origin c.self.inside.table.shared.key _ _ _ _ c.args.passes c.close_with-closed.ensures.values.2
-        (subst (λ ps. Gathered ps c.gather-seat.result.me) c.into_vec.ensures c.gather-seat.ensures.all) (c.requires.all ∙ sym (ap (λ l. l.callers) c.self.view_is)) in
+    (subst (λ ps. Gathered ps c.gather-seat.result.me) c.into_vec.ensures c.gather-seat.ensures.all) (c.requires.all ∙ sym (ap (λ l. l.callers) c.self.view_is)) in
     subst (λ l. g.O.Object.origin c.in-Some.object ≡ g.O.Object.origin l.opened) c.self.view_is
     (same_object _ _ _ _ _ c.in-Some.object ended (c.take-held.ensures.value ∙ ap some c.in-Some.is)).1

@@ -1,4 +1,4 @@
-use Rattle.std.proofs.Common.{rules, refl, ap, sym, ◌∙◌}
+use Rattle.std.proofs.Common.{refl, ap, sym, ◌∙◌}
 use Rattle.catalogue_lock.specs.Views.{pass_of}
 use Rattle.catalogue_lock.proofs.Meeting.{Seen, met_twice, begins_from, own_seen}
 use Rattle.catalogue_lock.proofs.lock.HistoryLock.meet.Goals as goal
