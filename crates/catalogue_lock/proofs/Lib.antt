@@ -11,3 +11,4 @@ pub mod Openings
 pub mod Dealing
 pub mod Returning
 pub mod Closing
+pub mod Rows

@@ -1,7 +1,7 @@
 ghost use Rattle.std.specs.Prelude.{◌≡◌, ◌^◌, ◌+◌, ◌<◌, ◌≤◌, All, IfSome, length};
 ghost use Rattle.catalogue_lock.specs.Passes.{IsPassOf, IsReady};
 
-use crate::laws::Tally;
+use crate::laws::{Tally, worked_row};
 use crate::{HistoryLock, Pass, Passes};
 use std::alloc::Global;
 use std::sync::Wait;
@@ -136,6 +136,11 @@ fn the_worked_row(rt: HostRuntime) -> Result<(), Fail> {
     };
     assert!(rt; first == Some(0) && second == Some(1) && refused.is_none() && count == 2);
     assert!(rt; tally.numbers() == [5, 7].as_slice());
+    let Ok(met) = worked_row(&rt, rt.alloc()) else {
+        panic!(rt; "no memory")
+    };
+    assert!(rt; met.first == Some(0) && met.second == Some(1) && met.third.is_none());
+    assert!(rt; met.tally.numbers() == [5, 7].as_slice());
     Ok(())
 }
 
