@@ -1,0 +1,14 @@
+pub mod Prefixes
+pub mod Numbers
+pub mod Totals
+pub mod Words
+pub mod Queues
+pub mod Fitting
+pub mod Turning
+pub mod Splitting
+pub mod Meeting
+pub mod Openings
+pub mod Dealing
+pub mod Returning
+pub mod Closing
+pub mod Rows

@@ -1,0 +1,51 @@
+use Rattle.std.proofs.Common.{Some}
+use Rattle.catalogue_lock.proofs.Rows.{worked, two_items}
+use Rattle.catalogue_lock.proofs.laws.turns_of_two.Goals as goal
+
+pub returns-clause-first : goal.returns-clause-first
+returns-clause-first g c =
+    (worked c.args.lock.id (Some c.args.lock.opened) c.args.first_pass c.args.second_pass c.turn-first.new.pass c.meet.new.first c.meet.new.second c.turn-second.new.pass c.meet-2.new.first c.meet-2.new.second c.turn-third.new.pass c.meet-3.new.first c.meet-3.new.second
+    c.turn-first.result c.turn-second.result c.turn-third.result c.close-tally.result.numbers.items c.args.lock.opened.room c.args.lock.callers c.args.lock.opened.numbers.items c.from_vec.result
+    c.requires.lock.1 c.requires.lock.0 c.requires.lock.2
+    (two_items _ _ _ _ _ _ c.requires.room.0 c.push_reserved.ensures.items c.push_reserved-2.ensures.items c.from_vec.ensures)
+    c.requires.first c.requires.second
+    c.turn-first.ensures c.meet.ensures.first c.meet.ensures.second c.meet.ensures.second_own
+    c.turn-second.ensures c.meet-2.ensures.first c.meet-2.ensures.second c.meet-2.ensures.second_own c.meet-2.ensures.second_begins
+    c.turn-third.ensures c.meet-3.ensures.first c.meet-3.ensures.second c.meet-3.ensures.second_own c.meet-3.ensures.first_begins
+    c.close-tally.ensures.history).0
+
+pub returns-clause-second : goal.returns-clause-second
+returns-clause-second g c =
+    (worked c.args.lock.id (Some c.args.lock.opened) c.args.first_pass c.args.second_pass c.turn-first.new.pass c.meet.new.first c.meet.new.second c.turn-second.new.pass c.meet-2.new.first c.meet-2.new.second c.turn-third.new.pass c.meet-3.new.first c.meet-3.new.second
+    c.turn-first.result c.turn-second.result c.turn-third.result c.close-tally.result.numbers.items c.args.lock.opened.room c.args.lock.callers c.args.lock.opened.numbers.items c.from_vec.result
+    c.requires.lock.1 c.requires.lock.0 c.requires.lock.2
+    (two_items _ _ _ _ _ _ c.requires.room.0 c.push_reserved.ensures.items c.push_reserved-2.ensures.items c.from_vec.ensures)
+    c.requires.first c.requires.second
+    c.turn-first.ensures c.meet.ensures.first c.meet.ensures.second c.meet.ensures.second_own
+    c.turn-second.ensures c.meet-2.ensures.first c.meet-2.ensures.second c.meet-2.ensures.second_own c.meet-2.ensures.second_begins
+    c.turn-third.ensures c.meet-3.ensures.first c.meet-3.ensures.second c.meet-3.ensures.second_own c.meet-3.ensures.first_begins
+    c.close-tally.ensures.history).1
+
+pub returns-clause-third : goal.returns-clause-third
+returns-clause-third g c =
+    (worked c.args.lock.id (Some c.args.lock.opened) c.args.first_pass c.args.second_pass c.turn-first.new.pass c.meet.new.first c.meet.new.second c.turn-second.new.pass c.meet-2.new.first c.meet-2.new.second c.turn-third.new.pass c.meet-3.new.first c.meet-3.new.second
+    c.turn-first.result c.turn-second.result c.turn-third.result c.close-tally.result.numbers.items c.args.lock.opened.room c.args.lock.callers c.args.lock.opened.numbers.items c.from_vec.result
+    c.requires.lock.1 c.requires.lock.0 c.requires.lock.2
+    (two_items _ _ _ _ _ _ c.requires.room.0 c.push_reserved.ensures.items c.push_reserved-2.ensures.items c.from_vec.ensures)
+    c.requires.first c.requires.second
+    c.turn-first.ensures c.meet.ensures.first c.meet.ensures.second c.meet.ensures.second_own
+    c.turn-second.ensures c.meet-2.ensures.first c.meet-2.ensures.second c.meet-2.ensures.second_own c.meet-2.ensures.second_begins
+    c.turn-third.ensures c.meet-3.ensures.first c.meet-3.ensures.second c.meet-3.ensures.second_own c.meet-3.ensures.first_begins
+    c.close-tally.ensures.history).2
+
+pub returns-clause-numbers : goal.returns-clause-numbers
+returns-clause-numbers g c =
+    (worked c.args.lock.id (Some c.args.lock.opened) c.args.first_pass c.args.second_pass c.turn-first.new.pass c.meet.new.first c.meet.new.second c.turn-second.new.pass c.meet-2.new.first c.meet-2.new.second c.turn-third.new.pass c.meet-3.new.first c.meet-3.new.second
+    c.turn-first.result c.turn-second.result c.turn-third.result c.close-tally.result.numbers.items c.args.lock.opened.room c.args.lock.callers c.args.lock.opened.numbers.items c.from_vec.result
+    c.requires.lock.1 c.requires.lock.0 c.requires.lock.2
+    (two_items _ _ _ _ _ _ c.requires.room.0 c.push_reserved.ensures.items c.push_reserved-2.ensures.items c.from_vec.ensures)
+    c.requires.first c.requires.second
+    c.turn-first.ensures c.meet.ensures.first c.meet.ensures.second c.meet.ensures.second_own
+    c.turn-second.ensures c.meet-2.ensures.first c.meet-2.ensures.second c.meet-2.ensures.second_own c.meet-2.ensures.second_begins
+    c.turn-third.ensures c.meet-3.ensures.first c.meet-3.ensures.second c.meet-3.ensures.second_own c.meet-3.ensures.first_begins
+    c.close-tally.ensures.history).3
