@@ -1,9 +1,9 @@
 -- Two passes of a lock that meet after each turn: nothing stands between their turns.
-use Rattle.std.proofs.Common.{◌≡◌, ◌≢◌, ℕ, zero, suc, ◌+◌, ◌<◌, ◌≤◌, ◌⊎◌, false, List, [], ◌∷◌, ◌++◌, length, Option, Some, None, refl, ap, sym, subst, ◌∙◌, arith, ne_eqb, ⊎_elim, inl, inr, append_assoc, length-append}
+use Rattle.std.proofs.Common.{◌≡◌, ◌≢◌, ℕ, zero, suc, ◌≤◌, ◌⊎◌, List, [], ◌∷◌, ◌++◌, length, Option, Some, None, refl, ap, sym, subst, ◌∙◌, arith, ne_eqb, ⊎_elim, inl, inr}
 use Rattle.std.proofs.lemmas.List.{append-nil, append_cancel_left, append_cancel_right}
 use mathlib.Core.List.{IsPrefix}
 use Rattle.catalogue_lock.specs.declared.view.Numbered.{Numbered}
-use Rattle.catalogue_lock.specs.History.{items, items_by, numbered, longer, is_same_number}
+use Rattle.catalogue_lock.specs.History.{items, items_by, numbered, longer}
 use Rattle.atomic_table.specs.Seated.{TableId}
 use Rattle.catalogue_lock.specs.Passes.{Pass, Turned, Closed, HasSeenItsOwn, having_seen, new_pass}
 use Rattle.catalogue_lock.specs.Tally.{Tallies}
@@ -59,11 +59,11 @@ module _ {I : Type 0} where
   nothing_between k j s before h two all p q mine other =
       let rest = p.0 in
       let same : (by : Option ℕ) → items_by by before ≡ items_by by s → items_by by rest ≡ [] =
-          λ by e. none_more (items_by by s) (items_by by rest) (sym (items_by-append by s rest) ∙ (ap (items_by by) p.1 ∙ e)) in
+      λ by e. none_more (items_by by s) (items_by by rest) (sym (items_by-append by s rest) ∙ (ap (items_by by) p.1 ∙ e)) in
       let none : (by : Option ℕ) → items_by by h ≡ [] → items_by by rest ≡ [] =
-          λ by e. (both_empty (items_by by s) (items_by by rest) (sym (items_by-append by s rest) ∙ (ap (items_by by) p.1 ∙ none_before by before h q e))).1 in
+      λ by e. (both_empty (items_by by s) (items_by by rest) (sym (items_by-append by s rest) ∙ (ap (items_by by) p.1 ∙ none_before by before h q e))).1 in
       let each : (by : Option ℕ) → items_by by rest ≡ [] = elim [
-        None ↦ none None all.unnumbered
+        | None ↦ none None all.unnumbered
         | Some n ↦ ⊎_elim (λ (e : n ≡ k). ap (λ (m : ℕ). items_by (Some m) rest) e ∙ same (Some k) mine)
             (⊎_elim (λ (e : n ≡ j). ap (λ (m : ℕ). items_by (Some m) rest) e ∙ same (Some j) other) (λ (e : 2 ≤ n). none (Some n) (all.nobody n e))) (two n)
       ] in
@@ -101,14 +101,14 @@ module _ {O I : Type 0} where
       let a_is : a2 ≡ having_seen a1 (before ++ more) = first ∙ ap (having_seen a1) (whole ∙ seen) in
       let b_is : b2 ≡ having_seen b (before ++ more) = second ∙ ap (having_seen b) (whole ∙ seen) in
       let mine : items_by (Some k) (before ++ numbered (Some k) turn.added) ≡ a.added ++ turn.added =
-          subst (λ (n : ℕ). items_by (Some n) (before ++ numbered (Some n) turn.added) ≡ a.added ++ turn.added) both.first (subst HasSeenItsOwn turn.pass turn.own) in
+      subst (λ (n : ℕ). items_by (Some n) (before ++ numbered (Some n) turn.added) ≡ a.added ++ turn.added) both.first (subst HasSeenItsOwn turn.pass turn.own) in
       let theirs : items_by (Some j) (before ++ numbered (Some k) turn.added) ≡ b.added =
-          subst (λ (n : ℕ). items_by (Some j) (before ++ numbered (Some n) turn.added) ≡ b.added) both.first
-          (subst (λ (n : ℕ). items_by (Some n) (before ++ more) ≡ b.added) both.second (subst HasSeenItsOwn b_is own)) in
+      subst (λ (n : ℕ). items_by (Some j) (before ++ numbered (Some n) turn.added) ≡ b.added) both.first
+      (subst (λ (n : ℕ). items_by (Some n) (before ++ more) ≡ b.added) both.second (subst HasSeenItsOwn b_is own)) in
       let mine_before : items_by (Some k) before ≡ a.added = append_cancel_right (items_by (Some k) before) a.added turn.added
-          (ap (λ z. items_by (Some k) before ++ z) (sym (items_by-own (Some k) turn.added)) ∙ (sym (items_by-append (Some k) before (numbered (Some k) turn.added)) ∙ mine)) in
+      (ap (λ z. items_by (Some k) before ++ z) (sym (items_by-own (Some k) turn.added)) ∙ (sym (items_by-append (Some k) before (numbered (Some k) turn.added)) ∙ mine)) in
       let theirs_before : items_by (Some j) before ≡ b.added = sym (append-nil (items_by (Some j) before))
-          ∙ (ap (λ z. items_by (Some j) before ++ z) (sym (items_by-other (Some j) (Some k) turn.added (ne_eqb j k apart))) ∙ (sym (items_by-append (Some j) before (numbered (Some k) turn.added)) ∙ theirs)) in
+      ∙ (ap (λ z. items_by (Some j) before ++ z) (sym (items_by-other (Some j) (Some k) turn.added (ne_eqb j k apart))) ∙ (sym (items_by-append (Some j) before (numbered (Some k) turn.added)) ∙ theirs)) in
       let inside : IsPrefix before h = prefix_trans before (before ++ more) h (more, refl) (subst (λ z. IsPrefix z h) (ap (λ (p : Pass O I). p.seen) a_is) begins) in
       let same : before ≡ s = nothing_between k j s before h two all from inside (mine_before ∙ sym both.first_own) (theirs_before ∙ sym both.second_own) in
       let now : before ++ more ≡ s ++ numbered (Some k) turn.added = λ i. same i ++ numbered (Some (both.first i)) turn.added in record {

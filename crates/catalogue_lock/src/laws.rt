@@ -1,6 +1,5 @@
 //! A small object to use the lock with.
 ghost use Rattle.std.specs.Prelude.{◌≡◌, ℕ, ◌≤◌, [], ◌∷◌, length, IfOk, Some, None, vec_capacity};
-
 ghost use Rattle.catalogue_lock.specs.Passes.{new_pass};
 
 use crate::NoMemory;
