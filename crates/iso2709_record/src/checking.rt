@@ -1,4 +1,4 @@
-ghost use Rattle.std.specs.Prelude.{◌≡◌, ◌+◌, ◌*◌, ◌≤◌, ◌<◌, suc, true, false, length, IfOk, IfErr, IfSome, is_none, MatchOption};
+ghost use Rattle.std.specs.Prelude.{◌≡◌, ◌+◌, ◌*◌, ◌≤◌, ◌<◌, suc, true, false, length, IfOk, OnOk, IfErr, IfSome, is_none, MatchOption};
 ghost use Rattle.iso2709_record.specs.First.{AllGood, IsFirstBad};
 ghost use Rattle.iso2709_record.specs.Layout.{base_of, entry_count, layout_of, lengths_of, area_at, data_at, tag_at};
 ghost use Rattle.iso2709_record.specs.Faults.{has_bad_length, has_bad_leader, is_ragged, is_good_entry, is_good_field, fits_tag, HasWholeEntries, HasDirectory, IsSound, IsFirstFault};
@@ -69,7 +69,9 @@ fn is_good_entry(bytes: &[u8], entry: u32) -> bool
 
 fn first_bad_entry(bytes: &[u8], entries: u32) -> Option<u32>
     requires { 24 + 12 * entries ≤ length bytes.now }
-    ensures { MatchOption result (AllGood (is_good_entry bytes.now) entries) (IsFirstBad (is_good_entry bytes.now) entries) }
+    ensures { MatchOption result
+        (AllGood (is_good_entry bytes.now) entries)
+        (IsFirstBad (is_good_entry bytes.now) entries) }
 {
     for entry in 0..entries {
         if !is_good_entry(bytes, entry) {
@@ -116,7 +118,9 @@ fn is_good_field(bytes: &[u8], base: u32, entry: u32, lengths: u32) -> bool
 fn first_bad_field(bytes: &[u8], layout: &Layout) -> Option<u32>
     requires directory { HasDirectory bytes.now }
     requires layout { layout.now ≡ layout_of bytes.now }
-    ensures { MatchOption result (AllGood (is_good_field bytes.now) (entry_count bytes.now)) (IsFirstBad (is_good_field bytes.now) (entry_count bytes.now)) }
+    ensures { MatchOption result
+        (AllGood (is_good_field bytes.now) (entry_count bytes.now))
+        (IsFirstBad (is_good_field bytes.now) (entry_count bytes.now)) }
 {
     let mut lengths = 0;
     for entry in 0..layout.entries {
@@ -133,7 +137,7 @@ fn first_bad_field(bytes: &[u8], layout: &Layout) -> Option<u32>
 pub fn check(bytes: &[u8]) -> Result<Layout, Refusal>
     // The parts of a sound record.
     ensures layout { IfOk result (λ layout. layout ≡ layout_of bytes.now) }
-    ensures sound { IfOk result (λ layout. IsSound bytes.now) }
+    ensures sound { OnOk result (IsSound bytes.now) }
 
     // The first fault.
     ensures refused { IfErr result (IsFirstFault bytes.now) }
