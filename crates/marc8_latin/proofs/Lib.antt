@@ -1,0 +1,16 @@
+pub mod Carried
+pub mod Cases
+pub mod Choices
+pub mod Encoded
+pub mod Fronts
+pub mod OneCut
+pub mod OneReading
+pub mod Places
+pub mod PlainRuns
+pub mod PlainText
+pub mod Points
+pub mod Readings
+pub mod Sizes
+pub mod Splits
+pub mod Subfielded
+pub mod Writing

@@ -1,0 +1,5 @@
+pub mod Parts
+pub mod Progress
+pub mod Subfields
+pub mod Tables
+pub mod Text
