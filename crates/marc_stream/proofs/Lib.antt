@@ -1,0 +1,5 @@
+pub mod Windows
+pub mod Scans
+pub mod Cuts
+pub mod Items
+pub mod Streams
