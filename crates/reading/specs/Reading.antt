@@ -7,8 +7,8 @@ use Rattle.marc_types.specs.Valid.{is_control_tag}
 use Rattle.marc_types.specs.declared.field.Leader.{Leader}
 use Rattle.marc_types.specs.declared.field.Field.{Field}
 use Rattle.marc_types.specs.declared.refusal.Refusal.{Refusal}
-use Rattle.marc_types.specs.declared.refusal.Refusal.TheVariants.{BadLength, BadLeader, BadDirectory, BadField, UnknownCoding, BadText, OtherSet}
-use Rattle.iso2709_record.specs.Written.{tag_of, field_data}
+use Rattle.marc_types.specs.declared.refusal.Refusal.TheVariants.{UnknownCoding, BadText, OtherSet}
+use Rattle.iso2709_record.specs.Spelling.{IsFieldOf}
 use Rattle.iso2709_record.specs.Layout.{entry_count, tag_at, data_at}
 use Rattle.iso2709_record.specs.Raw.{leader_at, coding_at}
 use Rattle.iso2709_record.specs.Faults.{IsSound, IsFirstFault}
@@ -28,8 +28,9 @@ is_known_coding coding = is_marc8 coding || (coding == 0x61)
 abbrev pub text_start : List ℕ → ℕ → ℕ
 text_start bytes entry = if is_control_tag (tag_at bytes entry) then 0 else 2
 
-abbrev pub before_text : List ℕ → ℕ → List ℕ
-before_text bytes entry = take (text_start bytes entry) (data_at bytes entry)
+-- what stands before the text
+abbrev pub indicators_at : List ℕ → ℕ → List ℕ
+indicators_at bytes entry = take (text_start bytes entry) (data_at bytes entry)
 
 abbrev pub text_at : List ℕ → ℕ → List ℕ
 text_at bytes entry = drop (text_start bytes entry) (data_at bytes entry)
@@ -44,12 +45,11 @@ pub data IsFaultIn : ℕ → List ℕ → Marc8Fault → Type 0 where
   OfMarc8 : (coding : ℕ) (bytes : List ℕ) (fault : Marc8Fault) → is_marc8 coding ≡ true → IsFault bytes fault → IsFaultIn coding bytes fault
   OfUtf8 : (coding : ℕ) (bytes : List ℕ) → is_marc8 coding ≡ false → ¬ IsUtf8 bytes → IsFaultIn coding bytes (BadByte (utf8_valid_len bytes))
 
--- a field of a record and the entry that it was read from: its tag, and what stands before its text and the text
+-- a field of a record and the entry that it was read from: the field with its tag, its indicators and the text
 pub record IsFieldAt (bytes : List ℕ) (entry : ℕ) (f : Field) : Type 0 where
-  pub tag : tag_of f ≡ tag_at bytes entry
   pub text : List ℕ
   pub read : IsTextIn (coding_at bytes) (text_at bytes entry) text
-  pub data_is : field_data f ≡ before_text bytes entry ++ text
+  pub is : IsFieldOf (tag_at bytes entry) (indicators_at bytes entry ++ text) f
 
 -- the piece is this record: nothing refuses it, and its fields are those of its entries, in their order
 pub record IsReadAs (bytes : List ℕ) (leader : Leader) (fields : List Field) : Type 0 where
@@ -57,13 +57,13 @@ pub record IsReadAs (bytes : List ℕ) (leader : Leader) (fields : List Field) :
   pub coding : is_known_coding (coding_at bytes) ≡ true
   pub leader_is : leader ≡ leader_at bytes
   pub count : length fields ≡ entry_count bytes
-  pub each : (entry : ℕ) (f : Field) → slice_get fields entry ≡ Some f → IsFieldAt bytes entry f
+  pub fields_are : (entry : ℕ) (f : Field) → slice_get fields entry ≡ Some f → IsFieldAt bytes entry f
 
--- the refusal that a fault of an entry's text is; offsets count from the field's first byte
-abbrev pub text_refusal : List ℕ → ℕ → Marc8Fault → Refusal → Type 0
-text_refusal bytes entry (BadByte place) refusal = refusal ≡ BadText entry (text_start bytes entry + place)
-text_refusal bytes entry (marc8.OtherSet set place) refusal = refusal ≡ OtherSet set entry (text_start bytes entry + place)
-text_refusal bytes entry NoMemory refusal = ⊥
+-- what a fault of an entry's text is refused as; offsets count from the field's first byte
+abbrev pub IsTextRefusal : List ℕ → ℕ → Marc8Fault → Refusal → Type 0
+IsTextRefusal bytes entry (BadByte place) refusal = refusal ≡ BadText entry (text_start bytes entry + place)
+IsTextRefusal bytes entry (marc8.OtherSet set place) refusal = refusal ≡ OtherSet set entry (text_start bytes entry + place)
+IsTextRefusal bytes entry NoMemory refusal = ⊥
 
 -- the first entry whose text has a fault
 pub record IsTextFault (bytes : List ℕ) (refusal : Refusal) : Type 0 where
@@ -74,15 +74,11 @@ pub record IsTextFault (bytes : List ℕ) (refusal : Refusal) : Type 0 where
   pub before : (earlier : ℕ) → earlier < entry → (text : List ℕ) × IsTextIn (coding_at bytes) (text_at bytes earlier) text
   pub fault : Marc8Fault
   pub here : IsFaultIn (coding_at bytes) (text_at bytes entry) fault
-  pub named : text_refusal bytes entry fault refusal
+  pub named : IsTextRefusal bytes entry fault refusal
 
 -- the first refusal that applies, in the order of length, leader, directory, fields, coding and text
 abbrev pub IsRefusedAs : List ℕ → Refusal → Type 0
-IsRefusedAs bytes BadLength = IsFirstFault bytes BadLength
-IsRefusedAs bytes BadLeader = IsFirstFault bytes BadLeader
-IsRefusedAs bytes (BadDirectory entry) = IsFirstFault bytes (BadDirectory entry)
-IsRefusedAs bytes (BadField entry) = IsFirstFault bytes (BadField entry)
 IsRefusedAs bytes UnknownCoding = IsSound bytes × (is_known_coding (coding_at bytes) ≡ false)
 IsRefusedAs bytes (BadText entry offset) = IsTextFault bytes (BadText entry offset)
 IsRefusedAs bytes (OtherSet set entry offset) = IsTextFault bytes (OtherSet set entry offset)
-IsRefusedAs bytes _ = ⊥
+IsRefusedAs bytes refusal = IsFirstFault bytes refusal
