@@ -49,9 +49,9 @@ plain_byte g1 byte front text h r =
     let encoded : encode_utf8 byte ≡ byte ∷ [] = encode_ascii byte t.0 in
     ⊎_elim
     (λ base. read_part front (byte ∷ []) text [] (text ++ byte ∷ []) [] (basic_with g1) (basic_with g1) (Base byte) r base refl
-      (λ characters w. written_base characters text [] (text ++ byte ∷ []) byte w (rw encoded (sym (append-nil (text ++ byte ∷ []))))))
+    (λ characters w. written_base characters text [] (text ++ byte ∷ []) byte w (rw encoded (sym (append-nil (text ++ byte ∷ []))))))
     (λ control. read_part front (byte ∷ []) text [] (text ++ byte ∷ []) [] (basic_with g1) (basic_with g1) (Control byte) r control refl
-      (λ characters w. written_control characters text [] (text ++ byte ∷ []) byte w (rw (encoded, append-nil) refl)))
+    (λ characters w. written_control characters text [] (text ++ byte ∷ []) byte w (rw (encoded, append-nil) refl)))
     (plain_meaning g1 byte t.0 t.1 t.2)
 
 plain_bytes : (g1 : Charset) (bytes front text : List ℕ) → list_all is_plain bytes ≡ true → IsRead front (basic_with g1) text [] → IsRead (front ++ bytes) (basic_with g1) (text ++ bytes) []

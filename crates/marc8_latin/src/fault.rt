@@ -17,12 +17,16 @@ pub enum Marc8Fault {
 }
 
 impl fmt::Display for Marc8Fault {
+    ghost use Rattle.marc8_latin.specs.Messages.{message_of};
+
+    ghost output = { message_of };
+
     fn fmt<W: fmt::Write>(&self, f: &mut fmt::Formatter<W>) -> fmt::Result {
-        match self {
-            Marc8Fault::BadByte(place) => write!(f, "no MARC-8 at {place}"),
-            Marc8Fault::OtherSet(_, place) => write!(f, "another character set at {place}"),
-            Marc8Fault::NoMemory => f.write_str("out of memory"),
-        }
+        f.write_str(match self {
+            Marc8Fault::BadByte(_) => "no MARC-8",
+            Marc8Fault::OtherSet(_, _) => "another character set",
+            Marc8Fault::NoMemory => "out of memory",
+        })
     }
 }
 

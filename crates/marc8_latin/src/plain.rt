@@ -1,4 +1,4 @@
-ghost use Rattle.std.specs.Prelude.{◌≡◌, ◌≤◌, length, take, true, false};
+ghost use Rattle.std.specs.Prelude.{◌≡◌, ◌<◌, ◌≤◌, length, slice_index, take, true, false};
 ghost use Rattle.std.specs.List.{list_all};
 ghost use Rattle.marc8_latin.specs.Progress.{is_plain, stand_as_themselves};
 
@@ -16,6 +16,7 @@ fn is_plain(byte: u8) -> bool
 pub fn plain_len(bytes: &[u8]) -> usize
     ensures within { result ≤ length bytes.now }
     ensures plain { list_all is_plain (take result bytes.now) ≡ true }
+    ensures all { result < length bytes.now → is_plain (slice_index bytes.now result) ≡ false }
 {
     for (i, byte) in bytes.iter().enumerate() {
         if !is_plain(*byte) {

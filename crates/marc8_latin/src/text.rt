@@ -1,4 +1,4 @@
-ghost use Rattle.std.specs.Prelude.{◌≡◌, ◌≢◌, ◌<◌, ◌≤◌, ◌*◌, [], length, take, true, string_bytes, IfOk, IfErr};
+ghost use Rattle.std.specs.Prelude.{◌≡◌, ◌≢◌, ◌<◌, ◌≤◌, ◌*◌, [], length, slice_index, take, true, false, string_bytes, IfOk, IfErr};
 ghost use Rattle.std.specs.List.{list_all};
 ghost use Rattle.marc8_latin.specs.Subfields.{KeepsSubfields};
 ghost use Rattle.marc8_latin.specs.Text.{IsText, IsFault};
@@ -39,7 +39,8 @@ fn convert(alloc: Global, bytes: &[u8]) -> Result<Text, Marc8Fault>
     ensures text { IfOk result (λ text. IsText bytes.now text) }
     ensures fault { IfErr result (λ fault. fault ≢ Marc8Fault.NoMemory → IsFault bytes.now fault) }
 {
-    let mut writer = Writer::new(alloc, bytes.len())?;
+    // A character that isn't ASCII mostly takes two bytes.
+    let mut writer = Writer::new(alloc, 2 * bytes.len())?;
     let mut sets = Designations::latin();
     let mut at = 0;
     while at < bytes.len() {
@@ -68,6 +69,8 @@ fn plain_front(sets: Designations, writer: &Writer, rest: &[u8]) -> usize
     ensures plain { list_all is_plain (take result rest.now) ≡ true }
     ensures basic { 0 < result → sets.g0 ≡ BasicLatin }
     ensures settled { 0 < result → string_bytes writer.now.run ≡ [] }
+    ensures all { sets.g0 ≡ BasicLatin → string_bytes writer.now.run ≡ []
+        → result < length rest.now → is_plain (slice_index rest.now result) ≡ false }
 {
     if matches!(sets.g0, Charset::BasicLatin) && writer.is_settled() {
         plain_len(rest)

@@ -1,8 +1,9 @@
-ghost use Rattle.std.specs.Prelude.{◌≡◌, ◌++◌, ◌↔◌, List, [], true, IsTrue, OnOk, IfOk, string_bytes};
+ghost use Rattle.std.specs.Prelude.{◌≡◌, ◌≤◌, ◌++◌, ◌↔◌, List, [], true, IsTrue, OnOk, IfOk, string_bytes};
 ghost use Rattle.marc8_latin.specs.declared.part.Meaning.{Meaning};
 ghost use Rattle.marc8_latin.specs.Text.{shown};
 ghost use Rattle.marc8_latin.specs.Progress.{is_plain, IsWritten};
 ghost use Rattle.std.specs.List.{list_all};
+ghost use Rattle.std.specs.String.{string_capacity};
 
 use crate::part::Meaning;
 use std::alloc::{AllocError, Global};
@@ -22,6 +23,7 @@ impl Writer {
     pub fn new(alloc: Global, capacity: usize) -> Result<Writer, AllocError>
         ensures text { IfOk result (λ writer. string_bytes writer.text ≡ []) }
         ensures run { IfOk result (λ writer. string_bytes writer.run ≡ []) }
+        ensures room { IfOk result (λ writer. capacity ≤ string_capacity writer.text) }
     {
         Ok(Writer {
             text: String::with_capacity(alloc, capacity)?,

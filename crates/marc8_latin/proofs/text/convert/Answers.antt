@@ -44,9 +44,9 @@ pub loop-at-preserved-then-plain-gt0 : goal.loop-at-preserved-then-plain-gt0
 loop-at-preserved-then-plain-gt0 c =
     let rest = take_rest c.args.bytes.now c.loop-at.at in
     let run : list_all is_plain (take c.plain_front-plain.result (drop c.loop-at.at c.args.bytes.now)) ≡ true =
-      rw rest at c.plain_front-plain.ensures.plain in
+    rw rest at c.plain_front-plain.ensures.plain in
     let text : string_bytes c.put_plain.new.self.text ≡ string_bytes c.loop-at.writer.text ++ take c.plain_front-plain.result (drop c.loop-at.at c.args.bytes.now) =
-      rw rest at c.in_ok-put_plain.ensures.text in
+    rw rest at c.in_ok-put_plain.ensures.text in
     record {
       within = omega (arith, rw rest at c.plain_front-plain.ensures.within, length-drop c.loop-at.at c.args.bytes.now);
       read = read_plain _ _ _ _ _ _ _ _ c.loop-at.invariant.read (c.plain_front-plain.ensures.basic c.if-plain-gt0.true) (c.plain_front-plain.ensures.settled c.if-plain-gt0.true) run text c.put_plain.ensures.run;
