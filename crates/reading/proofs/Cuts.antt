@@ -92,7 +92,7 @@ pub cut_more : (text rest : List ℕ) (subfields : List Subfield) (cut : Cut) �
     → IsCutUpTo text cut.rest.now (subfields ++ record { code = cut.code; text = cut.text.now } ∷ [])
 cut_more text rest subfields cut c parts first = more c.others c.spells (first c.others c.spells) where
   more : (others : List Subfield) → Spells others rest → IsFirstOf others (Some cut)
-    → IsCutUpTo text cut.rest.now (subfields ++ record { code = cut.code; text = cut.text.now } ∷ [])
+      → IsCutUpTo text cut.rest.now (subfields ++ record { code = cut.code; text = cut.text.now } ∷ [])
   more [] spells found = absurd found
   more (s ∷ others) spells found = record {
     others = others;

@@ -59,22 +59,30 @@ pub record IsReadAs (bytes : List ℕ) (leader : Leader) (fields : List Field) :
   pub count : length fields ≡ entry_count bytes
   pub fields_are : (entry : ℕ) (f : Field) → slice_get fields entry ≡ Some f → IsFieldAt bytes entry f
 
--- what a fault of an entry's text is refused as; offsets count from the field's first byte
-abbrev pub IsTextRefusal : List ℕ → ℕ → Marc8Fault → Refusal → Type 0
-IsTextRefusal bytes entry (BadByte place) refusal = refusal ≡ BadText entry (text_start bytes entry + place)
-IsTextRefusal bytes entry (marc8.OtherSet set place) refusal = refusal ≡ OtherSet set entry (text_start bytes entry + place)
-IsTextRefusal bytes entry NoMemory refusal = ⊥
+-- what a fault of an entry's text is refused as; offsets count from the field's first byte, which stands so far before the text
+abbrev pub IsTextRefusal : ℕ → ℕ → Marc8Fault → Refusal → Type 0
+IsTextRefusal entry start (BadByte place) refusal = refusal ≡ BadText entry (start + place)
+IsTextRefusal entry start (marc8.OtherSet set place) refusal = refusal ≡ OtherSet set entry (start + place)
+IsTextRefusal entry start NoMemory refusal = ⊥
 
--- the first entry whose text has a fault
+-- the text of an entry has a fault, which is refused so
+pub record IsEntryFault (bytes : List ℕ) (entry : ℕ) (refusal : Refusal) : Type 0 where
+  pub fault : Marc8Fault
+  pub here : IsFaultIn (coding_at bytes) (text_at bytes entry) fault
+  pub named : IsTextRefusal entry (text_start bytes entry) fault refusal
+
+-- the text of an entry has no fault
+abbrev pub HasText : List ℕ → ℕ → Type 0
+HasText bytes entry = (text : List ℕ) × IsTextIn (coding_at bytes) (text_at bytes entry) text
+
+-- the refusal is that of the first entry whose text has a fault
 pub record IsTextFault (bytes : List ℕ) (refusal : Refusal) : Type 0 where
   pub sound : IsSound bytes
   pub coding : is_known_coding (coding_at bytes) ≡ true
   pub entry : ℕ
   pub within : entry < entry_count bytes
-  pub before : (earlier : ℕ) → earlier < entry → (text : List ℕ) × IsTextIn (coding_at bytes) (text_at bytes earlier) text
-  pub fault : Marc8Fault
-  pub here : IsFaultIn (coding_at bytes) (text_at bytes entry) fault
-  pub named : IsTextRefusal bytes entry fault refusal
+  pub before : (earlier : ℕ) → earlier < entry → HasText bytes earlier
+  pub here : IsEntryFault bytes entry refusal
 
 -- the first refusal that applies, in the order of length, leader, directory, fields, coding and text
 abbrev pub IsRefusedAs : List ℕ → Refusal → Type 0

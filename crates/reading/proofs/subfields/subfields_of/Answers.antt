@@ -8,4 +8,4 @@ from_utf8_unchecked-text-requires c =
 pub loop-cut-preserved : goal.loop-cut-preserved
 loop-cut-preserved c =
     rw (c.in_ok-push.ensures.items, c.in_ok-from_str.ensures, c.from_utf8_unchecked-text.ensures)
-        (cut_more _ _ _ c.in-Some.cut c.loop-cut.invariant c.in-Some.ensures.parts c.in-Some.ensures.first)
+    (cut_more _ _ _ c.in-Some.cut c.loop-cut.invariant c.in-Some.ensures.parts c.in-Some.ensures.first)
