@@ -1,0 +1,6 @@
+use Rattle.reading.proofs.Fields.{control_read}
+use Rattle.reading.proofs.field.control_field.Goals as goal
+
+pub returns-clause-read : goal.returns-clause-read
+returns-clause-read c =
+    control_read _ _ _ _ c.requires.valid c.requires.control c.requires.fits c.requires.unended c.in_ok-text.ensures.text
