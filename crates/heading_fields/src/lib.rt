@@ -1,0 +1,16 @@
+//! Heading fields of MARC 21 records: which fields have headings and of what kind, the parts of a heading, the record
+//! control numbers in `$0`, and how a field takes over the heading of an authority.
+#![tactic(auto)]
+
+pub use numbers::names;
+pub use parts::{controlled, full, has_subdivision, heading_len};
+pub use rewriting::{rewrite, unlink};
+pub use tables::{authority_kind, heading_kind, takes_subdivisions};
+
+pub mod laws;
+mod numbers;
+mod parts;
+mod rewriting;
+mod tables;
+#[cfg(test)]
+mod tests;
