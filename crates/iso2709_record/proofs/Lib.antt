@@ -1,0 +1,17 @@
+pub mod Digits
+pub mod Lengths
+pub mod Places
+pub mod Progress
+pub mod Numbers
+pub mod Endings
+pub mod Directory
+pub mod Sound
+pub mod RawFields
+pub mod Spelled
+pub mod Cutting
+pub mod Spellings
+pub mod Marked
+pub mod Leaders
+pub mod ReadAgain
+pub mod Refusals
+pub mod Terminators

@@ -1,0 +1,92 @@
+ghost use Rattle.std.specs.Prelude.{◌≡◌, ◌==◌, not};
+ghost use Rattle.std.specs.List.{list_any, list_all};
+ghost use Rattle.marc_types.specs.Valid.{is_printable, is_alphanumeric};
+ghost use Rattle.iso2709_record.specs.Written.{delimiter};
+ghost use Rattle.iso2709_record.specs.Faults.{ends_once, is_control_data, starts_subfield, codes_follow, is_subfield_data, is_variable_data};
+
+use marc_types::{is_alphanumeric_byte, is_graphic_byte, is_printable_byte};
+use memchr::memchr;
+
+pub(crate) const RECORD_TERMINATOR: u8 = 0x1d;
+
+pub(crate) const FIELD_TERMINATOR: u8 = 0x1e;
+
+pub(crate) const DELIMITER: u8 = 0x1f;
+
+pub(crate) fn are_printable(bytes: &[u8]) -> bool
+    ensures { result ≡ list_all is_printable bytes.now }
+{
+    bytes.iter().all(|byte| is_printable_byte(*byte))
+}
+
+pub(crate) fn are_alphanumeric(bytes: &[u8]) -> bool
+    ensures { result ≡ list_all is_alphanumeric bytes.now }
+{
+    bytes.iter().all(|byte| is_alphanumeric_byte(*byte))
+}
+
+#[tactic(auto, using(crate::proofs::Endings::ends_once_first, crate::proofs::Endings::ends_once_none))]
+/// Whether the last byte is the mark, and no earlier byte is.
+pub(crate) fn ends_once(mark: u8, bytes: &[u8]) -> bool
+    ensures { result ≡ ends_once mark bytes.now }
+{
+    match memchr(mark, bytes) {
+        Some(place) => place + 1 == bytes.len(),
+        None => false,
+    }
+}
+
+/// Whether some byte is a delimiter.
+fn has_delimiter(bytes: &[u8]) -> bool
+    ensures { result ≡ list_any (λ b. b == delimiter) bytes.now }
+{
+    bytes.iter().any(|byte| *byte == DELIMITER)
+}
+
+/// Whether no byte is a delimiter.
+#[tactic(auto, unfolding(crate::specs::Faults::is_control_data))]
+pub(crate) fn is_control_data(bytes: &[u8]) -> bool
+    ensures { result ≡ is_control_data bytes.now }
+{
+    !has_delimiter(bytes)
+}
+
+#[tactic(auto, using(crate::proofs::Endings::follows_next, crate::proofs::Endings::follows_end))]
+/// Whether each delimiter is followed by a code.
+fn codes_follow(bytes: &[u8]) -> bool
+    ensures { result ≡ codes_follow bytes.now }
+{
+    let mut wants_code = false;
+    for byte in bytes {
+        if wants_code && !is_graphic_byte(*byte) {
+            return false;
+        }
+        wants_code = *byte == DELIMITER;
+    }
+    !wants_code
+}
+
+/// Whether there is no byte, or the first is a delimiter.
+fn starts_subfield(bytes: &[u8]) -> bool
+    ensures { result ≡ starts_subfield bytes.now }
+{
+    match bytes {
+        [] => true,
+        [first, ..] => *first == DELIMITER,
+    }
+}
+
+#[tactic(auto, unfolding(crate::specs::Faults::is_subfield_data))]
+fn is_subfield_data(bytes: &[u8]) -> bool
+    ensures { result ≡ is_subfield_data bytes.now }
+{
+    starts_subfield(bytes) && codes_follow(bytes)
+}
+
+/// Whether two indicators and subfields are all that stands there.
+#[tactic(auto, unfolding(crate::specs::Faults::is_variable_data))]
+pub(crate) fn is_variable_data(bytes: &[u8]) -> bool
+    ensures { result ≡ is_variable_data bytes.now }
+{
+    bytes.len() >= 2 && are_printable(&bytes[..2]) && is_subfield_data(&bytes[2..])
+}
