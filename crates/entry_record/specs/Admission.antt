@@ -1,20 +1,19 @@
 -- Which records a catalogue takes. The rules are this project's own: every kept record has to fit, whatever headings it is
 -- given later.
-use Rattle.std.specs.Prelude.{ℕ, ◌+◌, ◌*◌, ◌==◌, Bool, true, false, ◌&&◌, ◌||◌, not, nat_lt, List, [], ◌∷◌, length, filter, Option, Some, None, if◌then◌else◌}
-use Rattle.std.specs.List.{list_any}
+use Rattle.std.specs.Prelude.{ℕ, ◌+◌, ◌*◌, ◌==◌, Bool, false, ◌&&◌, ◌||◌, not, nat_lt, List, Option, Some, None, if◌then◌else◌}
+use Rattle.std.specs.List.{list_any, count_by}
 use Rattle.std.specs.Option.{option_map_or, is_none}
 use Rattle.marc_types.specs.Valid.{is_code, is_number, subfields_size}
 use Rattle.marc_types.specs.declared.field.Leader.{Leader}
 use Rattle.marc_types.specs.declared.field.Field.{Field}
 use Rattle.marc_types.specs.declared.key.Class.{Class}
-use Rattle.marc_types.specs.declared.form.Kind.{Kind}
 use Rattle.marc_types.specs.declared.refusal.Refusal.{Refusal}
 use Rattle.marc_types.specs.declared.refusal.Refusal.TheVariants.{OtherType, NoNumber, BadCode, NoHeading, HeadingTooLong, NoRoom}
 use Rattle.heading_fields.specs.Tables.{authority_kind_of}
 use Rattle.heading_fields.specs.Parts.{tag_of, base_part}
 use Rattle.iso2709_record.specs.Written.{record_length, field_length}
-use Rattle.entry_record.specs.Identity.{class_of, is_known_type, is_deletion, number_of, code_of}
-use Rattle.entry_record.specs.Authority.{longest_heading, is_heading, is_see_from, heading_of, is_heading_field}
+use Rattle.entry_record.specs.Identity.{class_of, is_known_type, is_deletion, control_number_of, code_of}
+use Rattle.entry_record.specs.Authority.{longest_heading, is_see_from, heading_of, is_heading_field}
 
 -- authority data that isn't a deletion
 abbrev pub is_living_authority : Leader → Bool
@@ -39,20 +38,17 @@ heading_growth = 600
 abbrev pub grown_length : Class → Field → ℕ
 grown_length class f = if is_heading_field class f then field_length f + heading_growth else field_length f
 
-abbrev pub heading_fields : Class → List Field → List Field
-heading_fields class fields = filter (is_heading_field class) fields
-
 -- the record, or one of its fields, can become too long
 unfoldable pub has_no_room : Class → List Field → Bool
 has_no_room class fields =
-    nat_lt 99999 (record_length fields + heading_growth * length (heading_fields class fields))
+    nat_lt 99999 (record_length fields + heading_growth * count_by (is_heading_field class) fields)
     || list_any (λ f. nat_lt 9999 (grown_length class f)) fields
 
 -- the first reason for which a catalogue doesn't take a record of a file with this library code
 unfoldable pub admission_refusal : List ℕ → Leader → List Field → Option Refusal
 admission_refusal library l fields =
     if not (is_known_type l.rtype) then Some OtherType
-    else if not (is_number (number_of fields)) then Some NoNumber
+    else if not (is_number (control_number_of fields)) then Some NoNumber
     else if not (is_code (code_of library fields)) then Some BadCode
     else if is_living_authority l && is_none (heading_of fields) then Some NoHeading
     else if is_living_authority l && has_long_heading fields then Some HeadingTooLong

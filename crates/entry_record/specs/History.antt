@@ -1,5 +1,7 @@
 -- Entries, histories, and what the files of one command add to a history. The rules are this project's own.
-use Rattle.std.specs.Prelude.{◌≡◌, ℕ, ◌+◌, ◌<◌, ◌≤◌, ◌==◌, List, [], ◌∷◌, ◌++◌, length, map, filter, slice_get, All, true, Some, None}
+use Rattle.std.specs.Prelude.{◌≡◌, ℕ, ◌+◌, ◌<◌, ◌≤◌, ◌==◌, List, ◌++◌, length, map, filter, slice_get, All, true, Some, None}
+use Rattle.std.specs.List.{sum_by, last_or}
+use Rattle.std.specs.Option.{option_map_or}
 use Rattle.marc_types.specs.Valid.{is_code}
 use Rattle.marc_types.specs.declared.entry.Entry.{Entry}
 use Rattle.iso2709_record.specs.Written.{record_length}
@@ -21,8 +23,7 @@ abbrev pub entry_size : Entry → ℕ
 entry_size e = 12 + record_length e.rec.fields
 
 abbrev pub entries_size : List Entry → ℕ
-entries_size [] = 0
-entries_size (e ∷ es) = entry_size e + entries_size es
+entries_size entries = sum_by entry_size entries
 
 abbrev pub arrival_of : Entry → Arrival
 arrival_of e = record { class = e.class; key = e.key; leader = e.rec.leader; fields = e.rec.fields }
@@ -41,9 +42,7 @@ abbrev pub with_run : ℕ → List Entry → List Entry
 with_run run entries = map (in_run run) entries
 
 abbrev pub last_run : List Entry → ℕ
-last_run [] = 0
-last_run (e ∷ []) = e.run
-last_run (e ∷ next ∷ es) = last_run (next ∷ es)
+last_run history = option_map_or (λ e. e.run) (last_or None history) 0
 
 -- the run of what one command adds: one more than that of the last entry before, and the first is 1
 abbrev pub next_run : List Entry → ℕ
@@ -52,14 +51,12 @@ next_run before = 1 + last_run before
 -- What some files added behind a history: each file's accepted entries, each once and in its file's order, in one run. The
 -- number of a file is that of its loader.
 pub record IsMerged (before : List Entry) (accepted : List (List Entry)) (added : List Entry) : Type 0 where
-  pub runs : All (λ e. e.run ≡ next_run before) added
   pub loaders : All (λ e. e.loader < length accepted) added
   pub files : (loader : ℕ) (entries : List Entry) → slice_get accepted loader ≡ Some entries →
-    brought_by loader added ≡ with_run (next_run before) entries
+      brought_by loader added ≡ with_run (next_run before) entries
 
 -- the same of a front of each file's accepted entries
 pub record IsPartlyMerged (before : List Entry) (accepted : List (List Entry)) (added : List Entry) : Type 0 where
-  pub runs : All (λ e. e.run ≡ next_run before) added
   pub loaders : All (λ e. e.loader < length accepted) added
   pub files : (loader : ℕ) (entries : List Entry) → slice_get accepted loader ≡ Some entries →
-    (rest : List Entry) × (brought_by loader added ++ rest ≡ with_run (next_run before) entries)
+      (rest : List Entry) × (brought_by loader added ++ rest ≡ with_run (next_run before) entries)

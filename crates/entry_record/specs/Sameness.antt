@@ -1,16 +1,15 @@
 -- When two kept fields are the same: the field and its tie.
-use Rattle.std.specs.Prelude.{ℕ, ◌==◌, Bool, true, false, ◌&&◌, List, Option, Some, None, bytes_eq}
+use Rattle.std.specs.Prelude.{◌==◌, Bool, false, ◌&&◌, bytes_eq}
 use Rattle.std.specs.Bool.{beq}
-use Rattle.std.specs.Ordering.{eq_by_cmp}
+use Rattle.std.specs.Option.{option_eq}
 use Rattle.std.specs.Cmp.Lexicographic.{pointwise}
-use Rattle.marc_types.specs.Order.{key_cmp}
 use Rattle.marc_types.specs.declared.field.Tag.{Tag}
 use Rattle.marc_types.specs.declared.field.Subfield.{Subfield}
 use Rattle.marc_types.specs.declared.field.Field.{Field}
 use Rattle.marc_types.specs.declared.field.Field.TheVariants.{Control, Variable}
-use Rattle.marc_types.specs.declared.key.Key.{Key}
 use Rattle.marc_types.specs.declared.entry.Tie.{Tie}
-use Rattle.entry_record.specs.State.{Held}
+use Rattle.entry_record.specs.Identity.{same_key}
+use Rattle.entry_record.specs.State.{KeptField}
 
 abbrev pub same_tag : Tag → Tag → Bool
 same_tag s t = (s.a == t.a) && (s.b == t.b) && (s.c == t.c)
@@ -25,14 +24,8 @@ same_field (Variable tag ind1 ind2 subs) (Variable other one two others) =
 same_field (Control tag text) (Variable other one two others) = false
 same_field (Variable tag ind1 ind2 subs) (Control other words) = false
 
-abbrev pub same_optional_key : Option Key → Option Key → Bool
-same_optional_key None None = true
-same_optional_key (Some j) (Some k) = eq_by_cmp key_cmp j k
-same_optional_key None (Some k) = false
-same_optional_key (Some j) None = false
-
 unfoldable pub same_tie : Tie → Tie → Bool
-same_tie s t = same_optional_key s.key t.key && beq s.whole t.whole && same_optional_key s.awaits t.awaits
+same_tie s t = option_eq same_key s.key t.key && beq s.whole t.whole && option_eq same_key s.awaits t.awaits
 
-abbrev pub same_held : Held → Held → Bool
-same_held g h = same_field g.field h.field && same_tie g.tie h.tie
+abbrev pub same_kept : KeptField → KeptField → Bool
+same_kept g h = same_field g.field h.field && same_tie g.tie h.tie
