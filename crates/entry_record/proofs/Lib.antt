@@ -1,0 +1,5 @@
+pub mod Elements
+pub mod Fit
+pub mod Once
+pub mod Proper
+pub mod Steady
