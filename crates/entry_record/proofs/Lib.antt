@@ -2,4 +2,8 @@ pub mod Elements
 pub mod Fit
 pub mod Once
 pub mod Proper
+pub mod Reach
+pub mod Rows
+pub mod Settled
+pub mod Sizes
 pub mod Steady
