@@ -2,7 +2,9 @@ pub mod Elements
 pub mod Fit
 pub mod Once
 pub mod Proper
+pub mod Put
 pub mod Reach
+pub mod Room
 pub mod Rows
 pub mod Settled
 pub mod Sizes

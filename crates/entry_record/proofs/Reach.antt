@@ -72,7 +72,7 @@ kind_unlinked class f key =
 
 -- ---- the reach of a heading field
 
-reach_of : (class : Class) (h : KeptField) (kind : Kind) → heading_kind class h.field ≡ Some kind → reach class h ≡ heading_reach class h kind
+pub reach_of : (class : Class) (h : KeptField) (kind : Kind) → heading_kind class h.field ≡ Some kind → reach class h ≡ heading_reach class h kind
 unfolding reach
 reach_of class h kind e = rw e refl
 

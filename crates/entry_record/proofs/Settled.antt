@@ -88,7 +88,7 @@ kind_by_is kind None own e k = cc
 kind_by_is kind (Some other) own e k = let same : other ≡ own = cc in sym same ∙ sym (same_kind_is kind other k)
 
 -- the kind of a heading field
-heading_some : (o : Option Kind) → is_some o ≡ true → (kind : Kind) × (o ≡ Some kind)
+pub heading_some : (o : Option Kind) → is_some o ≡ true → (kind : Kind) × (o ≡ Some kind)
 heading_some None e = cc
 heading_some (Some kind) e = (kind, refl)
 
