@@ -1,5 +1,6 @@
 pub mod Elements
 pub mod Fit
+pub mod Fitting
 pub mod Once
 pub mod Proper
 pub mod Put
@@ -8,4 +9,5 @@ pub mod Room
 pub mod Rows
 pub mod Settled
 pub mod Sizes
+pub mod States
 pub mod Steady

@@ -33,7 +33,7 @@ link_of : (all : List Linkable) (class : Class) (h : KeptField) (key : Key) (o :
 link_of all class h key None e l = cc
 link_of all class h key (Some k) e l = let same : k ≡ key = cc in rw (← same) l
 
-link_some : (all : List Linkable) (class : Class) (h : KeptField) (o : Option Key) → is_some o ≡ true → IfSome o (IsLink all class h) → (key : Key) × IsLink all class h key
+pub link_some : (all : List Linkable) (class : Class) (h : KeptField) (o : Option Key) → is_some o ≡ true → IfSome o (IsLink all class h) → (key : Key) × IsLink all class h key
 link_some all class h None e l = cc
 link_some all class h (Some key) e l = (key, l)
 

@@ -58,7 +58,8 @@ room_kept class change row a room = record {
 
 -- ---- a record that comes in
 
-kind_of_variable : (class : Class) (f : Field) (kind : Kind) → kind_of class f ≡ Some kind → field_length f ≡ subfields_size (subfields_of f) + 3
+-- a heading field isn't a control field
+pub kind_of_variable : (class : Class) (f : Field) (kind : Kind) → kind_of class f ≡ Some kind → field_length f ≡ subfields_size (subfields_of f) + 3
 kind_of_variable class (Control tag text) kind e = cc
 kind_of_variable class (Variable tag ind1 ind2 subs) kind e = field_length-variable tag ind1 ind2 subs
 
@@ -70,12 +71,13 @@ new_heading_reach class f kind e =
     let parts = part_and_outside false kind (subfields_of f) in
     omega arith
 
-other_reach : (class : Class) (f : Field) → heading_kind class f ≡ None → reach class (new_field f) ≡ field_length f
+-- the reach of a field that is no heading field
+pub other_reach : (class : Class) (h : KeptField) → heading_kind class h.field ≡ None → reach class h ≡ field_length h.field
 unfolding reach
-other_reach class f e = rw e refl
+other_reach class h e = rw e refl
 
 grown_at : (class : Class) (f : Field) (o : Option Kind) → heading_kind class f ≡ o → reach class (new_field f) ≤ (if is_some o then field_length f + 600 else field_length f)
-grown_at class f None e = let is = other_reach class f e in omega arith
+grown_at class f None e = let is = other_reach class (new_field f) e in omega arith
 grown_at class f (Some kind) e = new_heading_reach class f kind e
 
 -- the reach of a new field is what it may grow to

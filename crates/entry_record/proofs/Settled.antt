@@ -71,19 +71,20 @@ done_firm all class h whole c f r = record {
 
 -- ---- a linked field
 
-record IsKeptBy (all : List Linkable) (class : Class) (h : KeptField) (key : Key) (c : Linkable) : Type 0 where
-  found : find (has_key key) all ≡ Some c
-  bare : (h.tie.whole || is_bare c) ≡ true
-  kind_is : is_kind c.kind (kind_of class h.field) ≡ true
+-- the authority that keeps a link
+pub record IsKeptBy (all : List Linkable) (class : Class) (h : KeptField) (key : Key) (c : Linkable) : Type 0 where
+  pub found : find (has_key key) all ≡ Some c
+  pub bare : (h.tie.whole || is_bare c) ≡ true
+  pub kind_is : is_kind c.kind (kind_of class h.field) ≡ true
 
-kept_by : (all : List Linkable) (class : Class) (h : KeptField) (key : Key) (o : Option Linkable) → find (has_key key) all ≡ o →
+pub kept_by : (all : List Linkable) (class : Class) (h : KeptField) (key : Key) (o : Option Linkable) → find (has_key key) all ≡ o →
     option_map_or (λ c. (h.tie.whole || is_bare c) && is_kind c.kind (kind_of class h.field)) o false ≡ true → (c : Linkable) × IsKeptBy all class h key c
 kept_by all class h key None e k = cc
 kept_by all class h key (Some c) e k =
     let both = and_both (h.tie.whole || is_bare c) (is_kind c.kind (kind_of class h.field)) k in
     (c, record { found = e; bare = both.0; kind_is = both.1 })
 
-kind_by_is : (kind : Kind) (o : Option Kind) (own : Kind) → o ≡ Some own → is_kind kind o ≡ true → own ≡ kind
+pub kind_by_is : (kind : Kind) (o : Option Kind) (own : Kind) → o ≡ Some own → is_kind kind o ≡ true → own ≡ kind
 kind_by_is kind None own e k = cc
 kind_by_is kind (Some other) own e k = let same : other ≡ own = cc in sym same ∙ sym (same_kind_is kind other k)
 
