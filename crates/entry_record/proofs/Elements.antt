@@ -12,6 +12,10 @@ pub each_weaker : {A : Type 0} (P Q : A → Type 0) → ((x : A) → P x → Q x
 each_weaker P Q f [] a = tt
 each_weaker P Q f (x ∷ xs) a = (f x a.0, each_weaker P Q f xs a.1)
 
+pub each_anything : {A : Type 0} (xs : List A) → Each (λ (x : A). Unit {0}) xs
+each_anything [] = tt
+each_anything (x ∷ xs) = (tt, each_anything xs)
+
 pub each_both : {A : Type 0} (P Q : A → Type 0) (xs : List A) → Each P xs → Each Q xs → Each (λ x. P x × Q x) xs
 each_both P Q [] a b = tt
 each_both P Q (x ∷ xs) a b = ((a.0, b.0), each_both P Q xs a.1 b.1)

@@ -1,17 +1,15 @@
 -- What a choice links a field to: an authority that is found by its own key, of the field's kind, and bare where the field
 -- isn't whole.
-use Rattle.std.proofs.Common.{◌≡◌, ◌≢◌, ℕ, ◌≤◌, Bool, true, false, ◌&&◌, ◌||◌, not, List, [], ◌∷◌, length, Option, Some, None, refl, sym, ap, ◌∙◌, if◌then◌else◌, arith}
+use Rattle.std.proofs.Common.{◌≡◌, ◌≢◌, ◌≤◌, Bool, true, false, ◌&&◌, ◌||◌, not, List, [], ◌∷◌, length, Option, Some, None, refl, sym, ap, ◌∙◌, if◌then◌else◌, arith}
 use Rattle.std.specs.Prelude.{find, filter, IfSome, unwrap_or}
 use Rattle.std.specs.List.{list_any}
 use Rattle.std.specs.Option.{option_map}
-use Rattle.std.specs.Ordering.{eq_by_cmp}
 use Rattle.marc_types.specs.declared.field.Subfield.{Subfield}
 use Rattle.marc_types.specs.declared.key.Class.{Class}
-use Rattle.marc_types.specs.declared.key.Key.{Key}
 use Rattle.marc_types.specs.declared.form.Kind.{Kind}
 use Rattle.marc_types.specs.declared.form.Form.{Form}
 use Rattle.marc_types.specs.Valid.{subfields_size}
-use Rattle.marc_types.specs.Order.{kind_rank, kind_rank_same, key_cmp, form_cmp, form_Decides}
+use Rattle.marc_types.specs.Order.{kind_rank_same, form_Decides}
 use Rattle.heading_fields.specs.Parts.{subfields_of, part, base_part, full_part}
 use Rattle.heading_fields.specs.Numbers.{is_naming, is_blankless}
 use Rattle.naco_form.specs.Form.{form_of}
@@ -159,13 +157,16 @@ good_full authorities class kind h fits true e =
     let form = full_form kind class h.field in
     good_form P authorities authorities true form
     (each_weaker (IsFit authorities) (λ c. IsFit authorities c × (form.kind ≡ c.kind → P c true))
-    (λ c fit. (fit, λ same. record {
-      fit = fit;
-      kind_is = sym (formed_of kind (full_part kind class h.field)) ∙ same;
-      bare = refl;
-      takes = λ w. e;
-      never_less = λ w. cc;
-    })) authorities fits)
+    (λ c fit. (
+      fit,
+      λ same. record {
+        fit = fit;
+        kind_is = sym (formed_of kind (full_part kind class h.field)) ∙ same;
+        bare = refl;
+        takes = λ w. e;
+        never_less = λ w. cc;
+      },
+    )) authorities fits)
 
 not_whole : (w x t : Bool) → (not w && x) ≡ true → (w && t) ≡ false
 not_whole true x t e = cc
@@ -179,13 +180,16 @@ good_base authorities class kind h fits true e =
     let form = base_form kind h.field in
     good_form P authorities (filter is_bare authorities) false form
     (each_weaker (λ c. IsFit authorities c × (is_bare c ≡ true)) (λ c. IsFit authorities c × (form.kind ≡ c.kind → P c false))
-    (λ c both. (both.0, λ same. record {
-      fit = both.0;
-      kind_is = sym (formed_of kind (base_part kind h.field)) ∙ same;
-      bare = both.1;
-      takes = λ w. cc;
-      never_less = λ w. not_whole h.tie.whole (not (takes_subdivisions class h) || has_subdivision h) (takes_subdivisions class h) e;
-    })) (filter is_bare authorities) (each_filter (IsFit authorities) is_bare authorities fits))
+    (λ c both. (
+      both.0,
+      λ same. record {
+        fit = both.0;
+        kind_is = sym (formed_of kind (base_part kind h.field)) ∙ same;
+        bare = both.1;
+        takes = λ w. cc;
+        never_less = λ w. not_whole h.tie.whole (not (takes_subdivisions class h) || has_subdivision h) (takes_subdivisions class h) e;
+      },
+    )) (filter is_bare authorities) (each_filter (IsFit authorities) is_bare authorities fits))
 
 else_unlinked : (P : Linkable → Bool → Type 0) (o : Option Choice) → IfSome o (IfLink P) → IfLink P (unwrap_or o Unlinked)
 else_unlinked P None h = tt

@@ -1,7 +1,7 @@
 -- Every record of a valid state fits into its written form.
-use Rattle.std.proofs.Common.{◌≡◌, ◌≢◌, ℕ, suc, ◌+◌, ◌*◌, ◌≤◌, max, Bool, true, false, ◌&&◌, ◌||◌, not, List, [], ◌∷◌, map, length, Option, Some, None, is_some, refl, sym, ap, ◌∙◌, arith}
+use Rattle.std.proofs.Common.{◌≡◌, suc, ◌≤◌, true, List, [], ◌∷◌, map, length, Option, Some, None, refl, ap, ◌∙◌, arith}
 use Rattle.std.specs.Prelude.{All, IfSome, find, nat_le}
-use Rattle.std.specs.List.{sum_by, AllPass}
+use Rattle.std.specs.List.{sum_by}
 use Rattle.std.proofs.lemmas.Bool.{le-leb}
 use Rattle.std.proofs.lemmas.List.Sums.{sum_by-cons}
 use Rattle.std.proofs.lemmas.List.Elements.{All-from_recursion, recursion_from_All}
@@ -16,20 +16,19 @@ use Rattle.marc_types.specs.Valid.{subfields_size}
 use Rattle.heading_fields.specs.Tables.{kind_of}
 use Rattle.heading_fields.specs.Parts.{subfields_of, written_length, field_outside, reaches}
 use Rattle.heading_fields.specs.Numbers.{unnumbered}
-use Rattle.heading_fields.specs.Rewriting.{rewriting}
 use Rattle.heading_fields.proofs.Fieldlaws.{written_length_rewriting}
 use Rattle.iso2709_record.specs.Written.{field_length, fields_length, record_length, fits}
 use Rattle.iso2709_record.proofs.Lengths.{field_length-variable, fits_from}
-use Rattle.entry_record.specs.Authority.{Linkable, heading_kind, is_heading_field}
+use Rattle.entry_record.specs.Authority.{Linkable, heading_kind}
 use Rattle.entry_record.specs.State.{KeptField, Row, State, fields_of, linkable_authorities}
 use Rattle.entry_record.specs.Choice.{has_key}
-use Rattle.entry_record.specs.Valid.{IsLink, IsTied, IsRewrittenFrom, IsRewritten, HasRoom, IsValid, IsRow, EachRow, EachField, other_subfields, reach}
+use Rattle.entry_record.specs.Valid.{IsLink, IsTied, IsRewrittenFrom, IsRewritten, HasRoom, IsValid, IsRow, EachRow, other_subfields, reach}
 use Rattle.entry_record.proofs.Elements.{Each, each_weaker, each_both, find_found}
 use Rattle.entry_record.proofs.Fit.{IsFit}
 use Rattle.entry_record.proofs.Proper.{all_fit}
-use Rattle.entry_record.proofs.Reach.{IsHeadingOf, heading_of_kind, reach_of}
+use Rattle.entry_record.proofs.Reach.{heading_of_kind, reach_of}
 use Rattle.entry_record.proofs.Room.{kind_of_variable, other_reach}
-use Rattle.entry_record.proofs.Settled.{IsKeptBy, kept_by, kind_by_is, heading_some}
+use Rattle.entry_record.proofs.Settled.{IsKeptBy, kept_by, kind_by_is}
 use Rattle.entry_record.proofs.Sizes.{part_and_outside, part_within_full}
 
 written_is : (class : Class) (f : Field) (kind : Kind) → kind_of class f ≡ Some kind → written_length f ≡ field_length f
@@ -62,7 +61,7 @@ rewritten_within all class h c fit e key same =
     let out : subfields_size (other_subfields h.tie.key (field_outside h.tie.whole c.kind class h.field)) ≡ subfields_size (unnumbered c.key (field_outside h.tie.whole c.kind class h.field)) = rw key refl in
     omega arith
 
-from_found : (class : Class) (h : KeptField) (c : Linkable) (o : Option Linkable) → o ≡ Some c → IfSome o (IsRewrittenFrom class h) → IsRewrittenFrom class h c
+pub from_found : (class : Class) (h : KeptField) (c : Linkable) (o : Option Linkable) → o ≡ Some c → IfSome o (IsRewrittenFrom class h) → IsRewrittenFrom class h c
 from_found class h c None e r = cc
 from_found class h c (Some d) e r = let same : d ≡ c = cc in rw (← same) r
 

@@ -11,3 +11,4 @@ pub mod Settled
 pub mod Sizes
 pub mod States
 pub mod Steady
+pub mod Still

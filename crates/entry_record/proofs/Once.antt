@@ -1,18 +1,17 @@
 -- Settling twice is settling once.
-use Rattle.std.proofs.Common.{◌≡◌, Bool, true, false, List, [], ◌∷◌, map, Option, Some, None, is_some, refl, sym, ap, ◌∙◌, inl, inr}
-use Rattle.std.specs.Prelude.{find, filter_map, IfSome, All}
+use Rattle.std.proofs.Common.{◌≡◌, Bool, true, List, [], ◌∷◌, map, Option, Some, None, refl, ap, ◌∙◌, inl, inr}
+use Rattle.std.specs.Prelude.{find, filter_map, All}
 use Rattle.std.specs.Option.{option_map_or}
 use Rattle.marc_types.specs.declared.key.Class.{Class}
 use Rattle.marc_types.specs.declared.key.Class.TheVariants.{Authority, Bibliographic}
 use Rattle.marc_types.specs.declared.key.Key.{Key}
 use Rattle.marc_types.specs.declared.form.Kind.{Kind}
-use Rattle.heading_fields.specs.Parts.{tag_of}
 use Rattle.heading_fields.proofs.Fieldlaws.{rewriting_twice, tag_of_rewriting}
 use Rattle.entry_record.specs.Authority.{Linkable, heading_kind, is_heading_field}
 use Rattle.entry_record.specs.State.{KeptField, Row, State, linkable_authorities, row_linkable, each_in_row, each_field}
 use Rattle.entry_record.specs.Choice.{Choice, Link, Ambiguous, Unlinked, has_key, choice}
 use Rattle.entry_record.specs.Settle.{link_to, take_choice, settle_linked, settle_unlinked, settle_field, settle}
-use Rattle.entry_record.specs.Valid.{IsAscending, IsRow, IsLinkOfHeading, IsOrdered}
+use Rattle.entry_record.specs.Valid.{IsAscending, IsRow, IsLinkOfHeading, IsReadyToSettle}
 use Rattle.std.proofs.lemmas.List.Elements.{recursion_from_All}
 use Rattle.entry_record.proofs.Elements.{Each, each_weaker, find_found}
 use Rattle.entry_record.proofs.Fit.{IsFit, IsGood, IfLink, good_choice}
@@ -132,6 +131,6 @@ each_row_of P rows a =
     each_weaker (λ (row : Row). All P row.1.fields) (λ (row : Row). Each P row.1.fields) (λ row b. recursion_from_All P row.1.fields b) rows
     (recursion_from_All (λ (row : Row). All P row.1.fields) rows a)
 
-pub settle_twice : (s : State) → IsOrdered s → settle (settle s) ≡ settle s
+pub settle_twice : (s : State) → IsReadyToSettle s → settle (settle s) ≡ settle s
 settle_twice s o =
     state_once s o.authorities_ascend (recursion_from_All (IsRow Authority) s.authorities o.authority_rows) (each_row_of (IsLinkOfHeading Authority) s.authorities o.links.0)

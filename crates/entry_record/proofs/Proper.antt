@@ -1,23 +1,18 @@
 -- The linkable authorities of rows in key order: each is found by its own key, and is as the authorities that fields are
 -- linked to have to be.
-use Rattle.std.proofs.Common.{◌≡◌, ◌≢◌, ℕ, ◌≤◌, ◌==◌, ◌<◌, Bool, true, false, ◌&&◌, not, cond, List, [], ◌∷◌, map, length, Option, Some, None, refl, sym, ap, ◌∙◌, arith, if◌then◌else◌}
+use Rattle.std.proofs.Common.{◌≡◌, ◌≢◌, ℕ, ◌≤◌, ◌==◌, Bool, true, false, ◌&&◌, not, List, [], ◌∷◌, map, length, Option, Some, None, refl, arith, if◌then◌else◌}
 use Rattle.std.specs.Prelude.{find, filter, filter_map, nat_le, option_and_then}
 use Rattle.std.specs.List.{list_all, AllByRecursion, cons_option}
 use Rattle.std.specs.List.Sorted.{IsStrictlySortedBy}
 use Rattle.std.specs.Map.{keys_of}
 use Rattle.std.specs.Option.{option_map}
-use Rattle.std.specs.Ordering.{is_eq, ordering_reverse}
-use Rattle.std.specs.declared.cmp.Ordering.{Ordering}
 use Rattle.std.specs.declared.cmp.Ordering.TheVariants.{Less}
 use Rattle.std.specs.Cmp.{eq_by_cmp_equiv}
 use Rattle.std.proofs.lemmas.Bool.{leb-true}
 use Rattle.std.proofs.lemmas.Grind.{common_steps}
-use Rattle.std.proofs.lemmas.List.Sums.{AllPass-from_list_all}
 use Rattle.marc_types.specs.Valid.{is_code, is_code_byte, is_number, is_graphic, subfields_size}
 use Rattle.marc_types.specs.Order.{key_cmp, key_cmp_total}
 use Rattle.marc_types.specs.declared.field.Field.{Field}
-use Rattle.marc_types.specs.declared.field.Subfield.{Subfield}
-use Rattle.marc_types.specs.declared.key.Class.{Class}
 use Rattle.marc_types.specs.declared.key.Class.TheVariants.{Authority}
 use Rattle.marc_types.specs.declared.key.Key.{Key}
 use Rattle.marc_types.specs.declared.form.Kind.{Kind}
@@ -27,11 +22,11 @@ use Rattle.heading_fields.specs.Parts.{tag_of, subfields_of, part, base_part, fu
 use Rattle.heading_fields.specs.Numbers.{is_blankless}
 use Rattle.naco_form.specs.Form.{form_of, items_of}
 use Rattle.entry_record.specs.Identity.{same_key}
-use Rattle.entry_record.specs.Authority.{Linkable, is_heading, heading_of, is_empty, base_form, full_form, has_form, option_filter, is_short_in_full, is_tracing_of, see_from_forms, linkable_kind, linkable_with, linkable_by, linkable_of}
+use Rattle.entry_record.specs.Authority.{Linkable, is_heading, heading_of, full_form, has_form, option_filter, is_short_in_full, is_tracing_of, see_from_forms, linkable_kind, linkable_with, linkable_by, linkable_of}
 use Rattle.entry_record.specs.State.{Row, fields_of, row_linkable}
 use Rattle.entry_record.specs.Choice.{has_key}
 use Rattle.entry_record.specs.Valid.{IsAscending, IsRow}
-use Rattle.entry_record.proofs.Elements.{Each, each_weaker, each_both, find_found}
+use Rattle.entry_record.proofs.Elements.{Each, each_anything, each_weaker, each_both, find_found}
 use Rattle.entry_record.proofs.Fit.{IsFit, formed_of}
 
 pub and_both : (a b : Bool) → (a && b) ≡ true → (a ≡ true) × (b ≡ true)
@@ -136,12 +131,8 @@ proper_by : (key : Key) (fields : List Field) (c : Linkable) (o : Option Field) 
     option_and_then (linkable_by key fields) o ≡ Some c → IsProper key c
 proper_by key fields c None e s = cc
 proper_by key fields c (Some f) e s =
-    let found = find_found (λ (g : Field). Unit {0}) is_heading fields f (all fields) e in
+    let found = find_found (λ (g : Field). Unit {0}) is_heading fields f (each_anything fields) e in
     proper_by_kind key fields f c (linkable_kind f) found.1 refl s
-  where
-    all : (fs : List Field) → Each (λ (g : Field). Unit {0}) fs
-    all [] = tt
-    all (x ∷ xs) = (tt, all xs)
 
 pub proper_linkable : (key : Key) (fields : List Field) (c : Linkable) → linkable_of key fields ≡ Some c → IsProper key c
 unfolding linkable_of

@@ -1,19 +1,17 @@
 -- What an authority's commit does to the fields of a state: each is tied to the authorities that are then there.
-use Rattle.std.proofs.Common.{◌≡◌, ◌≢◌, ℕ, ◌≤◌, Bool, true, false, ◌&&◌, ◌||◌, not, cond, List, [], ◌∷◌, map, Option, Some, None, is_some, refl, sym, ap, ◌∙◌, inl, inr, arith, if◌then◌else◌}
+use Rattle.std.proofs.Common.{◌≡◌, ◌≤◌, Bool, true, false, List, Option, Some, None, is_some, refl, sym, ap, ◌∙◌, inl, inr, arith, if◌then◌else◌}
 use Rattle.std.specs.Prelude.{find, IfSome}
 use Rattle.std.specs.Option.{option_map_or}
 use Rattle.marc_types.specs.Order.{key_Decides}
-use Rattle.marc_types.specs.declared.entry.Tie.{Tie}
 use Rattle.marc_types.specs.declared.key.Class.{Class}
-use Rattle.marc_types.specs.declared.key.Class.TheVariants.{Authority, Bibliographic}
+use Rattle.marc_types.specs.declared.key.Class.TheVariants.{Authority}
 use Rattle.marc_types.specs.declared.key.Key.{Key}
-use Rattle.marc_types.specs.declared.form.Kind.{Kind}
-use Rattle.heading_fields.specs.Tables.{kind_of, is_subdividable}
+use Rattle.heading_fields.specs.Tables.{is_subdividable}
 use Rattle.heading_fields.specs.Parts.{tag_of}
 use Rattle.heading_fields.proofs.Fieldlaws.{tag_of_unlinking}
 use Rattle.entry_record.specs.Identity.{same_key}
-use Rattle.entry_record.specs.Authority.{Linkable, is_bare, is_kind, heading_kind, is_heading_field}
-use Rattle.entry_record.specs.State.{KeptField, Row, new_field}
+use Rattle.entry_record.specs.Authority.{Linkable, heading_kind, is_heading_field}
+use Rattle.entry_record.specs.State.{KeptField}
 use Rattle.entry_record.specs.Choice.{has_key}
 use Rattle.entry_record.specs.Settle.{keeps_link, is_linked_to, awaits_key, end_link, await, hand_on, loosen}
 use Rattle.entry_record.specs.Valid.{IsLink, IsTied, reach}

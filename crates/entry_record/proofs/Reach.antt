@@ -1,25 +1,21 @@
 -- The reach of a field never grows: not where it is rewritten, nor where it is linked, nor where it is unlinked.
-use Rattle.std.proofs.Common.{◌≡◌, ◌≢◌, ℕ, ◌+◌, ◌≤◌, max, Bool, true, false, ◌&&◌, not, List, [], ◌∷◌, length, Option, Some, None, refl, sym, ap, ◌∙◌, arith}
-use Rattle.std.specs.Option.{option_map_or}
+use Rattle.std.proofs.Common.{◌≡◌, ◌≢◌, ◌+◌, ◌≤◌, Bool, true, false, not, List, [], Option, Some, None, refl, ap, ◌∙◌, arith}
 use Rattle.marc_types.specs.declared.field.Field.{Field}
 use Rattle.marc_types.specs.declared.field.Field.TheVariants.{Control, Variable}
-use Rattle.marc_types.specs.declared.field.Subfield.{Subfield}
 use Rattle.marc_types.specs.declared.key.Class.{Class}
 use Rattle.marc_types.specs.declared.key.Key.{Key}
 use Rattle.marc_types.specs.declared.form.Kind.{Kind}
 use Rattle.marc_types.specs.Valid.{subfields_size}
-use Rattle.heading_fields.specs.Tables.{kind_of, is_subdividable}
-use Rattle.heading_fields.specs.Parts.{tag_of, subfields_of, part, base_part, field_part, field_outside, outside, reaches}
+use Rattle.heading_fields.specs.Tables.{kind_of}
+use Rattle.heading_fields.specs.Parts.{subfields_of, base_part, field_outside, reaches}
 use Rattle.heading_fields.specs.Numbers.{is_naming, unnumbered}
 use Rattle.heading_fields.specs.Rewriting.{rewriting, unlinking}
-use Rattle.heading_fields.proofs.Fieldlaws.{base_part_rewriting, field_part_rewriting, field_outside_rewriting, kind_of_rewriting, tag_of_rewriting, kind_of_unlinking, tag_of_unlinking, field_part_unlinking}
+use Rattle.heading_fields.proofs.Fieldlaws.{base_part_rewriting, field_part_rewriting, field_outside_rewriting, kind_of_rewriting, kind_of_unlinking, tag_of_unlinking, field_part_unlinking}
 use Rattle.heading_fields.proofs.Sublaws.{size_filter}
-use Rattle.iso2709_record.specs.Written.{field_length}
 use Rattle.entry_record.specs.Authority.{Linkable, has_form, option_filter, heading_kind}
 use Rattle.entry_record.specs.State.{KeptField}
 use Rattle.entry_record.specs.Settle.{link_to, end_link}
 use Rattle.entry_record.specs.Valid.{other_subfields, heading_reach, reach}
-use Rattle.naco_form.specs.Form.{form_of}
 use Rattle.entry_record.proofs.Fit.{IsFit}
 use Rattle.entry_record.proofs.Proper.{option_passes, part_of_form}
 use Rattle.entry_record.proofs.Sizes.{part_within_full, outside_less, outside_unnumbered}

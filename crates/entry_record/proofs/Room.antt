@@ -1,6 +1,6 @@
 -- A record that is admitted has room for every heading, and keeps it where its fields' reach doesn't grow.
-use Rattle.std.proofs.Common.{◌≡◌, ◌≢◌, ℕ, suc, ◌+◌, ◌*◌, ◌≤◌, max, Bool, true, false, ◌||◌, not, cond, List, [], ◌∷◌, map, length, Option, Some, None, is_some, refl, sym, ap, ◌∙◌, arith, if◌then◌else◌}
-use Rattle.std.specs.Prelude.{All, nat_lt}
+use Rattle.std.proofs.Common.{◌≡◌, suc, ◌+◌, ◌*◌, ◌≤◌, Bool, true, false, ◌||◌, cond, List, [], ◌∷◌, map, length, Option, Some, None, is_some, refl, ap, arith, if◌then◌else◌}
+use Rattle.std.specs.Prelude.{nat_lt}
 use Rattle.std.specs.List.{list_any, sum_by, count_by}
 use Rattle.std.proofs.lemmas.Bool.{ltb-false}
 use Rattle.std.proofs.lemmas.List.Sums.{sum_by-cons}
@@ -8,21 +8,19 @@ use Rattle.std.proofs.lemmas.List.Elements.{All-from_recursion, recursion_from_A
 use Rattle.marc_types.specs.declared.field.Field.{Field}
 use Rattle.marc_types.specs.declared.field.Field.TheVariants.{Control, Variable}
 use Rattle.marc_types.specs.declared.field.Leader.{Leader}
-use Rattle.marc_types.specs.declared.field.Tag.{Tag}
-use Rattle.marc_types.specs.declared.field.Subfield.{Subfield}
 use Rattle.marc_types.specs.declared.key.Class.{Class}
 use Rattle.marc_types.specs.declared.key.Key.{Key}
 use Rattle.marc_types.specs.declared.form.Kind.{Kind}
 use Rattle.marc_types.specs.Valid.{subfields_size}
-use Rattle.heading_fields.specs.Parts.{subfields_of, part, outside, field_part, field_outside, reaches}
+use Rattle.heading_fields.specs.Parts.{subfields_of}
 use Rattle.heading_fields.specs.Tables.{kind_of}
 use Rattle.iso2709_record.specs.Written.{field_length, fields_length, record_length}
 use Rattle.iso2709_record.proofs.Lengths.{field_length-variable}
 use Rattle.entry_record.specs.Authority.{heading_kind, is_heading_field}
 use Rattle.entry_record.specs.Admission.{grown_length, has_no_room}
-use Rattle.entry_record.specs.State.{KeptField, KeptRecord, Row, new_field, new_record, each_in_row}
-use Rattle.entry_record.specs.Valid.{heading_reach, reach, HasRoom}
-use Rattle.entry_record.proofs.Elements.{Each, each_map}
+use Rattle.entry_record.specs.State.{KeptField, Row, new_field, new_record, each_in_row}
+use Rattle.entry_record.specs.Valid.{reach, HasRoom}
+use Rattle.entry_record.proofs.Elements.{Each}
 use Rattle.entry_record.proofs.Reach.{reach_of, heading_of_kind}
 use Rattle.entry_record.proofs.Sizes.{part_and_outside}
 
@@ -53,7 +51,7 @@ pub room_kept : (class : Class) (change : KeptField → KeptField) (row : Row) �
 room_kept class change row a room = record {
   record_fits = let total = total_within class change row.1.fields a in let same = changed_length change row.1.fields in let was = room.record_fits in omega arith;
   fields_fit = All-from_recursion (λ h. reach class h ≤ 9999) (map change row.1.fields)
-  (fields_within class change row.1.fields a (recursion_from_All (λ h. reach class h ≤ 9999) row.1.fields room.fields_fit));
+      (fields_within class change row.1.fields a (recursion_from_All (λ h. reach class h ≤ 9999) row.1.fields room.fields_fit));
 }
 
 -- ---- a record that comes in

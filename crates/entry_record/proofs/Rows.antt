@@ -1,5 +1,5 @@
 -- A row is put into its key's place or taken from it: the keys still ascend, and other authorities are found as before.
-use Rattle.std.proofs.Common.{◌≡◌, Bool, true, false, not, cond, List, [], ◌∷◌, map, Option, Some, None, refl, sym, ap, ◌∙◌, if◌then◌else◌}
+use Rattle.std.proofs.Common.{◌≡◌, Bool, true, false, cond, List, [], ◌∷◌, map, Option, Some, None, refl, sym, ap, ◌∙◌, if◌then◌else◌}
 use Rattle.std.specs.Prelude.{find, filter_map}
 use Rattle.std.specs.List.{AllByRecursion, cons_option}
 use Rattle.std.specs.List.Sorted.{IsStrictlySortedBy}
@@ -27,7 +27,7 @@ keys_insert P [] key r a p = (p, tt)
 keys_insert P (row ∷ rows) key r a p = at (key_cmp key row.0) (keys_insert P rows key r a.1 p)
   where
     at : (o : Ordering) → AllByRecursion P (keys_of (insert_entry key_cmp rows key r)) →
-      AllByRecursion P (keys_of (match_ordering o ((key, r) ∷ row ∷ rows) ((row.0, r) ∷ rows) (row ∷ insert_entry key_cmp rows key r)))
+        AllByRecursion P (keys_of (match_ordering o ((key, r) ∷ row ∷ rows) ((row.0, r) ∷ rows) (row ∷ insert_entry key_cmp rows key r)))
     at Less b = (p, a)
     at Equal b = a
     at Greater b = (a.0, b)
@@ -167,6 +167,6 @@ unfolding place
 other_place key a rows d = at (is_deletion a.leader) ((eq_by_cmp_equiv key_cmp_total).symm key a.key ∙ d)
   where
     at : (b : Bool) → same_key key a.key ≡ false →
-      find (has_key key) (filter_map row_linkable (if b then remove_entry (same_key a.key) rows else insert_entry key_cmp rows a.key (new_record a.leader a.fields))) ≡ find (has_key key) (filter_map row_linkable rows)
+        find (has_key key) (filter_map row_linkable (if b then remove_entry (same_key a.key) rows else insert_entry key_cmp rows a.key (new_record a.leader a.fields))) ≡ find (has_key key) (filter_map row_linkable rows)
     at true e = other_remove key a.key rows e
     at false e = other_insert key a.key rows (new_record a.leader a.fields) e

@@ -1,24 +1,23 @@
 -- What settling does to a field that is properly tied: it is tied, rewritten and settled, and its reach doesn't grow.
-use Rattle.std.proofs.Common.{◌≡◌, ◌≢◌, ℕ, ◌≤◌, Bool, true, false, ◌&&◌, ◌||◌, not, List, [], ◌∷◌, Option, Some, None, is_some, refl, sym, ap, ◌∙◌, arith}
+use Rattle.std.proofs.Common.{◌≡◌, ◌≤◌, Bool, true, false, ◌&&◌, ◌||◌, List, Option, Some, None, is_some, refl, sym, ap, ◌∙◌, arith}
 use Rattle.std.specs.Prelude.{find, IfSome}
 use Rattle.std.specs.Option.{option_map_or}
-use Rattle.marc_types.specs.Order.{kind_rank, key_Decides}
-use Rattle.marc_types.specs.declared.field.Field.{Field}
+use Rattle.marc_types.specs.Order.{key_Decides}
 use Rattle.marc_types.specs.declared.key.Class.{Class}
 use Rattle.marc_types.specs.declared.key.Key.{Key}
 use Rattle.marc_types.specs.declared.form.Kind.{Kind}
 use Rattle.heading_fields.specs.Tables.{kind_of, is_subdividable}
-use Rattle.heading_fields.specs.Parts.{tag_of, reaches}
+use Rattle.heading_fields.specs.Parts.{tag_of}
 use Rattle.heading_fields.proofs.Fieldlaws.{rewriting_twice, tag_of_rewriting, kind_of_rewriting}
-use Rattle.entry_record.specs.Authority.{Linkable, is_bare, same_kind, is_kind, heading_kind, is_heading_field}
+use Rattle.entry_record.specs.Authority.{Linkable, is_bare, same_kind, is_kind, heading_kind}
 use Rattle.entry_record.specs.State.{KeptField}
-use Rattle.entry_record.specs.Choice.{Choice, Link, Ambiguous, Unlinked, has_key, takes_subdivisions, choice}
+use Rattle.entry_record.specs.Choice.{Choice, Link, Ambiguous, Unlinked, has_key, choice}
 use Rattle.entry_record.specs.Settle.{keeps_link, link_to, take_choice, settle_linked, settle_unlinked, settle_field}
-use Rattle.entry_record.specs.Valid.{IsLink, IsTied, IsRewrittenFrom, IsRewritten, IsNoLink, IsSettled, reach}
+use Rattle.entry_record.specs.Valid.{IsLink, IsTied, IsRewritten, IsNoLink, IsSettled, reach}
 use Rattle.entry_record.proofs.Elements.{Each, find_found}
 use Rattle.entry_record.proofs.Fit.{IsFit, IsGood, IfLink, good_choice, same_kind_is}
 use Rattle.entry_record.proofs.Proper.{and_both}
-use Rattle.entry_record.proofs.Reach.{IsHeadingOf, heading_of_kind, kind_rewritten, reach_rewritten, reach_chosen}
+use Rattle.entry_record.proofs.Reach.{heading_of_kind, kind_rewritten, reach_rewritten, reach_chosen}
 
 -- a field after settling, beside what it was before
 pub record IsDone (all : List Linkable) (class : Class) (before now : KeptField) : Type 0 where

@@ -1,7 +1,6 @@
 -- The lengths of a heading's part and of what stands outside it.
-use Rattle.std.proofs.Common.{◌≡◌, ℕ, ◌+◌, ◌≤◌, Bool, true, false, ◌&&◌, ◌||◌, not, cond, List, [], ◌∷◌, ◌++◌, length, refl, sym, ap, ◌∙◌, arith, if◌then◌else◌}
+use Rattle.std.proofs.Common.{◌≡◌, ◌+◌, ◌≤◌, Bool, true, false, ◌&&◌, ◌||◌, not, cond, List, [], ◌∷◌, ◌++◌, refl, ap, arith, if◌then◌else◌}
 use Rattle.std.specs.Prelude.{filter}
-use Rattle.std.proofs.lemmas.Grind.{common_steps}
 use Rattle.std.proofs.lemmas.List.Elements.{filter-append}
 use Rattle.marc_types.specs.declared.field.Subfield.{Subfield}
 use Rattle.marc_types.specs.declared.key.Key.{Key}
@@ -10,7 +9,7 @@ use Rattle.marc_types.specs.Valid.{subfields_size}
 use Rattle.heading_fields.specs.Tables.{is_controlled, is_subdivision}
 use Rattle.heading_fields.specs.Parts.{before, onward, is_dividing, region, behind, is_part, part, outside}
 use Rattle.heading_fields.specs.Numbers.{is_naming, unnumbered}
-use Rattle.heading_fields.proofs.Sublaws.{size-append, size_filter, part-unnumbered}
+use Rattle.heading_fields.proofs.Sublaws.{size-append, part-unnumbered}
 
 cut : (test : Subfield → Bool) (xs : List Subfield) → before test xs ++ onward test xs ≡ xs
 cut test [] = refl
@@ -31,7 +30,7 @@ split test [] = omega arith
 split test (x ∷ xs) = at (test x) (split test xs)
   where
     at : (b : Bool) → subfields_size (filter test xs) + subfields_size (filter (λ s. not (test s)) xs) ≡ subfields_size xs →
-      subfields_size (cond b (x ∷ filter test xs) (filter test xs)) + subfields_size (cond (not b) (x ∷ filter (λ s. not (test s)) xs) (filter (λ s. not (test s)) xs)) ≡ subfields_size (x ∷ xs)
+        subfields_size (cond b (x ∷ filter test xs) (filter test xs)) + subfields_size (cond (not b) (x ∷ filter (λ s. not (test s)) xs) (filter (λ s. not (test s)) xs)) ≡ subfields_size (x ∷ xs)
     at true e = omega arith
     at false e = omega arith
 

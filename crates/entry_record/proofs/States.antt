@@ -1,10 +1,10 @@
 -- The state after a history of admitted entries is valid.
-use Rattle.std.proofs.Common.{◌≡◌, ℕ, ◌≤◌, Bool, true, false, not, List, [], ◌∷◌, map, Option, Some, None, is_some, refl, sym, ap, ◌∙◌, arith, if◌then◌else◌}
-use Rattle.std.specs.Prelude.{All, filter_map, find, fold, IfSome, ◌&&◌}
+use Rattle.std.proofs.Common.{◌≡◌, ℕ, ◌≤◌, Bool, true, false, not, List, [], ◌∷◌, map, Option, Some, None, refl, sym, ◌∙◌, arith, if◌then◌else◌}
+use Rattle.std.specs.Prelude.{All, filter_map, find, fold, ◌&&◌}
 use Rattle.std.specs.Option.{is_none}
 use Rattle.std.specs.List.Sorted.{IsStrictlySortedBy}
 use Rattle.std.proofs.lemmas.List.Elements.{All-from_recursion, recursion_from_All}
-use Rattle.marc_types.specs.Valid.{is_code, is_number, subfields_size}
+use Rattle.marc_types.specs.Valid.{is_code, is_number}
 use Rattle.marc_types.specs.declared.entry.Entry.{Entry}
 use Rattle.marc_types.specs.declared.field.Field.{Field}
 use Rattle.marc_types.specs.declared.field.Leader.{Leader}
@@ -13,13 +13,13 @@ use Rattle.marc_types.specs.declared.key.Class.TheVariants.{Authority, Bibliogra
 use Rattle.marc_types.specs.declared.key.Key.{Key}
 use Rattle.marc_types.specs.declared.refusal.Refusal.{Refusal}
 use Rattle.marc_types.specs.declared.refusal.Refusal.TheVariants.{OtherType, NoNumber, BadCode, NoHeading, HeadingTooLong, NoRoom}
-use Rattle.heading_fields.specs.Parts.{subfields_of, base_part}
+use Rattle.heading_fields.specs.Parts.{subfields_of}
 use Rattle.entry_record.specs.Identity.{class_of, is_known_type, control_number_of, code_of, key_of, same_key}
 use Rattle.entry_record.specs.Authority.{Linkable, heading_of, successor_of}
 use Rattle.entry_record.specs.Admission.{is_living_authority, has_long_heading, has_no_room, admission_refusal}
-use Rattle.entry_record.specs.State.{KeptField, KeptRecord, Row, State, empty_state, new_field, new_record, row_linkable, linkable_authorities, each_in_row, each_field}
+use Rattle.entry_record.specs.State.{KeptField, Row, State, empty_state, new_field, new_record, row_linkable, linkable_authorities, each_in_row, each_field}
 use Rattle.entry_record.specs.Choice.{has_key}
-use Rattle.entry_record.specs.Settle.{Arrival, place, loosen, loosen_all, put_in, put, settle_field, settle, step, state_after}
+use Rattle.entry_record.specs.Settle.{Arrival, place, loosen, put_in, put, settle_field, settle, step, state_after}
 use Rattle.entry_record.specs.History.{IsAdmitted, arrival_of, state_of}
 use Rattle.entry_record.specs.Valid.{IsAscending, IsRow, IsShort, IsTied, IsRewritten, IsSettled, IsLinkOfHeading, HasRoom, IsValid, reach}
 use Rattle.entry_record.proofs.Elements.{Each, each_weaker, each_map}

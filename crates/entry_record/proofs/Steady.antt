@@ -1,17 +1,16 @@
 -- The linkable authorities of a state stay where only headings' fields change.
-use Rattle.std.proofs.Common.{◌≡◌, ◌≢◌, ℕ, ◌==◌, Bool, true, false, ◌&&◌, cond, List, [], ◌∷◌, map, Option, Some, None, is_some, refl, sym, ap, ◌∙◌, ◌⊎◌, inl, inr, arith, if◌then◌else◌}
-use Rattle.std.specs.Prelude.{find, filter, filter_map}
+use Rattle.std.proofs.Common.{◌≡◌, ℕ, ◌==◌, Bool, true, false, cond, List, [], ◌∷◌, map, Option, Some, None, is_some, refl, sym, ap, ◌⊎◌, inl, inr, arith, if◌then◌else◌}
+use Rattle.std.specs.Prelude.{filter, filter_map}
 use Rattle.marc_types.specs.declared.field.Field.{Field}
 use Rattle.marc_types.specs.declared.field.Field.TheVariants.{Control, Variable}
 use Rattle.marc_types.specs.declared.field.Tag.{Tag}
-use Rattle.marc_types.specs.declared.key.Class.{Class}
-use Rattle.marc_types.specs.declared.key.Class.TheVariants.{Authority, Bibliographic}
+use Rattle.marc_types.specs.declared.key.Class.TheVariants.{Authority}
 use Rattle.marc_types.specs.declared.key.Key.{Key}
 use Rattle.marc_types.specs.declared.form.Kind.{Kind}
 use Rattle.heading_fields.specs.Tables.{any_kind, kind_by_tag, kind_of}
 use Rattle.heading_fields.specs.Parts.{tag_of}
 use Rattle.entry_record.specs.Authority.{Linkable, is_heading, is_see_from, heading_of, has_form, option_filter, heading_kind, is_heading_field, is_tracing_of, see_from_forms, linkable_of, linkable_by, linkable_with, linkable_kind, full_form}
-use Rattle.entry_record.specs.State.{KeptField, KeptRecord, Row, fields_of, row_linkable, each_in_record, each_in_row}
+use Rattle.entry_record.specs.State.{KeptField, Row, row_linkable, each_in_row}
 use Rattle.entry_record.proofs.Elements.{Each}
 
 -- a field that stays, or one that is a 5XX before and after
@@ -50,6 +49,7 @@ linkable_at key fs gs o p e same = rw e (by p)
     kinds : (f : Field) (k : Option Kind) → elim k as (λ _. Option Linkable) [ None ↦ None | Some kind ↦ Some (linkable_with key fs f kind) ] ≡ elim k as (λ _. Option Linkable) [ None ↦ None | Some kind ↦ Some (linkable_with key gs f kind) ]
     kinds f None = refl
     kinds f (Some kind) = λ i. Some (record { key = key; kind = kind; heading = f; established = full_form kind Authority f; see_from = same kind i })
+
     by : (p : Option Field) → elim p as (λ _. Option Linkable) [ None ↦ None | Some f ↦ linkable_by key fs f ] ≡ elim p as (λ _. Option Linkable) [ None ↦ None | Some f ↦ linkable_by key gs f ]
     by None = refl
     by (Some f) = kinds f (linkable_kind f)

@@ -80,7 +80,7 @@ abbrev pub IsLinkOfHeading : Class → KeptField → Type 0
 IsLinkOfHeading class h = is_some h.tie.key ≡ true → is_heading_field class h.field ≡ true
 
 -- what a state has before it is settled: authorities in key order under proper keys, and links of heading fields alone
-pub record IsOrdered (s : State) : Type 0 where
+pub record IsReadyToSettle (s : State) : Type 0 where
   pub authorities_ascend : IsAscending s.authorities
   pub authority_rows : All (IsRow Authority) s.authorities
   pub links : EachField IsLinkOfHeading s
