@@ -1,0 +1,12 @@
+pub mod Admission
+pub mod Authority
+pub mod Choice
+pub mod History
+pub mod Identity
+pub mod Lines
+pub mod Output
+pub mod Receipt
+pub mod Sameness
+pub mod Settle
+pub mod State
+pub mod Valid

@@ -1,0 +1,4 @@
+//! Which records a catalogue takes, what an entry of its history is, and the definitions of the plain pass over a history.
+#![tactic(auto)]
+
+pub mod laws;
