@@ -1,16 +1,16 @@
 -- One more subfield is cut off a text.
-use Rattle.std.proofs.Common.{◌≡◌, ◌∙◌, ℕ, ◌+◌, ◌<◌, ◌≤◌, Bool, true, ◌&&◌, List, [], ◌∷◌, ◌++◌, length, get_or, take, drop, refl, sym, ap, subst, arith, append_assoc, append-nil, length-append, Option, Some, None}
+use Rattle.std.proofs.Common.{◌≡◌, ◌∙◌, ℕ, ◌<◌, true, List, [], ◌∷◌, ◌++◌, length, get_or, sym, ap, subst, arith, append_assoc, append-nil, length-append, Some}
 use Rattle.std.specs.Str.{IsUtf8, IsCharBoundary}
 use Rattle.std.specs.List.{flat_map, list_all}
 use Rattle.std.proofs.Math.Seq.{take-append_seam, drop-append_seam, get_or-append_seam}
 use Rattle.std.proofs.lemmas.Grind.{common_steps, flat_map-append}
 use Rattle.std.proofs.lemmas.Bool.Decides.{nat_tests}
 use Rattle.std.proofs.lemmas.Str.{IsUtf8-take, IsUtf8-drop, IsUtf8-nil, IsCharBoundary-after_ascii, IsCharBoundary-before_ascii}
-use Rattle.marc_types.specs.Valid.{is_subfield, is_graphic}
+use Rattle.marc_types.specs.Valid.{is_subfield}
 use Rattle.marc_types.specs.declared.field.Subfield.{Subfield}
 use Rattle.iso2709_record.specs.Written.{delimiter, subfield_bytes}
 use Rattle.iso2709_record.specs.Faults.{starts_subfield}
-use Rattle.iso2709_record.specs.Spelling.{Spells, CutsOff, IsFirstOf}
+use Rattle.iso2709_record.specs.Spelling.{Spells, IsFirstOf}
 use Rattle.iso2709_record.specs.declared.subfields.Cut.{Cut}
 use Rattle.iso2709_record.proofs.Cutting.{starts-subfields}
 use Rattle.reading.specs.Cutting.{IsCutUpTo}

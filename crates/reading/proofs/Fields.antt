@@ -1,20 +1,18 @@
 -- A field that was made of a converted text.
-use Rattle.std.proofs.Common.{◌≡◌, ◌∙◌, ℕ, zero, suc, ◌+◌, ◌*◌, ◌<◌, ◌≤◌, ◌==◌, ◌||◌, ◌&&◌, not, Bool, true, false, List, [], ◌∷◌, ◌++◌, length, get_or, take, drop, refl, sym, ap, subst, arith, length-drop}
-use Rattle.std.specs.List.{list_all, list_any, flat_map}
+use Rattle.std.proofs.Common.{◌≡◌, ◌∙◌, ℕ, zero, suc, ◌*◌, ◌≤◌, true, false, List, [], ◌∷◌, ◌++◌, length, get_or, take, drop, refl, sym, ap, subst, arith, length-drop}
+use Rattle.std.specs.List.{list_all, flat_map}
 use Rattle.std.proofs.lemmas.Grind.{common_steps}
 use Rattle.std.proofs.lemmas.Bool.Decides.{nat_tests}
-use Rattle.marc_types.specs.Valid.{is_tag, is_control_tag, is_text, is_subfield, is_field, is_printable, subfields_size, field_size}
+use Rattle.marc_types.specs.Valid.{is_tag, is_control_tag, is_text, is_subfield, is_field, is_printable, field_size}
 use Rattle.marc_types.specs.declared.field.Tag.{Tag}
 use Rattle.marc_types.specs.declared.field.Subfield.{Subfield}
-use Rattle.marc_types.specs.declared.field.Field.{Field}
 use Rattle.marc_types.specs.declared.field.Field.TheVariants.{Control, Variable}
 use Rattle.iso2709_record.specs.Written.{subfield_bytes, field_data}
 use Rattle.iso2709_record.specs.Faults.{is_control_data, is_variable_data, is_subfield_data, fits_tag}
 use Rattle.iso2709_record.specs.Raw.{has_no_terminator}
-use Rattle.iso2709_record.specs.Spelling.{Spells, IsFieldOf}
+use Rattle.iso2709_record.specs.Spelling.{Spells}
 use Rattle.iso2709_record.proofs.Spellings.{spelling_there, text_there}
 use Rattle.iso2709_record.proofs.Lengths.{length-subfields}
-use Rattle.marc8_latin.specs.Text.{IsText}
 use Rattle.marc8_latin.specs.Subfields as marc8
 use Rattle.marc8_latin.proofs.Subfielded.{keeps_subfields}
 use Rattle.reading.specs.Reading.{IsTextIn, InMarc8, InUtf8}

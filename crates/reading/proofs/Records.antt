@@ -1,5 +1,5 @@
 -- The fields of a piece, one after the other, and the record that they make.
-use Rattle.std.proofs.Common.{◌≡◌, ◌∙◌, ℕ, zero, suc, ◌+◌, ◌*◌, ◌<◌, ◌≤◌, Bool, true, false, ◌&&◌, nat_le, List, [], ◌∷◌, ◌++◌, length, length-append, get_or, Option, Some, None, refl, sym, ap, subst, arith, add-one, leb, inl, inr, ◌⊎◌}
+use Rattle.std.proofs.Common.{◌≡◌, ◌∙◌, ℕ, suc, ◌+◌, ◌*◌, ◌<◌, ◌≤◌, true, false, List, [], ◌∷◌, ◌++◌, length, length-append, get_or, Some, None, refl, sym, ap, subst, arith, add-one, leb, inl, inr, ◌⊎◌}
 use Rattle.std.proofs.Math.ListN.{get_or-append}
 use Rattle.std.specs.Prelude.{slice_get}
 use Rattle.std.specs.List.{list_all}
@@ -11,17 +11,16 @@ use Rattle.marc_types.specs.Valid.{is_field, is_leader, is_record, field_size, f
 use Rattle.marc_types.specs.declared.field.Leader.{Leader}
 use Rattle.marc_types.specs.declared.field.Field.{Field}
 use Rattle.marc_types.specs.declared.refusal.Refusal.{Refusal}
-use Rattle.marc_types.specs.declared.refusal.Refusal.TheVariants.{BadText, OtherSet}
 use Rattle.marc_types.specs.declared.refusal.RecordFault.{RecordFault}
 use Rattle.marc_types.specs.declared.refusal.RecordFault.TheVariants.{Refused, NoMemory}
-use Rattle.iso2709_record.specs.Layout.{entry_count, length_at, lengths_of}
+use Rattle.iso2709_record.specs.Layout.{entry_count, length_at}
 use Rattle.iso2709_record.specs.Faults.{IsSound}
 use Rattle.iso2709_record.specs.Raw.{coding_at}
 use Rattle.iso2709_record.proofs.Sound.{sound_sizes, sound_lengths}
 use Rattle.marc8_latin.specs.declared.fault.Marc8Fault.{Marc8Fault}
 use Rattle.marc8_latin.specs.declared.fault.Marc8Fault.TheVariants.{BadByte}
 use Rattle.marc8_latin.specs.declared.fault.Marc8Fault.TheVariants as marc8
-use Rattle.reading.specs.Reading.{is_known_coding, text_start, IsFieldAt, IsFaultIn, HasText, IsTextRefusal, IsEntryFault, IsTextFault, IsRefusedAs}
+use Rattle.reading.specs.Reading.{is_known_coding, text_start, IsFieldAt, HasText, IsTextRefusal, IsEntryFault, IsTextFault, IsRefusedAs}
 use Rattle.reading.specs.Answers.{AreFieldsUpTo, IsRefusedEntry, IsRefusedPiece}
 
 fields_size-push : (fields : List Field) (f : Field) → fields_size (fields ++ f ∷ []) ≡ fields_size fields + field_size f

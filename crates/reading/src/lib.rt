@@ -6,4 +6,6 @@ pub use record::read_record;
 mod field;
 mod record;
 mod subfields;
+#[cfg(test)]
+mod tests;
 mod text;
