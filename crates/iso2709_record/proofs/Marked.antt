@@ -1,5 +1,5 @@
 -- Bytes without a mark, and bytes that end with their only one.
-use Rattle.std.proofs.Common.{◌≡◌, ℕ, ◌+◌, ◌≤◌, Bool, true, false, not, ◌&&◌, ◌||◌, ◌==◌, leb, List, [], ◌∷◌, ◌++◌, length, get_or, take, refl, sym, ap, ◌∙◌, arith, subst, length-append}
+use Rattle.std.proofs.Common.{◌≡◌, ℕ, ◌+◌, ◌≤◌, Bool, true, false, not, ◌&&◌, ◌||◌, ◌==◌, leb, List, [], ◌∷◌, ◌++◌, length, get_or, take, lit≤, refl, sym, ap, ◌∙◌, arith, subst, length-append}
 use Rattle.std.specs.List.{list_any, list_all, flat_map}
 use Rattle.std.proofs.lemmas.Bool.{and_parts, and_from, or_parts, or_from, eqb-true, eq-eqb, ne_eqb, leb-true, le-leb, not-true, not_from_false, not_from_true, false_from_ne_true}
 use Rattle.std.proofs.lemmas.Bool.Decides.{nat_tests}
@@ -13,6 +13,7 @@ use Rattle.iso2709_record.specs.Written.{record_terminator, field_terminator, de
 use Rattle.iso2709_record.specs.Faults.{ends_once, codes_follow, starts_subfield, is_subfield_data, is_control_data, is_variable_data, fits_tag}
 use Rattle.iso2709_record.specs.Raw.{has_no_terminator}
 use Rattle.iso2709_record.proofs.Endings.{ends_here}
+use Rattle.iso2709_record.proofs.Terminators.{IsTerminator, field_data_has_none}
 use Rattle.iso2709_record.proofs.Cutting.{codes_follow-text, text_uncut, subfield_uncut, starts-subfields, graphic_is_no_delimiter}
 
 -- the bytes have a mark behind them and none among them
@@ -23,38 +24,7 @@ ends_once_behind mark front free =
     (rw (get_or_at front mark [] 0 (length front) refl) (eq-eqb mark mark refl))
     (rw (take_at front (mark ∷ []) (length front) refl) free)
 
--- the test of a terminator
-abbrev ends : ℕ → Bool
-ends b = (b == record_terminator) || (b == field_terminator)
-
--- no byte of a kind is one of another
-pub none_of_kind : (kind other : ℕ → Bool) (bytes : List ℕ) → ((b : ℕ) → kind b ≡ true → other b ≡ false) → list_all kind bytes ≡ true → list_any other bytes ≡ false
-none_of_kind kind other [] apart all = refl
-none_of_kind kind other (b ∷ bs) apart all =
-    let parts : (kind b ≡ true) × (list_all kind bs ≡ true) = and_parts _ _ all in
-    or_from _ _ (apart b parts.0) (none_of_kind kind other bs apart parts.1)
-
-data_ends_nothing : (b : ℕ) → is_data b ≡ true → ends b ≡ false
-data_ends_nothing b h = grind (arith, nat_tests)
-
-printable_ends_nothing : (b : ℕ) → is_printable b ≡ true → ends b ≡ false
-printable_ends_nothing b h = grind (arith, nat_tests)
-
-graphic_ends_nothing : (b : ℕ) → is_graphic b ≡ true → ends b ≡ false
-graphic_ends_nothing b h = grind (arith, nat_tests)
-
--- subfields that are written have no terminator
-subfields_unended : (subfields : List Subfield) → list_all is_subfield subfields ≡ true → list_any ends (flat_map subfield_bytes subfields) ≡ false
-unfolding subfield_bytes is_subfield is_text
-subfields_unended [] valid = refl
-subfields_unended (s ∷ ss) valid =
-    let parts = and_parts _ _ valid in
-    let own = and_parts _ _ parts.0 in
-    or_from _ _ (graphic_ends_nothing s.code own.0)
-    (list_any-append ends s.text (flat_map subfield_bytes ss)
-    ∙ or_from _ _ (none_of_kind is_data ends s.text data_ends_nothing own.1) (subfields_unended ss parts.1))
-
--- each of them begins with a delimiter and a code
+-- each subfield that is written begins with a delimiter and a code
 subfields_follow : (subfields : List Subfield) → list_all is_subfield subfields ≡ true → codes_follow (flat_map subfield_bytes subfields) ≡ true
 unfolding subfield_bytes is_subfield
 subfields_follow [] valid = refl
@@ -68,16 +38,6 @@ subfields_written : (subfields : List Subfield) → list_all is_subfield subfiel
 unfolding is_subfield_data
 subfields_written subfields valid = and_from _ _ (starts-subfields subfields) (subfields_follow subfields valid)
 
--- a valid field's data has no terminator
-pub data_unended : (f : Field) → is_field f ≡ true → has_no_terminator (field_data f) ≡ true
-unfolding is_field field_data has_no_terminator is_text
-data_unended (Control tag text) valid = not_from_false _ (none_of_kind is_data ends text data_ends_nothing (and_parts _ _ valid).1)
-data_unended (Variable tag i j subfields) valid =
-    let parts = and_parts _ _ valid in
-    let marks = and_parts _ _ parts.0 in
-    let first = and_parts _ _ marks.0 in
-    not_from_false _ (or_from _ _ (printable_ends_nothing i first.1) (or_from _ _ (printable_ends_nothing j marks.1) (subfields_unended subfields parts.1)))
-
 two_behind : (i j : ℕ) (bytes : List ℕ) → leb 2 (length (i ∷ j ∷ bytes)) ≡ true
 two_behind i j bytes = le-leb 2 (length (i ∷ j ∷ bytes)) (omega arith)
 
@@ -86,7 +46,7 @@ unfolding is_variable_data
 variable_from i j bytes first second rest =
     and_from _ _ (and_from _ _ (two_behind i j bytes) (and_from _ _ first (and_from _ _ second refl))) rest
 
--- and is as its tag says
+-- a valid field's data is as its tag says
 pub data_fits : (f : Field) → is_field f ≡ true → fits_tag (tag_of f) (field_data f) ≡ true
 unfolding is_field field_data fits_tag is_control_data is_text
 data_fits (Control tag text) valid =
@@ -100,38 +60,9 @@ data_fits (Variable tag i j subfields) valid =
     let other : is_control_tag tag ≡ false = not-true _ (and_parts _ _ first.0).1 in
     rw other (variable_from i j (flat_map subfield_bytes subfields) first.1 marks.1 (subfields_written subfields parts.1))
 
--- bytes without terminators have none of either sort
-unended_apart : (bytes : List ℕ) → list_any ends bytes ≡ false → (list_any (λ b. b == record_terminator) bytes ≡ false) × (list_any (λ b. b == field_terminator) bytes ≡ false)
-unended_apart [] free = (refl, refl)
-unended_apart (b ∷ bs) free =
-    let parts : (ends b ≡ false) × (list_any ends bs ≡ false) = or_parts _ _ free in
-    let here = or_parts _ _ parts.0 in
-    let rest = unended_apart bs parts.1 in
-    (or_from _ _ here.0 rest.0, or_from _ _ here.1 rest.1)
-
-pub unended_parts : (bytes : List ℕ) → has_no_terminator bytes ≡ true → (list_any (λ b. b == record_terminator) bytes ≡ false) × (list_any (λ b. b == field_terminator) bytes ≡ false)
-unfolding has_no_terminator
-unended_parts bytes free = unended_apart bytes (not-true _ free)
-
 -- a written field ends with its only field terminator
 pub field_ends_once : (f : Field) → is_field f ≡ true → ends_once field_terminator (field_bytes f) ≡ true
 unfolding field_bytes
-field_ends_once f valid = ends_once_behind field_terminator (field_data f) (unended_parts (field_data f) (data_unended f valid)).1
-
--- written fields have no record terminator
-pub fields_unended : (fs : List Field) → list_all is_field fs ≡ true → list_any (λ b. b == record_terminator) (flat_map field_bytes fs) ≡ false
-unfolding field_bytes
-fields_unended [] valid = refl
-fields_unended (f ∷ fs) valid =
-    let parts : (is_field f ≡ true) × (list_all is_field fs ≡ true) = and_parts _ _ valid in
-    list_any-append (λ b. b == record_terminator) (field_data f ++ field_terminator ∷ []) (flat_map field_bytes fs)
-    ∙ or_from _ _
-    (list_any-append (λ b. b == record_terminator) (field_data f) (field_terminator ∷ []) ∙ or_from _ _ (unended_parts (field_data f) (data_unended f parts.0)).0 refl)
-    (fields_unended fs parts.1)
-
-printable_ends_no_record : (b : ℕ) → is_printable b ≡ true → (b == record_terminator) ≡ false
-printable_ends_no_record b h = (or_parts _ _ (printable_ends_nothing b h)).0
-
--- nor have printable bytes
-pub printable_unended : (bytes : List ℕ) → list_all is_printable bytes ≡ true → list_any (λ b. b == record_terminator) bytes ≡ false
-printable_unended bytes all = none_of_kind is_printable (λ b. b == record_terminator) bytes printable_ends_no_record all
+field_ends_once f valid =
+    let mark : IsTerminator field_terminator = record { least = lit≤ tt; most = lit≤ tt } in
+    ends_once_behind field_terminator (field_data f) (field_data_has_none field_terminator f mark valid)

@@ -21,11 +21,14 @@ use Rattle.iso2709_record.specs.Raw.{leader_at, coding_at, raw_field, raw_fields
 use Rattle.iso2709_record.proofs.Lengths.{length-leader_bytes, length-directory_bytes, length-record_bytes, fits_parts}
 use Rattle.iso2709_record.proofs.Places.{entry_place, area_place}
 use Rattle.iso2709_record.proofs.Spelled.{record_bytes-parts}
-use Rattle.iso2709_record.proofs.Leaders.{five_digits_are, number-five_digits, size_again, base_again, leader_again, coding_again, good_leader_again, leader_printable, directory_printable, good_entry_again, tag_again, length_again, start_again, field_tag}
-use Rattle.iso2709_record.proofs.Marked.{ends_once_behind, printable_unended, fields_unended, field_ends_once, data_fits}
+use Rattle.iso2709_record.proofs.Digits.{five_digits_number, five_digits_are_digits}
+use Rattle.iso2709_record.proofs.Terminators.{record_front, record_bytes-front, record_front_has_none, tag_valid}
+use Rattle.iso2709_record.proofs.Leaders.{size_again, base_again, leader_again, coding_again, good_leader_again, good_entry_again, tag_again, length_again, start_again}
+use Rattle.iso2709_record.proofs.Marked.{ends_once_behind, field_ends_once, data_fits}
 
 -- a record that is valid and fits
 record IsWritten (l : Leader) (fs : List Field) : Type 0 where
+  pub valid : is_record l fs ≡ true
   pub leader : is_leader l ≡ true
   pub fields : list_all is_field fs ≡ true
   pub size : record_length fs ≤ 99999
@@ -38,7 +41,7 @@ is_written l fs valid fit =
     let b = and_parts _ _ a.0 in
     let c = and_parts _ _ b.0 in
     let room = fits_parts fs fit in
-    record { leader = c.0; fields = c.1; size = room.0; short = room.1 }
+    record { valid = valid; leader = c.0; fields = c.1; size = room.0; short = room.1 }
 
 -- the leader, and what stands behind it
 behind : List Field → List ℕ
@@ -55,36 +58,18 @@ base_is l fs w =
 count_is : (l : Leader) (fs : List Field) → IsWritten l fs → entry_count (record_bytes l fs) ≡ length fs
 count_is l fs w = let base = base_is l fs w in omega (arith, base)
 
--- nothing before the record terminator is one
-before_end : Leader → List Field → List ℕ
-before_end l fs = leader_bytes l (record_length fs) (base_address fs) ++ (directory_bytes 0 fs ++ (field_terminator ∷ flat_map field_bytes fs))
-
-with_end : (l : Leader) (fs : List Field) → record_bytes l fs ≡ before_end l fs ++ record_terminator ∷ []
-unfolding record_bytes before_end
-with_end l fs = simp append_assoc
-
-free_joined : (xs ys : List ℕ) → list_any (λ b. b == record_terminator) xs ≡ false → list_any (λ b. b == record_terminator) ys ≡ false
-    → list_any (λ b. b == record_terminator) (xs ++ ys) ≡ false
-free_joined xs ys first second = list_any-append (λ b. b == record_terminator) xs ys ∙ or_from _ _ first second
-
 record_ends_once : (l : Leader) (fs : List Field) → IsWritten l fs → ends_once record_terminator (record_bytes l fs) ≡ true
-unfolding before_end
 record_ends_once l fs w =
-    ap (ends_once record_terminator) (with_end l fs)
-    ∙ ends_once_behind record_terminator (before_end l fs)
-    (free_joined (leader_bytes l (record_length fs) (base_address fs)) (directory_bytes 0 fs ++ (field_terminator ∷ flat_map field_bytes fs))
-    (printable_unended (leader_bytes l (record_length fs) (base_address fs)) (leader_printable l (record_length fs) (base_address fs) w.leader))
-    (free_joined (directory_bytes 0 fs) (field_terminator ∷ flat_map field_bytes fs)
-    (printable_unended (directory_bytes 0 fs) (directory_printable 0 fs w.fields))
-    (or_from _ _ refl (fields_unended fs w.fields))))
+    ap (ends_once record_terminator) (record_bytes-front l fs)
+    ∙ ends_once_behind record_terminator (record_front l fs) (record_front_has_none l fs w.valid)
 
 good_length : (l : Leader) (fs : List Field) → IsWritten l fs → has_bad_length (record_bytes l fs) ≡ false
 unfolding has_bad_length
 good_length l fs w =
     let len = length-record_bytes l fs in
     let size : take 5 (record_bytes l fs) ≡ five_digits (record_length fs) = ap (take 5) (parts l fs) ∙ size_again l (record_length fs) (base_address fs) (behind fs) in
-    let digits : list_all is_digit (take 5 (record_bytes l fs)) ≡ true = ap (list_all is_digit) size ∙ five_digits_are (record_length fs) in
-    let same : number (take 5 (record_bytes l fs)) ≡ length (record_bytes l fs) = ap number size ∙ number-five_digits (record_length fs) w.size ∙ sym len in
+    let digits : list_all is_digit (take 5 (record_bytes l fs)) ≡ true = ap (list_all is_digit) size ∙ five_digits_are_digits (record_length fs) in
+    let same : number (take 5 (record_bytes l fs)) ≡ length (record_bytes l fs) = ap number size ∙ five_digits_number (record_length fs) w.size ∙ sym len in
     or_from _ _ (or_from _ _ (or_from _ _ (le-ltb (length (record_bytes l fs)) 26 (omega (arith, len))) (not_from_true _ digits)) (not_from_true _ (eq-eqb _ _ same)))
     (not_from_true _ (record_ends_once l fs w))
 
@@ -218,7 +203,7 @@ written_is_sound l fs valid fit =
         whole = whole_entries l fs w;
         good_entries = λ i lt.
             let at = at_place l fs i w (omega (arith, count)) in
-            good_entry_again (record_bytes l fs) i (fields_length (take i fs)) (get_or fs i no_field) (entry_is l fs i (get_or fs i no_field) at) (field_tag (get_or fs i no_field) at.valid);
+            good_entry_again (record_bytes l fs) i (fields_length (take i fs)) (get_or fs i no_field) (entry_is l fs i (get_or fs i no_field) at) (tag_valid (get_or fs i no_field) at.valid);
       };
       good_fields = λ i lt. good_field_at l fs i (get_or fs i no_field) w (at_place l fs i w (omega (arith, count)));
     }

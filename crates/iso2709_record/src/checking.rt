@@ -3,12 +3,10 @@ ghost use Rattle.iso2709_record.specs.First.{AllGood, IsFirstBad};
 ghost use Rattle.iso2709_record.specs.Layout.{base_of, entry_count, layout_of, lengths_of, area_at, data_at, tag_at};
 ghost use Rattle.iso2709_record.specs.Faults.{has_bad_length, has_bad_leader, is_ragged, is_good_entry, is_good_field, fits_tag, HasWholeEntries, HasDirectory, IsSound, IsFirstFault};
 
+use crate::blocks::{FIELD_TERMINATOR, RECORD_TERMINATOR};
 use crate::decimal::{are_digits, number};
 use crate::layout::{Layout, entry_at, length_at, start_at, tag_at};
-use crate::marks::{
-    FIELD_TERMINATOR, RECORD_TERMINATOR, are_alphanumeric, are_printable, ends_once,
-    is_control_data, is_variable_data,
-};
+use crate::marks::{are_alphanumeric, are_printable, ends_once, is_control_data, is_variable_data};
 use marc_types::{Refusal, Tag};
 
 /// The bytes of a leader, of the field terminator behind an empty directory, and of the record terminator.

@@ -10,8 +10,8 @@ pub(crate) fn are_digits(bytes: &[u8]) -> bool
     bytes.iter().all(|byte| (b'0'..=b'9').contains(byte))
 }
 
-#[tactic(auto, using(crate::proofs::Numbers::digit_at, crate::proofs::Numbers::number_more, crate::proofs::Numbers::short_power, crate::proofs::Numbers::next_power))]
 /// The number that at most five decimal digits spell.
+#[tactic(auto, using(crate::proofs::Numbers::digit_at, crate::proofs::Numbers::number_more, crate::proofs::Numbers::short_power, crate::proofs::Numbers::next_power))]
 pub(crate) fn number(digits: &[u8]) -> u32
     requires digits { IsTrue (list_all is_digit digits.now) }
     requires short { length digits.now ≤ 5 }

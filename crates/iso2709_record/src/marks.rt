@@ -4,14 +4,9 @@ ghost use Rattle.marc_types.specs.Valid.{is_printable, is_alphanumeric};
 ghost use Rattle.iso2709_record.specs.Written.{delimiter};
 ghost use Rattle.iso2709_record.specs.Faults.{ends_once, is_control_data, starts_subfield, codes_follow, is_subfield_data, is_variable_data};
 
+use crate::blocks::DELIMITER;
 use marc_types::{is_alphanumeric_byte, is_graphic_byte, is_printable_byte};
 use memchr::memchr;
-
-pub(crate) const RECORD_TERMINATOR: u8 = 0x1d;
-
-pub(crate) const FIELD_TERMINATOR: u8 = 0x1e;
-
-pub(crate) const DELIMITER: u8 = 0x1f;
 
 pub(crate) fn are_printable(bytes: &[u8]) -> bool
     ensures { result ≡ list_all is_printable bytes.now }
@@ -25,8 +20,8 @@ pub(crate) fn are_alphanumeric(bytes: &[u8]) -> bool
     bytes.iter().all(|byte| is_alphanumeric_byte(*byte))
 }
 
-#[tactic(auto, using(crate::proofs::Endings::ends_once_first, crate::proofs::Endings::ends_once_none))]
 /// Whether the last byte is the mark, and no earlier byte is.
+#[tactic(auto, using(crate::proofs::Endings::ends_once_first, crate::proofs::Endings::ends_once_none))]
 pub(crate) fn ends_once(mark: u8, bytes: &[u8]) -> bool
     ensures { result ≡ ends_once mark bytes.now }
 {
@@ -51,8 +46,8 @@ pub(crate) fn is_control_data(bytes: &[u8]) -> bool
     !has_delimiter(bytes)
 }
 
-#[tactic(auto, using(crate::proofs::Endings::follows_next, crate::proofs::Endings::follows_end))]
 /// Whether each delimiter is followed by a code.
+#[tactic(auto, using(crate::proofs::Endings::follows_next, crate::proofs::Endings::follows_end))]
 fn codes_follow(bytes: &[u8]) -> bool
     ensures { result ≡ codes_follow bytes.now }
 {

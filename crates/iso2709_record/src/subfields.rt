@@ -6,7 +6,7 @@ ghost use Rattle.iso2709_record.specs.Written.{delimiter};
 ghost use Rattle.iso2709_record.specs.Faults.{starts_subfield, is_subfield_data};
 ghost use Rattle.iso2709_record.specs.Spelling.{Spells, IsFirstOf};
 
-use crate::marks::DELIMITER;
+use crate::blocks::DELIMITER;
 use memchr::memchr;
 
 /// A subfield that was cut off the front of a field's bytes, and the bytes behind it.
