@@ -1,7 +1,10 @@
 pub mod Admission
+pub mod Answers
 pub mod Authority
 pub mod Choice
+pub mod Headings
 pub mod History
+pub mod Identifying
 pub mod Identity
 pub mod Lines
 pub mod Output
