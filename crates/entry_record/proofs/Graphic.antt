@@ -1,5 +1,5 @@
 -- Graphic characters are ASCII, and ASCII bytes are a text.
-use Rattle.std.proofs.Common.{◌≡◌, ℕ, zero, suc, ◌<◌, ◌≤◌, Bool, true, List, [], ◌∷◌, IsTrue, IsUtf8, refl, arith}
+use Rattle.std.proofs.Common.{◌≡◌, ℕ, zero, suc, ◌<◌, ◌≤◌, nat_le, true, List, [], ◌∷◌, IsUtf8, refl, arith}
 use Rattle.std.specs.List.{list_all}
 use Rattle.std.specs.Str.{IsAscii}
 use Rattle.std.proofs.lemmas.Str.{IsUtf8-from_ascii}
@@ -7,7 +7,7 @@ use Rattle.std.proofs.lemmas.Bool.{and_parts, and_from, leb-true}
 use Rattle.marc_types.specs.Valid.{is_graphic, is_code_byte}
 
 graphic_below : (b : ℕ) → is_graphic b ≡ true → b < 128
-graphic_below b h = let top : b ≤ 0x7e = leb-true b 0x7e (and_parts _ _ h).1 in omega arith
+graphic_below b h = let top : b ≤ 0x7e = leb-true b 0x7e (and_parts (nat_le 0x21 b) (nat_le b 0x7e) h).1 in omega arith
 
 graphic_is_ascii : (bs : List ℕ) → list_all is_graphic bs ≡ true → IsAscii bs
 graphic_is_ascii [] h i = omega arith

@@ -1,1 +1,2 @@
 pub mod Graphic
+pub mod Room

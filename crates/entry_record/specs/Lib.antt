@@ -12,4 +12,5 @@ pub mod Receipt
 pub mod Sameness
 pub mod Settle
 pub mod State
+pub mod Taking
 pub mod Valid

@@ -1,7 +1,9 @@
 //! Which records a catalogue takes, what an entry of its history is, and the definitions of the plain pass over a history.
 #![tactic(auto)]
 
+pub use admission::admission_refusal;
 pub use identity::{class_of, is_deletion, key_of};
 
+mod admission;
 mod headings;
 mod identity;
