@@ -27,10 +27,12 @@ const GROWTH: u64 = 600;
 
 /// The greatest lengths that a written record and its fields have room for.
 const MOST_RECORD_LEN: u64 = 99_999;
+
 const MOST_FIELD_LEN: u64 = 9_999;
 
 /// A leader, the directory's terminator and the record's.
 const FRAME_LEN: u64 = 26;
+
 const DIRECTORY_ENTRY_LEN: u64 = 12;
 
 /// What admission learns of a record that it takes.
@@ -138,7 +140,6 @@ fn grown_len(field: &Field, forms: &Option<HeadingForms>) -> u64
     }
 }
 
-#[tactic(auto, unfolding(crate::specs::Admission::has_no_room), using(crate::proofs::Room::forms_at, crate::proofs::Room::grown_record))]
 /// Whether the record, or one of its fields, can become too long.
 fn has_no_room(fields: &[Field], headings: &[Option<HeadingForms>], class: Class) -> bool
     requires few { length fields.now ≤ 8331 }
@@ -159,11 +160,7 @@ fn has_no_room(fields: &[Field], headings: &[Option<HeadingForms>], class: Class
 
 /// The key of a record and the forms of its heading fields, unless a catalogue doesn't take it.
 #[tactic(auto, unfolding(crate::specs::Admission::admission_refusal), using(iso2709_record::proofs::Lengths::record_bounds))]
-pub(crate) fn examine(
-    alloc: Global,
-    rec: &Record,
-    library: &Text,
-) -> Result<Examined, RecordFault>
+pub(crate) fn examine(alloc: Global, rec: &Record, library: &Text) -> Result<Examined, RecordFault>
     ensures taken { IfOk result (IsExamined library.now rec.now.leader rec.now.fields) }
     ensures refused { IfErr result (IsRefusalOf (admission_refusal library.now rec.now.leader rec.now.fields)) }
 {
