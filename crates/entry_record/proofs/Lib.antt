@@ -1,2 +1,4 @@
 pub mod Graphic
-pub mod Room
+pub mod Growing
+pub mod Written
+pub mod Numbered

@@ -8,6 +8,8 @@ pub mod Identifying
 pub mod Identity
 pub mod Lines
 pub mod Output
+pub mod Payload
+pub mod Prepared
 pub mod Receipt
 pub mod Sameness
 pub mod Settle

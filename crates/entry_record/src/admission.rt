@@ -82,7 +82,7 @@ fn is_too_long(field: &Field) -> bool
     }
 }
 
-#[tactic(auto, using(crate::proofs::Room::heading_small))]
+#[tactic(auto, using(crate::proofs::Growing::heading_small))]
 fn has_long_first(fields: &[Field]) -> bool
     requires { fields_size fields.now ≤ 1000000 }
     ensures { result ≡ option_map_or is_too_long (heading_of fields.now) false }

@@ -74,7 +74,7 @@ fn first_control(fields: &[Field], last: u8) -> Option<&Text>
     None
 }
 
-fn filled_bytes(alloc: Global, bytes: &[u8]) -> Result<Vec<u8>, NoMemory>
+pub(crate) fn filled_bytes(alloc: Global, bytes: &[u8]) -> Result<Vec<u8>, NoMemory>
     ensures { IfOk result (λ filled. filled.items ≡ without_blanks bytes.now) }
 {
     let filled = bytes
@@ -132,7 +132,7 @@ fn graphic_text(bytes: Vec<u8>) -> Text
 }
 
 #[tactic(auto, unfolding(marc_types::specs::Valid::is_number))]
-fn number_text(number: Vec<u8>) -> Text
+pub(crate) fn number_text(number: Vec<u8>) -> Text
     requires { IsTrue (is_number number.items) }
     ensures { result ≡ number.items }
 {
@@ -140,7 +140,7 @@ fn number_text(number: Vec<u8>) -> Text
 }
 
 #[tactic(auto, unfolding(marc_types::specs::Valid::is_code), using(crate::proofs::Graphic::code_is_graphic))]
-fn code_text(code: Vec<u8>) -> Text
+pub(crate) fn code_text(code: Vec<u8>) -> Text
     requires { IsTrue (is_code code.items) }
     ensures { result ≡ code.items }
 {

@@ -7,3 +7,5 @@ pub use identity::{class_of, is_deletion, key_of};
 mod admission;
 mod headings;
 mod identity;
+mod payload;
+mod successor;

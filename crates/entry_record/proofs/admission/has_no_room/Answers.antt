@@ -1,6 +1,6 @@
 use Rattle.std.proofs.Common.{◌≡◌, arith}
 use Rattle.entry_record.specs.Admission.{grown_length}
-use Rattle.entry_record.proofs.Room.{grown_here, room_more, room_found, room_end}
+use Rattle.entry_record.proofs.Growing.{grown_here, room_more, room_found, room_end}
 use Rattle.entry_record.proofs.admission.has_no_room.Goals as goal
 
 pub returns-then-grown-gt-MOST_FIELD_LEN : goal.returns-then-grown-gt-MOST_FIELD_LEN

@@ -1,4 +1,4 @@
-use Rattle.entry_record.proofs.Room.{IsRoomTo}
+use Rattle.entry_record.proofs.Growing.{IsRoomTo}
 use Rattle.entry_record.proofs.admission.has_no_room.Given as goal
 
 abbrev pub invariant-loop-place : goal.invariant-loop-place

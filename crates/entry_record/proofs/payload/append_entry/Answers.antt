@@ -1,0 +1,10 @@
+use Rattle.entry_record.specs.Payload.{entry_bytes}
+use Rattle.entry_record.proofs.Written.{entry_joined}
+use Rattle.entry_record.proofs.payload.append_entry.Goals as goal
+
+pub returns : goal.returns
+unfolding entry_bytes
+returns c =
+    rw (c.in_ok-encode_into.ensures.ok, c.in_ok-extend_from_slice-2.ensures.items, c.in_ok-extend_from_slice.ensures.items,
+        c.to_be_bytes.ensures, c.to_be_bytes-2.ensures, c.encoded_len-len.ensures)
+    (entry_joined _ _ _ _)
