@@ -7,6 +7,8 @@ use Rattle.marc_types.specs.declared.key.Class.TheVariants.{Authority, Bibliogra
 use Rattle.marc_types.specs.declared.key.Key.{Key}
 use Rattle.marc_types.specs.declared.form.Form.{Form}
 use Rattle.marc_types.specs.declared.entry.Entry.{Entry}
+use Rattle.marc_types.specs.declared.record.Record.{Record}
+use Rattle.entry_record.specs.Identity.{class_of, key_of}
 use Rattle.entry_record.specs.Authority.{Linkable, linkable_of, base_form, full_form, heading_kind, successor_of}
 use Rattle.entry_record.specs.History.{IsAdmitted}
 use Rattle.entry_record.specs.Headings.{heading_forms}
@@ -53,6 +55,18 @@ full_form_of e place = option_and_then (heading_full_form e.class) (slice_get e.
 -- the key that the entry's authority hands its links on to
 abbrev pub entry_successor : Entry → Option Key
 entry_successor e = successor_of e.rec.leader e.key e.rec.fields
+
+-- the entry that a loader brings: its file's piece of that ordinal, in no run yet
+abbrev pub new_entry : List ℕ → ℕ → ℕ → Record → Entry
+new_entry library loader ordinal rec = record {
+  loader = loader;
+  ordinal = ordinal;
+  rec = rec;
+  class = class_of rec.leader;
+  key = key_of library rec.fields;
+  run = 0;
+  library = library;
+}
 
 -- an admitted entry, and beside it what it comes to
 pub record IsPreparation (e : Entry) (established : Option Form) (see_from : List Form) (headings : List (Option HeadingForms)) (successor : Option Key) (payload : List ℕ) : Type 0 where

@@ -20,7 +20,7 @@ use marc_types::{Class, Field, Key, Leader, NoMemory, Record, RecordFault, Refus
 use std::alloc::Global;
 
 /// The longest heading that an authority may have or be found under: two bytes and the text, for each subfield.
-const LONGEST_HEADING: u64 = 512;
+pub(crate) const LONGEST_HEADING: u64 = 512;
 
 /// What a heading field may grow by, once it is under an authority: its heading and a `$0`.
 const GROWTH: u64 = 600;
@@ -54,7 +54,7 @@ fn is_heading(field: &Field) -> bool
     tag(field).a == b'1'
 }
 
-fn is_see_from(field: &Field) -> bool
+pub(crate) fn is_see_from(field: &Field) -> bool
     ensures { result ≡ is_see_from field.now }
 {
     tag(field).a == b'4'

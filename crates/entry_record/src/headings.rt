@@ -1,5 +1,5 @@
 //! The forms of a record's heading fields, each made once.
-ghost use Rattle.std.specs.Prelude.{◌≡◌, IfOk, Some, map};
+ghost use Rattle.std.specs.Prelude.{◌≡◌, IfOk, Some, map, unwrap_or};
 ghost use Rattle.heading_fields.specs.Parts.{tag_of};
 ghost use Rattle.entry_record.specs.Headings.{is_divided, divided_form, filled_forms, heading_forms};
 
@@ -18,6 +18,24 @@ pub(crate) struct HeadingForms {
 /// For each field of a record its forms, where it is a heading field.
 pub(crate) type Headings = Sequence<Option<HeadingForms>>;
 
+impl HeadingForms {
+    pub(crate) fn full(&self) -> &Form
+        ensures { result.now ≡ unwrap_or self.now.divided self.now.base }
+    {
+        match &self.divided {
+            Some(form) => form,
+            None => &self.base,
+        }
+    }
+
+    pub(crate) fn into_full(self) -> Form
+        ensures { result ≡ unwrap_or self.divided self.base }
+    {
+        let HeadingForms { base, divided } = self;
+        divided.unwrap_or(base)
+    }
+}
+
 impl TryCopy for HeadingForms {
     fn copy(&self, alloc: Global) -> Result<Self, NoMemory> {
         Ok(HeadingForms {
@@ -35,7 +53,7 @@ pub(crate) fn tag(field: &Field) -> &Tag
     }
 }
 
-fn is_divided(field: &Field, class: Class) -> bool
+pub(crate) fn is_divided(field: &Field, class: Class) -> bool
     ensures { result ≡ is_divided class field.now }
 {
     takes_subdivisions(tag(field), class) && has_subdivision(field)

@@ -2,10 +2,13 @@
 #![tactic(auto)]
 
 pub use admission::admission_refusal;
+pub use prepared::{Prepared, admit};
 pub use identity::{class_of, is_deletion, key_of};
 
+mod access;
 mod admission;
 mod headings;
 mod identity;
 mod payload;
+mod prepared;
 mod successor;

@@ -9,7 +9,7 @@ use outside::Bytes;
 use std::alloc::Global;
 
 /// What stands before the entries besides the library code: the run, the loader, the code's length and the count.
-const HEAD_LEN: u64 = 14;
+pub(crate) const HEAD_LEN: u64 = 14;
 
 /// What an entry has besides its written record: the ordinal, and the record's length.
 const ENTRY_LEN: u64 = 12;
