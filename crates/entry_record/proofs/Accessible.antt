@@ -11,7 +11,7 @@ use Rattle.marc_types.specs.declared.key.Key.{Key}
 use Rattle.marc_types.specs.declared.form.Kind.{Kind}
 use Rattle.marc_types.specs.declared.form.Form.{Form}
 use Rattle.heading_fields.specs.Tables.{authority_kind_of}
-use Rattle.heading_fields.specs.Parts.{tag_of, full_part}
+use Rattle.heading_fields.specs.Parts.{tag_of}
 use Rattle.naco_form.specs.Form.{form_of}
 use Rattle.entry_record.specs.Authority.{Linkable, heading_of, full_form, has_form, option_filter, is_short_in_full, linkable_kind, linkable_with, linkable_by, linkable_of, is_see_from, is_kind, same_kind, is_tracing_of, see_from_forms}
 use Rattle.entry_record.specs.Headings.{filled_full_form, established_form, is_tracing_tag}
@@ -129,7 +129,7 @@ unfolding linkable_of
 linked key fields h form e established =
     let both = linked_by (linkable_kind h) key fields h form established in
     let found : option_map (linkable_with key fields h) (linkable_kind h) ≡ option_and_then (linkable_by key fields) (heading_of fields) =
-        ap (option_and_then (linkable_by key fields)) e in
+    ap (option_and_then (linkable_by key fields)) e in
     (both.0 ∙ ap established_in found, both.1 ∙ ap see_from_in found)
 
 pub see_from_none : (kind : Kind) → [] ≡ see_from_forms kind []

@@ -1,5 +1,5 @@
 -- The numbers of replacements, one field further on, and where a key's text is cut.
-use Rattle.std.proofs.Common.{◌≡◌, ℕ, ◌+◌, ◌==◌, ◌<◌, ◌≤◌, Bool, true, false, nat_lt, List, [], ◌∷◌, ◌++◌, filter, length, get_or, take, drop, Option, Some, None, cond, refl, sym, ap, ◌∙◌, arith}
+use Rattle.std.proofs.Common.{◌≡◌, ℕ, ◌+◌, ◌==◌, ◌<◌, ◌≤◌, Bool, true, false, nat_lt, List, [], ◌∷◌, ◌++◌, filter, length, get_or, take, drop, Some, None, cond, refl, sym, ap, ◌∙◌, arith}
 use Rattle.std.specs.List.{flat_map, position, position_or_len, before_first, after_first}
 use Rattle.std.proofs.lemmas.List.{take_more, append-nil, drop_all, take_all}
 use Rattle.std.proofs.lemmas.List.Elements.{filter-append}

@@ -1,8 +1,7 @@
 -- What is kept of an entry, as its readers want it.
-use Rattle.std.proofs.Common.{◌≡◌, ℕ, zero, suc, ◌+◌, List, [], ◌∷◌, ◌++◌, map, length, slice_get, Option, Some, None, option_and_then, unwrap_or, refl, sym, ap, ◌∙◌, arith, length-append}
+use Rattle.std.proofs.Common.{◌≡◌, ℕ, zero, suc, ◌+◌, List, [], ◌∷◌, ◌++◌, map, length, slice_get, Option, Some, None, option_and_then, unwrap_or, refl, ap, ◌∙◌, arith, length-append}
 use Rattle.std.specs.Option.{option_map}
 use Rattle.std.specs.Int.{w32, w64, to_be_bytes}
-use Rattle.std.specs.List.{flat_map}
 use Rattle.marc_types.specs.declared.field.Field.{Field}
 use Rattle.marc_types.specs.declared.key.Class.{Class}
 use Rattle.marc_types.specs.declared.form.Kind.{Kind}
@@ -87,17 +86,30 @@ no_full_at e i h = no_full_in (slice_get e.rec.fields i) e.class h
 length-head : (run loader count : ℕ) (library : List ℕ) → length (payload_head run loader library count) ≡ 14 + length library
 unfolding payload_head
 length-head run loader count library =
-    omega (arith, length-append (to_be_bytes w64 run ++ to_be_bytes w32 loader ++ length library ∷ library) (count ∷ []),
-        length-append (to_be_bytes w64 run ++ to_be_bytes w32 loader) (length library ∷ library), length-append (to_be_bytes w64 run) (to_be_bytes w32 loader))
+    omega (
+      arith,
+      length-append (to_be_bytes w64 run ++ to_be_bytes w32 loader ++ length library ∷ library) (count ∷ []),
+      length-append (to_be_bytes w64 run ++ to_be_bytes w32 loader) (length library ∷ library),
+      length-append (to_be_bytes w64 run) (to_be_bytes w32 loader),
+    )
 
 length-entry : (e : Entry) → length (entry_bytes e) ≡ 12 + record_length e.rec.fields
 unfolding entry_bytes
 length-entry e =
-    omega (arith, length-append (to_be_bytes w64 e.ordinal ++ to_be_bytes w32 (record_length e.rec.fields)) (record_bytes e.rec.leader e.rec.fields),
-        length-append (to_be_bytes w64 e.ordinal) (to_be_bytes w32 (record_length e.rec.fields)), length-record_bytes e.rec.leader e.rec.fields)
+    omega (
+      arith,
+      length-append (to_be_bytes w64 e.ordinal ++ to_be_bytes w32 (record_length e.rec.fields)) (record_bytes e.rec.leader e.rec.fields),
+      length-append (to_be_bytes w64 e.ordinal) (to_be_bytes w32 (record_length e.rec.fields)),
+      length-record_bytes e.rec.leader e.rec.fields,
+    )
 
 pub length-payload : (e : Entry) → length (payload_of e) ≡ 26 + length e.library + record_length e.rec.fields
 unfolding payload_bytes
 length-payload e =
-    omega (arith, length-append (payload_head e.run e.loader e.library 1) (entry_bytes e ++ []), length-append (entry_bytes e) [],
-        length-head e.run e.loader 1 e.library, length-entry e)
+    omega (
+      arith,
+      length-append (payload_head e.run e.loader e.library 1) (entry_bytes e ++ []),
+      length-append (entry_bytes e) [],
+      length-head e.run e.loader 1 e.library,
+      length-entry e,
+    )

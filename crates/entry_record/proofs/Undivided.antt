@@ -1,5 +1,5 @@
 -- A field without subdivisions has its base part as its full part.
-use Rattle.std.proofs.Common.{◌≡◌, ℕ, ◌≤◌, ◌+◌, Bool, true, false, ◌&&◌, ◌||◌, List, [], ◌∷◌, filter, length, Option, Some, None, unwrap_or, cond, refl, sym, ap, ◌∙◌, arith}
+use Rattle.std.proofs.Common.{◌≡◌, ℕ, ◌≤◌, ◌+◌, Bool, true, false, ◌&&◌, List, [], ◌∷◌, filter, length, Some, None, unwrap_or, cond, refl, sym, ap, ◌∙◌, arith}
 use Rattle.std.specs.Prelude.{if◌then◌else◌}
 use Rattle.std.specs.List.{list_any}
 use Rattle.std.specs.Option.{option_map}
@@ -17,7 +17,7 @@ use Rattle.heading_fields.specs.Parts.{tag_of, subfields_of, before, is_dividing
 use Rattle.heading_fields.proofs.Codes.{undivided_part}
 use Rattle.heading_fields.proofs.Slices.{size_region}
 use Rattle.naco_form.specs.Form.{form_of}
-use Rattle.entry_record.specs.Authority.{base_form, full_form, has_form, option_filter}
+use Rattle.entry_record.specs.Authority.{base_form, full_form, has_form}
 use Rattle.entry_record.specs.Headings.{is_divided, divided_form, forms_of_kind, filled_forms, filled_full_form}
 use Rattle.entry_record.specs.declared.headings.HeadingForms.{HeadingForms}
 

@@ -1,5 +1,5 @@
 -- The forms under which an authority is found.
-use Rattle.std.specs.Prelude.{◌≡◌, List, Option}
+use Rattle.std.specs.Prelude.{◌≡◌, Option}
 use Rattle.entry_record.specs.Authority.{Linkable}
 use Rattle.entry_record.specs.Prepared.{established_in, see_from_in}
 use Rattle.entry_record.specs.declared.access.Access.{Access}

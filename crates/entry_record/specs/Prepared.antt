@@ -1,5 +1,5 @@
 -- What a catalogue asks of an entry: the forms of its authority and of its heading fields, and its successor.
-use Rattle.std.specs.Prelude.{◌≡◌, ℕ, List, [], map, slice_get, Option, Some, None, option_and_then}
+use Rattle.std.specs.Prelude.{◌≡◌, ℕ, List, [], map, slice_get, Option, None, option_and_then}
 use Rattle.std.specs.Option.{option_map, option_map_or}
 use Rattle.marc_types.specs.declared.field.Field.{Field}
 use Rattle.marc_types.specs.declared.key.Class.{Class}

@@ -2,8 +2,8 @@
 #![tactic(auto)]
 
 pub use admission::admission_refusal;
-pub use prepared::{Prepared, admit};
 pub use identity::{class_of, is_deletion, key_of};
+pub use prepared::{Prepared, admit};
 
 mod access;
 mod admission;

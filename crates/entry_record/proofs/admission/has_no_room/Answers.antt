@@ -1,5 +1,3 @@
-use Rattle.std.proofs.Common.{◌≡◌, arith}
-use Rattle.entry_record.specs.Admission.{grown_length}
 use Rattle.entry_record.proofs.Growing.{grown_here, room_more, room_found, room_end}
 use Rattle.entry_record.proofs.admission.has_no_room.Goals as goal
 
