@@ -75,6 +75,16 @@ abbrev pub IsSettled : List Linkable → Class → KeptField → Type 0
 IsSettled authorities class h =
     h.tie.key ≡ None → IfSome (heading_kind class h.field) (λ kind. IsNoLink (choice authorities class kind h))
 
+-- only a heading field is linked
+abbrev pub IsLinkOfHeading : Class → KeptField → Type 0
+IsLinkOfHeading class h = is_some h.tie.key ≡ true → is_heading_field class h.field ≡ true
+
+-- what a state has before it is settled: authorities in key order under proper keys, and links of heading fields alone
+pub record IsReadyToSettle (s : State) : Type 0 where
+  pub authorities_ascend : IsAscending s.authorities
+  pub authority_rows : All (IsRow Authority) s.authorities
+  pub links : EachField IsLinkOfHeading s
+
 -- the subfields without each `$0` that names the linked key, where there is one
 abbrev pub other_subfields : Option Key → List Subfield → List Subfield
 other_subfields None subs = subs

@@ -9,6 +9,7 @@ mod access;
 mod admission;
 mod headings;
 mod identity;
+pub mod laws;
 mod payload;
 mod prepared;
 mod successor;

@@ -139,7 +139,7 @@ impl TryCopy for Prepared {
     }
 }
 
-#[tactic(auto, using(crate::proofs::Fitting::admitted_fits))]
+#[tactic(auto, using(crate::proofs::Admitted::admitted_fits))]
 fn prepare_entry(alloc: Global, entry: Entry, headings: Headings) -> Result<Prepared, NoMemory>
     requires admitted { IsAdmitted entry }
     requires headings { headings ≡ map (heading_forms entry.class) entry.rec.fields }

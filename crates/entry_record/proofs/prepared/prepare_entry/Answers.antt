@@ -1,4 +1,4 @@
-use Rattle.entry_record.proofs.Fitting.{admitted_library, entry_small}
+use Rattle.entry_record.proofs.Admitted.{admitted_library, entry_small}
 use Rattle.entry_record.proofs.prepared.prepare_entry.Goals as goal
 
 pub access_of-requires : goal.access_of-requires
