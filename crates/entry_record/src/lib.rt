@@ -13,3 +13,5 @@ pub mod laws;
 mod payload;
 mod prepared;
 mod successor;
+#[cfg(test)]
+mod tests;
