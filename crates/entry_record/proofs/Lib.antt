@@ -1,10 +1,16 @@
+pub mod Accessible
+pub mod Admitted
 pub mod Elements
 pub mod Fit
 pub mod Fitting
+pub mod Graphic
+pub mod Growing
+pub mod Numbered
 pub mod Once
 pub mod Proper
 pub mod Put
 pub mod Reach
+pub mod Readings
 pub mod Room
 pub mod Rows
 pub mod Settled
@@ -12,3 +18,5 @@ pub mod Sizes
 pub mod States
 pub mod Steady
 pub mod Still
+pub mod Undivided
+pub mod Written

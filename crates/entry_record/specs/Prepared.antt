@@ -1,0 +1,78 @@
+-- What a catalogue asks of an entry: the forms of its authority and of its heading fields, and its successor.
+use Rattle.std.specs.Prelude.{◌≡◌, ℕ, List, [], map, slice_get, Option, None, option_and_then}
+use Rattle.std.specs.Option.{option_map, option_map_or}
+use Rattle.marc_types.specs.declared.field.Field.{Field}
+use Rattle.marc_types.specs.declared.key.Class.{Class}
+use Rattle.marc_types.specs.declared.key.Class.TheVariants.{Authority, Bibliographic}
+use Rattle.marc_types.specs.declared.key.Key.{Key}
+use Rattle.marc_types.specs.declared.form.Form.{Form}
+use Rattle.marc_types.specs.declared.entry.Entry.{Entry}
+use Rattle.marc_types.specs.declared.record.Record.{Record}
+use Rattle.entry_record.specs.Identity.{class_of, key_of}
+use Rattle.entry_record.specs.Authority.{Linkable, linkable_of, base_form, full_form, heading_kind, successor_of}
+use Rattle.entry_record.specs.History.{IsAdmitted}
+use Rattle.entry_record.specs.Headings.{heading_forms}
+use Rattle.entry_record.specs.Payload.{payload_of}
+use Rattle.entry_record.specs.declared.headings.HeadingForms.{HeadingForms}
+
+-- the authority that fields can be linked to, if the fields are those of one
+abbrev pub authority_in : Class → Key → List Field → Option Linkable
+authority_in Authority key fields = linkable_of key fields
+authority_in Bibliographic key fields = None
+
+abbrev pub established_in : Option Linkable → Option Form
+established_in authority = option_map (λ c. c.established) authority
+
+-- an authority that isn't linkable has no see from forms
+abbrev pub see_from_in : Option Linkable → List Form
+see_from_in authority = option_map_or (λ c. c.see_from) authority []
+
+abbrev pub authority_of : Entry → Option Linkable
+authority_of e = authority_in e.class e.key e.rec.fields
+
+-- the established form of the entry's authority
+abbrev pub established_of : Entry → Option Form
+established_of e = established_in (authority_of e)
+
+-- the see from forms of the entry's authority
+abbrev pub see_from_of : Entry → List Form
+see_from_of e = see_from_in (authority_of e)
+
+abbrev pub heading_base_form : Class → Field → Option Form
+heading_base_form class f = option_map (λ kind. base_form kind f) (heading_kind class f)
+
+abbrev pub heading_full_form : Class → Field → Option Form
+heading_full_form class f = option_map (λ kind. full_form kind class f) (heading_kind class f)
+
+-- the base form of the heading field at a place, if there is one
+unfoldable pub field_form_of : Entry → ℕ → Option Form
+field_form_of e place = option_and_then (heading_base_form e.class) (slice_get e.rec.fields place)
+
+-- the full form of the heading field at a place, if there is one
+unfoldable pub full_form_of : Entry → ℕ → Option Form
+full_form_of e place = option_and_then (heading_full_form e.class) (slice_get e.rec.fields place)
+
+-- the key that the entry's authority hands its links on to
+abbrev pub entry_successor : Entry → Option Key
+entry_successor e = successor_of e.rec.leader e.key e.rec.fields
+
+-- the entry that a loader brings: its file's piece of that ordinal, in no run yet
+abbrev pub new_entry : List ℕ → ℕ → ℕ → Record → Entry
+new_entry library loader ordinal rec = record {
+  loader = loader;
+  ordinal = ordinal;
+  rec = rec;
+  class = class_of rec.leader;
+  key = key_of library rec.fields;
+  run = 0;
+  library = library;
+}
+
+-- an admitted entry, and beside it what it comes to
+pub record IsPreparation (e : Entry) (established : Option Form) (see_from : List Form) (headings : List (Option HeadingForms)) (successor : Option Key) (payload : List ℕ) : Type 0 where
+  pub admitted : IsAdmitted e
+  pub established_is : established ≡ established_of e
+  pub see_from_is : see_from ≡ see_from_of e
+  pub headings_are : headings ≡ map (heading_forms e.class) e.rec.fields
+  pub successor_is : successor ≡ entry_successor e
+  pub payload_is : payload ≡ payload_of e
