@@ -1,0 +1,2 @@
+//! A journal of payloads over a disk.
+#![tactic(auto)]
