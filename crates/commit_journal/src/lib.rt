@@ -1,2 +1,10 @@
-//! A journal of payloads over a disk.
+//! A journal.
 #![tactic(auto)]
+
+mod fault;
+mod format;
+mod frame;
+
+pub use fault::{DeviceFault, JournalFault};
+pub use format::LARGEST_PAYLOAD;
+pub use frame::{Frame, Frames};
