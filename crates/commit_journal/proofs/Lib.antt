@@ -1,2 +1,5 @@
 pub mod Header
 pub mod Walks
+pub mod Steps
+pub mod Logs
+pub mod Fillings

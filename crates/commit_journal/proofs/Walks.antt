@@ -168,13 +168,16 @@ split_frame place gate bytes is has s =
 never : (w : Walk) (place : ℕ) → w ≡ lost_at place → w.is_closed ≡ true → ⊥
 never w place lost closed = true≢false (sym closed ∙ ap (λ v. v.is_closed) lost)
 
+split_gate : (place gate : ℕ) (bytes : List ℕ) (shut has : Bool) → (gate == CLOSED_GATE) ≡ shut → has_frame bytes ≡ has
+    → ((walk (place + 1) (LENGTH_BYTES + payload_length bytes) bytes).is_closed ≡ true → Split (place + 1) (LENGTH_BYTES + payload_length bytes) bytes)
+    → (walk place 0 (gate ∷ bytes)).is_closed ≡ true → Split place 0 (gate ∷ bytes)
+split_gate place gate bytes true has is_shut is_has further closed = split_closed place gate bytes is_shut
+split_gate place gate bytes false true is_shut is_has further closed =
+    split_frame place gate bytes is_shut is_has (further (ap (λ w. w.is_closed) (sym (walk_frame place gate bytes is_shut is_has)) ∙ closed))
+split_gate place gate bytes false false is_shut is_has further closed = absurd (never (walk place 0 (gate ∷ bytes)) place (walk_lost place gate bytes is_shut is_has) closed)
+
 pub split : (place skip : ℕ) (bytes : List ℕ) → (walk place skip bytes).is_closed ≡ true → Split place skip bytes
 split place skip [] closed = absurd (never (walk place skip []) place (walk_none place skip) closed)
 split place (suc skip) (byte ∷ bytes) closed = split_byte place skip byte bytes (split (place + 1) skip bytes (ap (λ w. w.is_closed) (sym (walk_byte place skip byte bytes)) ∙ closed))
-split place zero (gate ∷ bytes) closed = decided (gate == CLOSED_GATE) (has_frame bytes) refl refl
-  where
-    decided : (shut has : Bool) → (gate == CLOSED_GATE) ≡ shut → has_frame bytes ≡ has → Split place 0 (gate ∷ bytes)
-    decided true has is_shut is_has = split_closed place gate bytes is_shut
-    decided false true is_shut is_has = split_frame place gate bytes is_shut is_has (split (place + 1) (LENGTH_BYTES + payload_length bytes) bytes
-      (ap (λ w. w.is_closed) (sym (walk_frame place gate bytes is_shut is_has)) ∙ closed))
-    decided false false is_shut is_has = absurd (never (walk place 0 (gate ∷ bytes)) place (walk_lost place gate bytes is_shut is_has) closed)
+split place zero (gate ∷ bytes) closed =
+    split_gate place gate bytes (gate == CLOSED_GATE) (has_frame bytes) refl refl (split (place + 1) (LENGTH_BYTES + payload_length bytes) bytes) closed

@@ -1,6 +1,7 @@
 //! A journal.
 #![tactic(auto)]
 
+mod calls;
 mod fault;
 mod format;
 mod frame;
