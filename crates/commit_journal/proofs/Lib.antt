@@ -3,3 +3,5 @@ pub mod Walks
 pub mod Steps
 pub mod Logs
 pub mod Fillings
+pub mod Heads
+pub mod Faults

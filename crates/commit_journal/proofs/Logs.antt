@@ -10,6 +10,7 @@ use Rattle.commit_journal.specs.declared.frame.Frame.{Frame}
 use Rattle.commit_journal.specs.declared.format.TheConstants.{CLOSED_GATE, OPEN_GATE, FIRST_GATE, BLANK_LENGTH, VERSION_PLACE, LARGEST_PAYLOAD, LENGTH_BYTES, EMPTY_LOG}
 use Rattle.commit_journal.specs.Log.{payload_length, payload_of, has_frame, header_fault, version_of_header, Walk, walk, walk_of, closed_at, behind, frames_found, frames_of, version_of, first_differing}
 use Rattle.commit_journal.specs.Journal.{frame_text, and_frame, EndsAt, HasFrameOrNot, SameLog}
+use Rattle.commit_journal.specs.Reading.{IsWalk}
 use Rattle.commit_journal.proofs.Walks.{Split, split, Sizes, walk_closed, walk_frame, walk_skip, frame_whole}
 
 -- A log that leads to a closed gate is a front, that gate, and what stands behind it.
@@ -76,6 +77,19 @@ version_long log long = let test : nat_le (length log) BLANK_LENGTH ≡ false = 
 -- a right header before a walk that ends at a closed gate
 pub frames_walked : (log : List ℕ) (w : Walk) → BLANK_LENGTH < length log → header_fault log ≡ None → walk_of log ≡ w → w.is_closed ≡ true → frames_of log ≡ Ok w.frames
 frames_walked log w long header walked closed = frames_long log long ∙ rw (header, walked, closed) refl
+
+-- a wrong header, and a walk that ends at no closed gate
+pub frames_wrong : (log : List ℕ) (wrong : ℕ) → BLANK_LENGTH < length log → header_fault log ≡ Some wrong → frames_of log ≡ Err wrong
+frames_wrong log wrong long header = frames_long log long ∙ ap (λ h. frames_found h (walk_of log)) header
+
+pub frames_lost : (log : List ℕ) (wrong : ℕ) → BLANK_LENGTH < length log → header_fault log ≡ None → IsWalk wrong log → frames_of log ≡ Err wrong
+frames_lost log wrong long header lost = frames_long log long ∙ rw (header, lost.lost, lost.at) refl
+
+pub says_front : (log : List ℕ) → FIRST_GATE ≤ length log → version_of_header (take FIRST_GATE log) ≡ version_of_header log
+says_front log long = says_same (take FIRST_GATE log) log (get_or_take log VERSION_PLACE FIRST_GATE (omega arith) long)
+  where
+    get_or_take : (l : List ℕ) (i n : ℕ) → i < n → n ≤ length l → get_or (take n l) i 0 ≡ get_or l i 0
+    get_or_take l i n within long = grind (arith, common_steps)
 
 short_or_long : (n m : ℕ) → (n ≤ m) ⊎ (m < n)
 short_or_long n m = decided (nat_le n m) refl

@@ -5,6 +5,7 @@ mod calls;
 mod fault;
 mod format;
 mod frame;
+mod reading;
 
 pub use fault::{DeviceFault, JournalFault};
 pub use format::LARGEST_PAYLOAD;
