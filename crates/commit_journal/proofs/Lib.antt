@@ -5,3 +5,5 @@ pub mod Logs
 pub mod Fillings
 pub mod Heads
 pub mod Faults
+pub mod Recoveries
+pub mod Appends

@@ -112,17 +112,17 @@ frames_closed log p rest header = decided (short_or_long (length (p.front ++ CLO
 pub frames_self : (log : List ℕ) (p : Parts log) → header_fault log ≡ None → frames_of log ≡ Ok (walk_of log).frames
 frames_self log p header = ap frames_of p.is ∙ frames_closed log p p.tail header
 
--- the version stays where the header does, which names that of a blank log too
-pub version_same : (log : List ℕ) (p : Parts log) (rest : List ℕ) → (length log ≤ BLANK_LENGTH → version_of_header log ≡ 2) → (length (p.front ++ rest) ≤ BLANK_LENGTH → version_of_header log ≡ 2)
-    → version_of (p.front ++ rest) ≡ version_of log
-version_same log p rest blank blank_now = version_named (p.front ++ rest) (version_of_header log) (p.says rest) blank_now ∙ sym (version_named log (version_of_header log) refl blank)
+-- the version of what isn't blank is that of its header
+pub version_kept : (log : List ℕ) (p : Parts log) (rest : List ℕ) → BLANK_LENGTH < length log → BLANK_LENGTH < length (p.front ++ rest) → version_of (p.front ++ rest) ≡ version_of log
+version_kept log p rest long now = version_long (p.front ++ rest) now ∙ p.says rest ∙ sym (version_long log long)
+
+-- and of what names version 2
+pub version_two : (log : List ℕ) → version_of_header log ≡ 2 → version_of log ≡ 2
+version_two log two = decided (short_or_long (length log) BLANK_LENGTH)
   where
-    version_named : (bytes : List ℕ) (named : ℕ) → version_of_header bytes ≡ named → (length bytes ≤ BLANK_LENGTH → named ≡ 2) → version_of bytes ≡ named
-    version_named bytes named is two = decided (short_or_long (length bytes) BLANK_LENGTH)
-      where
-        decided : (length bytes ≤ BLANK_LENGTH) ⊎ (BLANK_LENGTH < length bytes) → version_of bytes ≡ named
-        decided (inl short) = version_blank bytes short ∙ sym (two short)
-        decided (inr long) = version_long bytes long ∙ is
+    decided : (length log ≤ BLANK_LENGTH) ⊎ (BLANK_LENGTH < length log) → version_of log ≡ 2
+    decided (inl short) = version_blank log short
+    decided (inr long) = version_long log long ∙ two
 
 -- what stands before the gate stays in a list that is the same up to there
 pub front_kept : (log c : List ℕ) (p : Parts log) → take (length p.front + 1) c ≡ take (length p.front + 1) log → c ≡ p.front ++ CLOSED_GATE ∷ drop (length p.front + 1) c
@@ -133,26 +133,47 @@ front_kept log c p same =
     sym (take-append-drop (length p.front + 1) c) ∙ ap (λ l. l ++ drop (length p.front + 1) c) (same ∙ head) ∙ append_assoc p.front (CLOSED_GATE ∷ []) (drop (length p.front + 1) c)
 
 -- a log whose end behind the closed gate is being cut off
-pub cut_same : (log c : List ℕ) (p : Parts log) → header_fault log ≡ None → BLANK_LENGTH < length log → TornCut (length p.front + 1) log c → (length c ≤ BLANK_LENGTH → version_of_header log ≡ 2) → SameLog log c
-cut_same log c p header long torn two =
+pub cut_same : (log c : List ℕ) (p : Parts log) → header_fault log ≡ None → BLANK_LENGTH < length log → TornCut (length p.front + 1) log c → SameLog log c
+cut_same log c p header long torn =
     let is = front_kept log c p torn.front in
     let rest = CLOSED_GATE ∷ drop (length p.front + 1) c in
     record {
       frames = ap frames_of is ∙ frames_closed log p (drop (length p.front + 1) c) header ∙ sym (frames_self log p header);
-      version = ap version_of is ∙ version_same log p rest (λ short. absurd (omega (arith, short, long))) (λ short. two (omega (arith, short, ap length is)));
+      version = λ now. ap version_of is ∙ version_kept log p rest long (omega (arith, now, ap length is));
       no_longer = (let l = torn.no_longer in omega (arith, l));
     }
 
 -- and once it is cut off
+pub cut_front : (log : List ℕ) (p : Parts log) → take (length p.front + 1) log ≡ p.front ++ CLOSED_GATE ∷ []
+cut_front log p = ap (take (length p.front + 1)) (p.is ∙ sym (append_assoc p.front (CLOSED_GATE ∷ []) p.tail)) ∙ take_at (p.front ++ CLOSED_GATE ∷ []) p.tail (length p.front + 1) (length-append p.front (CLOSED_GATE ∷ []))
+
 pub cut_ends : (log : List ℕ) (p : Parts log) → header_fault log ≡ None → (walk_of log).is_closed ≡ true → EndsAt (length p.front) (take (length p.front + 1) log)
-cut_ends log p header closed = rw head (record {
+cut_ends log p header closed = rw (cut_front log p) (record {
       header = p.header (CLOSED_GATE ∷ []) ∙ header;
       closed = ap (λ w. w.is_closed) walked;
       gate = ap (λ w. w.place) walked;
       end = length-append p.front (CLOSED_GATE ∷ []);
     })
   where
-    head : take (length p.front + 1) log ≡ p.front ++ CLOSED_GATE ∷ []
-    head = ap (take (length p.front + 1)) (p.is ∙ sym (append_assoc p.front (CLOSED_GATE ∷ []) p.tail)) ∙ take_at (p.front ++ CLOSED_GATE ∷ []) p.tail (length p.front + 1) (length-append p.front (CLOSED_GATE ∷ []))
     walked : walk_of (p.front ++ CLOSED_GATE ∷ []) ≡ behind (walk_of log).frames (closed_at (length p.front))
     walked = p.goes_on CLOSED_GATE [] ∙ ap (behind (walk_of log).frames) (walk_closed (length p.front) CLOSED_GATE [] refl)
+
+-- a blank log, whatever it holds
+pub blank_same : (log c : List ℕ) → length log ≤ BLANK_LENGTH → length c ≤ BLANK_LENGTH → SameLog log c
+blank_same log c short now = record {
+  frames = frames_blank c now ∙ sym (frames_blank log short);
+  version = λ long. absurd (omega (arith, now, long));
+  no_longer = omega (arith, now);
+}
+
+pub same_self : (log : List ℕ) → SameLog log log
+same_self log = record { frames = refl; version = λ long. refl; no_longer = omega arith }
+
+-- the log that is written over a blank one
+pub empty_ends : EndsAt FIRST_GATE EMPTY_LOG
+unfolding walk first_differing
+empty_ends = record { header = refl; closed = refl; gate = refl; end = refl }
+
+pub empty_says : version_of_header EMPTY_LOG ≡ 2
+unfolding version_of_header
+empty_says = refl

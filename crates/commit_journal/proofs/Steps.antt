@@ -1,8 +1,9 @@
 -- How runs of calls on a disk make steps of its images.
-use Rattle.std.proofs.Common.{◌≡◌, ◌⊎◌, inl, inr, ⊎_elim, ℕ, ◌≤◌, List, Bool, true, false, Option, Some, None, refl, ap, ◌∙◌, arith}
-use Rattle.std.specs.Option.{option_or}
-use Rattle.outside.specs.Disk.{DiskView, Follows, NoNewImage, Elapses, SameSyncs, SyncsNow, Unchanged}
-use Rattle.commit_journal.specs.Journal.{Continues, Steps}
+use Rattle.std.proofs.Common.{◌≡◌, ◌⊎◌, inl, inr, ⊎_elim, ℕ, ◌≤◌, List, Bool, true, false, Option, Some, None, is_some, refl, sym, ap, subst, ◌∙◌, arith}
+use Rattle.std.specs.Option.{option_or, option_map}
+use Rattle.outside.specs.Disk.{DiskView, Follows, NoNewImage, Elapses, SameSyncs, SyncsNow, Unchanged, OnlyContent, Torn, TornCut}
+use Rattle.commit_journal.specs.Journal.{Continues, Steps, Keeps, StaysShort}
+use Rattle.commit_journal.specs.declared.format.TheConstants.{BLANK_LENGTH}
 
 -- a first sync stays the first over a call that is no successful sync
 pub same_syncs : (old new : DiskView) → SameSyncs old new → (t s : ℕ) → t ≤ old.moment → old.synced t ≡ Some s → new.synced t ≡ Some s
@@ -45,3 +46,65 @@ step_synced step old mid new first time stay none = record {
   since = λ t c le left. ⊎_elim (first.since t c le) (λ now. inr (first.now c (none c now))) (time.nothing_else t c (omega (arith, le, first.continues.later)) left);
   now = λ c now. first.now c (none c now);
 }
+
+-- two runs of calls
+pub steps_then : (first second both : List ℕ → List ℕ → Type 0) (a b c : DiskView) → Steps first a b → Steps second b c
+    → ((d e : List ℕ) → first d e → both d e) → ((d e f : List ℕ) → first d e → second e f → both d f) → Steps both a c
+steps_then first second both a b c one two alone joined = record {
+  continues = continues_then a b c one.continues two.continues;
+  since = λ t f le left. ⊎_elim (λ was. ⊎_elim (λ earlier. inl earlier) (λ w. inr (w.0, w.1, alone w.0 f w.2)) (one.since t f le was)) (λ w. inr (through f w)) (two.since t f (omega (arith, le, one.continues.later)) left);
+  now = λ f image. through f (two.now f image);
+}
+  where
+    through : (f : List ℕ) → (e : List ℕ) × b.image e × second e f → (d : List ℕ) × a.image d × both d f
+    through f w = let from = one.now w.0 w.1 in (from.0, from.1, joined from.0 w.0 f from.2 w.2)
+
+-- nothing changes
+pub unchanged_continues : (old new : DiskView) → Unchanged old new → Continues old new
+unchanged_continues old new same = record {
+  later = omega (arith, same.moment);
+  keeps = λ t c le was. (same.lefts t c).1 was;
+  syncs = λ t s le first. same.syncs t ∙ first;
+  dated = same.dated;
+  tells = ap is_some same.content;
+}
+
+-- a run over a disk of which only the content is left
+pub keeps_only : (step : List ℕ → List ℕ → Type 0) (P : List ℕ → Type 0) (old new : DiskView) (log : List ℕ) → OnlyContent old → old.content ≡ Some log → Steps step old new
+    → ((c : List ℕ) → step log c → P c) → Keeps P old new
+keeps_only step P old new log only told steps has = record {
+  since = λ t c le left. ⊎_elim (λ was. inl was) (λ w. inr (from c w)) (steps.since t c le left);
+  now = λ c image. from c (steps.now c image);
+}
+  where
+    from : (c : List ℕ) → (d : List ℕ) × old.image d × step d c → P c
+    from c w = has c (subst (λ d. step d c) (only log w.0 told w.1) w.2)
+
+-- one after what changed nothing
+pub keeps_after : (P : List ℕ → Type 0) (a b c : DiskView) → Unchanged a b → Keeps P b c → Keeps P a c
+keeps_after P a b c same kept = record {
+  since = λ t i le left. ⊎_elim (λ was. inl ((same.lefts t i).0 was)) (λ has. inr has) (kept.since t i (omega (arith, le, same.moment)) left);
+  now = kept.now;
+}
+
+pub keeps_unchanged : (P : List ℕ → Type 0) (old new : DiskView) (log : List ℕ) → OnlyContent old → old.content ≡ Some log → Unchanged old new → P log → Keeps P old new
+keeps_unchanged P old new log only told same has = record {
+  since = λ t c le left. inl ((same.lefts t c).0 left);
+  now = λ c image. subst P (sym (only log c told ((same.images c).0 image))) has;
+}
+
+-- what is told of a changed content
+pub told_map : (f : List ℕ → List ℕ) (o : Option (List ℕ)) (c : List ℕ) → option_map f o ≡ Some c → (b : List ℕ) × (o ≡ Some b) × (c ≡ f b)
+told_map f None c is = absurd (let no : None ≡ Some c = is in cc)
+told_map f (Some b) c is = (b, refl, cc)
+
+-- a blank log is cut to nothing
+pub short_cut : (d e : List ℕ) → TornCut 0 d e → StaysShort d e
+short_cut d e torn = let l = torn.no_longer in omega (arith, l)
+
+-- and written anew
+pub short_written : (n : ℕ) (d e f : List ℕ) → n ≤ BLANK_LENGTH → TornCut 0 d e → Torn 0 n e f → StaysShort d f
+short_written n d e f few cut torn =
+    let l = cut.no_longer in
+    let m = torn.no_longer in
+    omega (arith, l, m, few)

@@ -22,7 +22,7 @@ pub walk_lost : (place gate : ℕ) (bytes : List ℕ) → (gate == CLOSED_GATE) 
 unfolding walk
 walk_lost place gate bytes is has = rw (is, has) refl
 
-walk_none : (place skip : ℕ) → walk place skip [] ≡ lost_at place
+pub walk_none : (place skip : ℕ) → walk place skip [] ≡ lost_at place
 unfolding walk
 walk_none place zero = refl
 walk_none place (suc skip) = refl
@@ -165,7 +165,7 @@ split_frame place gate bytes is has s =
         ∙ ap (λ p. behind (record { gate = place; payload = payload_of bytes } ∷ (walk (place + 1) (LENGTH_BYTES + n) bytes).frames) (walk p 0 (other ∷ rest))) same
         ∙ ap (λ w. behind w.frames (walk (place + suc (length s.front)) 0 (other ∷ rest))) (sym walked)
 
-never : (w : Walk) (place : ℕ) → w ≡ lost_at place → w.is_closed ≡ true → ⊥
+pub never : (w : Walk) (place : ℕ) → w ≡ lost_at place → w.is_closed ≡ true → ⊥
 never w place lost closed = true≢false (sym closed ∙ ap (λ v. v.is_closed) lost)
 
 split_gate : (place gate : ℕ) (bytes : List ℕ) (shut has : Bool) → (gate == CLOSED_GATE) ≡ shut → has_frame bytes ≡ has

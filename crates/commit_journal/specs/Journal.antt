@@ -1,7 +1,10 @@
 -- What a journal keeps of its log, and what a crash leaves of it.
-use Rattle.std.specs.Prelude.{◌≡◌, ◌⊎◌, ℕ, ◌+◌, ◌≤◌, max, true, List, [], ◌∷◌, ◌++◌, length, Option, Some, None, is_some, Result, Ok, Err}
+use Rattle.std.specs.Prelude.{◌≡◌, ◌≢◌, ◌⊎◌, ℕ, ◌+◌, ◌<◌, ◌≤◌, max, true, List, [], ◌∷◌, ◌++◌, length, Option, Some, None, is_some, Result, Ok, Err, IfErr, IsErrOf}
 use Rattle.std.specs.Int.{w32, to_be_bytes}
-use Rattle.outside.specs.Disk.{DiskView, OnlyContent}
+use Rattle.outside.specs.Disk.{DiskView, OnlyContent, Unchanged}
+use Rattle.outside.specs.Fault.{Rose}
+use Rattle.commit_journal.specs.declared.fault.JournalFault.{JournalFault}
+use Rattle.commit_journal.specs.declared.fault.JournalFault.TheVariants.{DeviceFault, NotAJournal}
 use Rattle.commit_journal.specs.declared.frame.Frame.{Frame}
 use Rattle.commit_journal.specs.declared.format.TheConstants.{BLANK_LENGTH, CLOSED_GATE, LENGTH_BYTES}
 use Rattle.commit_journal.specs.Log.{header_fault, walk_of, version_of_header, frames_of, version_of}
@@ -35,10 +38,10 @@ pub record HasFrameOrNot (log : List ℕ) (frame : Frame) (image : List ℕ) : T
   pub version : version_of image ≡ version_of log
   pub no_longer : length image ≤ length log + LENGTH_BYTES + length frame.payload + 1
 
--- an image has the log's frames, or the same wrong place; it is no longer than the log, or than a blank one
+-- an image has the log's frames, or the same wrong place; it is of its version or blank, and no longer than the log, or than a blank one
 pub record SameLog (log image : List ℕ) : Type 0 where
   pub frames : frames_of image ≡ frames_of log
-  pub version : version_of image ≡ version_of log
+  pub version : BLANK_LENGTH < length image → version_of image ≡ version_of log
   pub no_longer : length image ≤ max BLANK_LENGTH (length log)
 
 -- time goes on: what a crash might have left it still may, a first sync stays the first, and whether the disk tells stays
@@ -58,3 +61,28 @@ pub record Steps (step : List ℕ → List ℕ → Type 0) (old new : DiskView) 
 -- the image is no longer than a blank log, or than before
 abbrev pub StaysShort : List ℕ → List ℕ → Type 0
 StaysShort old new = length new ≤ max BLANK_LENGTH (length old)
+
+-- each image has P, since any earlier moment too
+pub record Keeps (P : List ℕ → Type 0) (old new : DiskView) : Type 0 where
+  pub since : (t : ℕ) (c : List ℕ) → t ≤ old.moment → new.left t c → old.left t c ⊎ P c
+  pub now : (c : List ℕ) → new.image c → P c
+
+-- a told log is recovered: these are its frames, before and after, and it ends with its closed gate
+pub record IsRecovered (frames : List Frame) (place version : ℕ) (old new : DiskView) : Type 0 where
+  pub was : (log : List ℕ) → old.content ≡ Some log → frames_of log ≡ Ok frames
+  pub named : (log : List ℕ) → old.content ≡ Some log → version_of log ≡ version
+  pub is : (log : List ℕ) → new.content ≡ Some log → frames_of log ≡ Ok frames
+  pub settled : IsSettled place version new
+
+-- an opening: each image since its first sync that succeeded is the same log, and where none did the content is as it was
+pub record Opens (old new : DiskView) : Type 0 where
+  pub continues : Continues old new
+  pub crash : (s : ℕ) (log c : List ℕ) → new.synced old.moment ≡ Some s → old.content ≡ Some log → new.left s c → SameLog log c
+  pub unsynced : old.dated ≡ true → new.synced old.moment ≡ None → new.content ≡ old.content
+
+-- what a journal's fault says of its disk
+pub record HasFaultCause {T : Type 0} (old new : DiskView) (result : Result T JournalFault) : Type 0 where
+  pub later : old.faults ≤ new.faults
+  pub failed : IsErrOf result DeviceFault → Rose old.faults new.faults
+  pub lost : (wrong : ℕ) (log : List ℕ) → IsErrOf result (NotAJournal wrong) → old.content ≡ Some log → frames_of log ≡ Err wrong
+  pub unwritten : IfErr result (λ fault. fault ≢ DeviceFault → Unchanged old new)

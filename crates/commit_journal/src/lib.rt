@@ -6,6 +6,7 @@ mod fault;
 mod format;
 mod frame;
 mod reading;
+mod recovery;
 
 pub use fault::{DeviceFault, JournalFault};
 pub use format::LARGEST_PAYLOAD;
