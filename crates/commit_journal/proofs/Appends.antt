@@ -1,14 +1,16 @@
 -- What an append leaves of a log at each of its device calls.
-use Rattle.std.proofs.Common.{◌≡◌, ◌⊎◌, inl, inr, ℕ, ◌+◌, ◌<◌, ◌≤◌, max, Bool, true, false, List, [], ◌∷◌, ◌++◌, length, take, drop, get_or, ◌==◌, None, Ok, refl, sym, ap, ◌∙◌, subst, arith, append_assoc, length-append, take-append-drop}
+use Rattle.std.proofs.Common.{◌≡◌, ◌⊎◌, inl, inr, ℕ, ◌+◌, ◌<◌, ◌≤◌, max, Bool, true, false, List, [], ◌∷◌, ◌++◌, length, take, drop, get_or, ◌==◌, Some, None, Ok, refl, sym, ap, ◌∙◌, subst, arith, append_assoc, length-append, take-append-drop}
 use Rattle.std.proofs.lemmas.List.{take_at, drop_at, take_all, drop_all, drop_more, append-nil}
 use Rattle.std.proofs.lemmas.Bool.Decides.{nat_tests}
 use Rattle.std.specs.Int.{w32, from_be_bytes, to_be_bytes}
 use Rattle.std.proofs.lemmas.Nat.{from_be_bytes-to_be_bytes_4}
-use Rattle.outside.specs.Disk.{patch, Torn}
+use Rattle.std.specs.Option.{option_map}
+use Rattle.outside.specs.Disk.{DiskView, OnlyContent, patch, Torn}
 use Rattle.commit_journal.specs.declared.frame.Frame.{Frame}
 use Rattle.commit_journal.specs.declared.format.TheConstants.{CLOSED_GATE, OPEN_GATE, FIRST_GATE, BLANK_LENGTH, LARGEST_PAYLOAD, LENGTH_BYTES}
 use Rattle.commit_journal.specs.Log.{payload_length, payload_of, has_frame, header_fault, version_of_header, Walk, walk, walk_of, closed_at, lost_at, behind, frames_of, version_of}
-use Rattle.commit_journal.specs.Journal.{frame_text, and_frame, EndsAt, HasFrameOrNot}
+use Rattle.commit_journal.specs.Journal.{frame_text, and_frame, EndsAt, HasFrameOrNot, IsSettled, Steps, Keeps}
+use Rattle.commit_journal.proofs.Steps.{keeps_only, keeps_then, told_map}
 use Rattle.commit_journal.proofs.Walks.{Sizes, walk_none, never, walk_closed, walk_frame, walk_skip, frame_whole}
 use Rattle.commit_journal.proofs.Logs.{Parts, parts, short_or_long, frames_walked, frames_closed, frames_self, front_kept, version_two}
 
@@ -193,3 +195,55 @@ appended place log payload ends least most = subst (Appended place log payload) 
     written = written_behind place log (frame_text payload) ends
     is : patch place (OPEN_GATE ∷ []) (patch (place + 1) (frame_text payload) log) ≡ e.parts.front ++ OPEN_GATE ∷ frame_text payload
     is = ap (patch place (OPEN_GATE ∷ [])) written ∙ gate_patched place e.parts.front (frame_text payload) e.at
+
+-- the whole append, over a disk
+pub append_kept : (place : ℕ) (old mid new : DiskView) (log payload : List ℕ) → IsSettled place 2 old → old.content ≡ Some log → 1 ≤ length payload → length payload ≤ LARGEST_PAYLOAD
+    → Steps (Torn (place + 1) (LENGTH_BYTES + length payload + 1)) old mid → mid.content ≡ option_map (patch (place + 1) (frame_text payload)) old.content → OnlyContent mid
+    → Steps (Torn place 1) mid new → Keeps (HasFrameOrNot log (record { gate = place; payload = payload })) old new
+append_kept place old mid new log payload settled told least most first content only second =
+    let frame : Frame = record { gate = place; payload = payload } in
+    let P = HasFrameOrNot log frame in
+    let ends = settled.ends log told in
+    let two = settled.header log told in
+    let mid_told : mid.content ≡ Some (patch (place + 1) (frame_text payload) log) = content ∙ ap (option_map (patch (place + 1) (frame_text payload))) told in
+    keeps_then P old mid new first.continues.later
+    (keeps_only (Torn (place + 1) (LENGTH_BYTES + length payload + 1)) P old mid log settled.only told first (λ c torn. torn_behind place (LENGTH_BYTES + length payload + 1) log c frame ends two refl torn))
+    (keeps_only (Torn place 1) P mid new (patch (place + 1) (frame_text payload) log) only mid_told second (λ c torn. torn_gate place log payload c ends two least most torn))
+
+-- its first half
+pub append_begun : (place : ℕ) (old mid : DiskView) (log payload : List ℕ) → IsSettled place 2 old → old.content ≡ Some log
+    → Steps (Torn (place + 1) (LENGTH_BYTES + length payload + 1)) old mid → Keeps (HasFrameOrNot log (record { gate = place; payload = payload })) old mid
+append_begun place old mid log payload settled told first =
+    keeps_only (Torn (place + 1) (LENGTH_BYTES + length payload + 1)) (HasFrameOrNot log (record { gate = place; payload = payload })) old mid log settled.only told first
+    (λ c torn. torn_behind place (LENGTH_BYTES + length payload + 1) log c (record { gate = place; payload = payload }) (settled.ends log told) (settled.header log told) refl torn)
+
+-- the log itself has its frames
+pub has_none : (log : List ℕ) (frame : Frame) → HasFrameOrNot log frame log
+has_none log frame = record { frames = inl refl; version = refl; no_longer = omega arith }
+
+-- what the append leaves
+pub append_done : (place : ℕ) (old mid new : DiskView) (payload : List ℕ) → IsSettled place 2 old → 1 ≤ length payload → length payload ≤ LARGEST_PAYLOAD
+    → mid.content ≡ option_map (patch (place + 1) (frame_text payload)) old.content → new.content ≡ option_map (patch place (OPEN_GATE ∷ [])) mid.content
+    → (b c : List ℕ) → old.content ≡ Some b → new.content ≡ Some c → Appended place b payload c
+append_done place old mid new payload settled least most first second b c told told_new =
+    let from = told_map (patch place (OPEN_GATE ∷ [])) mid.content c (sym second ∙ told_new) in
+    let before = told_map (patch (place + 1) (frame_text payload)) old.content from.0 (sym first ∙ from.1) in
+    let same : before.0 ≡ b = (let e : Some before.0 ≡ Some b = sym before.1 ∙ told in cc) in
+    let is : c ≡ patch place (OPEN_GATE ∷ []) (patch (place + 1) (frame_text payload) b) = from.2 ∙ ap (patch place (OPEN_GATE ∷ [])) (before.2 ∙ ap (patch (place + 1) (frame_text payload)) same) in
+    subst (Appended place b payload) (sym is) (appended place b payload (settled.ends b told) least most)
+
+pub append_settled : (place next : ℕ) (old mid new : DiskView) (payload : List ℕ) → next ≡ place + 1 + LENGTH_BYTES + length payload → IsSettled place 2 old → 1 ≤ length payload → length payload ≤ LARGEST_PAYLOAD
+    → mid.content ≡ option_map (patch (place + 1) (frame_text payload)) old.content → new.content ≡ option_map (patch place (OPEN_GATE ∷ [])) mid.content
+    → mid.len ≡ max old.len (place + 1 + (LENGTH_BYTES + length payload + 1)) → new.len ≡ max mid.len (place + 1) → OnlyContent new → IsSettled next 2 new
+append_settled place next old mid new payload next_is settled least most first second mid_len new_len only = record {
+  ends = λ c told. let b = before c told in rw next_is (append_done place old mid new payload settled least most first second b.0 c b.1 told).ends;
+  header = λ c told. let b = before c told in (append_done place old mid new payload settled least most first second b.0 c b.1 told).says ∙ settled.header b.0 b.1;
+  only = only;
+  len = (let l = settled.len in omega (arith, l, next_is, mid_len, new_len));
+}
+  where
+    before : (c : List ℕ) → new.content ≡ Some c → (b : List ℕ) × (old.content ≡ Some b)
+    before c told =
+        let from = told_map (patch place (OPEN_GATE ∷ [])) mid.content c (sym second ∙ told) in
+        let b = told_map (patch (place + 1) (frame_text payload)) old.content from.0 (sym first ∙ from.1) in
+        (b.0, b.1)

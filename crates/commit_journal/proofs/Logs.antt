@@ -91,7 +91,7 @@ says_front log long = says_same (take FIRST_GATE log) log (get_or_take log VERSI
     get_or_take : (l : List ℕ) (i n : ℕ) → i < n → n ≤ length l → get_or (take n l) i 0 ≡ get_or l i 0
     get_or_take l i n within long = grind (arith, common_steps)
 
-short_or_long : (n m : ℕ) → (n ≤ m) ⊎ (m < n)
+pub short_or_long : (n m : ℕ) → (n ≤ m) ⊎ (m < n)
 short_or_long n m = decided (nat_le n m) refl
   where
     decided : (b : Bool) → nat_le n m ≡ b → (n ≤ m) ⊎ (m < n)

@@ -1,9 +1,11 @@
 -- How runs of calls on a disk make steps of its images.
-use Rattle.std.proofs.Common.{◌≡◌, ◌⊎◌, inl, inr, ⊎_elim, ℕ, ◌≤◌, List, Bool, true, false, Option, Some, None, is_some, refl, sym, ap, subst, ◌∙◌, arith}
+use Rattle.std.proofs.Common.{◌≡◌, ◌⊎◌, inl, inr, ⊎_elim, ℕ, ◌<◌, ◌≤◌, List, Bool, true, false, Option, Some, None, is_some, refl, sym, ap, subst, ◌∙◌, arith}
 use Rattle.std.specs.Option.{option_or, option_map}
-use Rattle.outside.specs.Disk.{DiskView, Follows, NoNewImage, Elapses, SameSyncs, SyncsNow, Unchanged, OnlyContent, Torn, TornCut}
-use Rattle.commit_journal.specs.Journal.{Continues, Steps, Keeps, StaysShort}
+use Rattle.outside.specs.Disk.{DiskView, Follows, NoNewImage, Elapses, SameSyncs, SyncsNow, Unchanged, OnlyContent, Torn, TornCut, LeavesOnly}
+use Rattle.commit_journal.specs.Journal.{Continues, Steps, Keeps, StaysShort, SameLog, Opens, IsRecovered}
+use Rattle.commit_journal.proofs.Logs.{same_self}
 use Rattle.commit_journal.specs.declared.format.TheConstants.{BLANK_LENGTH}
+use Rattle.commit_journal.specs.declared.frame.Frame.{Frame}
 
 -- a first sync stays the first over a call that is no successful sync
 pub same_syncs : (old new : DiskView) → SameSyncs old new → (t s : ℕ) → t ≤ old.moment → old.synced t ≡ Some s → new.synced t ≡ Some s
@@ -93,6 +95,22 @@ keeps_unchanged P old new log only told same has = record {
   now = λ c image. subst P (sym (only log c told ((same.images c).0 image))) has;
 }
 
+-- one after another
+pub keeps_then : (P : List ℕ → Type 0) (a b c : DiskView) → a.moment ≤ b.moment → Keeps P a b → Keeps P b c → Keeps P a c
+keeps_then P a b c later first second = record {
+  since = λ t i le left. ⊎_elim (first.since t i le) (λ has. inr has) (second.since t i (omega (arith, le, later)) left);
+  now = second.now;
+}
+
+-- over a disk of which only the content is left, each image has P
+pub leaves_kept : (P : List ℕ → Type 0) (old new : DiskView) (log : List ℕ) → ((c : List ℕ) → old.left old.moment c → old.image c) → OnlyContent old → old.content ≡ Some log → P log
+    → Keeps P old new → LeavesOnly old new P
+leaves_kept P old new log only_now only told has kept = record {
+  now = kept.now;
+  each = λ c left. ⊎_elim (λ was. subst P (sym (only log c told (only_now c was))) has) (λ p. p) (kept.since old.moment c (omega arith) left);
+  since = kept.since;
+}
+
 -- what is told of a changed content
 pub told_map : (f : List ℕ → List ℕ) (o : Option (List ℕ)) (c : List ℕ) → option_map f o ≡ Some c → (b : List ℕ) × (o ≡ Some b) × (c ≡ f b)
 told_map f None c is = absurd (let no : None ≡ Some c = is in cc)
@@ -108,3 +126,49 @@ short_written n d e f few cut torn =
     let l = cut.no_longer in
     let m = torn.no_longer in
     omega (arith, l, m, few)
+
+-- no sync has succeeded since now
+pub no_sync_yet : (disk : DiskView) → ((t s : ℕ) → disk.synced t ≡ Some s → t < s) → ((t s : ℕ) → disk.synced t ≡ Some s → s ≤ disk.moment) → disk.synced disk.moment ≡ None
+no_sync_yet disk after by_now = decided (disk.synced disk.moment) refl
+  where
+    decided : (o : Option ℕ) → disk.synced disk.moment ≡ o → o ≡ None
+    decided None is = refl
+    decided (Some s) is = absurd (let a = after disk.moment s is in let b = by_now disk.moment s is in omega (arith, a, b))
+
+not_both : (o : Option ℕ) (s : ℕ) → o ≡ None → o ≡ Some s → ⊥
+not_both o s none some = cc
+
+-- an opening whose first sync didn't succeed
+pub opens_unsynced : (old new : DiskView) → Continues old new → new.content ≡ old.content → new.synced old.moment ≡ None → Opens old new
+opens_unsynced old new on content none = record {
+  continues = on;
+  crash = λ s log c first told left. absurd (not_both (new.synced old.moment) s none first);
+  unsynced = λ dated no. content;
+}
+
+-- and one whose first sync did
+pub opens_synced : (old mid new : DiskView) → old.synced old.moment ≡ None → ((c : List ℕ) → mid.left mid.moment c → mid.image c) → ((t : ℕ) → new.dated ≡ false → new.synced t ≡ None)
+    → Continues old mid → SyncsNow old mid → mid.content ≡ old.content → OnlyContent mid → Continues mid new → ((log : List ℕ) → mid.content ≡ Some log → Keeps (SameLog log) mid new) → Opens old new
+opens_synced old mid new none only_now undated on now content only further kept = record {
+  continues = continues_then old mid new on further;
+  crash = λ s log c first told left. crashed old.dated refl s log c first told left;
+  unsynced = λ dated no. absurd (not_both (new.synced old.moment) mid.moment no (first_is dated));
+}
+  where
+    first_is : old.dated ≡ true → new.synced old.moment ≡ Some mid.moment
+    first_is dated = further.syncs old.moment mid.moment on.later (now dated old.moment (omega arith) ∙ ap (λ o. option_or o (Some mid.moment)) none)
+    crashed : (b : Bool) → old.dated ≡ b → (s : ℕ) (log c : List ℕ) → new.synced old.moment ≡ Some s → old.content ≡ Some log → new.left s c → SameLog log c
+    crashed false is s log c first told left = absurd (not_both (new.synced old.moment) s (undated old.moment (further.dated ∙ on.dated ∙ is)) first)
+    crashed true is s log c first told left =
+        let same : s ≡ mid.moment = (let e : Some s ≡ Some mid.moment = sym first ∙ first_is is in cc) in
+        ⊎_elim (λ was. subst (SameLog log) (sym (only log c (content ∙ told) (only_now c was))) (same_self log)) (λ has. has)
+        ((kept log (content ∙ told)).since mid.moment c (omega arith) (subst (λ t. new.left t c) same left))
+
+-- what is recovered of the content is recovered of an earlier one, where it is the same
+pub recovered_since : (frames : List Frame) (place version : ℕ) (old mid new : DiskView) → mid.content ≡ old.content → IsRecovered frames place version mid new → IsRecovered frames place version old new
+recovered_since frames place version old mid new content is = record {
+  was = λ log told. is.was log (content ∙ told);
+  named = λ log told. is.named log (content ∙ told);
+  is = is.is;
+  settled = is.settled;
+}

@@ -1,7 +1,7 @@
 -- What a journal keeps of its log, and what a crash leaves of it.
 use Rattle.std.specs.Prelude.{◌≡◌, ◌≢◌, ◌⊎◌, ℕ, ◌+◌, ◌<◌, ◌≤◌, max, true, List, [], ◌∷◌, ◌++◌, length, Option, Some, None, is_some, Result, Ok, Err, IfErr, IsErrOf}
 use Rattle.std.specs.Int.{w32, to_be_bytes}
-use Rattle.outside.specs.Disk.{DiskView, OnlyContent, Unchanged}
+use Rattle.outside.specs.Disk.{DiskView, OnlyContent, Unchanged, NoNewImage}
 use Rattle.outside.specs.Fault.{Rose}
 use Rattle.commit_journal.specs.declared.fault.JournalFault.{JournalFault}
 use Rattle.commit_journal.specs.declared.fault.JournalFault.TheVariants.{DeviceFault, NotAJournal}
@@ -86,3 +86,15 @@ pub record HasFaultCause {T : Type 0} (old new : DiskView) (result : Result T Jo
   pub failed : IsErrOf result DeviceFault → Rose old.faults new.faults
   pub lost : (wrong : ℕ) (log : List ℕ) → IsErrOf result (NotAJournal wrong) → old.content ≡ Some log → frames_of log ≡ Err wrong
   pub unwritten : IfErr result (λ fault. fault ≢ DeviceFault → Unchanged old new)
+
+-- nothing was written
+pub record Unwritten (old new : DiskView) : Type 0 where
+  pub content : new.content ≡ old.content
+  pub len : new.len ≡ old.len
+  pub images : NoNewImage old new
+
+-- why a disk was not opened: what the fault says of it
+pub record HasOpenCause (old new : DiskView) (fault : JournalFault) : Type 0 where
+  pub failed : fault ≡ DeviceFault → Rose old.faults new.faults
+  pub lost : (wrong : ℕ) (log : List ℕ) → fault ≡ NotAJournal wrong → old.content ≡ Some log → frames_of log ≡ Err wrong
+  pub unwritten : fault ≢ DeviceFault → Unwritten old new

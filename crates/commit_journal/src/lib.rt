@@ -5,6 +5,7 @@ mod calls;
 mod fault;
 mod format;
 mod frame;
+mod journal;
 mod reading;
 mod recovery;
 

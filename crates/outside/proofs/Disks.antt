@@ -17,20 +17,14 @@ unchanged_then a b c first second = record {
 pub unchanged_only : (a b : DiskView) → Unchanged a b → OnlyContent a → OnlyContent b
 unchanged_only a b same only = λ bytes image told now. only bytes image (sym same.content ∙ told) ((same.images image).0 now)
 
--- where nothing changes, no image is new
-pub unchanged_leaves : (a b : DiskView) (P : List ℕ → Type 0) → Unchanged a b → ((c : List ℕ) → a.left a.moment c → P c) → LeavesOnly a b P
-unchanged_leaves a b P same here = record {
-  each = λ c left. here c ((same.lefts a.moment c).0 left);
-  since = λ t c le left. inl ((same.lefts t c).0 left);
-}
-
 -- before the first call
-pub leaves_start : (a : DiskView) (P : List ℕ → Type 0) → ((c : List ℕ) → a.left a.moment c → P c) → LeavesOnly a a P
-leaves_start a P here = record { each = here; since = λ t c le left. inl left }
+pub leaves_start : (a : DiskView) (P : List ℕ → Type 0) → ((c : List ℕ) → a.left a.moment c → a.image c) → ((c : List ℕ) → a.image c → P c) → LeavesOnly a a P
+leaves_start a P only_now here = record { now = here; each = λ c left. here c (only_now c left); since = λ t c le left. inl left }
 
 -- one call more, after which each image has P
 pub leaves_then : (a b c : DiskView) (P : List ℕ → Type 0) → a.moment ≤ b.moment → LeavesOnly a b P → Elapses b c → ((i : List ℕ) → c.image i → P i) → LeavesOnly a c P
 leaves_then a b c P later so_far time here = record {
+  now = here;
   each = λ i left. ⊎_elim (so_far.each i) (here i) (time.nothing_else a.moment i later left);
   since = λ t i le left. ⊎_elim (so_far.since t i le) (λ now. inr (here i now)) (time.nothing_else t i (omega (arith, le, later)) left);
 }
@@ -38,6 +32,7 @@ leaves_then a b c P later so_far time here = record {
 -- one run after another
 pub leaves_both : (a b c : DiskView) (P : List ℕ → Type 0) → a.moment ≤ b.moment → LeavesOnly a b P → LeavesOnly b c P → LeavesOnly a c P
 leaves_both a b c P later first second = record {
+  now = second.now;
   each = λ i left. ⊎_elim (first.each i) (λ has. has) (second.since a.moment i later left);
   since = λ t i le left. ⊎_elim (first.since t i le) (λ has. inr has) (second.since t i (omega (arith, le, later)) left);
 }

@@ -80,7 +80,8 @@ pub record Unchanged (old new : DiskView) : Type 0 where
   pub syncs : (t : ℕ) → new.synced t ≡ old.synced t
   pub dated : new.dated ≡ old.dated
 
--- Each image at each moment since old has P. A crash since an earlier moment leaves what it might have left then, or what has P.
+-- Each image now, and at each moment since old, has P. A crash since an earlier moment leaves what it might have left then, or what has P.
 pub record LeavesOnly (old new : DiskView) (P : List ℕ → Type 0) : Type 0 where
+  pub now : (c : List ℕ) → new.image c → P c
   pub each : (c : List ℕ) → new.left old.moment c → P c
   pub since : (t : ℕ) (c : List ℕ) → t ≤ old.moment → new.left t c → old.left t c ⊎ P c
