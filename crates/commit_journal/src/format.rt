@@ -34,6 +34,9 @@ pub const LARGEST_PAYLOAD: usize = 3_201_025;
 /// How many bytes the length of a payload takes.
 pub const LENGTH_BYTES: usize = 4;
 
+/// How many bytes the largest payload takes, with its length and the gate behind it.
+pub const FRAME_ROOM: usize = 3_201_030;
+
 /// The place of the first byte of a header that is wrong in either version.
 #[tactic(auto, unfolding(crate::specs::Log::first_differing))]
 pub fn wrong_place(header: &[u8; 16]) -> Option<usize>
