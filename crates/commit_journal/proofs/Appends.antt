@@ -172,27 +172,32 @@ pub record Appended (place : ℕ) (log payload c : List ℕ) : Type 0 where
 pub appended : (place : ℕ) (log payload : List ℕ) → EndsAt place log → 1 ≤ length payload → length payload ≤ LARGEST_PAYLOAD
     → Appended place log payload (patch place (OPEN_GATE ∷ []) (patch (place + 1) (frame_text payload) log))
 appended place log payload ends least most = subst (Appended place log payload) (sym is) (record {
-      frames = opened place OPEN_GATE log payload ends least most refl;
-      ends = record {
-        header = e.parts.header (OPEN_GATE ∷ text) ∙ ends.header;
-        closed = ap (λ w. w.is_closed) walked;
-        gate = ap (λ w. w.place) walked ∙ regroup;
-        end = omega (arith, length-append e.parts.front (OPEN_GATE ∷ text), text_len payload, e.at);
-      };
-      says = e.parts.says (OPEN_GATE ∷ text);
-    })
+  frames = opened place OPEN_GATE log payload ends least most refl;
+  ends = record {
+    header = e.parts.header (OPEN_GATE ∷ text) ∙ ends.header;
+    closed = ap (λ w. w.is_closed) walked;
+    gate = ap (λ w. w.place) walked ∙ regroup;
+    end = omega (arith, length-append e.parts.front (OPEN_GATE ∷ text), text_len payload, e.at);
+  };
+  says = e.parts.says (OPEN_GATE ∷ text);
+})
   where
     text : List ℕ
     text = frame_text payload
+
     e : Ended place log
     e = ended place log ends
+
     regroup : place + 1 + (LENGTH_BYTES + length payload) ≡ place + 1 + LENGTH_BYTES + length payload
     regroup = omega arith
+
     walked : walk_of (e.parts.front ++ OPEN_GATE ∷ frame_text payload) ≡ behind (walk_of log).frames (behind (record { gate = place; payload = payload } ∷ []) (closed_at (place + 1 + (LENGTH_BYTES + length payload))))
     walked = e.parts.goes_on OPEN_GATE (frame_text payload) ∙ ap (λ n. behind (walk_of log).frames (walk n 0 (OPEN_GATE ∷ frame_text payload))) e.at
-      ∙ ap (behind (walk_of log).frames) (text_walk payload place OPEN_GATE least most refl)
+        ∙ ap (behind (walk_of log).frames) (text_walk payload place OPEN_GATE least most refl)
+
     written : patch (place + 1) (frame_text payload) log ≡ e.parts.front ++ CLOSED_GATE ∷ frame_text payload
     written = written_behind place log (frame_text payload) ends
+
     is : patch place (OPEN_GATE ∷ []) (patch (place + 1) (frame_text payload) log) ≡ e.parts.front ++ OPEN_GATE ∷ frame_text payload
     is = ap (patch place (OPEN_GATE ∷ [])) written ∙ gate_patched place e.parts.front (frame_text payload) e.at
 

@@ -21,6 +21,7 @@ filled_more a k n at xs ys bytes in_xs in_ys before more =
   where
     drop-twice : drop a (drop at bytes) ≡ drop (at + a) bytes
     drop-twice = grind (arith, common_steps)
+
     again : drop a (drop at bytes) ≡ drop (at + a) bytes → take (a + n) (drop at bytes) ≡ take a (drop at bytes) ++ take n (drop (at + a) bytes)
     again twice = take_sum a n (drop at bytes) ∙ ap (λ l. take a (drop at bytes) ++ take n l) twice
 

@@ -105,8 +105,8 @@ frames_closed log p rest header = decided (short_or_long (length (p.front ++ CLO
     decided : (length (p.front ++ CLOSED_GATE ∷ rest) ≤ BLANK_LENGTH) ⊎ (BLANK_LENGTH < length (p.front ++ CLOSED_GATE ∷ rest)) → frames_of (p.front ++ CLOSED_GATE ∷ rest) ≡ Ok (walk_of log).frames
     decided (inl short) = frames_blank (p.front ++ CLOSED_GATE ∷ rest) short ∙ ap Ok (sym (p.none (omega (arith, short, p.room, length-append p.front (CLOSED_GATE ∷ rest)))))
     decided (inr long) = frames_walked (p.front ++ CLOSED_GATE ∷ rest) (behind (walk_of log).frames (closed_at (length p.front))) long (p.header (CLOSED_GATE ∷ rest) ∙ header)
-      (p.goes_on CLOSED_GATE rest ∙ ap (behind (walk_of log).frames) (walk_closed (length p.front) CLOSED_GATE rest refl)) refl
-      ∙ ap Ok (append-nil (walk_of log).frames)
+        (p.goes_on CLOSED_GATE rest ∙ ap (behind (walk_of log).frames) (walk_closed (length p.front) CLOSED_GATE rest refl)) refl
+        ∙ ap Ok (append-nil (walk_of log).frames)
 
 -- the log itself reads so too
 pub frames_self : (log : List ℕ) (p : Parts log) → header_fault log ≡ None → frames_of log ≡ Ok (walk_of log).frames
@@ -149,11 +149,11 @@ cut_front log p = ap (take (length p.front + 1)) (p.is ∙ sym (append_assoc p.f
 
 pub cut_ends : (log : List ℕ) (p : Parts log) → header_fault log ≡ None → (walk_of log).is_closed ≡ true → EndsAt (length p.front) (take (length p.front + 1) log)
 cut_ends log p header closed = rw (cut_front log p) (record {
-      header = p.header (CLOSED_GATE ∷ []) ∙ header;
-      closed = ap (λ w. w.is_closed) walked;
-      gate = ap (λ w. w.place) walked;
-      end = length-append p.front (CLOSED_GATE ∷ []);
-    })
+  header = p.header (CLOSED_GATE ∷ []) ∙ header;
+  closed = ap (λ w. w.is_closed) walked;
+  gate = ap (λ w. w.place) walked;
+  end = length-append p.front (CLOSED_GATE ∷ []);
+})
   where
     walked : walk_of (p.front ++ CLOSED_GATE ∷ []) ≡ behind (walk_of log).frames (closed_at (length p.front))
     walked = p.goes_on CLOSED_GATE [] ∙ ap (behind (walk_of log).frames) (walk_closed (length p.front) CLOSED_GATE [] refl)

@@ -57,8 +57,10 @@ cut_log frames place version log long is = record {
   where
     p : Parts log
     p = journal_parts frames place version log long is
+
     at : length p.front ≡ place
     at = journal_place frames place version log is p
+
     cut : take (place + 1) log ≡ p.front ++ CLOSED_GATE ∷ []
     cut = ap (λ n. take (n + 1) log) (sym at) ∙ cut_front log p
 
@@ -81,6 +83,7 @@ journal_recovered frames place version old new long is_log content len only = re
     was log told =
         let is = is_log log told in
         frames_self log (journal_parts frames place version log (long log told) is) is.header ∙ ap Ok (journal_frames frames place version log is)
+
     cut : (log : List ℕ) → new.content ≡ Some log → CutLog frames place version log
     cut log told =
         let from = told_map (take (place + 1)) old.content log (sym content ∙ told) in
@@ -92,4 +95,4 @@ journal_kept frames place version old mid new log only told long is same steps =
     let p = journal_parts frames place version log long is in
     let at = journal_place frames place version log is p in
     keeps_after (SameLog log) old mid new same (keeps_only (TornCut (place + 1)) (SameLog log) mid new log (unchanged_only old mid same only) (same.content ∙ told) steps
-      (λ c torn. cut_same log c p is.header long (subst (λ n. TornCut (n + 1) log c) (sym at) torn)))
+    (λ c torn. cut_same log c p is.header long (subst (λ n. TornCut (n + 1) log c) (sym at) torn)))

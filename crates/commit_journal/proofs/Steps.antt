@@ -157,6 +157,7 @@ opens_synced old mid new none only_now undated on now content only further kept 
   where
     first_is : old.dated ≡ true → new.synced old.moment ≡ Some mid.moment
     first_is dated = further.syncs old.moment mid.moment on.later (now dated old.moment (omega arith) ∙ ap (λ o. option_or o (Some mid.moment)) none)
+
     crashed : (b : Bool) → old.dated ≡ b → (s : ℕ) (log c : List ℕ) → new.synced old.moment ≡ Some s → old.content ≡ Some log → new.left s c → SameLog log c
     crashed false is s log c first told left = absurd (not_both (new.synced old.moment) s (undated old.moment (further.dated ∙ on.dated ∙ is)) first)
     crashed true is s log c first told left =

@@ -110,8 +110,8 @@ split_byte place skip byte bytes s =
       long = omega (arith, s.long);
       none = λ no. absurd (omega (arith, no));
       goes_on = λ gate rest. walk_byte place skip byte (s.front ++ gate ∷ rest) ∙ s.goes_on gate rest
-      ∙ ap (λ w. behind w.frames (walk (place + 1 + length s.front) 0 (gate ∷ rest))) (sym (walk_byte place skip byte bytes))
-      ∙ ap (λ p. behind (walk place (suc skip) (byte ∷ bytes)).frames (walk p 0 (gate ∷ rest))) same;
+          ∙ ap (λ w. behind w.frames (walk (place + 1 + length s.front) 0 (gate ∷ rest))) (sym (walk_byte place skip byte bytes))
+          ∙ ap (λ p. behind (walk place (suc skip) (byte ∷ bytes)).frames (walk p 0 (gate ∷ rest))) same;
     }
 
 split_closed : (place gate : ℕ) (bytes : List ℕ) → (gate == CLOSED_GATE) ≡ true → Split place 0 (gate ∷ bytes)

@@ -55,5 +55,9 @@ pub fn wrong_place(header: &[u8; 16]) -> Option<usize>
 pub fn version_of(header: &[u8; 16]) -> u8
     ensures { result ≡ version_of_header header.now }
 {
-    if header[VERSION_PLACE] == DIGIT_1 { 1 } else { 2 }
+    if header[VERSION_PLACE] == DIGIT_1 {
+        1
+    } else {
+        2
+    }
 }

@@ -6,12 +6,11 @@ ghost use Rattle.commit_journal.specs.declared.format.TheConstants.{FRAME_ROOM};
 ghost use Rattle.commit_journal.specs.Log.{frames_of};
 ghost use Rattle.commit_journal.specs.Journal.{frame_text, and_frame, IsSettled, HasFrameOrNot, Steps, Continues, IsRecovered, Opens, HasOpenCause};
 
-use crate::calls;
 use crate::format::{CLOSED_GATE, FRAME_ROOM, LARGEST_PAYLOAD, LENGTH_BYTES, OPEN_GATE};
 use crate::frame::Frames;
 use crate::reading::{Log, zeros};
 use crate::recovery::recover;
-use crate::{DeviceFault, JournalFault};
+use crate::{DeviceFault, JournalFault, calls};
 use outside::{Disk, Failed};
 use std::alloc::Global;
 

@@ -4,12 +4,11 @@ ghost use Rattle.outside.specs.Fault.{HasCause, Rose};
 ghost use Rattle.commit_journal.specs.Log.{header_fault, frames_of, version_of_header, walk, walk_of, closed_at, lost_at, behind};
 ghost use Rattle.commit_journal.specs.Reading.{HasRead, HeadSays, IsHead, HeadFits, IsStep, IsWalk, IsLog};
 
-use crate::JournalFault;
-use crate::calls;
 use crate::format::{
     BLANK_LENGTH, CLOSED_GATE, FIRST_GATE, LARGEST_PAYLOAD, version_of, wrong_place,
 };
 use crate::frame::Frame;
+use crate::{JournalFault, calls};
 use outside::{Bytes, Disk, Failed};
 use std::alloc::{AllocError, Global};
 
@@ -129,10 +128,7 @@ fn read_frame<D: Disk>(
 }
 
 /// The frames up to the first closed gate, and its place.
-fn read_frames<D: Disk>(
-    alloc: Global,
-    disk: &mut D,
-) -> Result<(Vec<Frame>, u64), JournalFault>
+fn read_frames<D: Disk>(alloc: Global, disk: &mut D) -> Result<(Vec<Frame>, u64), JournalFault>
     requires { FIRST_GATE < (D.seen disk.old).len }
     ensures walked { IfOk result (λ r. (b : List ℕ) → (D.seen disk.old).content ≡ Some b → walk_of b ≡ behind r.0.items (closed_at r.1)) }
     ensures within { IfOk result (λ r. r.1 < (D.seen disk.old).len) }

@@ -4,10 +4,9 @@ ghost use Rattle.outside.specs.Disk.{OnlyContent, TornCut, Unchanged};
 ghost use Rattle.outside.specs.Fault.{HasCause};
 ghost use Rattle.commit_journal.specs.Journal.{Steps, StaysShort, Continues, Keeps, SameLog, IsRecovered, HasFaultCause};
 
-use crate::JournalFault;
-use crate::calls;
 use crate::format::{BLANK_LENGTH, EMPTY_LOG, FIRST_GATE};
 use crate::reading::{Log, read_log};
+use crate::{JournalFault, calls};
 use outside::{Disk, Failed};
 use std::alloc::Global;
 

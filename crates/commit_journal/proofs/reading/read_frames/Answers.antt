@@ -10,4 +10,4 @@ returns-in_err-payload-clause-lost g c =
     let exit = err_from_is_err_and c.from_residual.result c.from_residual.ensures.1 in
     let invariant = c.loop-frames.invariant in
     rw (exit.1, exit.2) (λ wrong is b told.
-      lost_walk b c.loop-frames.frames.items c.loop-frames.place wrong (invariant.walked b told) (c.in_err-payload.ensures.lost wrong (same_fault c.in_err-payload.field-0.0 (NotAJournal wrong) is) b (invariant.unchanged.content ∙ told)))
+    lost_walk b c.loop-frames.frames.items c.loop-frames.place wrong (invariant.walked b told) (c.in_err-payload.ensures.lost wrong (same_fault c.in_err-payload.field-0.0 (NotAJournal wrong) is) b (invariant.unchanged.content ∙ told)))
