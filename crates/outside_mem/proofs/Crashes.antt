@@ -1,12 +1,12 @@
 -- What a crash leaves by a choice is one of the images.
 use Rattle.std.proofs.Common.{◌≡◌, ℕ, zero, suc, ◌+◌, ◌-◌, ◌<◌, ◌≤◌, max, Bool, true, false, List, [], ◌∷◌, ◌++◌, length, take, drop, get_or, replicate, reverse, nat_lt, nat_le, ◌&&◌, ◌==◌, refl, sym, ap, subst, ◌∙◌, arith, length-append, length-drop}
 use Rattle.std.specs.Prelude.{if◌then◌else◌}
-use Rattle.std.proofs.lemmas.List.{length-replicate, length-take-le, take_at, take_more, reverse-append}
+use Rattle.std.proofs.lemmas.List.{length-replicate, length-take-le, take_at, drop_at, take_more, reverse-append, length-reverse, take-append-drop}
 use Rattle.std.proofs.lemmas.Bool.Decides.{nat_tests}
 use Rattle.outside.specs.Disk.{patch, Torn, TornCut}
 use Rattle.outside_mem.specs.declared.change.Change.{Change}
 use Rattle.outside_mem.specs.declared.change.Change.TheVariants.{Write, Cut, Sync}
-use Rattle.outside_mem.specs.Disk.{content_after, next_content, IsImageAfter, are_within, image_after, next_image, chosen}
+use Rattle.outside_mem.specs.Disk.{content_after, next_content, IsImageAfter, are_within, IsRun, image_after, next_image, chosen}
 use Rattle.outside_mem.specs.DiskLaws.{torn_self, cut_self, length-patch, torn_patch, torn_cut, both, at_most}
 
 -- what a crash leaves by a choice is an image, and no shorter than the content where it keeps what was written
@@ -20,7 +20,7 @@ filled_write at bytes d within = subst (λ n. Torn at n d (patch at (replicate (
 filled_cut : (n : ℕ) (d : List ℕ) → n ≤ length d → TornCut n d (take n d ++ replicate (length d - n) 255)
 filled_cut n d within =
     let front = length-take-le n d within in
-    let filled : length (replicate (length d - n) 255) ≡ length d - n = length-replicate (length d - n) 255 in
+    let filled : length {A = ℕ} (replicate (length d - n) 255) ≡ length d - n = length-replicate (length d - n) 255 in
     let all = length-append (take n d) (replicate (length d - n) 255) in
     record { front = take_at (take n d) (replicate (length d - n) 255) n front; no_shorter = omega (arith, front, filled, all, within); no_longer = omega (arith, front, filled, all, within) }
 
@@ -52,7 +52,7 @@ long_write (suc (suc choice)) at bytes c i true long within some =
     let l = long (omega arith) in
     let a = length-patch at bytes c within in
     let b = length-patch at (replicate (length bytes) 255) i (omega (arith, l, within)) in
-    let n : length (replicate (length bytes) 255) ≡ length bytes = length-replicate (length bytes) 255 in
+    let n : length {A = ℕ} (replicate (length bytes) 255) ≡ length bytes = length-replicate (length bytes) 255 in
     omega (arith, l, a, b, n)
 long_write (suc (suc choice)) at bytes c i false long within some =
     let l = long (omega arith) in
@@ -73,7 +73,7 @@ long_cut (suc (suc choice)) len done c i long within some =
     let filled = filled_cut len i (omega (arith, l, within)) in
     let lo = filled.no_shorter in
     let front = length-take-le len i (omega (arith, l, within)) in
-    let n : length (replicate (length i - len) 255) ≡ length i - len = length-replicate (length i - len) 255 in
+    let n : length {A = ℕ} (replicate (length i - len) 255) ≡ length i - len = length-replicate (length i - len) 255 in
     let all = length-append (take len i) (replicate (length i - len) 255) in
     cut_shorter done (omega (arith, front, n, all, l, within))
   where
@@ -128,3 +128,22 @@ content_more first changes i change within is = ap (content_after first) (revers
 pub image_more : (choice : ℕ) (first : List ℕ) (changes : List Change) (i : ℕ) (change : Change) → i < length changes → change ≡ get_or changes i change
     → image_after choice first (reverse (take (i + 1) changes)) ≡ next_image choice change (image_after choice first (reverse (take i changes))) (content_after first (reverse (take i changes)))
 image_more choice first changes i change within is = ap (image_after choice first) (reverse_more changes i change within is)
+
+within_drop : (k : ℕ) (first : List ℕ) (changes : List Change) → are_within first changes ≡ true → are_within first (drop k changes) ≡ true
+within_drop zero first changes within = within
+within_drop (suc k) first [] within = within
+within_drop (suc k) first (Write at bytes done ∷ earlier) within = within_drop k first earlier (both (nat_le at (length (content_after first earlier))) (are_within first earlier) within).1
+within_drop (suc k) first (Cut len done ∷ earlier) within = within_drop k first earlier (both (nat_le len (length (content_after first earlier))) (are_within first earlier) within).1
+within_drop (suc k) first (Sync done ∷ earlier) within = within_drop k first earlier within
+
+-- at each moment
+pub crash_image : (choice k : ℕ) (first : List ℕ) (changes : List Change) (bytes image : List ℕ) → IsRun first changes bytes → image ≡ image_after choice first (drop k changes) → IsImageAfter first (drop k changes) image
+crash_image choice k first changes bytes image run is =
+    subst (IsImageAfter first (drop k changes)) (sym is) (chosen_image choice first (drop k changes) (within_drop k first changes run.within)).image
+
+-- the first changes are the last of them that are told latest first
+pub reverse_front : (changes : List Change) (n : ℕ) → n ≤ length changes → reverse (take n changes) ≡ drop (length (reverse changes) - n) (reverse changes)
+reverse_front changes n within =
+    let split : reverse changes ≡ reverse (drop n changes) ++ reverse (take n changes) = ap reverse (sym (take-append-drop n changes)) ∙ reverse-append (take n changes) (drop n changes) in
+    let len : length (reverse (drop n changes)) ≡ length (reverse changes) - n = omega (arith, length-reverse (drop n changes), length-reverse changes, length-drop n changes, within) in
+    sym (ap (drop (length (reverse changes) - n)) split ∙ drop_at (reverse (drop n changes)) (reverse (take n changes)) (length (reverse changes) - n) len)

@@ -9,12 +9,7 @@ use std::alloc::{AllocError, Global};
 const DESTROYED: u8 = 0xFF;
 
 /// The bytes with these in the place of those from `at` on, and past the end.
-pub fn patched(
-    alloc: Global,
-    old: &[u8],
-    at: usize,
-    bytes: &[u8],
-) -> Result<Vec<u8>, AllocError>
+pub fn patched(alloc: Global, old: &[u8], at: usize, bytes: &[u8]) -> Result<Vec<u8>, AllocError>
     ensures { IfOk result (λ new. new.items ≡ patch at bytes.now old.now) }
 {
     let mut new = old[..at.min(old.len())].to_vec(alloc)?;
@@ -99,9 +94,7 @@ fn content_next(alloc: Global, change: &Change, content: &[u8]) -> Result<Vec<u8
         Change::Write(at, bytes, true) => {
             patched(alloc, content, *at as usize, bytes.as_slice())
         }
-        Change::Cut(len, true) => {
-            content[..(*len as usize).min(content.len())].to_vec(alloc)
-        }
+        Change::Cut(len, true) => { content[..(*len as usize).min(content.len())].to_vec(alloc) }
         _ => content.to_vec(alloc),
     }
 }

@@ -1,11 +1,12 @@
-ghost use Rattle.std.specs.Prelude.{◌≡◌, ℕ, ◌+◌, ◌<◌, ◌≤◌, List, [], ◌∷◌, length, take, min, max, Option, Some, None, Bool, true, false, IfOk, OnOk, OnErr, if◌then◌else◌};
+ghost use Rattle.std.specs.Prelude.{◌≡◌, ℕ, ◌+◌, ◌-◌, ◌<◌, ◌≤◌, List, [], ◌∷◌, length, take, drop, min, max, Option, Some, None, Bool, true, false, IfOk, OnOk, OnErr, if◌then◌else◌};
 ghost use Rattle.outside.specs.Disk.{longest_disk, patch};
 ghost use Rattle.outside.specs.Fault.{HasCause};
 ghost use Rattle.outside_mem.specs.Calls.{fresh_calls};
-ghost use Rattle.outside_mem.specs.Disk.{IsRun, view_of, content_after};
+ghost use Rattle.outside_mem.specs.Disk.{IsRun, view_of, IsImageAfter, image_after};
 ghost use Rattle.outside_mem.specs.declared.change.Change.TheVariants.{Write, Cut, Sync};
 ghost use Rattle.outside_mem.specs.DiskLaws as laws;
 
+use crate::NoMemory;
 use crate::calls::Calls;
 use crate::change::Change;
 use crate::crash::patched;
@@ -52,14 +53,34 @@ impl MemDisk {
         self.calls.faults()
     }
 
+    /// The number of moments. Moment 0 is the start, and each change has the moment after it.
+    pub fn moments(&self) -> u64
+        ensures { result ≡ length self.now.tape.changes + 1 }
+    {
+        self.tape.moments()
+    }
+
+    /// An image that a crash at that moment may leave: choice 0 keeps what isn't synced as before, 1 as written, any other
+    /// fills it with FF.
+    #[tactic(auto, using(crate::proofs::Crashes::crash_image))]
+    pub fn crash(&self, alloc: Global, moment: u64, choice: u8) -> Result<Vec<u8>, NoMemory>
+        requires { moment < length self.now.tape.changes + 1 }
+        ensures chosen { IfOk result (λ image. image.items
+            ≡ image_after choice self.now.tape.first (drop (length self.now.tape.changes - moment) self.now.tape.changes)) }
+        ensures image { IfOk result (λ image.
+            IsImageAfter self.now.tape.first (drop (length self.now.tape.changes - moment) self.now.tape.changes) image.items) }
+    {
+        Ok(self.tape.image_at(alloc, moment as usize, choice)?)
+    }
+
     #[tactic(auto, using(crate::specs::DiskLaws::run_write))]
     fn write(&mut self, at: u64, bytes: &[u8], done: bool) -> Result<(), AllocError>
         requires within { at ≤ length self.old.tape.bytes }
         requires short { at + length bytes.now ≤ longest_disk }
         ensures ok { OnOk result (self.new.tape ≡ record {
-            first = self.old.tape.first;
-            changes = Write at bytes.now done ∷ self.old.tape.changes;
-            bytes = (if done then patch at bytes.now self.old.tape.bytes else self.old.tape.bytes);
+          first = self.old.tape.first;
+          changes = Write at bytes.now done ∷ self.old.tape.changes;
+          bytes = (if done then patch at bytes.now self.old.tape.bytes else self.old.tape.bytes);
         }) }
         ensures err { OnErr result (self.new.tape ≡ self.old.tape) }
         ensures calls { self.new.calls ≡ self.old.calls }
@@ -77,9 +98,9 @@ impl MemDisk {
     fn cut_to(&mut self, len: u64, done: bool) -> Result<(), AllocError>
         requires within { len ≤ length self.old.tape.bytes }
         ensures ok { OnOk result (self.new.tape ≡ record {
-            first = self.old.tape.first;
-            changes = Cut len done ∷ self.old.tape.changes;
-            bytes = (if done then take len self.old.tape.bytes else self.old.tape.bytes);
+          first = self.old.tape.first;
+          changes = Cut len done ∷ self.old.tape.changes;
+          bytes = (if done then take len self.old.tape.bytes else self.old.tape.bytes);
         }) }
         ensures err { OnErr result (self.new.tape ≡ self.old.tape) }
         ensures calls { self.new.calls ≡ self.old.calls }
@@ -95,9 +116,9 @@ impl MemDisk {
     #[tactic(auto, using(crate::specs::DiskLaws::run_sync))]
     fn sync_all(&mut self, done: bool) -> Result<(), AllocError>
         ensures ok { OnOk result (self.new.tape ≡ record {
-            first = self.old.tape.first;
-            changes = Sync done ∷ self.old.tape.changes;
-            bytes = self.old.tape.bytes;
+          first = self.old.tape.first;
+          changes = Sync done ∷ self.old.tape.changes;
+          bytes = self.old.tape.bytes;
         }) }
         ensures err { OnErr result (self.new.tape ≡ self.old.tape) }
         ensures calls { self.new.calls ≡ self.old.calls }
@@ -164,14 +185,23 @@ impl Disk for MemDisk {
     }
 
     ghost bounded = { λ d. d.run.short };
+
     ghost content_len = { λ d b told. laws.told_len d.tape.bytes b told };
+
     ghost content_is_image = { λ d b told. laws.told_image d.tape.first d.tape.changes d.tape.bytes b d.run told };
+
     ghost undated_content = { λ d undated. laws.never_undated undated };
+
     ghost undated_syncs = { λ d t undated. laws.never_undated undated };
+
     ghost counts_now = { λ d t c dated le image. laws.counts_now d.tape.first d.tape.changes t c le image };
+
     ghost only_now = { λ d c left. laws.only_now d.tape.first d.tape.changes c left };
+
     ghost synced_after = { λ d t s is. laws.synced_after d.tape.changes t s is };
+
     ghost synced_by_now = { λ d t s is. laws.synced_by_now d.tape.changes t s is };
+
     ghost synced_first = { λ d t u r le is. laws.synced_first d.tape.changes t u r le is };
 }
 
