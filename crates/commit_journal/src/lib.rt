@@ -13,6 +13,8 @@ mod frame;
 mod journal;
 mod reading;
 mod recovery;
+#[cfg(test)]
+mod tests;
 
 pub use fault::{DeviceFault, JournalFault};
 pub use format::LARGEST_PAYLOAD;
