@@ -1,5 +1,5 @@
 -- What an append leaves of a log at each of its device calls.
-use Rattle.std.proofs.Common.{◌≡◌, ◌⊎◌, inl, inr, ℕ, ◌+◌, ◌<◌, ◌≤◌, max, Bool, true, false, List, [], ◌∷◌, ◌++◌, length, take, drop, get_or, ◌==◌, Some, None, Ok, refl, sym, ap, ◌∙◌, subst, arith, append_assoc, length-append, take-append-drop}
+use Rattle.std.proofs.Common.{◌≡◌, ◌⊎◌, inl, inr, ℕ, ◌+◌, ◌<◌, ◌≤◌, max, Bool, true, false, List, [], ◌∷◌, ◌++◌, length, take, drop, get_or, ◌==◌, Some, refl, sym, ap, ◌∙◌, subst, arith, append_assoc, length-append, take-append-drop}
 use Rattle.std.proofs.lemmas.List.{take_at, drop_at, take_all, drop_all, drop_more, append-nil}
 use Rattle.std.proofs.lemmas.Bool.Decides.{nat_tests}
 use Rattle.std.specs.Int.{w32, from_be_bytes, to_be_bytes}
@@ -7,11 +7,11 @@ use Rattle.std.proofs.lemmas.Nat.{from_be_bytes-to_be_bytes_4}
 use Rattle.std.specs.Option.{option_map}
 use Rattle.outside.specs.Disk.{DiskView, OnlyContent, patch, Torn}
 use Rattle.commit_journal.specs.declared.frame.Frame.{Frame}
-use Rattle.commit_journal.specs.declared.format.TheConstants.{CLOSED_GATE, OPEN_GATE, FIRST_GATE, BLANK_LENGTH, LARGEST_PAYLOAD, LENGTH_BYTES}
-use Rattle.commit_journal.specs.Log.{payload_length, payload_of, has_frame, header_fault, version_of_header, Walk, walk, walk_of, closed_at, lost_at, behind, frames_of, version_of}
+use Rattle.commit_journal.specs.declared.format.TheConstants.{CLOSED_GATE, OPEN_GATE, FIRST_GATE, LARGEST_PAYLOAD, LENGTH_BYTES}
+use Rattle.commit_journal.specs.Log.{payload_length, payload_of, has_frame, version_of_header, walk, walk_of, closed_at, behind, frames_of}
 use Rattle.commit_journal.specs.Journal.{frame_text, and_frame, EndsAt, HasFrameOrNot, IsSettled, Steps, Keeps}
 use Rattle.commit_journal.proofs.Steps.{keeps_only, keeps_then, told_map}
-use Rattle.commit_journal.proofs.Walks.{Sizes, walk_none, never, walk_closed, walk_frame, walk_skip, frame_whole}
+use Rattle.commit_journal.proofs.Walks.{walk_none, never, walk_closed, walk_frame, walk_skip, frame_whole}
 use Rattle.commit_journal.proofs.Logs.{Parts, parts, short_or_long, frames_walked, frames_closed, frames_self, front_kept, version_two}
 
 -- the text of a frame

@@ -1,5 +1,5 @@
 -- Faults that one call answers as another did.
-use Rattle.std.proofs.Common.{◌≡◌, Result, Err, IsErrOf, ap}
+use Rattle.std.proofs.Common.{◌≡◌, Err, IsErrOf, ap}
 use Rattle.std.proofs.Common.{◌≤◌, ◌∙◌}
 use Rattle.outside.specs.Disk.{DiskView, Unchanged, NoNewImage}
 use Rattle.outside.proofs.Counts.{rose_since}

@@ -1,16 +1,16 @@
 -- What stands at a gate's place, by the bytes that were read there.
-use Rattle.std.proofs.Common.{◌≡◌, ◌≢◌, ◌⊎◌, inl, inr, ℕ, ◌+◌, ◌-◌, ◌<◌, ◌≤◌, min, Bool, true, false, List, [], ◌∷◌, ◌++◌, length, take, drop, get_or, ◌==◌, refl, sym, ap, ◌∙◌, arith, length-drop, take-append-drop}
+use Rattle.std.proofs.Common.{◌≡◌, ◌≢◌, ◌⊎◌, ℕ, ◌+◌, ◌-◌, ◌<◌, ◌≤◌, min, true, false, List, [], ◌∷◌, length, take, drop, get_or, ◌==◌, refl, sym, ap, ◌∙◌, arith, length-drop}
 use Rattle.std.specs.Int.{w32, from_be_bytes}
-use Rattle.std.proofs.lemmas.List.{drop_more, drop-take, length-take-le}
+use Rattle.std.proofs.lemmas.List.{drop_more, drop-take}
 use Rattle.std.proofs.lemmas.Bool.Decides.{nat_tests}
 use Rattle.std.proofs.lemmas.Grind.{common_steps}
 use Rattle.commit_journal.specs.declared.frame.Frame.{Frame}
 use Rattle.commit_journal.specs.declared.reading.Head.{Head}
 use Rattle.commit_journal.specs.declared.reading.Head.TheVariants.{Closed, Lost, Frame as HeadFrame}
 use Rattle.commit_journal.specs.declared.format.TheConstants.{LENGTH_BYTES, CLOSED_GATE, LARGEST_PAYLOAD}
-use Rattle.commit_journal.specs.Log.{payload_length, payload_of, has_frame, walk, walk_of, closed_at, lost_at, behind}
+use Rattle.commit_journal.specs.Log.{payload_length, payload_of, has_frame, walk, walk_of, lost_at, behind}
 use Rattle.commit_journal.specs.Reading.{HeadSays, IsHead, IsWalk}
-use Rattle.commit_journal.proofs.Walks.{Sizes, frame_sizes, frame_whole, frame_missing, walk_closed, walk_frame, walk_lost, walk_skip}
+use Rattle.commit_journal.proofs.Walks.{Sizes, frame_whole, frame_missing, walk_closed, walk_frame, walk_lost, walk_skip}
 
 drop_twice : (i j : ℕ) (l : List ℕ) → drop j (drop i l) ≡ drop (i + j) l
 drop_twice i j l = grind (arith, common_steps)

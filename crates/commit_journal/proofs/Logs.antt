@@ -1,17 +1,14 @@
 -- The parts of a log, and what stands for it where its end is other.
-use Rattle.std.proofs.Common.{◌≡◌, ◌⊎◌, inl, inr, ℕ, ◌+◌, ◌<◌, ◌≤◌, max, Bool, true, false, cond, List, [], ◌∷◌, ◌++◌, length, take, drop, get_or, nat_eq, nat_le, ◌==◌, Option, Some, None, Result, Ok, Err, refl, sym, ap, ◌∙◌, subst, arith, append_assoc, length-append, length-drop, take-append-drop, slice_index}
-use Rattle.std.proofs.lemmas.List.{take-append-le, length-take-le, take_at, drop_at, take_all, drop_all, drop_more, append-nil}
+use Rattle.std.proofs.Common.{◌≡◌, ◌⊎◌, inl, inr, ℕ, ◌+◌, ◌<◌, ◌≤◌, Bool, true, false, List, [], ◌∷◌, ◌++◌, length, take, drop, get_or, nat_le, Some, None, Ok, Err, refl, sym, ap, ◌∙◌, arith, append_assoc, length-append, take-append-drop}
+use Rattle.std.proofs.lemmas.List.{length-take-le, take_at, drop_at, append-nil}
 use Rattle.std.proofs.lemmas.Bool.Decides.{nat_tests}
 use Rattle.std.proofs.lemmas.Grind.{common_steps}
-use Rattle.std.specs.Int.{w32, from_be_bytes, to_be_bytes}
-use Rattle.std.proofs.lemmas.Nat.{from_be_bytes-to_be_bytes_4}
-use Rattle.outside.specs.Disk.{patch, Torn, TornCut}
-use Rattle.commit_journal.specs.declared.frame.Frame.{Frame}
-use Rattle.commit_journal.specs.declared.format.TheConstants.{CLOSED_GATE, OPEN_GATE, FIRST_GATE, BLANK_LENGTH, VERSION_PLACE, LARGEST_PAYLOAD, LENGTH_BYTES, EMPTY_LOG}
-use Rattle.commit_journal.specs.Log.{payload_length, payload_of, has_frame, header_fault, version_of_header, Walk, walk, walk_of, closed_at, behind, frames_found, frames_of, version_of, first_differing}
-use Rattle.commit_journal.specs.Journal.{frame_text, and_frame, EndsAt, HasFrameOrNot, SameLog}
+use Rattle.outside.specs.Disk.{TornCut}
+use Rattle.commit_journal.specs.declared.format.TheConstants.{CLOSED_GATE, FIRST_GATE, BLANK_LENGTH, VERSION_PLACE, EMPTY_LOG}
+use Rattle.commit_journal.specs.Log.{header_fault, version_of_header, Walk, walk, walk_of, closed_at, behind, frames_found, frames_of, version_of, first_differing}
+use Rattle.commit_journal.specs.Journal.{EndsAt, SameLog}
 use Rattle.commit_journal.specs.Reading.{IsWalk}
-use Rattle.commit_journal.proofs.Walks.{Split, split, Sizes, walk_closed, walk_frame, walk_skip, frame_whole}
+use Rattle.commit_journal.proofs.Walks.{split, walk_closed}
 
 -- A log that leads to a closed gate is a front, that gate, and what stands behind it.
 pub record Parts (log : List ℕ) : Type 0 where

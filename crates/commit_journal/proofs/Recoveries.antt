@@ -1,12 +1,12 @@
 -- What the recovery of a log leaves.
-use Rattle.std.proofs.Common.{◌≡◌, ℕ, ◌+◌, ◌<◌, ◌≤◌, max, List, [], ◌∷◌, ◌++◌, length, take, Option, Some, None, Ok, refl, sym, ap, subst, ◌∙◌, arith}
+use Rattle.std.proofs.Common.{◌≡◌, ℕ, ◌+◌, ◌<◌, ◌≤◌, List, [], ◌∷◌, ◌++◌, length, take, Some, Ok, sym, ap, subst, ◌∙◌, arith}
 use Rattle.std.proofs.lemmas.List.{append-nil}
 use Rattle.std.specs.Option.{option_map}
 use Rattle.outside.specs.Disk.{DiskView, OnlyContent, Unchanged, TornCut}
 use Rattle.commit_journal.specs.declared.frame.Frame.{Frame}
 use Rattle.commit_journal.specs.declared.format.TheConstants.{BLANK_LENGTH, FIRST_GATE, EMPTY_LOG, CLOSED_GATE}
-use Rattle.commit_journal.specs.Log.{walk_of, frames_of, version_of, version_of_header, header_fault, closed_at, behind}
-use Rattle.commit_journal.specs.Journal.{EndsAt, IsSettled, SameLog, Steps, StaysShort, Keeps, IsRecovered}
+use Rattle.commit_journal.specs.Log.{walk_of, frames_of, version_of_header}
+use Rattle.commit_journal.specs.Journal.{EndsAt, SameLog, Steps, StaysShort, Keeps, IsRecovered}
 use Rattle.commit_journal.specs.Reading.{IsLog}
 use Rattle.outside.proofs.Disks.{unchanged_only}
 use Rattle.commit_journal.proofs.Logs.{Parts, parts, cut_front, frames_blank, version_blank, version_long, frames_self, frames_closed, cut_same, cut_ends, blank_same, empty_ends, empty_says}

@@ -1,5 +1,5 @@
 -- How runs of calls on a disk make steps of its images.
-use Rattle.std.proofs.Common.{◌≡◌, ◌⊎◌, inl, inr, ⊎_elim, ℕ, ◌<◌, ◌≤◌, List, Bool, true, false, Option, Some, None, is_some, refl, sym, ap, subst, ◌∙◌, arith}
+use Rattle.std.proofs.Common.{◌≡◌, inl, inr, ⊎_elim, ℕ, ◌<◌, ◌≤◌, List, Bool, true, false, Option, Some, None, is_some, refl, sym, ap, subst, ◌∙◌, arith}
 use Rattle.std.specs.Option.{option_or, option_map}
 use Rattle.outside.specs.Disk.{DiskView, Follows, NoNewImage, Elapses, SameSyncs, SyncsNow, Unchanged, OnlyContent, Torn, TornCut, LeavesOnly}
 use Rattle.commit_journal.specs.Journal.{Continues, Steps, Keeps, StaysShort, SameLog, Opens, IsRecovered}

@@ -1,10 +1,9 @@
 -- What a walk over gates and frames comes to, and what it does where other bytes stand behind its end.
-use Rattle.std.proofs.Common.{◌≡◌, ℕ, zero, suc, ◌+◌, ◌<◌, ◌≤◌, Bool, true, false, cond, List, [], ◌∷◌, ◌++◌, length, take, drop, get_or, nat_eq, nat_lt, nat_le, ◌==◌, ◌&&◌, refl, sym, ap, ◌∙◌, subst, arith, append_assoc, add-zero, length-append, true≢false}
-use Rattle.std.proofs.lemmas.List.{take-append-le, drop_at}
+use Rattle.std.proofs.Common.{◌≡◌, ℕ, zero, suc, ◌+◌, ◌<◌, ◌≤◌, Bool, true, false, List, [], ◌∷◌, ◌++◌, length, take, drop, nat_lt, nat_le, ◌==◌, ◌&&◌, refl, sym, ap, ◌∙◌, arith, add-zero, length-append, true≢false}
+use Rattle.std.proofs.lemmas.List.{take-append-le}
 use Rattle.std.proofs.lemmas.Bool.Decides.{nat_tests}
 use Rattle.std.proofs.lemmas.Grind.{common_steps}
-use Rattle.std.specs.Int.{w32, from_be_bytes, to_be_bytes}
-use Rattle.commit_journal.specs.declared.frame.Frame.{Frame}
+use Rattle.std.specs.Int.{w32, from_be_bytes}
 use Rattle.commit_journal.specs.declared.format.TheConstants.{CLOSED_GATE, LARGEST_PAYLOAD, LENGTH_BYTES}
 use Rattle.commit_journal.specs.Log.{payload_length, payload_of, has_frame, Walk, walk, closed_at, lost_at, behind}
 

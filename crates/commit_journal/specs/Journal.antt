@@ -1,5 +1,5 @@
 -- What a journal keeps of its log, and what a crash leaves of it.
-use Rattle.std.specs.Prelude.{◌≡◌, ◌≢◌, ◌⊎◌, ℕ, ◌+◌, ◌<◌, ◌≤◌, max, true, List, [], ◌∷◌, ◌++◌, length, Option, Some, None, is_some, Result, Ok, Err, IfErr, IsErrOf}
+use Rattle.std.specs.Prelude.{◌≡◌, ◌≢◌, ◌⊎◌, ℕ, ◌+◌, ◌<◌, ◌≤◌, max, true, List, [], ◌∷◌, ◌++◌, length, Some, None, is_some, Result, Ok, Err, IfErr, IsErrOf}
 use Rattle.std.specs.Int.{w32, to_be_bytes}
 use Rattle.outside.specs.Disk.{DiskView, OnlyContent, Unchanged, NoNewImage}
 use Rattle.outside.specs.Fault.{Rose}

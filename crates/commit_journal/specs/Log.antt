@@ -1,5 +1,5 @@
 -- What the bytes of a log say: a header, and gates and frames in turn, up to the first closed gate.
-use Rattle.std.specs.Prelude.{◌≡◌, ℕ, zero, suc, ◌+◌, ◌≤◌, Bool, true, false, List, [], ◌∷◌, ◌++◌, length, take, drop, slice_index, Option, Some, None, Result, Ok, Err, if◌then◌else◌, ◌==◌, ◌&&◌, ◌||◌, nat_le, nat_lt}
+use Rattle.std.specs.Prelude.{ℕ, zero, suc, ◌+◌, Bool, true, false, List, [], ◌∷◌, ◌++◌, length, take, drop, slice_index, Option, Some, None, Result, Ok, Err, if◌then◌else◌, ◌==◌, ◌&&◌, ◌||◌, nat_le, nat_lt}
 use Rattle.std.specs.Int.{w32, from_be_bytes}
 use Rattle.commit_journal.specs.declared.frame.Frame.{Frame}
 use Rattle.commit_journal.specs.declared.format.TheConstants.{HEADER_1, HEADER_2, BLANK_LENGTH, VERSION_PLACE, DIGIT_1, CLOSED_GATE, FIRST_GATE, LARGEST_PAYLOAD, LENGTH_BYTES}

@@ -1,5 +1,5 @@
 -- How calls on a disk go on, one after the other.
-use Rattle.std.proofs.Common.{◌≡◌, ◌⊎◌, inl, inr, ⊎_elim, ℕ, ◌≤◌, List, Some, sym, ◌∙◌, arith}
+use Rattle.std.proofs.Common.{inl, inr, ⊎_elim, ℕ, ◌≤◌, List, sym, ◌∙◌, arith}
 use Rattle.outside.specs.Disk.{DiskView, OnlyContent, Elapses, Unchanged, LeavesOnly}
 
 pub unchanged_then : (a b c : DiskView) → Unchanged a b → Unchanged b c → Unchanged a c

@@ -1,5 +1,5 @@
 -- What a crash leaves by a choice is one of the images.
-use Rattle.std.proofs.Common.{◌≡◌, ℕ, zero, suc, ◌+◌, ◌-◌, ◌<◌, ◌≤◌, max, Bool, true, false, List, [], ◌∷◌, ◌++◌, length, take, drop, get_or, replicate, reverse, nat_lt, nat_le, ◌&&◌, ◌==◌, refl, sym, ap, subst, ◌∙◌, arith, length-append, length-drop}
+use Rattle.std.proofs.Common.{◌≡◌, ℕ, zero, suc, ◌+◌, ◌-◌, ◌<◌, ◌≤◌, Bool, true, false, List, [], ◌∷◌, ◌++◌, length, take, drop, get_or, replicate, reverse, nat_le, ◌==◌, refl, sym, ap, subst, ◌∙◌, arith, length-append, length-drop}
 use Rattle.std.specs.Prelude.{if◌then◌else◌}
 use Rattle.std.proofs.lemmas.List.{length-replicate, length-take-le, take_at, drop_at, take_more, reverse-append, length-reverse, take-append-drop}
 use Rattle.std.proofs.lemmas.Bool.Decides.{nat_tests}

@@ -1,13 +1,13 @@
 -- Why a disk in memory is a disk.
-use Rattle.std.specs.Prelude.{◌≡◌, ◌⊎◌, ℕ, zero, suc, ◌+◌, ◌<◌, ◌≤◌, max, Bool, true, false, List, [], ◌∷◌, ◌++◌, length, take, drop, Option, Some, None, Result, Ok, Err, OnOk, OnErr, replicate, ◌-◌, if◌then◌else◌, nat_lt, nat_le, ◌&&◌, refl}
+use Rattle.std.specs.Prelude.{◌≡◌, ◌⊎◌, ℕ, ◌+◌, ◌<◌, ◌≤◌, max, Bool, true, false, List, [], ◌∷◌, ◌++◌, length, take, drop, Option, Some, None, Result, Ok, Err, OnOk, OnErr, if◌then◌else◌, nat_lt, nat_le, ◌&&◌, refl}
 use Rattle.std.proofs.Common.{inl, inr, sym, ap, subst, true≢false, ◌∙◌, arith, append_assoc, length-append, length-drop}
-use Rattle.std.proofs.lemmas.List.{length-replicate, length-take-le, take_at, drop_at, take_all, length-take}
+use Rattle.std.proofs.lemmas.List.{length-take-le, take_at, drop_at, take_all}
 use Rattle.std.proofs.lemmas.Bool.Decides.{nat_tests}
 use Rattle.std.specs.Option.{option_or}
 use Rattle.outside.specs.Disk.{patch, Torn, TornCut, longest_disk}
 use Rattle.outside_mem.specs.declared.change.Change.{Change}
 use Rattle.outside_mem.specs.declared.change.Change.TheVariants.{Write, Cut, Sync}
-use Rattle.outside_mem.specs.Disk.{content_after, IsImageAfter, LeavesSince, synced_since, are_within, IsRun, TapeState, image_after, chosen}
+use Rattle.outside_mem.specs.Disk.{content_after, IsImageAfter, LeavesSince, synced_since, are_within, IsRun, TapeState}
 
 pub torn_self : (at n : ℕ) (d : List ℕ) → Torn at n d d
 torn_self at n d = record { before = refl; behind = refl; no_shorter = omega arith; no_longer = omega arith }

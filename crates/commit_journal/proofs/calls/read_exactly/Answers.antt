@@ -1,4 +1,4 @@
-use Rattle.std.proofs.Common.{length, ◌-◌, ◌≤◌, ◌≡◌, ◌∙◌, arith}
+use Rattle.std.proofs.Common.{length, ◌-◌, ◌∙◌, arith}
 use Rattle.outside.proofs.Disks.{unchanged_then}
 use Rattle.commit_journal.proofs.Fillings.{filled_more, filled_within}
 use Rattle.commit_journal.proofs.calls.read_exactly.Goals as goal

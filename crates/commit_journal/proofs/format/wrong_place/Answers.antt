@@ -1,5 +1,4 @@
 use Rattle.std.proofs.Common.{inl, inr, ◌∙◌, sym, arith}
-use Rattle.std.proofs.lemmas.Bool.{cases_eq}
 use Rattle.commit_journal.specs.declared.format.TheConstants.{HEADER_1, HEADER_2}
 use Rattle.commit_journal.proofs.Header.{differing_passes, differing_here}
 use Rattle.commit_journal.proofs.format.wrong_place.Goals as goal

@@ -1,4 +1,4 @@
-use Rattle.std.proofs.Common.{◌≡◌, ◌∙◌, sym, ap, Some}
+use Rattle.std.proofs.Common.{◌∙◌}
 use Rattle.std.proofs.lemmas.Result.{err_from_is_err_and}
 use Rattle.commit_journal.specs.declared.fault.JournalFault.TheVariants.{NotAJournal}
 use Rattle.commit_journal.proofs.Faults.{same_fault}

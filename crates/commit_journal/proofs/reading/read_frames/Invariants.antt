@@ -1,4 +1,4 @@
-use Rattle.std.proofs.Common.{◌≡◌, ℕ, ◌+◌, ◌-◌, ◌<◌, ◌≤◌, List, drop, Some}
+use Rattle.std.proofs.Common.{◌≡◌, ℕ, ◌-◌, ◌<◌, ◌≤◌, List, drop, Some}
 use Rattle.outside.specs.Disk.{Unchanged}
 use Rattle.commit_journal.specs.declared.format.TheConstants.{FIRST_GATE}
 use Rattle.commit_journal.specs.Log.{walk, walk_of, behind}

@@ -1,4 +1,4 @@
-use Rattle.std.proofs.Common.{◌≡◌, ◌-◌, ◌∙◌, min, length, take, drop, sym, ap, subst, arith}
+use Rattle.std.proofs.Common.{◌-◌, arith}
 use Rattle.commit_journal.proofs.Heads.{head_there}
 use Rattle.commit_journal.proofs.reading.read_head.Goals as goal
 

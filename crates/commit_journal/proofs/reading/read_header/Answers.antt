@@ -1,4 +1,4 @@
-use Rattle.std.proofs.Common.{◌≡◌, ◌∙◌, sym, ap, Some, arith}
+use Rattle.std.proofs.Common.{◌∙◌, sym, ap, arith}
 use Rattle.commit_journal.specs.Log.{version_of_header}
 use Rattle.commit_journal.proofs.Logs.{says_front}
 use Rattle.commit_journal.proofs.reading.read_header.Goals as goal

@@ -1,5 +1,4 @@
-use Rattle.std.proofs.Common.{◌≡◌, List, ℕ, [], sym, subst, arith}
-use Rattle.commit_journal.specs.Journal.{IsRecovered}
+use Rattle.std.proofs.Common.{arith}
 use Rattle.commit_journal.proofs.Recoveries.{blank_recovered, blank_kept}
 use Rattle.commit_journal.proofs.recovery.recover_blank.Goals as goal
 

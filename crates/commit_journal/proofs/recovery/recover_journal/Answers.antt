@@ -1,4 +1,4 @@
-use Rattle.std.proofs.Common.{◌≡◌, ◌+◌, ◌∙◌, List, ℕ, sym, ap, take, arith}
+use Rattle.std.proofs.Common.{◌+◌, ◌∙◌, ap, take, arith}
 use Rattle.std.specs.Option.{option_map}
 use Rattle.commit_journal.specs.Journal.{SameLog}
 use Rattle.commit_journal.proofs.Logs.{same_self}

@@ -1,4 +1,4 @@
-use Rattle.std.proofs.Common.{◌≡◌, ◌+◌, List, ℕ, length, sym, subst, arith}
+use Rattle.std.proofs.Common.{◌+◌, length, sym, subst, arith}
 use Rattle.commit_journal.specs.declared.frame.Frame.{Frame}
 use Rattle.commit_journal.specs.Journal.{IsSettled, HasFrameOrNot}
 use Rattle.commit_journal.proofs.Steps.{continues_then, leaves_kept}

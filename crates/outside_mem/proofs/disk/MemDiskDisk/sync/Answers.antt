@@ -1,4 +1,4 @@
-use Rattle.std.proofs.Common.{List, ℕ, not, subst}
+use Rattle.std.proofs.Common.{not, subst}
 use Rattle.outside_mem.specs.Disk.{TapeState, IsImageAfter}
 use Rattle.outside_mem.specs.DiskLaws.{sync_keeps}
 use Rattle.outside_mem.proofs.disk.MemDiskDisk.sync.Goals as goal
