@@ -165,6 +165,14 @@ opens_synced old mid new none only_now undated on now content only further kept 
         ⊎_elim (λ was. subst (SameLog log) (sym (only log c (content ∙ told) (only_now c was))) (same_self log)) (λ has. has)
         ((kept log (content ∙ told)).since mid.moment c (omega arith) (subst (λ t. new.left t c) same left))
 
+-- its first sync is told from then on
+pub synced_once : (old mid new : DiskView) → SyncsNow old mid → Continues mid new → old.moment ≤ mid.moment → old.dated ≡ true → is_some (new.synced old.moment) ≡ true
+synced_once old mid new now further later dated = decided (old.synced old.moment) (now dated old.moment (omega arith))
+  where
+    decided : (o : Option ℕ) → mid.synced old.moment ≡ option_or o (Some mid.moment) → is_some (new.synced old.moment) ≡ true
+    decided None is = ap is_some (further.syncs old.moment mid.moment later is)
+    decided (Some s) is = ap is_some (further.syncs old.moment s later is)
+
 -- what is recovered of the content is recovered of an earlier one, where it is the same
 pub recovered_since : (frames : List Frame) (place version : ℕ) (old mid new : DiskView) → mid.content ≡ old.content → IsRecovered frames place version mid new → IsRecovered frames place version old new
 recovered_since frames place version old mid new content is = record {

@@ -1,4 +1,4 @@
-ghost use Rattle.std.specs.Prelude.{◌≡◌, ℕ, ◌+◌, ◌≤◌, List, [], ◌∷◌, length, take, max, vec_len, true, false, Some, None, IfOk, IfErr, OnOk, OnErr, MatchResult};
+ghost use Rattle.std.specs.Prelude.{◌≡◌, ℕ, ◌+◌, ◌≤◌, List, [], ◌∷◌, length, take, max, vec_len, true, false, Some, is_some, None, IfOk, IfErr, OnOk, OnErr, MatchResult};
 ghost use Rattle.std.specs.Option.{option_map};
 ghost use Rattle.outside.specs.Disk.{OnlyContent, LeavesOnly, patch, Torn};
 ghost use Rattle.outside.specs.Fault.{HasCause};
@@ -55,6 +55,7 @@ fn prepare<D: Disk>(alloc: Global, disk: &mut D) -> Result<(Vec<u8>, Log), Journ
     ensures room { IfOk result (λ r. vec_len r.0 ≡ FRAME_ROOM) }
     ensures recovered { IfOk result (λ r. IsRecovered r.1.frames.items r.1.place r.1.version (D.seen disk.old) (D.seen disk.new)) }
     ensures crash { Opens (D.seen disk.old) (D.seen disk.new) }
+    ensures synced { OnOk result ((D.seen disk.old).dated ≡ true → is_some ((D.seen disk.new).synced (D.seen disk.old).moment) ≡ true) }
     ensures later { (D.seen disk.old).faults ≤ (D.seen disk.new).faults }
     ensures fault { IfErr result (HasOpenCause (D.seen disk.old) (D.seen disk.new)) }
 {
@@ -89,6 +90,8 @@ impl<D: Disk> Journal<D> {
 
         // Each image since the first sync is the same log; where that sync didn't succeed, the content is as it was.
         ensures crash { MatchResult result (λ r. Opens (D.seen disk) (D.seen r.0.disk)) (λ e. Opens (D.seen disk) (D.seen e.0)) }
+        ensures synced { IfOk result (λ r. (D.seen disk).dated ≡ true
+            → is_some ((D.seen r.0.disk).synced (D.seen disk).moment) ≡ true) }
         ensures later { MatchResult result (λ r. (D.seen disk).faults ≤ (D.seen r.0.disk).faults) (λ e. (D.seen disk).faults ≤ (D.seen e.0).faults) }
 
         // A device fault comes only where the count rose, and NotAJournal only where the log is none. All else wrote nothing.
