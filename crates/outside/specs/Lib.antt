@@ -1,3 +1,4 @@
 pub mod Fault
 pub mod Sink
 pub mod Room
+pub mod Disk

@@ -1,10 +1,12 @@
-//! The outside of the catalogue: where bytes come from, where they go, and the room that opens and closes both by name.
+//! The outside of the catalogue: where bytes come from, where they go, the disk that keeps them over a crash, and the room
+//! that opens and closes sources and sinks by name.
 //!
 //! Each trait says by its clauses what a call does to the bytes that it tells, and counts its faults. A call answers
 //! [`Failed`] only where the count of its object rose in that call, or stands at a `u64`'s greatest number.
 #![tactic(auto)]
 
 mod bytes;
+mod disk;
 mod fault;
 mod gate;
 mod room;
@@ -12,6 +14,7 @@ mod sink;
 mod source;
 
 pub use bytes::Bytes;
+pub use disk::{Disk, LONGEST_DISK};
 pub use fault::{Failed, WriteFault};
 pub use gate::{Gate, LARGEST_BATCH};
 pub use room::Room;

@@ -1,2 +1,4 @@
 pub mod MovedBytes
 pub mod Places
+pub mod Tapes
+pub mod Crashes

@@ -2,14 +2,19 @@
 #![tactic(auto)]
 
 mod calls;
+mod change;
+mod crash;
+mod disk;
 mod fault;
 mod files;
 mod room;
 mod sink;
 mod source;
+mod tape;
 #[cfg(test)]
 mod tests;
 
+pub use disk::MemDisk;
 pub use fault::NoMemory;
 pub use room::MemRoom;
 pub use sink::MemSink;

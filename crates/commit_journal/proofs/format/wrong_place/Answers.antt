@@ -1,0 +1,20 @@
+use Rattle.std.proofs.Common.{inl, inr, ◌∙◌, sym, arith}
+use Rattle.commit_journal.specs.declared.format.TheConstants.{HEADER_1, HEADER_2}
+use Rattle.commit_journal.proofs.Header.{differing_passes, differing_here}
+use Rattle.commit_journal.proofs.format.wrong_place.Goals as goal
+use Rattle.commit_journal.proofs.format.wrong_place.Goals.{else-byte-place-via-then-byte-place+else-byte-place-2, else-byte-place-via-else-byte-place}
+
+pub returns-then-byte-place-2 : goal.returns-then-byte-place-2
+returns-then-byte-place-2 c =
+    let i = c.loop-place.place in
+    sym (differing_here i i HEADER_1 HEADER_2 c.args.header.now (omega arith) (omega arith) (omega arith) c.if-byte-place.true c.if-byte-place-2.true) ∙ c.loop-place.invariant
+
+pub loop-place-preserved : goal.loop-place-preserved
+loop-place-preserved c =
+    let i = c.loop-place.place in
+    elim c.else-byte-place.branch [
+      | else-byte-place-via-then-byte-place+else-byte-place-2 w ↦
+          sym (differing_passes i i HEADER_1 HEADER_2 c.args.header.now (omega arith) (omega arith) (omega arith) (inr w.if-byte-place-2.false)) ∙ c.loop-place.invariant
+      | else-byte-place-via-else-byte-place w ↦
+          sym (differing_passes i i HEADER_1 HEADER_2 c.args.header.now (omega arith) (omega arith) (omega arith) (inl w.if-byte-place.false)) ∙ c.loop-place.invariant
+    ]

@@ -1,0 +1,100 @@
+-- What a journal keeps of its log, and what a crash leaves of it.
+use Rattle.std.specs.Prelude.{◌≡◌, ◌≢◌, ◌⊎◌, ℕ, ◌+◌, ◌<◌, ◌≤◌, max, true, List, [], ◌∷◌, ◌++◌, length, Some, None, is_some, Result, Ok, Err, IfErr, IsErrOf}
+use Rattle.std.specs.Int.{w32, to_be_bytes}
+use Rattle.outside.specs.Disk.{DiskView, OnlyContent, Unchanged, NoNewImage}
+use Rattle.outside.specs.Fault.{Rose}
+use Rattle.commit_journal.specs.declared.fault.JournalFault.{JournalFault}
+use Rattle.commit_journal.specs.declared.fault.JournalFault.TheVariants.{DeviceFault, NotAJournal}
+use Rattle.commit_journal.specs.declared.frame.Frame.{Frame}
+use Rattle.commit_journal.specs.declared.format.TheConstants.{BLANK_LENGTH, CLOSED_GATE, LENGTH_BYTES}
+use Rattle.commit_journal.specs.Log.{header_fault, walk_of, version_of_header, frames_of, version_of}
+
+-- the length of a payload, the payload, and a closed gate
+abbrev pub frame_text : List ℕ → List ℕ
+frame_text payload = to_be_bytes w32 (length payload) ++ payload ++ CLOSED_GATE ∷ []
+
+-- frames, and one more
+abbrev pub and_frame : Result (List Frame) ℕ → Frame → Result (List Frame) ℕ
+and_frame (Ok frames) frame = Ok (frames ++ frame ∷ [])
+and_frame (Err place) frame = Err place
+
+-- the log has a right header, and ends with its first closed gate, which stands at that place
+pub record EndsAt (place : ℕ) (log : List ℕ) : Type 0 where
+  pub header : header_fault log ≡ None
+  pub closed : (walk_of log).is_closed ≡ true
+  pub gate : (walk_of log).place ≡ place
+  pub end : length log ≡ place + 1
+
+-- the log ends with its closed gate at that place, and is all that a crash may leave
+pub record IsSettled (place version : ℕ) (disk : DiskView) : Type 0 where
+  pub ends : (log : List ℕ) → disk.content ≡ Some log → EndsAt place log
+  pub header : (log : List ℕ) → disk.content ≡ Some log → version_of_header log ≡ version
+  pub only : OnlyContent disk
+  pub len : disk.len ≡ place + 1
+
+-- an image has the log's frames, or these and the new one; it is no longer than the log with the frame and one gate
+pub record HasFrameOrNot (log : List ℕ) (frame : Frame) (image : List ℕ) : Type 0 where
+  pub frames : (frames_of image ≡ frames_of log) ⊎ (frames_of image ≡ and_frame (frames_of log) frame)
+  pub version : version_of image ≡ version_of log
+  pub no_longer : length image ≤ length log + LENGTH_BYTES + length frame.payload + 1
+
+-- an image has the log's frames, or the same wrong place; it is of its version or blank, and no longer than the log, or than a blank one
+pub record SameLog (log image : List ℕ) : Type 0 where
+  pub frames : frames_of image ≡ frames_of log
+  pub version : BLANK_LENGTH < length image → version_of image ≡ version_of log
+  pub no_longer : length image ≤ max BLANK_LENGTH (length log)
+
+-- time goes on: what a crash might have left it still may, a first sync stays the first, and whether the disk tells stays
+pub record Continues (old new : DiskView) : Type 0 where
+  pub later : old.moment ≤ new.moment
+  pub keeps : (t : ℕ) (c : List ℕ) → t ≤ old.moment → old.left t c → new.left t c
+  pub syncs : (t s : ℕ) → t ≤ old.moment → old.synced t ≡ Some s → new.synced t ≡ Some s
+  pub dated : new.dated ≡ old.dated
+  pub tells : is_some new.content ≡ is_some old.content
+
+-- a run of calls, in which each image is one from before the run, after this step
+pub record Steps (step : List ℕ → List ℕ → Type 0) (old new : DiskView) : Type 0 where
+  pub continues : Continues old new
+  pub since : (t : ℕ) (c : List ℕ) → t ≤ old.moment → new.left t c → old.left t c ⊎ ((d : List ℕ) × old.image d × step d c)
+  pub now : (c : List ℕ) → new.image c → (d : List ℕ) × old.image d × step d c
+
+-- the image is no longer than a blank log, or than before
+abbrev pub StaysShort : List ℕ → List ℕ → Type 0
+StaysShort old new = length new ≤ max BLANK_LENGTH (length old)
+
+-- each image has P, since any earlier moment too
+pub record Keeps (P : List ℕ → Type 0) (old new : DiskView) : Type 0 where
+  pub since : (t : ℕ) (c : List ℕ) → t ≤ old.moment → new.left t c → old.left t c ⊎ P c
+  pub now : (c : List ℕ) → new.image c → P c
+
+-- a told log is recovered: these are its frames, before and after, and it ends with its closed gate
+pub record IsRecovered (frames : List Frame) (place version : ℕ) (old new : DiskView) : Type 0 where
+  pub was : (log : List ℕ) → old.content ≡ Some log → frames_of log ≡ Ok frames
+  pub named : (log : List ℕ) → old.content ≡ Some log → version_of log ≡ version
+  pub is : (log : List ℕ) → new.content ≡ Some log → frames_of log ≡ Ok frames
+  pub settled : IsSettled place version new
+
+-- an opening: each image since its first sync that succeeded is the same log, and where none did the content is as it was
+pub record Opens (old new : DiskView) : Type 0 where
+  pub continues : Continues old new
+  pub crash : (s : ℕ) (log c : List ℕ) → new.synced old.moment ≡ Some s → old.content ≡ Some log → new.left s c → SameLog log c
+  pub unsynced : old.dated ≡ true → new.synced old.moment ≡ None → new.content ≡ old.content
+
+-- what a journal's fault says of its disk
+pub record HasFaultCause {T : Type 0} (old new : DiskView) (result : Result T JournalFault) : Type 0 where
+  pub later : old.faults ≤ new.faults
+  pub failed : IsErrOf result DeviceFault → Rose old.faults new.faults
+  pub lost : (wrong : ℕ) (log : List ℕ) → IsErrOf result (NotAJournal wrong) → old.content ≡ Some log → frames_of log ≡ Err wrong
+  pub unwritten : IfErr result (λ fault. fault ≢ DeviceFault → Unchanged old new)
+
+-- nothing was written
+pub record Unwritten (old new : DiskView) : Type 0 where
+  pub content : new.content ≡ old.content
+  pub len : new.len ≡ old.len
+  pub images : NoNewImage old new
+
+-- why a disk was not opened: what the fault says of it
+pub record HasOpenCause (old new : DiskView) (fault : JournalFault) : Type 0 where
+  pub failed : fault ≡ DeviceFault → Rose old.faults new.faults
+  pub lost : (wrong : ℕ) (log : List ℕ) → fault ≡ NotAJournal wrong → old.content ≡ Some log → frames_of log ≡ Err wrong
+  pub unwritten : fault ≢ DeviceFault → Unwritten old new

@@ -1,0 +1,63 @@
+ghost use Rattle.std.specs.Prelude.{◌≡◌, length};
+ghost use Rattle.commit_journal.specs.Log.{first_differing, version_of_header};
+
+/// The header of a log of version 1.
+pub const HEADER_1: [u8; 16] = *b"UNIONCAT JNL 01\n";
+
+/// The header of a log of version 2.
+pub const HEADER_2: [u8; 16] = *b"UNIONCAT JNL 02\n";
+
+/// A log of no payload: the header and a closed gate.
+pub const EMPTY_LOG: [u8; 17] = *b"UNIONCAT JNL 02\nC";
+
+/// A log of at most so many bytes is blank, whatever they are.
+pub const BLANK_LENGTH: u64 = 17;
+
+/// Where the header says its version.
+pub const VERSION_PLACE: usize = 14;
+
+/// The version's digit in a header of version 1.
+pub const DIGIT_1: u8 = b'1';
+
+/// A gate is closed where it is this byte, else it is open.
+pub const CLOSED_GATE: u8 = b'C';
+
+/// What opens a gate.
+pub const OPEN_GATE: u8 = b'O';
+
+/// The place of the first gate.
+pub const FIRST_GATE: u64 = 16;
+
+/// The most bytes that a payload has.
+pub const LARGEST_PAYLOAD: usize = 3_201_025;
+
+/// How many bytes the length of a payload takes.
+pub const LENGTH_BYTES: usize = 4;
+
+/// How many bytes the largest payload takes, with its length and the gate behind it.
+pub const FRAME_ROOM: usize = 3_201_030;
+
+/// The place of the first byte of a header that is wrong in either version.
+#[tactic(auto, unfolding(crate::specs::Log::first_differing))]
+pub fn wrong_place(header: &[u8; 16]) -> Option<usize>
+    ensures { result ≡ first_differing 0 HEADER_1 HEADER_2 header.now }
+{
+    for (place, byte) in header.iter().enumerate() {
+        if *byte != HEADER_1[place] && *byte != HEADER_2[place] {
+            return Some(place);
+        }
+    }
+    None
+}
+
+/// The version that a right header names.
+#[tactic(auto, unfolding(crate::specs::Log::version_of_header))]
+pub fn version_of(header: &[u8; 16]) -> u8
+    ensures { result ≡ version_of_header header.now }
+{
+    if header[VERSION_PLACE] == DIGIT_1 {
+        1
+    } else {
+        2
+    }
+}

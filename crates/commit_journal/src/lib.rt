@@ -1,0 +1,22 @@
+//! A journal over a disk: payloads of any content, each kept whole or not at all, whenever a crash comes.
+//!
+//! A log is a header, and gates and frames in turn: `UNIONCAT JNL 02` and a line feed, and then a gate of one byte, a
+//! frame (the payload's length as four bytes, the high byte first, and the payload), the next gate, and so on. It ends at
+//! its first closed gate, whatever stands behind. A payload is appended behind the closed gate, with a closed gate of its
+//! own; only once it is synced, its gate is opened in a write of its own.
+#![tactic(auto)]
+
+mod calls;
+mod fault;
+mod format;
+mod frame;
+mod journal;
+mod reading;
+mod recovery;
+#[cfg(test)]
+mod tests;
+
+pub use fault::{DeviceFault, JournalFault};
+pub use format::LARGEST_PAYLOAD;
+pub use frame::{Frame, Frames};
+pub use journal::Journal;

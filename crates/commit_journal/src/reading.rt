@@ -1,0 +1,186 @@
+ghost use Rattle.std.specs.Prelude.{◌≡◌, ℕ, ◌+◌, ◌-◌, ◌<◌, ◌≤◌, List, [], ◌∷◌, length, take, drop, Some, None, IfSome, IfOk, OnOk, OnErr, IsErrOf};
+ghost use Rattle.outside.specs.Disk.{Unchanged};
+ghost use Rattle.outside.specs.Fault.{HasCause, Rose};
+ghost use Rattle.commit_journal.specs.Log.{header_fault, frames_of, version_of_header, walk, walk_of, closed_at, lost_at, behind};
+ghost use Rattle.commit_journal.specs.Reading.{HasRead, HeadSays, IsHead, HeadFits, IsStep, IsWalk, IsLog};
+
+use crate::format::{
+    BLANK_LENGTH, CLOSED_GATE, FIRST_GATE, LARGEST_PAYLOAD, version_of, wrong_place,
+};
+use crate::frame::Frame;
+use crate::{JournalFault, calls};
+use outside::{Bytes, Disk, Failed};
+use std::alloc::{AllocError, Global};
+
+/// How many bytes a gate and a payload's length take.
+const HEAD_BYTES: u64 = 5;
+
+/// What stands in a log up to its first closed gate.
+#[derive(Debug, Drop)]
+pub struct Log {
+    pub frames: Vec<Frame>,
+    /// The place of the first closed gate.
+    pub place: u64,
+    pub version: u8,
+}
+
+/// So many bytes of no meaning yet.
+pub fn zeros(alloc: Global, count: usize) -> Result<Vec<u8>, AllocError>
+    ensures { IfOk result (λ bytes. length bytes.items ≡ count) }
+{
+    vec![in alloc; 0; count]
+}
+
+/// What stands at a gate's place.
+#[derive(Debug, Drop)]
+enum Head {
+    Closed,
+    /// An open gate, and a whole frame of a payload of that length.
+    Frame(usize),
+    /// An open gate, and no whole frame.
+    Lost,
+}
+
+/// What the bytes of a gate and a length say, where so many bytes are left from the gate on.
+#[tactic(auto, using(crate::proofs::Heads::length_bytes))]
+fn head_of(head: &[u8; 5], left: u64) -> Head
+    ensures { HeadSays head.now left result }
+{
+    if head[0] == CLOSED_GATE {
+        return Head::Closed;
+    }
+    let length = u32::from_be_bytes([head[1], head[2], head[3], head[4]]) as usize;
+    if length == 0 || length > LARGEST_PAYLOAD || left <= HEAD_BYTES + length as u64 {
+        return Head::Lost;
+    }
+    Head::Frame(length)
+}
+
+/// The bytes of a gate and a length at that place, as far as they stand there.
+fn head_bytes<D: Disk>(disk: &mut D, place: u64, count: usize) -> Result<[u8; 5], Failed>
+    requires few { count ≤ 5 }
+    requires there { place + count ≤ (D.seen disk.old).len }
+    ensures bytes { IfOk result (λ head. (b : List ℕ) → (D.seen disk.old).content ≡ Some b
+        → take count head ≡ take count (drop place b)) }
+    ensures size { IfOk result (λ head. length head ≡ 5) }
+    ensures unchanged { Unchanged (D.seen disk.old) (D.seen disk.new) }
+    ensures cause { HasCause (D.seen disk.old).faults (D.seen disk.new).faults result }
+{
+    let mut head = [0; 5];
+    calls::read_exactly(disk, place, &mut head[..count])?;
+    Ok(head)
+}
+
+/// What stands at that place of a gate.
+#[tactic(auto, using(crate::proofs::Heads::head_there))]
+fn read_head<D: Disk>(disk: &mut D, place: u64) -> Result<Head, Failed>
+    requires { place < (D.seen disk.old).len }
+    ensures head { IfOk result (λ head. (b : List ℕ) → (D.seen disk.old).content ≡ Some b → IsHead place b head) }
+    ensures within { IfOk result (HeadFits ((D.seen disk.old).len - place)) }
+    ensures unchanged { Unchanged (D.seen disk.old) (D.seen disk.new) }
+    ensures cause { HasCause (D.seen disk.old).faults (D.seen disk.new).faults result }
+{
+    let left = disk.len() - place;
+    let head = head_bytes(disk, place, left.min(HEAD_BYTES) as usize)?;
+    Ok(head_of(&head, left))
+}
+
+/// The payload of that length at that place.
+fn read_payload<D: Disk>(
+    alloc: Global,
+    disk: &mut D,
+    at: u64,
+    count: usize,
+) -> Result<Bytes, JournalFault>
+    requires { at + count ≤ (D.seen disk.old).len }
+    ensures bytes { IfOk result (λ payload. (b : List ℕ) → (D.seen disk.old).content ≡ Some b → payload ≡ take count (drop at b)) }
+    ensures len { IfOk result (λ payload. length payload ≡ count) }
+    ensures not_lost { (wrong : ℕ) → IsErrOf result (JournalFault.NotAJournal wrong) → ⊥ }
+    ensures read { HasRead (D.seen disk.old) (D.seen disk.new) result }
+{
+    let mut payload = zeros(alloc, count)?;
+    calls::read_exactly(disk, at, &mut payload)?;
+    Ok(Bytes::from_vec(payload))
+}
+
+/// The payload behind the open gate at that place, or none where the gate is closed.
+fn read_frame<D: Disk>(
+    alloc: Global,
+    disk: &mut D,
+    place: u64,
+) -> Result<Option<Bytes>, JournalFault>
+    requires { place < (D.seen disk.old).len }
+    ensures step { IfOk result (λ payload. (b : List ℕ) → (D.seen disk.old).content ≡ Some b → IsStep place b payload) }
+    ensures within { IfOk result (λ payload. IfSome payload (λ p. place + HEAD_BYTES + length p < (D.seen disk.old).len)) }
+    ensures some { IfOk result (λ payload. IfSome payload (λ p. 1 ≤ length p)) }
+    ensures lost { (wrong : ℕ) → IsErrOf result (JournalFault.NotAJournal wrong) → (b : List ℕ) → (D.seen disk.old).content ≡ Some b
+        → walk place 0 (drop place b) ≡ lost_at wrong }
+    ensures read { HasRead (D.seen disk.old) (D.seen disk.new) result }
+{
+    match read_head(disk, place)? {
+        Head::Closed => Ok(None),
+        Head::Frame(length) => {
+            let payload = read_payload(alloc, disk, place + HEAD_BYTES, length)?;
+            Ok(Some(payload))
+        }
+        Head::Lost => Err(JournalFault::NotAJournal(place)),
+    }
+}
+
+/// The frames up to the first closed gate, and its place.
+fn read_frames<D: Disk>(alloc: Global, disk: &mut D) -> Result<(Vec<Frame>, u64), JournalFault>
+    requires { FIRST_GATE < (D.seen disk.old).len }
+    ensures walked { IfOk result (λ r. (b : List ℕ) → (D.seen disk.old).content ≡ Some b → walk_of b ≡ behind r.0.items (closed_at r.1)) }
+    ensures within { IfOk result (λ r. r.1 < (D.seen disk.old).len) }
+    ensures least { IfOk result (λ r. FIRST_GATE ≤ r.1) }
+    ensures lost { (wrong : ℕ) → IsErrOf result (JournalFault.NotAJournal wrong) → (b : List ℕ) → (D.seen disk.old).content ≡ Some b
+        → IsWalk wrong b }
+    ensures read { HasRead (D.seen disk.old) (D.seen disk.new) result }
+{
+    let mut frames = Vec::new(alloc);
+    let mut place = FIRST_GATE;
+    while let Some(payload) = read_frame(alloc, disk, place)? {
+        let next = place + HEAD_BYTES + payload.len() as u64;
+        frames.push(Frame {
+            gate: place,
+            payload,
+        })?;
+        place = next;
+    }
+    Ok((frames, place))
+}
+
+/// A right header's version.
+fn read_header<D: Disk>(disk: &mut D) -> Result<u8, JournalFault>
+    requires { FIRST_GATE ≤ (D.seen disk.old).len }
+    ensures right { OnOk result ((b : List ℕ) → (D.seen disk.old).content ≡ Some b → header_fault b ≡ None) }
+    ensures version { IfOk result (λ version. (b : List ℕ) → (D.seen disk.old).content ≡ Some b → version_of_header b ≡ version) }
+    ensures wrong { (wrong : ℕ) → IsErrOf result (JournalFault.NotAJournal wrong) → (b : List ℕ) → (D.seen disk.old).content ≡ Some b
+        → header_fault b ≡ Some wrong }
+    ensures read { HasRead (D.seen disk.old) (D.seen disk.new) result }
+{
+    let mut header = [0; 16];
+    calls::read_exactly(disk, 0, &mut header)?;
+    match wrong_place(&header) {
+        Some(place) => Err(JournalFault::NotAJournal(place as u64)),
+        None => Ok(version_of(&header)),
+    }
+}
+
+/// What stands in a log that isn't blank, up to its first closed gate.
+pub fn read_log<D: Disk>(alloc: Global, disk: &mut D) -> Result<Log, JournalFault>
+    requires { BLANK_LENGTH < (D.seen disk.old).len }
+    ensures log { IfOk result (λ log. (b : List ℕ) → (D.seen disk.old).content ≡ Some b → IsLog log.frames.items log.place log.version b) }
+    ensures within { IfOk result (λ log. log.place < (D.seen disk.old).len) }
+    ensures lost { (wrong : ℕ) → IsErrOf result (JournalFault.NotAJournal wrong) → (b : List ℕ) → (D.seen disk.old).content ≡ Some b
+        → frames_of b ≡ Err wrong }
+    ensures read { HasRead (D.seen disk.old) (D.seen disk.new) result }
+{
+    let version = read_header(disk)?;
+    let (frames, place) = read_frames(alloc, disk)?;
+    Ok(Log {
+        frames,
+        place,
+        version,
+    })
+}
