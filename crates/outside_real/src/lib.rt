@@ -1,0 +1,17 @@
+//! The outside over real files: what the program runs on. These few lines are the trusted edge: they tell no content, and
+//! are proved against the traits for their counts of faults alone.
+#![tactic(auto)]
+
+mod count;
+mod gate;
+mod names;
+mod room;
+mod sink;
+mod source;
+mod target;
+
+pub use gate::OpenGate;
+pub use room::FileRoom;
+pub use sink::FileSink;
+pub use source::FileSource;
+pub use target::Target;
