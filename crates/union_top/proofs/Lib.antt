@@ -1,0 +1,9 @@
+pub mod ShelfRows
+pub mod Parts
+pub mod Loads
+pub mod Keys
+pub mod Verdicts
+pub mod Admitted
+pub mod Passes
+pub mod Ends
+pub mod Asked

@@ -1,0 +1,22 @@
+-- How a command ends before its end.
+use Rattle.std.specs.Prelude.{ℕ, ◌≤◌, List, Option, codes}
+use Rattle.std.specs.Io.KnownBytes.{Appends}
+use Rattle.outside.specs.Fault.{Rose}
+use Rattle.outside.specs.Sink.{WritesFront}
+use Rattle.union_top.specs.declared.fault.Fault.{Fault}
+use Rattle.union_top.specs.declared.fault.Fault.TheVariants.{Usage, Input, Memory}
+
+abbrev pub fault_status : Fault → ℕ
+fault_status Usage = 2
+fault_status Input = 3
+fault_status Memory = 8
+
+abbrev pub fault_line : Fault → List ℕ
+fault_line Usage = codes "union_cat: usage\n"
+fault_line Input = codes "union_cat: input fault\n"
+fault_line Memory = codes "union_cat: out of memory\n"
+
+-- the console got the line, or its count of faults rose and it got a front of the line
+pub data IsFaultTold (old new : Option (List ℕ)) (before now : ℕ) (line : List ℕ) : Type 0 where
+  Told : before ≤ now → Appends old new line → IsFaultTold old new before now line
+  Untold : Rose before now → WritesFront old new line → IsFaultTold old new before now line

@@ -1,0 +1,105 @@
+ghost use Rattle.std.specs.Prelude.{◌≡◌, ◌≢◌, ◌≤◌, ◌⊎◌, ℕ, List, true, Some, None, IfOk, IfErr};
+ghost use Rattle.outside.specs.Fault.{Rose};
+ghost use Rattle.outside.specs.Room.{Stays, Apart};
+ghost use Rattle.union_top.specs.Passing.{IsReady, IsEndOfPass};
+ghost use Rattle.union_top.specs.Loading.{IsLoaded};
+ghost use Rattle.marc_stream.specs.Pieces.{items};
+
+use crate::fault::Fault;
+use crate::loading::{Loaded, load_file};
+use crate::output::write_out;
+use crate::results::results_text;
+use crate::shelf::Shelf;
+use crate::totals::Totals;
+use marc_types::{NoMemory, Text};
+use outside::{Room, Sink};
+use std::alloc::Global;
+
+/// The exit statuses of a pass: nothing was refused, something was, or a file or the console could not be written.
+const PASSED: u8 = 0;
+
+const REFUSED: u8 = 1;
+
+const OUTPUT_FAULT: u8 = 4;
+
+/// What a file is loaded into, before anything is written: the accepted records, what the console is told, and whether
+/// something was refused.
+#[derive(Drop)]
+pub struct Ready {
+    pub shelf: Shelf,
+    pub text: String,
+    pub any_refused: bool,
+}
+
+fn ready_of(alloc: Global, file: &str, loaded: Loaded) -> Result<Ready, NoMemory>
+    ensures { IfOk result (λ ready. (library bytes : List ℕ) →
+        IsLoaded library (items bytes) loaded.shelf.rows.entries loaded.accepted loaded.refused.items →
+        IsReady library file.now bytes ready) }
+{
+    let Loaded {
+        shelf,
+        accepted,
+        refused,
+    } = loaded;
+    let totals = Totals {
+        accepted,
+        refused: refused.len() as u64,
+        linked: 0,
+        ambiguous: 0,
+        unlinked: 0,
+        changed: 0,
+    };
+    let text = results_text(alloc, file, refused.as_slice(), &totals)?;
+    Ok(Ready {
+        shelf,
+        text,
+        any_refused: !refused.is_empty(),
+    })
+}
+
+/// Reads a file whole, and makes what is to be written and told of it.
+pub fn prepare<R: Room>(alloc: Global, room: &mut R, code: &str, file: &str) -> Result<Ready, Fault>
+    requires free { (R.seen room.old).open_as file.now ≡ None }
+    ensures stays { Stays (R.seen room.old) (R.seen room.new) }
+    ensures ready { IfOk result (λ ready. (bytes : List ℕ) → (R.seen room.old).tells ≡ true → (R.seen room.old).file file.now ≡ Some bytes →
+        IsReady code.now file.now bytes ready) }
+    ensures cause { IfErr result (λ fault. fault ≡ Fault.Input →
+        Rose ((R.seen room.old).in_faults file.now) ((R.seen room.new).in_faults file.now)) }
+    ensures usage { IfErr result (λ fault. fault ≢ Fault.Usage) }
+{
+    let library = match Text::from_str(alloc, code) {
+        Ok(library) => library,
+        Err(_) => return Err(Fault::Memory),
+    };
+    let loaded = match load_file(alloc, room, file, &library) {
+        Ok(loaded) => loaded,
+        Err(fault) => return Err(fault),
+    };
+    match ready_of(alloc, file, loaded) {
+        Ok(ready) => Ok(ready),
+        Err(NoMemory) => Err(Fault::Memory),
+    }
+}
+
+/// Writes the records into the file `out`, and then tells the console; answers the exit status.
+pub fn deliver<R: Room>(room: &mut R, console: &mut R::Out, out: &str, ready: &Ready) -> u8
+    requires free { (R.seen room.old).open_as out.now ≡ None }
+    ensures apart { Apart (R.seen room.old) (R.seen room.new) out.now }
+    ensures closed { (R.seen room.new).open_as out.now ≡ None }
+    ensures status { (result ≤ 1) ⊎ (result ≡ 4) }
+    ensures output { result ≡ 4 → Rose ((R.seen room.old).out_faults out.now) ((R.seen room.new).out_faults out.now)
+        ⊎ Rose (R.Out.faults console.old) (R.Out.faults console.new) }
+    ensures end { (library file bytes : List ℕ) → (R.seen room.old).tells ≡ true → IsReady library file bytes ready.now →
+        IsEndOfPass library file bytes ((R.seen room.old).file out.now) ((R.seen room.new).file out.now)
+        (R.Out.written console.old) (R.Out.written console.new) result }
+{
+    match write_out(room, out, &ready.shelf) {
+        Ok(()) => {}
+        Err(_) => return OUTPUT_FAULT,
+    }
+    match console.write_all(ready.text.as_bytes()) {
+        Ok(()) => {}
+        Err(_) => return OUTPUT_FAULT,
+    }
+    if ready.any_refused { REFUSED } else { PASSED }
+}
