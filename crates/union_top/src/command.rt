@@ -1,4 +1,4 @@
-ghost use Rattle.std.specs.Prelude.{◌≡◌, ◌≢◌, ◌↔◌, ◌<◌, ◌≤◌, ◌⊎◌, ◌==◌, ℕ, List, [], ◌∷◌, true, Some, None, IsTrue};
+ghost use Rattle.std.specs.Prelude.{◌≡◌, ◌≢◌, ◌↔◌, ◌<◌, ◌≤◌, ◌⊎◌, ◌==◌, ℕ, List, [], ◌∷◌, true, Some, None, IsSome, IsTrue};
 ghost use Rattle.std.specs.List.{list_any};
 ghost use Rattle.outside.specs.Fault.{Rose};
 ghost use Rattle.outside.specs.Room.{Stays, Apart};
@@ -32,6 +32,7 @@ fn pass<R: Room>(
         ⊎ Rose (R.Out.faults console.old) (R.Out.faults console.new) }
     ensures told { (fault : Fault) → result ≡ fault_status fault → IsFaultTold (R.Out.written console.old) (R.Out.written console.new)
         (R.Out.faults console.old) (R.Out.faults console.new) (fault_line fault) }
+    ensures there { (result ≤ 1) ⊎ (result ≡ 4) → (R.seen room.old).tells ≡ true → IsSome ((R.seen room.old).file file.now) }
     ensures end { (bytes : List ℕ) → (R.seen room.old).tells ≡ true → (R.seen room.old).file file.now ≡ Some bytes →
         (result ≤ 1) ⊎ (result ≡ 4) →
         IsEndOfPass code.now file.now bytes ((R.seen room.old).file out.now) ((R.seen room.new).file out.now)
@@ -69,6 +70,8 @@ pub fn run<H, R: Room, G: Gate + Sync>(
         ⊎ Rose (R.Out.faults console.old) (R.Out.faults console.new) }
     ensures told { (fault : Fault) → result ≡ fault_status fault → IsFaultTold (R.Out.written console.old) (R.Out.written console.new)
         (R.Out.faults console.old) (R.Out.faults console.new) (fault_line fault) }
+    ensures there { (library : Library) → library_at words.now 0 ≡ Some library → (result ≤ 1) ⊎ (result ≡ 4) →
+        (R.seen room.old).tells ≡ true → IsSome ((R.seen room.old).file library.file) }
     ensures end { (library : Library) (out bytes : List ℕ) → library_at words.now 0 ≡ Some library →
         command_of words.now ≡ Some (Pass out) → (R.seen room.old).tells ≡ true → (R.seen room.old).file library.file ≡ Some bytes →
         (result ≤ 1) ⊎ (result ≡ 4) →

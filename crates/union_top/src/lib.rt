@@ -2,7 +2,7 @@
 #![tactic(auto)]
 
 pub use command::run;
-pub use refused::{Refused, RefusedItem};
+pub use refused::RefusedItem;
 pub use totals::Totals;
 
 mod command;

@@ -1,4 +1,4 @@
-ghost use Rattle.std.specs.Prelude.{◌≡◌, ◌≢◌, ◌≤◌, ◌⊎◌, ℕ, List, true, Some, None, IfOk, IfErr};
+ghost use Rattle.std.specs.Prelude.{◌≡◌, ◌≢◌, ◌≤◌, ◌⊎◌, ℕ, List, true, Some, None, IsSome, OnOk, IfOk, IfErr};
 ghost use Rattle.outside.specs.Fault.{Rose};
 ghost use Rattle.outside.specs.Room.{Stays, Apart};
 ghost use Rattle.union_top.specs.Passing.{IsReady, IsEndOfPass};
@@ -61,6 +61,7 @@ fn ready_of(alloc: Global, file: &str, loaded: Loaded) -> Result<Ready, NoMemory
 pub fn prepare<R: Room>(alloc: Global, room: &mut R, code: &str, file: &str) -> Result<Ready, Fault>
     requires free { (R.seen room.old).open_as file.now ≡ None }
     ensures stays { Stays (R.seen room.old) (R.seen room.new) }
+    ensures there { OnOk result ((R.seen room.old).tells ≡ true → IsSome ((R.seen room.old).file file.now)) }
     ensures ready { IfOk result (λ ready. (bytes : List ℕ) → (R.seen room.old).tells ≡ true → (R.seen room.old).file file.now ≡ Some bytes →
         IsReady code.now file.now bytes ready) }
     ensures cause { IfErr result (λ fault. fault ≡ Fault.Input →

@@ -1,4 +1,4 @@
-use marc_types::{Refusal, Sequence};
+use marc_types::Refusal;
 
 /// A piece of a file that was refused: its number in the file, from 1, the place of its first byte, from 0, and why.
 #[derive(Clone, Copy, Debug, PartialEq, Eq)]
@@ -7,5 +7,3 @@ pub struct RefusedItem {
     pub offset: u64,
     pub refusal: Refusal,
 }
-
-pub type Refused = Sequence<RefusedItem>;
