@@ -1,6 +1,6 @@
 -- How calls on a disk go on, one after the other.
-use Rattle.std.proofs.Common.{inl, inr, ⊎_elim, ℕ, ◌≤◌, List, sym, ◌∙◌, arith}
-use Rattle.outside.specs.Disk.{DiskView, OnlyContent, Elapses, Unchanged, LeavesOnly}
+use Rattle.std.proofs.Common.{inl, inr, ⊎_elim, ℕ, ◌≤◌, List, refl, sym, ◌∙◌, arith}
+use Rattle.outside.specs.Disk.{DiskView, OnlyContent, Elapses, Unchanged, SameDisk, LeavesOnly}
 
 pub unchanged_then : (a b c : DiskView) → Unchanged a b → Unchanged b c → Unchanged a c
 unchanged_then a b c first second = record {
@@ -12,6 +12,23 @@ unchanged_then a b c first second = record {
   syncs = λ t. second.syncs t ∙ first.syncs t;
   dated = second.dated ∙ first.dated;
 }
+
+pub same_disk : (a : DiskView) → SameDisk a a
+same_disk a = record {
+  unchanged = record {
+    len = refl;
+    content = refl;
+    images = λ i. (λ now. now, λ was. was);
+    moment = refl;
+    lefts = λ t i. (λ now. now, λ was. was);
+    syncs = λ t. refl;
+    dated = refl;
+  };
+  faults = refl;
+}
+
+pub same_disk_then : (a b c : DiskView) → SameDisk a b → SameDisk b c → SameDisk a c
+same_disk_then a b c first second = record { unchanged = unchanged_then a b c first.unchanged second.unchanged; faults = second.faults ∙ first.faults }
 
 -- the content stays the only image
 pub unchanged_only : (a b : DiskView) → Unchanged a b → OnlyContent a → OnlyContent b

@@ -80,6 +80,11 @@ pub record Unchanged (old new : DiskView) : Type 0 where
   pub syncs : (t : ℕ) → new.synced t ≡ old.synced t
   pub dated : new.dated ≡ old.dated
 
+-- nothing changes at all
+pub record SameDisk (old new : DiskView) : Type 0 where
+  pub unchanged : Unchanged old new
+  pub faults : new.faults ≡ old.faults
+
 -- Each image now, and at each moment since old, has P. A crash since an earlier moment leaves what it might have left then, or what has P.
 pub record LeavesOnly (old new : DiskView) (P : List ℕ → Type 0) : Type 0 where
   pub now : (c : List ℕ) → new.image c → P c

@@ -1,4 +1,4 @@
 pub mod Fault
 pub mod Sink
-pub mod Room
 pub mod Disk
+pub mod Room

@@ -1,35 +1,54 @@
 -- What clauses see of a room.
-use Rattle.std.specs.Prelude.{◌≡◌, ◌≢◌, ℕ, ◌≤◌, List, Option, Bool}
+use Rattle.std.specs.Prelude.{◌≡◌, ◌≢◌, ℕ, ◌≤◌, List, [], Option, Some, None, Bool, true}
+use Rattle.outside.specs.Disk.{DiskView, SameDisk}
 
 -- how a name is open, other than as input
 pub data OpenSort : Type 0 where
   AsOutput : OpenSort
+  AsLog : OpenSort
 
--- a room: its files by name, the names that are open, and each name's counts of faults.
-pub record RoomView : Type 0 where
+-- a room: its files and closed logs by name, the names that are open, and each name's counts of faults.
+pub record RoomView : Type 1 where
   -- whether it tells its files
   pub tells : Bool
   -- the bytes of the file of that name, where there is one and the name isn't open
   pub file : List ℕ → Option (List ℕ)
   -- how the name is open
   pub open_as : List ℕ → Option OpenSort
+  -- whether the file of that name is what was closed as a log
+  pub has_log : List ℕ → Bool
+  -- where it is, the disk that was closed, with its moments
+  pub log : List ℕ → DiskView
   -- the faults of the name's inputs
   pub in_faults : List ℕ → ℕ
   -- the faults of the name's outputs
   pub out_faults : List ℕ → ℕ
+  -- the faults of the name's logs
+  pub log_faults : List ℕ → ℕ
 
--- no file and no open name changes, and no count falls
+-- the bytes of a file, none where there is no file
+abbrev pub bytes_or_none : Option (List ℕ) → List ℕ
+bytes_or_none None = []
+bytes_or_none (Some bytes) = bytes
+
+-- no file, closed log or open name changes, and no count falls
 pub record Stays (old new : RoomView) : Type 0 where
   pub tells : new.tells ≡ old.tells
   pub files : (n : List ℕ) → new.file n ≡ old.file n
   pub open_names : (n : List ℕ) → new.open_as n ≡ old.open_as n
+  pub log_names : (n : List ℕ) → new.has_log n ≡ old.has_log n
+  pub logs : (n : List ℕ) → old.has_log n ≡ true → SameDisk (old.log n) (new.log n)
   pub ins : (n : List ℕ) → old.in_faults n ≤ new.in_faults n
   pub outs : (n : List ℕ) → old.out_faults n ≤ new.out_faults n
+  pub log_counts : (n : List ℕ) → old.log_faults n ≤ new.log_faults n
 
--- no file and no open name but this one changes, and no count falls
+-- no file, closed log or open name but this one changes, and no count falls
 pub record Apart (old new : RoomView) (name : List ℕ) : Type 0 where
   pub tells : new.tells ≡ old.tells
   pub files : (n : List ℕ) → n ≢ name → new.file n ≡ old.file n
   pub open_names : (n : List ℕ) → n ≢ name → new.open_as n ≡ old.open_as n
+  pub log_names : (n : List ℕ) → n ≢ name → new.has_log n ≡ old.has_log n
+  pub logs : (n : List ℕ) → n ≢ name → old.has_log n ≡ true → SameDisk (old.log n) (new.log n)
   pub ins : (n : List ℕ) → old.in_faults n ≤ new.in_faults n
   pub outs : (n : List ℕ) → old.out_faults n ≤ new.out_faults n
+  pub log_counts : (n : List ℕ) → old.log_faults n ≤ new.log_faults n

@@ -1,8 +1,9 @@
-ghost use Rattle.std.specs.Prelude.{◌≡◌, ℕ, List, [], Option, true, Some, None, IsSome, IfOk, OnOk, OnErr};
+ghost use Rattle.std.specs.Prelude.{◌≡◌, ℕ, List, [], Option, true, false, Some, None, IsSome, IfOk, OnOk, OnErr};
 ghost use Rattle.outside.specs.Fault.{HasCause, count_sum};
-ghost use Rattle.outside.specs.Room.{RoomView, AsOutput, Stays, Apart};
+ghost use Rattle.outside.specs.Disk.{SameDisk};
+ghost use Rattle.outside.specs.Room.{RoomView, AsOutput, AsLog, bytes_or_none, Stays, Apart};
 
-use crate::{Failed, Sink, Source};
+use crate::{Disk, Failed, Sink, Source};
 
 /// Files by name. Each object that a room opens is given back to it by a close of its sort.
 pub trait Room {
@@ -10,7 +11,9 @@ pub trait Room {
 
     type Out: Sink;
 
-    // What a room is, for the clauses: its files, the names that are open, and its counts of faults.
+    type Log: Disk + Send;
+
+    // What a room is, for the clauses: its files and closed logs, the names that are open, and its counts of faults.
     ghost seen: { Self → RoomView };
 
     /// Opens the file of that name to be read. It fails where there is no such file.
@@ -38,6 +41,20 @@ pub trait Room {
         ensures empty { IfOk result (λ object.
             (seen self.old).tells ≡ true → Self.Out.written object ≡ Some []) };
 
+    /// Opens the file of that name as a log, which is open until it is closed: a disk with the file's bytes, an empty one
+    /// where there is no such file. It fails where the file is longer than a disk can be.
+    fn open_log(&mut self, name: &str) -> Result<Self::Log, Failed>
+        requires { (seen self.old).open_as name.now ≡ None }
+        ensures apart { Apart (seen self.old) (seen self.new) name.now }
+        ensures opened { OnOk result ((seen self.new).open_as name.now ≡ Some AsLog) }
+        ensures failed { OnErr result (Stays (seen self.old) (seen self.new)) }
+        ensures cause { HasCause ((seen self.old).log_faults name.now) ((seen self.new).log_faults name.now) result }
+
+        // The object has no fault yet, and has the file's bytes.
+        ensures fresh { IfOk result (λ object. (Self.Log.seen object).faults ≡ 0) }
+        ensures bytes { IfOk result (λ object. (seen self.old).tells ≡ true →
+            (Self.Log.seen object).content ≡ Some (bytes_or_none ((seen self.old).file name.now))) };
+
     /// Takes an input back, and adds its faults to the count of that name's inputs.
     fn close_in(&mut self, name: &str, object: Self::In)
         ensures stays { Stays (seen self.old) (seen self.new) }
@@ -50,6 +67,7 @@ pub trait Room {
         ensures apart { Apart (seen self.old) (seen self.new) name.now }
         ensures closed { (seen self.new).open_as name.now ≡ None }
         ensures bytes { (seen self.old).tells ≡ true → (seen self.new).file name.now ≡ Self.Out.written object }
+        ensures no_log { (seen self.new).has_log name.now ≡ false }
 
         // It fails only where the count rose above the sum, which is the count where it doesn't fail.
         ensures counted { OnOk result ((seen self.new).out_faults name.now
@@ -57,6 +75,20 @@ pub trait Room {
         ensures cause { HasCause (count_sum ((seen self.old).out_faults name.now) (Self.Out.faults object))
             ((seen self.new).out_faults name.now) result };
 
-    // A name that is open so has no told file.
+    /// Takes a log back as the file of that name, which is a closed log with the moments of the object, and adds its faults
+    /// to the count of that name's logs.
+    fn close_log(&mut self, name: &str, object: Self::Log)
+        requires { (seen self.old).open_as name.now ≡ Some AsLog }
+        ensures apart { Apart (seen self.old) (seen self.new) name.now }
+        ensures closed { (seen self.new).open_as name.now ≡ None }
+        ensures bytes { (seen self.old).tells ≡ true → (seen self.new).file name.now ≡ (Self.Log.seen object).content }
+        ensures log { (seen self.old).tells ≡ true → (seen self.new).has_log name.now ≡ true }
+        ensures moments { (seen self.old).tells ≡ true → SameDisk (Self.Log.seen object) ((seen self.new).log name.now) }
+        ensures counted { (seen self.new).log_faults name.now
+            ≡ count_sum ((seen self.old).log_faults name.now) (Self.Log.seen object).faults };
+
+    // A name that is open so has no told file, and no closed log.
     ghost open_untold: { (room : Self) (name : List ℕ) → IsSome ((seen room).open_as name) → (seen room).file name ≡ None };
+
+    ghost open_unlogged: { (room : Self) (name : List ℕ) → IsSome ((seen room).open_as name) → (seen room).has_log name ≡ false };
 }

@@ -2,3 +2,4 @@ pub mod MovedBytes
 pub mod Places
 pub mod Tapes
 pub mod Crashes
+pub mod Rooms

@@ -4,8 +4,16 @@ use Rattle.std.specs.List.{find, position_or_len}
 use Rattle.std.specs.Str.{bytes_eq}
 use Rattle.std.specs.String.{string_bytes}
 use Rattle.outside_mem.specs.declared.files.FileState.{FileState}
-use Rattle.outside_mem.specs.declared.files.FileState.TheVariants.{Absent}
+use Rattle.outside_mem.specs.declared.files.FileState.TheVariants.{Absent, Closed, ClosedLog, OpenOutput, OpenLog}
 use Rattle.outside_mem.specs.declared.files.MemFile.{MemFile}
+
+-- the bytes of a closed file
+abbrev pub told_file : FileState → Option (List ℕ)
+told_file Absent = None
+told_file (Closed bytes) = Some bytes
+told_file (ClosedLog disk) = Some disk.tape.bytes
+told_file OpenOutput = None
+told_file OpenLog = None
 
 -- what stands under a name, the numbers of the calls that are to fail on an object opened by it, and whether each opening is to fail
 pub record NamedFile : Type 0 where

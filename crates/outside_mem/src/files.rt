@@ -1,7 +1,9 @@
 ghost use Rattle.std.specs.Prelude.{◌≡◌, ℕ, ◌<◌, List, [], ◌∷◌, ◌++◌, vec_len, length, Some, None, true, false, IfSome, IfNone, IfOk, OnOk, OnErr};
 ghost use Rattle.std.specs.List.{position};
-ghost use Rattle.outside_mem.specs.Files.{is_named, file_in, without_name, IsPlaceOf, IsNameless, IsBlank, ChangesFile};
+ghost use Rattle.std.specs.Option.{option_copied};
+ghost use Rattle.outside_mem.specs.Files.{told_file, is_named, file_in, without_name, IsPlaceOf, IsNameless, IsBlank, ChangesFile};
 
+use crate::MemDisk;
 use outside::Bytes;
 use std::alloc::{AllocError, Global};
 
@@ -12,8 +14,25 @@ pub enum FileState {
     Absent,
     /// A file with these bytes.
     Closed(Bytes),
+    /// What was closed as a log.
+    ClosedLog(MemDisk),
     /// What is open as output.
-    Open,
+    OpenOutput,
+    /// What is open as a log.
+    OpenLog,
+}
+
+impl FileState {
+    /// The bytes of a file that isn't open.
+    pub fn bytes(&self) -> Option<&[u8]>
+        ensures { option_copied result ≡ told_file self.now }
+    {
+        match self {
+            FileState::Closed(bytes) => Some(bytes.as_slice()),
+            FileState::ClosedLog(disk) => Some(disk.bytes()),
+            FileState::Absent | FileState::OpenOutput | FileState::OpenLog => None,
+        }
+    }
 }
 
 /// A name, what stands under it, and what is to fail.

@@ -1,24 +1,26 @@
-ghost use Rattle.std.specs.Prelude.{◌≡◌, ◌≢◌, ℕ, List, [], ◌∷◌, ◌++◌, Option, Some, None, true, false, IsOk, IsErr, IfOk, IfErr, IfSome, IfNone, OnOk, OnErr, OnSome, IsSome};
+ghost use Rattle.std.specs.Prelude.{◌≡◌, ◌≢◌, ℕ, ◌≤◌, List, [], ◌∷◌, ◌++◌, length, Option, Some, None, true, false, IsOk, IsErr, IfOk, IfErr, IfSome, IfNone, OnOk, OnErr, OnSome, IsSome};
 ghost use Rattle.std.specs.Option.{option_copied};
+ghost use Rattle.outside.specs.Disk.{SameDisk, longest_disk};
 ghost use Rattle.outside.specs.Fault.{HasCause, count_sum};
-ghost use Rattle.outside.specs.Room.{AsOutput, Stays, Apart};
+ghost use Rattle.outside.specs.Room.{AsOutput, AsLog, bytes_or_none, Stays, Apart};
 ghost use Rattle.outside_mem.specs.Calls.{fresh_calls};
-ghost use Rattle.outside_mem.specs.Files.{NamedFile, file_in};
-ghost use Rattle.outside_mem.specs.Room.{file_under, room_view, told_file, open_sort, SameFiles, SameCounts, HasCounts, counted, in_count, out_count, ChangesUnder, IsSourceOf, IsSinkOf};
-ghost use Rattle.outside_mem.specs.declared.files.FileState.TheVariants.{Absent, Closed, Open};
+ghost use Rattle.outside_mem.specs.Files.{NamedFile, file_in, told_file};
+ghost use Rattle.outside_mem.specs.Room.{file_under, room_view, open_sort, is_closed_log, SameFiles, SameCounts, HasCounts, counted, in_count, out_count, ChangesUnder, IsSourceOf, IsSinkOf, IsLogOf, log_count, disk_view, log_view};
+ghost use Rattle.outside_mem.specs.declared.files.FileState.TheVariants.{Absent, Closed, ClosedLog, OpenOutput, OpenLog};
 
 use crate::files::{self, FileState, MemFile};
-use crate::{MemSink, MemSource, NoMemory};
-use outside::{Bytes, Failed, Room};
+use crate::{MemDisk, MemSink, MemSource, NoMemory};
+use outside::{Bytes, Failed, LONGEST_DISK, Room};
 use std::alloc::Global;
 
-/// A room in memory, which tells its files. It keeps one count of faults per sort, which stands for every name.
+/// A room in memory, which tells its files and closed logs. It keeps one count of faults per sort, which stands for every name.
 #[derive(Debug, Drop)]
 pub struct MemRoom {
     alloc: Global,
     files: Vec<MemFile>,
     in_faults: u64,
     out_faults: u64,
+    log_faults: u64,
 }
 
 impl MemRoom {
@@ -32,6 +34,7 @@ impl MemRoom {
             files: Vec::new(alloc),
             in_faults: 0,
             out_faults: 0,
+            log_faults: 0,
         }
     }
 
@@ -76,17 +79,28 @@ impl MemRoom {
         Ok(())
     }
 
-    /// The bytes of the file of that name, where there is one that isn't open.
+    /// The bytes of the file of that name, a closed log's among them, where there is one that isn't open.
     pub fn file(&self, name: &str) -> Option<&[u8]>
         ensures { option_copied result ≡ (room_view self.now).file name.now }
     {
         match files::entry_of(&self.files, name) {
+            Some(file) => file.state.bytes(),
+            None => None,
+        }
+    }
+
+    /// The disk that was closed last as a log of that name, with its moments, where the name's file is still that.
+    pub fn log_of(&self, name: &str) -> Option<&MemDisk>
+        ensures log { IfSome result (λ disk. (file_under self.now name.now).state ≡ ClosedLog disk.now) }
+        ensures none { IfNone result ((room_view self.now).has_log name.now ≡ false) }
+    {
+        match files::entry_of(&self.files, name) {
             Some(
                 MemFile {
-                    state: FileState::Closed(bytes),
+                    state: FileState::ClosedLog(disk),
                     ..
                 },
-            ) => Some(bytes.as_slice()),
+            ) => Some(disk),
             _ => None,
         }
     }
@@ -96,20 +110,39 @@ impl MemRoom {
 fn open_copy(alloc: Global, files: &[MemFile], name: &str) -> Option<MemSource>
     ensures { IfSome result (IsSourceOf (file_in files.now name.now)) }
 {
+    let file = files::entry_of(files, name)?;
+    if file.opening_fails {
+        return None;
+    }
+    let copy = file.state.bytes()?.to_vec(alloc).ok()?;
+    let fails = file.fails.to_vec(alloc).ok()?;
+    Some(MemSource::new(copy, usize::MAX, fails))
+}
+
+/// A copy of a file's bytes, and no bytes where there is no file. None where a disk can't have them, or memory lacks.
+fn log_bytes(alloc: Global, state: &FileState) -> Option<Vec<u8>>
+    ensures bytes { IfSome result (λ bytes. bytes.items ≡ bytes_or_none (told_file state.now)) }
+    ensures short { IfSome result (λ bytes. length bytes.items ≤ longest_disk) }
+{
+    match state.bytes() {
+        None => Some(Vec::new(alloc)),
+        Some(bytes) if bytes.len() as u64 <= LONGEST_DISK => bytes.to_vec(alloc).ok(),
+        Some(_) => None,
+    }
+}
+
+/// A disk with a copy of the file, an empty one where there is none, where it may be opened, and memory for it.
+fn disk_copy(alloc: Global, files: &[MemFile], name: &str) -> Option<MemDisk>
+    ensures { IfSome result (IsLogOf (file_in files.now name.now)) }
+{
     match files::entry_of(files, name) {
-        Some(
-            MemFile {
-                state: FileState::Closed(bytes),
-                opening_fails: false,
-                fails,
-                ..
-            },
-        ) => {
-            let copy = bytes.as_slice().to_vec(alloc).ok()?;
-            let fails = fails.to_vec(alloc).ok()?;
-            Some(MemSource::new(copy, usize::MAX, fails))
+        None => Some(MemDisk::new(alloc, Vec::new(alloc), Vec::new(alloc))),
+        Some(file) if !file.opening_fails => {
+            let copy = log_bytes(alloc, &file.state)?;
+            let fails = file.fails.to_vec(alloc).ok()?;
+            Some(MemDisk::new(alloc, copy, fails))
         }
-        _ => None,
+        Some(_) => None,
     }
 }
 
@@ -118,14 +151,28 @@ impl MemRoom {
     fn start_output(&mut self, name: &str) -> Option<MemSink>
         ensures sink { IfSome result (IsSinkOf (file_under self.old name.now)) }
         ensures open { OnSome result (ChangesUnder self.old self.new name.now
-            (record (file_under self.old name.now) { state = Open })) }
+            (record (file_under self.old name.now) { state = OpenOutput })) }
         ensures none { IfNone result (SameFiles self.old self.new) }
         ensures counts { SameCounts self.old self.new }
     {
         let place = files::enter(self.alloc, &mut self.files, name).ok()?;
         let fails = files::fails_of_opening(self.alloc, &self.files, place)?;
-        files::set_state(&mut self.files, place, FileState::Open);
+        files::set_state(&mut self.files, place, FileState::OpenOutput);
         Some(MemSink::new(self.alloc, fails))
+    }
+
+    /// A disk of the file under that name, where it may be opened and there is memory for it.
+    fn start_log(&mut self, name: &str) -> Option<MemDisk>
+        ensures disk { IfSome result (IsLogOf (file_under self.old name.now)) }
+        ensures open { OnSome result (ChangesUnder self.old self.new name.now
+            (record (file_under self.old name.now) { state = OpenLog })) }
+        ensures none { IfNone result (SameFiles self.old self.new) }
+        ensures counts { SameCounts self.old self.new }
+    {
+        let disk = disk_copy(self.alloc, &self.files, name)?;
+        let place = files::enter(self.alloc, &mut self.files, name).ok()?;
+        files::set_state(&mut self.files, place, FileState::OpenLog);
+        Some(disk)
     }
 }
 
@@ -134,8 +181,11 @@ impl Room for MemRoom {
 
     type Out = MemSink;
 
+    type Log = MemDisk;
+
     ghost seen = { room_view };
 
+    #[tactic(auto, using(crate::proofs::Rooms::stays_same))]
     fn open_in(&mut self, name: &str) -> Result<MemSource, Failed>
         requires { (room_view self.old).open_as name.now ≡ None }
         ensures stays { Stays (room_view self.old) (room_view self.new) }
@@ -144,7 +194,7 @@ impl Room for MemRoom {
         // It gives the closed file. A fault counts once, and all else stays.
         ensures source { IfOk result (IsSourceOf (file_under self.old name.now)) }
         ensures files { SameFiles self.old self.new }
-        ensures counts { HasCounts self.new (counted result (in_count self.old)) (out_count self.old) }
+        ensures counts { HasCounts self.new (counted result (in_count self.old)) (out_count self.old) (log_count self.old) }
     {
         match open_copy(self.alloc, &self.files, name) {
             Some(source) => Ok(source),
@@ -155,17 +205,19 @@ impl Room for MemRoom {
         }
     }
 
+    #[tactic(auto, using(crate::proofs::Rooms::stays_same, crate::proofs::Rooms::apart_changed, crate::proofs::Rooms::apart_same))]
     fn open_out(&mut self, name: &str) -> Result<MemSink, Failed>
         requires { (room_view self.old).open_as name.now ≡ None }
         ensures apart { Apart (room_view self.old) (room_view self.new) name.now }
+        ensures stays { OnErr result (Stays (room_view self.old) (room_view self.new)) }
         ensures cause { HasCause ((room_view self.old).out_faults name.now) ((room_view self.new).out_faults name.now) result }
 
         // It gives an empty sink, and the name is open. A fault counts once, and all else stays.
         ensures sink { IfOk result (IsSinkOf (file_under self.old name.now)) }
         ensures open { OnOk result (ChangesUnder self.old self.new name.now
-            (record (file_under self.old name.now) { state = Open })) }
+            (record (file_under self.old name.now) { state = OpenOutput })) }
         ensures failed { OnErr result (SameFiles self.old self.new) }
-        ensures counts { HasCounts self.new (in_count self.old) (counted result (out_count self.old)) }
+        ensures counts { HasCounts self.new (in_count self.old) (counted result (out_count self.old)) (log_count self.old) }
     {
         match self.start_output(name) {
             Some(sink) => Ok(sink),
@@ -176,15 +228,39 @@ impl Room for MemRoom {
         }
     }
 
+    #[tactic(auto, using(crate::proofs::Rooms::stays_same, crate::proofs::Rooms::apart_changed, crate::proofs::Rooms::apart_same))]
+    fn open_log(&mut self, name: &str) -> Result<MemDisk, Failed>
+        requires { (room_view self.old).open_as name.now ≡ None }
+        ensures apart { Apart (room_view self.old) (room_view self.new) name.now }
+        ensures stays { OnErr result (Stays (room_view self.old) (room_view self.new)) }
+        ensures cause { HasCause ((room_view self.old).log_faults name.now) ((room_view self.new).log_faults name.now) result }
+
+        // It gives a disk with the file's bytes, and the name is open. A fault counts once, and all else stays.
+        ensures disk { IfOk result (IsLogOf (file_under self.old name.now)) }
+        ensures open { OnOk result (ChangesUnder self.old self.new name.now
+            (record (file_under self.old name.now) { state = OpenLog })) }
+        ensures failed { OnErr result (SameFiles self.old self.new) }
+        ensures counts { HasCounts self.new (in_count self.old) (out_count self.old) (counted result (log_count self.old)) }
+    {
+        match self.start_log(name) {
+            Some(disk) => Ok(disk),
+            None => {
+                self.log_faults = self.log_faults.saturating_add(1);
+                Err(Failed)
+            }
+        }
+    }
+
+    #[tactic(auto, using(crate::proofs::Rooms::stays_same))]
     fn close_in(&mut self, _name: &str, object: MemSource)
         ensures stays { Stays (room_view self.old) (room_view self.new) }
         ensures files { SameFiles self.old self.new }
-        ensures counts { HasCounts self.new (count_sum (in_count self.old) object.calls.faults) (out_count self.old) }
+        ensures counts { HasCounts self.new (count_sum (in_count self.old) object.calls.faults) (out_count self.old) (log_count self.old) }
     {
         self.in_faults = self.in_faults.saturating_add(object.faults());
     }
 
-    #[tactic(auto, using(crate::proofs::Places::file_in_nameless))]
+    #[tactic(auto, using(crate::proofs::Places::file_in_nameless, crate::proofs::Rooms::apart_changed))]
     fn close_out(&mut self, name: &str, object: MemSink) -> Result<(), Failed>
         requires { (room_view self.old).open_as name.now ≡ Some AsOutput }
         ensures apart { Apart (room_view self.old) (room_view self.new) name.now }
@@ -193,7 +269,7 @@ impl Room for MemRoom {
         ensures ok { IsOk result }
         ensures closed { ChangesUnder self.old self.new name.now
             (record (file_under self.old name.now) { state = Closed object.bytes }) }
-        ensures counts { HasCounts self.new (in_count self.old) (count_sum (out_count self.old) object.calls.faults) }
+        ensures counts { HasCounts self.new (in_count self.old) (count_sum (out_count self.old) object.calls.faults) (log_count self.old) }
     {
         self.out_faults = self.out_faults.saturating_add(object.faults());
         if let Some(place) = files::place_of(&self.files, name) {
@@ -203,7 +279,26 @@ impl Room for MemRoom {
         Ok(())
     }
 
-    ghost use Rattle.outside_mem.specs.Room.{open_is_untold};
+    #[tactic(auto, using(crate::proofs::Places::file_in_nameless, crate::proofs::Rooms::apart_changed, crate::proofs::Rooms::closed_log))]
+    fn close_log(&mut self, name: &str, object: MemDisk)
+        requires { (room_view self.old).open_as name.now ≡ Some AsLog }
+        ensures apart { Apart (room_view self.old) (room_view self.new) name.now }
+
+        // The name has the disk as its closed log.
+        ensures moments { SameDisk (disk_view object) (log_view (file_under self.new name.now).state) }
+        ensures closed { ChangesUnder self.old self.new name.now
+            (record (file_under self.old name.now) { state = ClosedLog object }) }
+        ensures counts { HasCounts self.new (in_count self.old) (out_count self.old) (count_sum (log_count self.old) object.calls.faults) }
+    {
+        self.log_faults = self.log_faults.saturating_add(object.faults());
+        if let Some(place) = files::place_of(&self.files, name) {
+            files::set_state(&mut self.files, place, FileState::ClosedLog(object));
+        }
+    }
+
+    ghost use Rattle.outside_mem.specs.Room.{open_is_untold, open_is_unlogged};
 
     ghost open_untold = { λ room name. open_is_untold (file_under room name).state };
+
+    ghost open_unlogged = { λ room name. open_is_unlogged (file_under room name).state };
 }
