@@ -1,15 +1,33 @@
--- What clauses see of a room of real files: it tells no file, and one count of faults per sort stands for every name.
+-- What clauses see of real files: a room tells no file, and one count of faults per sort stands for every name.
 use Rattle.std.specs.Prelude.{ℕ, Bool, false, List, Option, Some, None, if◌then◌else◌}
-use Rattle.outside.specs.Room.{RoomView, OpenSort, AsOutput}
+use Rattle.outside.specs.Disk.{DiskView}
+use Rattle.outside.specs.Room.{RoomView, OpenSort, AsOutput, AsLog}
 
-abbrev pub opened : Bool → Option OpenSort
-opened is_open = if is_open then Some AsOutput else None
+-- a disk that tells its length alone
+abbrev pub untold_disk : ℕ → ℕ → DiskView
+untold_disk len faults = record {
+  len = len;
+  content = None;
+  image = λ _. ⊥;
+  moment = 0;
+  left = λ _ _. ⊥;
+  synced = λ _. None;
+  dated = false;
+  faults = faults;
+}
 
-abbrev pub untold_room : (List ℕ → Bool) → ℕ → ℕ → RoomView
-untold_room is_open ins outs = record {
+-- how a name is open that is or isn't among the outputs and among the logs
+abbrev pub opened : Bool → Bool → Option OpenSort
+opened as_output as_log = if as_output then Some AsOutput else if as_log then Some AsLog else None
+
+abbrev pub untold_room : (List ℕ → Bool) → (List ℕ → Bool) → ℕ → ℕ → ℕ → RoomView
+untold_room is_output is_log ins outs logs = record {
   tells = false;
   file = λ _. None;
-  open_as = λ name. opened (is_open name);
+  open_as = λ name. opened (is_output name) (is_log name);
+  has_log = λ _. false;
+  log = λ _. untold_disk 0 0;
   in_faults = λ _. ins;
   out_faults = λ _. outs;
+  log_faults = λ _. logs;
 }

@@ -3,6 +3,7 @@
 #![tactic(auto)]
 
 mod count;
+mod disk;
 mod gate;
 mod names;
 mod room;
@@ -10,6 +11,7 @@ mod sink;
 mod source;
 mod target;
 
+pub use disk::FileDisk;
 pub use gate::OpenGate;
 pub use room::FileRoom;
 pub use sink::FileSink;

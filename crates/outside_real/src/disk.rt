@@ -1,0 +1,113 @@
+ghost use Rattle.std.specs.Prelude.{◌≡◌, ℕ, ◌≤◌, IfOk};
+ghost use Rattle.outside.specs.Disk.{longest_disk};
+
+use crate::count::raised;
+use outside::{Disk, Failed, LONGEST_DISK};
+use std::fs::File;
+use std::os::unix::fs::FileExt;
+
+/// A file that is read and written at any place. It keeps the length that was found at its opening, and what the calls made
+/// of it.
+#[derive(Drop)]
+pub struct FileDisk {
+    file: File,
+    len: u64,
+    faults: u64,
+    ghost short: { len ≤ longest_disk },
+}
+
+impl FileDisk {
+    /// Fails where the file's length can't be had, or is greater than [`LONGEST_DISK`].
+    pub fn new(file: File) -> Result<Self, Failed>
+        ensures fresh { IfOk result (λ disk. (⟦<FileDisk as Disk>⟧.seen disk).faults ≡ 0) }
+    {
+        match file.metadata() {
+            Ok(found) if found.len() <= LONGEST_DISK => Ok(FileDisk {
+                len: found.len(),
+                file,
+                faults: 0,
+            }),
+            _ => Err(Failed),
+        }
+    }
+
+    /// How many calls failed.
+    pub fn faults(&self) -> u64
+        ensures { result ≡ (⟦<FileDisk as Disk>⟧.seen self.now).faults }
+    {
+        self.faults
+    }
+}
+
+impl Disk for FileDisk {
+    ghost use Rattle.outside_real.specs.View.{untold_disk};
+    ghost use Rattle.outside_real.specs.DiskLaws as laws;
+    ghost use Rattle.std.proofs.Common.{refl};
+
+    ghost seen = { λ disk. untold_disk disk.len disk.faults };
+
+    ghost bounded = { λ d. d.short };
+
+    ghost content_len = { λ d b told. laws.tells_none b told };
+
+    ghost content_is_image = { λ d b told. laws.tells_none b told };
+
+    ghost undated_content = { λ d undated b c told image. laws.tells_none b told };
+
+    ghost undated_syncs = { λ d t undated. refl };
+
+    ghost counts_now = { λ d t c dated le image. image };
+
+    ghost only_now = { λ d c left. left };
+
+    ghost synced_after = { λ d t s is. laws.syncs_none s is };
+
+    ghost synced_by_now = { λ d t s is. laws.syncs_none s is };
+
+    ghost synced_first = { λ d t u r le is. laws.syncs_none r is };
+
+    fn len(&self) -> u64 {
+        self.len
+    }
+
+    fn read_at(&mut self, at: u64, buf: &mut [u8]) -> Result<usize, Failed> {
+        if at >= self.len {
+            return Ok(0);
+        }
+        let most = (self.len - at).min(buf.len() as u64) as usize;
+        match self.file.read_at(&mut buf[..most], at) {
+            Ok(count) if count > 0 => Ok(count),
+            _ => {
+                self.faults = raised(self.faults);
+                Err(Failed)
+            }
+        }
+    }
+
+    fn write_at(&mut self, at: u64, bytes: &[u8]) -> Result<(), Failed> {
+        let count = bytes.len() as u64;
+        if count > LONGEST_DISK - at || self.file.write_all_at(bytes, at).is_err() {
+            self.faults = raised(self.faults);
+            return Err(Failed);
+        }
+        self.len = self.len.max(at + count);
+        Ok(())
+    }
+
+    fn cut(&mut self, len: u64) -> Result<(), Failed> {
+        if self.file.set_len(len).is_err() {
+            self.faults = raised(self.faults);
+            return Err(Failed);
+        }
+        self.len = len;
+        Ok(())
+    }
+
+    fn sync(&mut self) -> Result<(), Failed> {
+        if self.file.sync_data().is_err() {
+            self.faults = raised(self.faults);
+            return Err(Failed);
+        }
+        Ok(())
+    }
+}
