@@ -3,3 +3,4 @@ pub mod Places
 pub mod Tapes
 pub mod Crashes
 pub mod Rooms
+pub mod Helds

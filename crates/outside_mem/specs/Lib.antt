@@ -1,4 +1,7 @@
 pub mod Calls
+pub mod SureStates
+pub mod SureDisk
+pub mod SureLaws
 pub mod Objects
 pub mod Files
 pub mod Room

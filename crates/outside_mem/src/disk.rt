@@ -206,7 +206,7 @@ impl Disk for MemDisk {
 }
 
 /// Copies the front of `bytes` into the front of `buf`, and answers how many.
-fn copy_front(bytes: &[u8], buf: &mut [u8]) -> usize
+pub fn copy_front(bytes: &[u8], buf: &mut [u8]) -> usize
     ensures count { result ≡ min (length buf.old) (length bytes.now) }
     ensures front { take result buf.new ≡ take result bytes.now }
 {

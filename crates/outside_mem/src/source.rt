@@ -54,7 +54,7 @@ impl MemSource {
 
 /// Copies the front of `bytes`, at most `chunk` of them, into the front of `buf`, and answers how many.
 #[tactic(auto, using(crate::proofs::MovedBytes::moved_front, crate::proofs::MovedBytes::no_length))]
-fn copy_front(bytes: &[u8], buf: &mut [u8], chunk: usize) -> usize
+pub fn copy_front(bytes: &[u8], buf: &mut [u8], chunk: usize) -> usize
     requires some_chunk { 1 ≤ chunk }
     requires some_room { 0 < length buf.old }
     ensures count { result ≡ min (min (length buf.old) chunk) (length bytes.now) }
