@@ -1,18 +1,17 @@
 -- A record has a heading field where a form is at one of its places.
-use Rattle.std.proofs.Common.{◌≡◌, ◌∙◌, ℕ, zero, suc, ◌<◌, ◌≤◌, Bool, true, false, ◌||◌, ◌&&◌, not, List, [], ◌∷◌, length, refl, sym, ap, arith, add-one, Option, Some, None}
-use Rattle.std.specs.Prelude.{drop, slice_get, option_and_then, if◌then◌else◌, ◌==◌}
+use Rattle.std.proofs.Common.{◌≡◌, ◌∙◌, ℕ, zero, suc, ◌+◌, ◌<◌, ◌≤◌, Bool, true, false, ◌||◌, List, [], ◌∷◌, length, refl, sym, ap, arith, add-one, Option, Some, None}
+use Rattle.std.specs.Prelude.{drop, slice_get, option_and_then}
 use Rattle.std.specs.Option.{option_map, is_some}
 use Rattle.std.specs.List.{list_any}
-use Rattle.std.proofs.lemmas.List.{drop_all}
 use Rattle.marc_types.specs.declared.field.Field.{Field}
 use Rattle.marc_types.specs.declared.key.Class.{Class}
-use Rattle.marc_types.specs.declared.key.Class.TheVariants.{Authority, Bibliographic}
 use Rattle.marc_types.specs.declared.entry.Entry.{Entry}
-use Rattle.entry_record.specs.Identity.{class_of, is_deletion}
-use Rattle.entry_record.specs.History.{IsAdmitted}
+use Rattle.iso2709_record.proofs.Lengths.{record_bounds}
 use Rattle.entry_record.specs.Authority.{heading_kind, is_heading_field, base_form}
 use Rattle.entry_record.specs.Prepared.{heading_base_form, field_form_of}
-use Rattle.union_top.specs.Judging.{is_plain}
+
+pub few_fields : (e : Entry) → length e.rec.fields ≤ 8331
+few_fields e = (record_bounds e.rec.leader e.rec.fields e.rec.valid).0
 
 mapped : {A B : Type 0} (g : A → B) (o : Option A) → is_some o ≡ is_some (option_map g o)
 mapped g None = refl
@@ -35,9 +34,6 @@ any_from e place h = any_at e.class e.rec.fields place h
 pub record HasNoneBefore (e : Entry) (place : ℕ) : Type 0 where
   pub left : list_any (is_heading_field e.class) e.rec.fields ≡ list_any (is_heading_field e.class) (drop place e.rec.fields)
 
-pub none_yet : (e : Entry) → HasNoneBefore e 0
-none_yet e = record { left = refl }
-
 pub none_more : (e : Entry) (place : ℕ) → HasNoneBefore e place → place < length e.rec.fields → is_some (field_form_of e place) ≡ false
     → HasNoneBefore e (place + 1)
 none_more e place none h no_form = record {
@@ -49,20 +45,3 @@ pub some_here : (e : Entry) (place : ℕ) → HasNoneBefore e place → place < 
     → true ≡ list_any (is_heading_field e.class) e.rec.fields
 some_here e place none h form =
     sym (none.left ∙ any_from e place h ∙ ap (λ b. b || list_any (is_heading_field e.class) (drop (suc place) e.rec.fields)) form)
-
-pub none_at_all : (e : Entry) (place : ℕ) → HasNoneBefore e place → length e.rec.fields ≤ place
-    → false ≡ list_any (is_heading_field e.class) e.rec.fields
-none_at_all e place none h =
-    sym (none.left ∙ ap (list_any (is_heading_field e.class)) (drop_all place e.rec.fields h))
-
-class_of_other : (e : Entry) → e.class ≡ class_of e.rec.leader → (e.rec.leader.rtype == 122) ≡ false → e.class ≡ Bibliographic
-class_of_other e is other = is ∙ ap (λ b. if b then Authority else Bibliographic) other
-
--- a bibliographic record that is no deletion is plain where it has no heading field
-pub plain_by_headings : (e : Entry) → IsAdmitted e → (e.rec.leader.rtype == 122) ≡ false → is_deletion e.rec.leader ≡ false
-    → not (list_any (is_heading_field e.class) e.rec.fields) ≡ is_plain e.rec.leader e.rec.fields
-unfolding is_plain
-plain_by_headings e is other kept =
-    ap (λ class. not (list_any (is_heading_field class) e.rec.fields)) (class_of_other e is.class_is other)
-    ∙ sym (ap (λ b. not b && not (is_deletion e.rec.leader) && not (list_any (is_heading_field Bibliographic) e.rec.fields)) other
-        ∙ ap (λ b. not b && not (list_any (is_heading_field Bibliographic) e.rec.fields)) kept)

@@ -1,8 +1,9 @@
-ghost use Rattle.std.specs.Prelude.{◌≡◌, ◌≤◌, ℕ, List, IsTrue, IfOk};
+ghost use Rattle.std.specs.Prelude.{◌≡◌, ◌≤◌, ℕ, List, length, is_some, IsTrue, IfOk};
 ghost use Rattle.std.specs.List.{list_any};
 ghost use Rattle.marc_types.specs.Valid.{is_code};
 ghost use Rattle.reading.specs.Reading.{IsReadAs};
 ghost use Rattle.entry_record.specs.Authority.{is_heading_field};
+ghost use Rattle.entry_record.specs.Prepared.{field_form_of};
 ghost use Rattle.union_top.specs.Judging.{is_plain};
 ghost use Rattle.union_top.specs.Loading.{IsVerdictOver, CanBeWritten};
 
@@ -16,12 +17,26 @@ use std::alloc::Global;
 /// The loader of the only file of a pass.
 const LOADER: u32 = 0;
 
+#[tactic(auto, using(crate::proofs::Plain::few_fields))]
+fn field_count(prepared: &Prepared) -> u32
+    ensures { result ≡ length prepared.now.rec.fields }
+{
+    prepared.entry().rec.fields.len() as u32
+}
+
+/// Whether the field at a place is a heading field.
+fn has_heading_at(prepared: &Prepared, place: u32) -> bool
+    ensures { result ≡ is_some (field_form_of prepared.now place) }
+{
+    prepared.field_form(place).is_some()
+}
+
+#[tactic(auto, using(crate::proofs::Plain::none_more, crate::proofs::Plain::some_here))]
 fn has_heading_field(prepared: &Prepared) -> bool
     ensures { result ≡ list_any (is_heading_field prepared.now.class) prepared.now.rec.fields }
 {
-    let entry = prepared.entry();
-    for place in 0..entry.rec.fields.len() as u32 {
-        if prepared.field_form(place).is_some() {
+    for place in 0..field_count(prepared) {
+        if has_heading_at(prepared, place) {
             return true;
         }
     }
