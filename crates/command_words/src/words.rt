@@ -1,4 +1,5 @@
-ghost use Rattle.std.specs.Prelude.{◌≡◌, ℕ, ◌+◌, List, Option, Some, None, MatchOption, drop, slice_get, option_and_then};
+ghost use Rattle.std.specs.Prelude.{◌≡◌, ℕ, ◌+◌, true, List, Option, Some, None, IfSome, MatchOption, drop, slice_get, option_and_then};
+ghost use Rattle.marc_types.specs.Valid.{is_code};
 ghost use Rattle.std.specs.Option.{option_copied};
 ghost use Rattle.command_words.specs.Command.{Library, library_of, command_of, pass_of, library_at};
 ghost use Rattle.command_words.specs.Asked.{command_asked};
@@ -12,8 +13,9 @@ pub type Words = Sequence<Text>;
 /// The library code and the file of a word `CODE=FILE`.
 #[tactic(auto, unfolding(crate::specs::Command::library_of))]
 fn split_library(word: &str) -> Option<(&str, &str)>
-    ensures { MatchOption result (library_of word.now ≡ None)
+    ensures found { MatchOption result (library_of word.now ≡ None)
         (λ found. library_of word.now ≡ Some (record { code = found.0.now; file = found.1.now })) }
+    ensures proper { IfSome result (λ found. is_code found.0.now ≡ true) }
 {
     let (code, file) = word.split_once('=')?;
     if can_be_code(code.as_bytes()) && !file.is_empty() {
@@ -56,11 +58,13 @@ fn word_at(words: &[Text], first: usize, index: u32) -> Option<&Text>
     words[first..].get(index as usize)
 }
 
-/// The library code and the name of the file with that number, from 0, among the words `CODE=FILE` of a request.
+/// The library code and the name of the file with that number, from 0, among the words `CODE=FILE` of a request. The code
+/// obeys the rule of codes.
 #[tactic(auto, unfolding(crate::specs::Command::library_at))]
 pub fn library(words: &Words, index: u32) -> Option<(&str, &str)>
-    ensures { MatchOption result (library_at words.now index ≡ None)
+    ensures found { MatchOption result (library_at words.now index ≡ None)
         (λ found. library_at words.now index ≡ Some (record { code = found.0.now; file = found.1.now })) }
+    ensures proper { IfSome result (λ found. is_code found.0.now ≡ true) }
 {
     match request(words)? {
         Request::Pass { .. } => split_library(word_at(words.as_slice(), 2, index)?.as_str()),

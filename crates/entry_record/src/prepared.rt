@@ -63,6 +63,15 @@ impl Prepared {
         &self.entry
     }
 
+    /// The entry alone.
+    pub fn into_entry(self) -> Entry
+        ensures value { result ≡ self }
+        ensures admitted { IsAdmitted self }
+    {
+        let Prepared { entry, .. } = self;
+        entry
+    }
+
     /// The form under which fields are put under the entry's authority; none where they can't be.
     pub fn established(&self) -> Option<&Form>
         ensures { option_copied result ≡ established_of self.now }

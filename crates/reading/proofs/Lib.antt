@@ -2,3 +2,4 @@ pub mod Cuts
 pub mod Texts
 pub mod Fields
 pub mod Records
+pub mod Entries

@@ -9,6 +9,7 @@ use Rattle.marc_types.specs.declared.refusal.RecordFault.{RecordFault}
 use Rattle.marc_types.specs.declared.refusal.RecordFault.TheVariants.{Refused, NoMemory}
 use Rattle.marc8_latin.specs.declared.fault.Marc8Fault.{Marc8Fault}
 use Rattle.iso2709_record.specs.Spelling.{IsFieldOf}
+use Rattle.reading.specs.Preparing.{IsRefusedInFile}
 use Rattle.reading.specs.Reading.{IsTextIn, IsFaultIn, IsFieldAt, IsTextRefusal, IsEntryFault, IsRefusedAs}
 
 -- bytes that begin so far behind an entry's first byte have a fault, which is refused so; want of memory says nothing
@@ -25,6 +26,11 @@ IsRefusedEntry bytes entry NoMemory = Unit {0}
 abbrev pub IsRefusedPiece : List ℕ → RecordFault → Type 0
 IsRefusedPiece bytes (Refused refusal) = IsRefusedAs bytes refusal
 IsRefusedPiece bytes NoMemory = Unit {0}
+
+-- the piece makes no entry in a file of this library; want of memory says nothing
+abbrev pub IsNotPrepared : List ℕ → List ℕ → RecordFault → Type 0
+IsNotPrepared library bytes (Refused refusal) = IsRefusedInFile library bytes refusal
+IsNotPrepared library bytes NoMemory = Unit {0}
 
 -- the field is what its tag, its indicators and a text of the bytes behind them say
 pub record IsFieldOfText (coding : ℕ) (tag : Tag) (indicators bytes : List ℕ) (field : Field) : Type 0 where

@@ -1,3 +1,4 @@
 pub mod Reading
+pub mod Preparing
 pub mod Cutting
 pub mod Answers

@@ -1,8 +1,10 @@
-//! Reading a piece of a file as a MARC 21 record.
+//! Reading a piece of a file as a MARC 21 record, and preparing its entry.
 #![tactic(auto)]
 
+pub use entry::prepare;
 pub use record::read_record;
 
+mod entry;
 mod field;
 mod record;
 mod subfields;

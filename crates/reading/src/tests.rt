@@ -1,6 +1,26 @@
-use crate::read_record;
-use marc_types::{Field, RecordFault, Refusal, Set};
+use crate::{prepare, read_record};
+use entry_record::Prepared;
+use marc_types::{Field, RecordFault, Refusal, Set, Text, can_be_code};
+use std::alloc::Global;
+use std::process::Abort;
 use std::test::Fail;
+
+mod admission;
+mod definitions;
+
+/// Mark Twain's authority record.
+pub(crate) const TWAIN: &[u8] = b"00158nz  a2200073n  4500001001000000003000400010100002800014400004200042\x1en79021164\x1eDLC\x1e1 \x1faTwain, Mark,\x1fd1835-1910\x1e1 \x1faClemens, Samuel Langhorne,\x1fd1835-1910\x1e\x1d";
+
+/// The entry of the first piece of a file of ULIB.
+pub(crate) fn prepared(
+    rt: &impl Abort,
+    alloc: Global,
+    piece: &[u8],
+) -> Result<Prepared, RecordFault> {
+    let library = Text::from_str(alloc, "ULIB")?;
+    assert!(rt; can_be_code(library.as_bytes()));
+    prepare(alloc, piece, &library, 0, 1)
+}
 
 #[test]
 fn a_record_in_marc8(rt: HostRuntime) -> Result<(), Fail> {

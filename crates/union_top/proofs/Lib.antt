@@ -2,8 +2,8 @@ pub mod ShelfRows
 pub mod Parts
 pub mod Loads
 pub mod Keys
+pub mod Plain
 pub mod Verdicts
-pub mod Admitted
 pub mod Passes
 pub mod Ends
 pub mod Asked

@@ -12,7 +12,8 @@ use Rattle.marc_types.specs.declared.record.Record.{Record}
 use Rattle.marc_types.specs.declared.refusal.Refusal.{Refusal}
 use Rattle.marc_types.specs.declared.refusal.Refusal.TheVariants.{NotYet}
 use Rattle.marc_stream.specs.Pieces.{Item}
-use Rattle.reading.specs.Reading.{IsReadAs, IsRefusedAs}
+use Rattle.reading.specs.Reading.{IsReadAs}
+use Rattle.reading.specs.Preparing.{IsRefusedInFile}
 use Rattle.entry_record.specs.Identity.{is_deletion, key_of, same_key}
 use Rattle.entry_record.specs.Authority.{is_heading_field}
 use Rattle.entry_record.specs.Admission.{admission_refusal}
@@ -40,12 +41,10 @@ pub record IsTaken (library : List ℕ) (taken : List Shelved) (item : Item) (ke
   pub plain : is_plain rec.leader rec.fields ≡ true
   pub new : has_key taken key ≡ false
 
--- why an item isn't taken: it is no piece, it can't be read, a catalogue doesn't take its record, or not yet
+-- why an item isn't taken: it is no piece, it makes no entry in a file of this library, or not yet
 pub data IsRefusedItem (library : List ℕ) (taken : List Shelved) (item : Item) (refusal : Refusal) : Type 0 where
   NoPiece : item.refusal ≡ Some refusal → IsRefusedItem library taken item refusal
-  Unread : item.refusal ≡ None → IsRefusedAs item.bytes refusal → IsRefusedItem library taken item refusal
-  NotAdmitted : (rec : Record) → item.refusal ≡ None → IsReadAs item.bytes rec.leader rec.fields
-      → admission_refusal library rec.leader rec.fields ≡ Some refusal → IsRefusedItem library taken item refusal
+  NoEntry : item.refusal ≡ None → IsRefusedInFile library item.bytes refusal → IsRefusedItem library taken item refusal
   NotPlain : (key : Key) (rec : Record) → IsAdmittedAs library item key rec
       → (is_plain rec.leader rec.fields && not (has_key taken key)) ≡ false → refusal ≡ NotYet → IsRefusedItem library taken item refusal
 

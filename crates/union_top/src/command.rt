@@ -1,5 +1,6 @@
 ghost use Rattle.std.specs.Prelude.{◌≡◌, ◌≢◌, ◌↔◌, ◌<◌, ◌≤◌, ◌⊎◌, ◌==◌, ℕ, List, [], ◌∷◌, true, Some, None, IsSome, IsTrue};
 ghost use Rattle.std.specs.List.{list_any};
+ghost use Rattle.marc_types.specs.Valid.{is_code};
 ghost use Rattle.outside.specs.Fault.{Rose};
 ghost use Rattle.outside.specs.Room.{Stays, Apart};
 ghost use Rattle.command_words.specs.Command.{Library, Command, Pass, command_of, library_at};
@@ -23,6 +24,7 @@ fn pass<R: Room>(
     out: &str,
 ) -> u8
     requires closed { (name : List ℕ) → (R.seen room.old).open_as name ≡ None }
+    requires library { IsTrue (is_code code.now) }
     ensures statuses { IsTrue (list_any (λ s. s == result) (0 ∷ 1 ∷ 3 ∷ 4 ∷ 8 ∷ [])) }
     ensures closed { (name : List ℕ) → (R.seen room.new).open_as name ≡ None }
     ensures apart { Apart (R.seen room.old) (R.seen room.new) out.now }

@@ -1,4 +1,5 @@
-ghost use Rattle.std.specs.Prelude.{◌≡◌, ◌≢◌, ◌≤◌, ℕ, List, true, false, Some, None, IsSome, OnOk, IfOk, IfErr};
+ghost use Rattle.std.specs.Prelude.{◌≡◌, ◌≢◌, ◌≤◌, ℕ, List, true, false, Some, None, IsSome, IsTrue, OnOk, IfOk, IfErr};
+ghost use Rattle.marc_types.specs.Valid.{is_code};
 ghost use Rattle.outside.specs.Fault.{Rose};
 ghost use Rattle.outside.specs.Room.{Stays};
 ghost use Rattle.marc_stream.specs.Pieces.{items};
@@ -28,6 +29,7 @@ fn load_pieces<S: Source>(
     library: &Text,
 ) -> Result<Loaded, Fault>
     requires going { pieces.old.over ≡ false }
+    requires library { IsTrue (is_code library.now) }
     ensures loaded { IfOk result (λ loaded. pieces.old.tells ≡ true →
         IsLoaded library.now pieces.old.coming loaded.shelf.rows.entries loaded.accepted loaded.refused.items) }
     ensures faults { pieces.old.faults ≤ pieces.new.faults }
@@ -45,7 +47,7 @@ fn load_pieces<S: Source>(
                 ordinal,
                 offset,
                 bytes,
-            } => match judge(alloc, bytes, library, &loaded.shelf) {
+            } => match judge(alloc, bytes, library, ordinal, &loaded.shelf) {
                 Ok(Verdict::Taken(key, rec)) => match loaded.shelf.put(key, rec) {
                     Ok(()) => loaded.accepted += 1,
                     Err(NoMemory) => return Err(Fault::Memory),
@@ -79,6 +81,7 @@ fn load_pieces<S: Source>(
 }
 
 fn load_source<S: Source>(alloc: Global, source: S, library: &Text) -> (Result<Loaded, Fault>, S)
+    requires library { IsTrue (is_code library.now) }
     ensures loaded { IfOk result.0 (λ loaded. (bytes : List ℕ) → S.left source ≡ Some bytes →
         IsLoaded library.now (items bytes) loaded.shelf.rows.entries loaded.accepted loaded.refused.items) }
     ensures later { S.faults source ≤ S.faults result.1 }
@@ -102,6 +105,7 @@ pub fn load_file<R: Room>(
     library: &Text,
 ) -> Result<Loaded, Fault>
     requires free { (R.seen room.old).open_as name.now ≡ None }
+    requires library { IsTrue (is_code library.now) }
     ensures stays { Stays (R.seen room.old) (R.seen room.new) }
     ensures there { OnOk result ((R.seen room.old).tells ≡ true → IsSome ((R.seen room.old).file name.now)) }
     ensures loaded { IfOk result (λ loaded. (bytes : List ℕ) → (R.seen room.old).tells ≡ true → (R.seen room.old).file name.now ≡ Some bytes →
