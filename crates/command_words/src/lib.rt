@@ -5,4 +5,6 @@ pub use asked::Request;
 pub use words::{Words, library, request};
 
 mod asked;
+#[cfg(test)]
+mod tests;
 mod words;

@@ -8,6 +8,8 @@ use std::alloc::Global;
 use std::test::Fail;
 use union_top::run;
 
+mod rows;
+
 const ZOOLOGY: &[u8] =
     b"00065nam a2200049 a 4500001000300000245001200003\x1eb3\x1e00\x1faZoology\x1e\x1d";
 
