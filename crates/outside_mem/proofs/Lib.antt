@@ -4,3 +4,5 @@ pub mod Tapes
 pub mod Crashes
 pub mod Rooms
 pub mod Helds
+pub mod Kepts
+pub mod SureRooms

@@ -12,16 +12,16 @@ use Rattle.std.proofs.lemmas.Slice.Eq.{bytes_eq-Decides}
 use Rattle.outside_mem.specs.declared.files.MemFile.{MemFile}
 use Rattle.outside_mem.specs.Files.{is_named, without_name, file_in, IsPlaceOf, IsNameless, IsBlank, ChangesFile}
 
-abbrev first_of : ℕ → ℕ → Bool → Option ℕ
+abbrev pub first_of : ℕ → ℕ → Bool → Option ℕ
 first_of k len within = cond within (Some k) None
 
-found_at : (k len : ℕ) (b : Bool) (r : Option ℕ) → nat_lt k len ≡ b → r ≡ first_of k len b → IfSome r (λ i. (i ≡ k) × (i < len))
+pub found_at : (k len : ℕ) (b : Bool) (r : Option ℕ) → nat_lt k len ≡ b → r ≡ first_of k len b → IfSome r (λ i. (i ≡ k) × (i < len))
 found_at k len true None test e = cc
 found_at k len true (Some i) test e = let same : i ≡ k = cc in (same, grind (arith, common_steps))
 found_at k len false None test e = tt
 found_at k len false (Some i) test e = cc
 
-missing_at : (k len : ℕ) (b : Bool) (r : Option ℕ) → k ≤ len → nat_lt k len ≡ b → r ≡ first_of k len b → IfNone r (k ≡ len)
+pub missing_at : (k len : ℕ) (b : Bool) (r : Option ℕ) → k ≤ len → nat_lt k len ≡ b → r ≡ first_of k len b → IfNone r (k ≡ len)
 missing_at k len true None most test e = cc
 missing_at k len true (Some i) most test e = tt
 missing_at k len false None most test e = grind (arith, common_steps)

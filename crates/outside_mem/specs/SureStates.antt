@@ -10,6 +10,12 @@ pub record HeldState : Type 0 where
 abbrev pub held_state : List ℕ → ℕ → HeldState
 held_state bytes room = record { bytes = bytes; room = room }
 
+-- a file that isn't open: its bytes, how many there may be, and how many copies are left to be opened
+pub record CopiedState : Type 0 where
+  pub bytes : List ℕ
+  pub room : ℕ
+  pub copies : ℕ
+
 -- a sink or a disk: its bytes, how many there may be, and its faults
 pub record SureState : Type 0 where
   pub bytes : List ℕ

@@ -34,6 +34,20 @@ impl SureDisk {
         })
     }
 
+    /// A disk of what is held; takes no memory.
+    pub(crate) fn of_held(held: Held) -> Self
+        requires { length held.bytes ≤ longest_disk }
+        ensures { disk_state result ≡ record { bytes = held.bytes; room = held.room; faults = 0 } }
+    {
+        SureDisk { held, faults: 0 }
+    }
+
+    pub(crate) fn into_held(self) -> Held
+        ensures { result ≡ self.held }
+    {
+        self.held
+    }
+
     /// What it has.
     pub fn bytes(&self) -> &[u8]
         ensures { result.now ≡ (disk_state self.now).bytes }

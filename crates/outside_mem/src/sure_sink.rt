@@ -1,7 +1,7 @@
 ghost use Rattle.std.specs.Prelude.{◌≡◌, ◌+◌, ◌<◌, ◌↔◌, ◌++◌, [], length, Some, IsErr, IfOk, OnOk, OnErr};
 ghost use Rattle.outside.specs.Fault.{HasCause};
 ghost use Rattle.outside.specs.Sink.{WritesFront};
-ghost use Rattle.outside_mem.specs.SureStates.{SureState, one_fault_more};
+ghost use Rattle.outside_mem.specs.SureStates.{SureState, held_state, one_fault_more};
 
 use crate::NoMemory;
 use crate::held::Held;
@@ -33,6 +33,19 @@ impl SureSink {
             held: Held::new(alloc, room)?,
             faults: 0,
         })
+    }
+
+    /// A sink of what is held; takes no memory.
+    pub(crate) fn of_held(held: Held) -> Self
+        ensures { result ≡ record { bytes = held.bytes; room = held.room; faults = 0 } }
+    {
+        SureSink { held, faults: 0 }
+    }
+
+    pub(crate) fn into_held(self) -> Held
+        ensures { result ≡ held_state self.bytes self.room }
+    {
+        self.held
     }
 
     /// What was written.

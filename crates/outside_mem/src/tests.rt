@@ -1,5 +1,5 @@
-use crate::{MemRoom, MemSink, MemSource};
-use outside::{Failed, Room, Sink, Source};
+use crate::{MemRoom, MemSink, MemSource, SureDisk, SureRoom, SureSink, SureSource};
+use outside::{Disk, Failed, Room, Sink, Source};
 use std::test::Fail;
 
 #[test]
@@ -67,5 +67,137 @@ fn a_room_fails_where_it_is_told_to(rt: HostRuntime) -> Result<(), Fail> {
     room.fail_opening("in")?;
     assert!(rt; room.open_in("in").is_err());
     assert_eq!(rt; room.file("in"), Some(b"bytes".as_slice()));
+    Ok(())
+}
+
+#[test]
+fn a_room_keeps_a_closed_log_with_its_moments(rt: HostRuntime) -> Result<(), Fail> {
+    let alloc = rt.alloc();
+    let mut room = MemRoom::new(alloc);
+    room.put("log", b"old".to_vec(alloc)?)?;
+    let mut log = room.open_log("log")?;
+    assert_eq!(rt; log.write_at(3, b" new"), Ok(()));
+    assert_eq!(rt; log.sync(), Ok(()));
+    assert_eq!(rt; log.write_at(0, b"OLD"), Ok(()));
+    assert_eq!(rt; room.file("log"), None);
+    room.close_log("log", log);
+    assert_eq!(rt; room.file("log"), Some(b"OLD new".as_slice()));
+    let closed = room.log_of("log").expect(&rt, "a closed log");
+    assert_eq!(rt; closed.moments(), 4);
+    let images: [(u64, u8, &[u8]); 5] = [
+        (0, 1, b"old"),
+        (1, 0, b"old"),
+        (2, 0, b"old new"),
+        (3, 0, b"old new"),
+        (3, 2, b"\xFF\xFF\xFF new"),
+    ];
+    for (moment, choice, image) in images {
+        let left = closed.crash(alloc, moment, choice)?;
+        assert_eq!(rt; left.as_slice(), image);
+    }
+    Ok(())
+}
+
+#[test]
+fn a_log_fails_where_it_is_told_to(rt: HostRuntime) -> Result<(), Fail> {
+    let alloc = rt.alloc();
+    let mut room = MemRoom::new(alloc);
+    room.fail("log", 1)?;
+    let mut log = room.open_log("log")?;
+    assert_eq!(rt; log.write_at(0, b"one"), Ok(()));
+    assert_eq!(rt; log.sync(), Err(Failed));
+    assert_eq!(rt; log.faults(), 1);
+    room.close_log("log", log);
+    room.fail_opening("log")?;
+    assert!(rt; room.open_log("log").is_err());
+    assert_eq!(rt; room.file("log"), Some(b"one".as_slice()));
+    assert!(rt; room.log_of("log").is_some());
+    room.put("log", b"two".to_vec(alloc)?)?;
+    assert!(rt; room.log_of("log").is_none());
+    Ok(())
+}
+
+#[test]
+fn a_sure_source_gives_all_that_the_buffer_takes(rt: HostRuntime) -> Result<(), Fail> {
+    let alloc = rt.alloc();
+    let mut source = SureSource::new(b"hello world".to_vec(alloc)?);
+    let mut buffer = [0; 8];
+    assert_eq!(rt; source.read(&mut buffer), Ok(8));
+    assert_eq!(rt; buffer, *b"hello wo");
+    assert_eq!(rt; source.remaining(), 3);
+    assert_eq!(rt; source.read(&mut buffer), Ok(3));
+    assert_eq!(rt; source.read(&mut buffer), Ok(0));
+    Ok(())
+}
+
+#[test]
+fn a_sure_sink_fails_past_its_room(rt: HostRuntime) -> Result<(), Fail> {
+    let alloc = rt.alloc();
+    let mut sink = SureSink::new(alloc, 5)?;
+    let writes: [(&[u8], Result<(), Failed>, u64); 4] = [
+        (b"one", Ok(()), 0),
+        (b"two", Err(Failed), 1),
+        (b"to", Ok(()), 1),
+        (b"!", Err(Failed), 2),
+    ];
+    for (piece, answer, faults) in writes {
+        assert_eq!(rt; sink.write_all(piece), answer);
+        assert_eq!(rt; sink.faults(), faults);
+    }
+    assert_eq!(rt; sink.bytes(), b"oneto".as_slice());
+    Ok(())
+}
+
+#[test]
+fn a_sure_disk_fails_past_its_room(rt: HostRuntime) -> Result<(), Fail> {
+    let alloc = rt.alloc();
+    let mut disk = SureDisk::new(alloc, b"abc".to_vec(alloc)?, 5)?;
+    let writes: [(u64, &[u8], Result<(), Failed>, &[u8]); 4] = [
+        (1, b"XY", Ok(()), b"aXY"),
+        (3, b"de", Ok(()), b"aXYde"),
+        (4, b"fg", Err(Failed), b"aXYde"),
+        (5, b"", Ok(()), b"aXYde"),
+    ];
+    for (at, bytes, answer, content) in writes {
+        assert_eq!(rt; disk.write_at(at, bytes), answer);
+        assert_eq!(rt; disk.bytes(), content);
+    }
+    assert_eq!(rt; disk.cut(2), Ok(()));
+    assert_eq!(rt; disk.sync(), Ok(()));
+    let mut buffer = [0; 4];
+    assert_eq!(rt; disk.read_at(1, &mut buffer), Ok(1));
+    assert_eq!(rt; buffer, *b"X\0\0\0");
+    assert_eq!(rt; disk.read_at(2, &mut buffer), Ok(0));
+    assert_eq!(rt; disk.faults(), 1);
+    Ok(())
+}
+
+#[test]
+fn a_sure_room_opens_what_it_has_room_for(rt: HostRuntime) -> Result<(), Fail> {
+    let alloc = rt.alloc();
+    let mut room = SureRoom::new(alloc, 2, 4)?;
+    room.put("a long name", b"bytes".to_vec(alloc)?, 1)?;
+    assert!(rt; room.open_out("a long one").is_err());
+    let mut source = room.open_in("a long name")?;
+    assert!(rt; room.open_in("a long name").is_err());
+    let mut buffer = [0; 8];
+    assert_eq!(rt; source.read(&mut buffer), Ok(5));
+    room.close_in("a long name", source);
+    let mut sink = room.open_out("out")?;
+    assert_eq!(rt; sink.write_all(b"four"), Ok(()));
+    assert_eq!(rt; sink.write_all(b"!"), Err(Failed));
+    room.close_out("out", sink)?;
+    assert!(rt; room.open_in("out").is_err());
+    let mut log = room.open_log("log")?;
+    assert_eq!(rt; log.write_at(0, b"log"), Ok(()));
+    room.close_log("log", log);
+    assert!(rt; room.open_out("new").is_err());
+    assert!(rt; room.open_log("new").is_err());
+    let again = room.open_log("a long name")?;
+    assert_eq!(rt; again.bytes(), b"bytes".as_slice());
+    assert_eq!(rt; room.file("a long name"), None);
+    assert_eq!(rt; room.file("out"), Some(b"four".as_slice()));
+    assert_eq!(rt; room.file("log"), Some(b"log".as_slice()));
+    room.close_log("a long name", again);
     Ok(())
 }
