@@ -9,7 +9,8 @@ mod admission;
 mod definitions;
 
 /// Mark Twain's authority record.
-pub(crate) const TWAIN: &[u8] = b"00158nz  a2200073n  4500001001000000003000400010100002800014400004200042\x1en79021164\x1eDLC\x1e1 \x1faTwain, Mark,\x1fd1835-1910\x1e1 \x1faClemens, Samuel Langhorne,\x1fd1835-1910\x1e\x1d";
+pub(crate) const TWAIN: &[u8] =
+    b"00158nz  a2200073n  4500001001000000003000400010100002800014400004200042\x1en79021164\x1eDLC\x1e1 \x1faTwain, Mark,\x1fd1835-1910\x1e1 \x1faClemens, Samuel Langhorne,\x1fd1835-1910\x1e\x1d";
 
 /// The entry of the first piece of a file of ULIB.
 pub(crate) fn prepared(

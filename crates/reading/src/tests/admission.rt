@@ -6,11 +6,7 @@ use std::alloc::Global;
 use std::process::Abort;
 use std::test::Fail;
 
-fn refusal_of(
-    rt: &impl Abort,
-    alloc: Global,
-    piece: &[u8],
-) -> Result<Option<Refusal>, NoMemory> {
+fn refusal_of(rt: &impl Abort, alloc: Global, piece: &[u8]) -> Result<Option<Refusal>, NoMemory> {
     match prepared(rt, alloc, piece) {
         Ok(_) => Ok(None),
         Err(RecordFault::Refused(refusal)) => Ok(Some(refusal)),
@@ -19,11 +15,7 @@ fn refusal_of(
 }
 
 /// Mark Twain with another byte at two places.
-fn twain_with(
-    alloc: Global,
-    first: (usize, u8),
-    second: (usize, u8),
-) -> Result<Vec<u8>, NoMemory> {
+fn twain_with(alloc: Global, first: (usize, u8), second: (usize, u8)) -> Result<Vec<u8>, NoMemory> {
     let mut piece = Vec::with_capacity(alloc, TWAIN.len())?;
     for (place, byte) in TWAIN.iter().enumerate() {
         if place == first.0 {
