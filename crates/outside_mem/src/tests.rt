@@ -76,6 +76,7 @@ fn a_room_keeps_a_closed_log_with_its_moments(rt: HostRuntime) -> Result<(), Fai
     let mut room = MemRoom::new(alloc);
     room.put("log", b"old".to_vec(alloc)?)?;
     let mut log = room.open_log("log")?;
+    assert_eq!(rt; log.len(), 3);
     assert_eq!(rt; log.write_at(3, b" new"), Ok(()));
     assert_eq!(rt; log.sync(), Ok(()));
     assert_eq!(rt; log.write_at(0, b"OLD"), Ok(()));
@@ -92,6 +93,7 @@ fn a_room_keeps_a_closed_log_with_its_moments(rt: HostRuntime) -> Result<(), Fai
         (3, 2, b"\xFF\xFF\xFF new"),
     ];
     for (moment, choice, image) in images {
+        assert!(rt; moment < closed.moments());
         let left = closed.crash(alloc, moment, choice)?;
         assert_eq!(rt; left.as_slice(), image);
     }
@@ -159,9 +161,11 @@ fn a_sure_disk_fails_past_its_room(rt: HostRuntime) -> Result<(), Fail> {
         (5, b"", Ok(()), b"aXYde"),
     ];
     for (at, bytes, answer, content) in writes {
+        assert!(rt; at <= disk.len());
         assert_eq!(rt; disk.write_at(at, bytes), answer);
         assert_eq!(rt; disk.bytes(), content);
     }
+    assert_eq!(rt; disk.len(), 5);
     assert_eq!(rt; disk.cut(2), Ok(()));
     assert_eq!(rt; disk.sync(), Ok(()));
     let mut buffer = [0; 4];
@@ -173,31 +177,31 @@ fn a_sure_disk_fails_past_its_room(rt: HostRuntime) -> Result<(), Fail> {
 }
 
 #[test]
-fn a_sure_room_opens_what_it_has_room_for(rt: HostRuntime) -> Result<(), Fail> {
+fn a_sure_room_opens_a_copy_once(rt: HostRuntime) -> Result<(), Fail> {
     let alloc = rt.alloc();
-    let mut room = SureRoom::new(alloc, 2, 4)?;
-    room.put("a long name", b"bytes".to_vec(alloc)?, 1)?;
-    assert!(rt; room.open_out("a long one").is_err());
-    let mut source = room.open_in("a long name")?;
-    assert!(rt; room.open_in("a long name").is_err());
+    let mut room = SureRoom::new(alloc, 0, 2)?;
+    room.put("in", b"bytes".to_vec(alloc)?, 1)?;
+    let mut source = room.open_in("in")?;
+    assert!(rt; room.open_in("in").is_err());
     let mut buffer = [0; 8];
     assert_eq!(rt; source.read(&mut buffer), Ok(5));
-    room.close_in("a long name", source);
+    room.close_in("in", source);
+    assert_eq!(rt; room.file("in"), Some(b"bytes".as_slice()));
+    Ok(())
+}
+
+#[test]
+fn a_sure_room_opens_new_names_in_its_places(rt: HostRuntime) -> Result<(), Fail> {
+    let alloc = rt.alloc();
+    let mut full = SureRoom::new(alloc, 0, 4)?;
+    assert!(rt; full.open_out("out").is_err());
+    let mut narrow = SureRoom::new(alloc, 1, 2)?;
+    assert!(rt; narrow.open_log("log").is_err());
+    let mut room = SureRoom::new(alloc, 1, 4)?;
     let mut sink = room.open_out("out")?;
     assert_eq!(rt; sink.write_all(b"four"), Ok(()));
     assert_eq!(rt; sink.write_all(b"!"), Err(Failed));
     room.close_out("out", sink)?;
-    assert!(rt; room.open_in("out").is_err());
-    let mut log = room.open_log("log")?;
-    assert_eq!(rt; log.write_at(0, b"log"), Ok(()));
-    room.close_log("log", log);
-    assert!(rt; room.open_out("new").is_err());
-    assert!(rt; room.open_log("new").is_err());
-    let again = room.open_log("a long name")?;
-    assert_eq!(rt; again.bytes(), b"bytes".as_slice());
-    assert_eq!(rt; room.file("a long name"), None);
     assert_eq!(rt; room.file("out"), Some(b"four".as_slice()));
-    assert_eq!(rt; room.file("log"), Some(b"log".as_slice()));
-    room.close_log("a long name", again);
     Ok(())
 }
