@@ -20,3 +20,4 @@ pub mod Steady
 pub mod Still
 pub mod Undivided
 pub mod Written
+pub mod Worked

@@ -17,3 +17,4 @@ pub mod Settle
 pub mod State
 pub mod Taking
 pub mod Valid
+pub mod Worked
