@@ -1,0 +1,6 @@
+//! The kept records of a catalogue: for each class a shelf of rows in key order, whose places can be taken ahead.
+#![tactic(auto)]
+
+pub use shelf::Shelf;
+
+mod shelf;
