@@ -57,6 +57,18 @@ module _ {V : Type 0} where
   take_below key ((k, Some w) ∷ slots) below = rw below.0 (ap (λ rows. (k, w) ∷ rows) (take_below key slots below.1))
   take_below key ((k, None) ∷ slots) below = take_below key slots below.1
 
+  above_filled : (P : Key → Type 0) (slots : Slots V) → AllByRecursion P (keys_of slots) → AllByRecursion P (keys_of (filled slots))
+  above_filled P [] all = tt
+  above_filled P ((k, Some w) ∷ slots) all = (all.0, above_filled P slots all.1)
+  above_filled P ((k, None) ∷ slots) all = above_filled P slots all.1
+
+  -- the keys of the rows ascend as those of the places do
+  pub filled_in_order : (slots : Slots V) → IsInOrder slots → IsInOrder (filled slots)
+  unfolding IsStrictlySortedBy
+  filled_in_order [] order = tt
+  filled_in_order ((k, Some w) ∷ slots) order = (above_filled (λ y. key_cmp k y ≡ Less) slots order.0, filled_in_order slots order.1)
+  filled_in_order ((k, None) ∷ slots) order = filled_in_order slots order.1
+
   -- ---- reading
 
   found_at : (key : Key) (o : Ordering) (k : Key) (slot : Option V) (slots : Slots V) → key_cmp key k ≡ o → IsInOrder ((k, slot) ∷ slots)

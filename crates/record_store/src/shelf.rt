@@ -1,11 +1,14 @@
-ghost use Rattle.std.specs.Prelude.{◌≡◌, [], length, IsOk, IsErr, IfOk, IfErr, OnOk, OnErr, ◌↔◌, true, false, ◌||◌, ◌+◌, ◌<◌, ◌^◌, Some, None, is_some, if◌then◌else◌};
-ghost use Rattle.std.specs.Option.{option_copied};
+ghost use Rattle.std.specs.Prelude.{◌≡◌, [], length, IsOk, IsErr, IfOk, IfErr, OnOk, OnErr, ◌↔◌, true, false, ◌||◌, ◌+◌, ◌<◌, ◌^◌, Some, None, is_some, slice_get, if◌then◌else◌};
+ghost use Rattle.std.specs.Option.{option_copied, option_map};
+ghost use Rattle.std.specs.List.Sorted.{IsStrictlySortedBy};
+ghost use Rattle.std.specs.Map.Iter.{deref_pair};
 ghost use Rattle.std.specs.List.{list_any};
 ghost use Rattle.std.specs.BTreeMap.{insert_entry};
 ghost use Rattle.std.specs.Map.{keys_of, lookup, remove_entry};
 ghost use Rattle.marc_types.specs.Order.{key_cmp};
 ghost use Rattle.record_store.specs.Shelf.{filled, has_place, same_key};
 
+use crate::rows::Rows;
 use marc_types::{Key, NoMemory, TryCopy};
 use std::alloc::Global;
 use std::collections::BTreeMap;
@@ -60,6 +63,29 @@ impl<V: Drop> Shelf<V> {
             Some(slot) => slot.as_ref(),
             None => None,
         }
+    }
+
+    /// The rows in key order.
+    #[tactic(auto, using(crate::proofs::Places::filled_in_order))]
+    pub fn rows(&self) -> Rows<'_, V>
+        ensures rows { result ≡ self.now.rows }
+        ensures ordered { IsStrictlySortedBy key_cmp (keys_of self.now.rows) }
+    {
+        Rows::over(self.slots.iter())
+    }
+
+    /// The row with so many rows before it in key order. It walks over those.
+    pub fn at(&self, index: u64) -> Option<(&Key, &V)>
+        ensures { option_map deref_pair result ≡ slice_get self.now.rows index }
+    {
+        let mut before = index;
+        for row in self.rows() {
+            if before == 0 {
+                return Some(row);
+            }
+            before -= 1;
+        }
+        None
     }
 
     /// Takes a place for a key that has none. Rows stay, and so do the places that were there.
