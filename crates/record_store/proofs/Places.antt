@@ -12,7 +12,8 @@ use Rattle.std.specs.Ordering.{is_eq, match_ordering}
 use Rattle.std.proofs.lemmas.Map.Keys.{sorted_head, sorted_tail}
 use Rattle.marc_types.specs.Order.{key_cmp, key_cmp_total, key_Decides}
 use Rattle.marc_types.specs.declared.key.Key.{Key}
-use Rattle.record_store.specs.Shelf.{same_key, filled}
+use Rattle.entry_record.specs.Identity.{same_key}
+use Rattle.record_store.specs.Shelf.{filled}
 
 abbrev Slots : Type 0 → Type 0
 Slots V = List (Key × Option V)

@@ -3,6 +3,8 @@
 
 pub use rows::Rows;
 pub use shelf::Shelf;
+pub use steps::Steps;
 
 mod rows;
 mod shelf;
+mod steps;

@@ -6,7 +6,8 @@ ghost use Rattle.std.specs.List.{list_any};
 ghost use Rattle.std.specs.BTreeMap.{insert_entry};
 ghost use Rattle.std.specs.Map.{keys_of, lookup, remove_entry};
 ghost use Rattle.marc_types.specs.Order.{key_cmp};
-ghost use Rattle.record_store.specs.Shelf.{filled, has_place, same_key};
+ghost use Rattle.entry_record.specs.Identity.{same_key};
+ghost use Rattle.record_store.specs.Shelf.{filled, has_place};
 
 use crate::rows::Rows;
 use marc_types::{Key, NoMemory, TryCopy};
