@@ -1,15 +1,15 @@
 -- Fields and ties, joined in turn: reading and changing one place.
-use Rattle.std.proofs.Common.{◌≡◌, ℕ, zero, suc, ◌<◌, true, List, [], ◌∷◌, length, map, Option, Some, None, IfSome, refl, sym, ap, ◌∙◌, subst, arith}
+use Rattle.std.proofs.Common.{◌≡◌, ℕ, zero, suc, ◌<◌, ◌≤◌, true, List, [], ◌∷◌, length, map, Option, Some, None, IfSome, refl, sym, ap, ◌∙◌, subst, arith}
 use mathlib.Core.Bool.{false≢true}
 use Rattle.std.specs.Prelude.{slice_get, slice_set}
-use Rattle.std.specs.Option.{is_some}
+use Rattle.std.specs.Option.{is_some, option_map, option_and_then}
 use Rattle.marc_types.specs.Valid.{is_record}
 use Rattle.marc_types.specs.declared.field.Leader.{Leader}
 use Rattle.marc_types.specs.declared.field.Field.{Field}
 use Rattle.marc_types.specs.declared.entry.Tie.{Tie}
 use Rattle.marc_types.specs.declared.entry.Kept.{Kept}
 use Rattle.entry_record.specs.State.{KeptField, KeptRecord, fields_of}
-use Rattle.record_store.specs.Store.{kept_field, kept_fields, kept_record, with_field}
+use Rattle.record_store.specs.Store.{StaysRecord, field_at, kept_field, kept_fields, kept_record, with_field}
 
 pub joined_set : (fields : List Field) (ties : List Tie) (i : ℕ) (field : Field) (tie : Tie) → length ties ≡ length fields
     → kept_fields (slice_set fields i field) (slice_set ties i tie) ≡ slice_set (kept_fields fields ties) i (kept_field field tie)
@@ -49,3 +49,24 @@ pub record_get : (kept : Kept) (i : ℕ) (field : Field) (tie : Tie) → slice_g
     → slice_get (kept_record kept).fields i ≡ Some (kept_field field tie)
 unfolding kept_record
 record_get kept i field tie f t = joined_get kept.rec.fields kept.links i field tie f t
+
+no_place : (h : List KeptField) (i : ℕ) → length h ≤ i → slice_get h i ≡ None
+no_place [] i beyond = refl
+no_place (h ∷ hs) zero beyond = absurd (omega (arith, beyond))
+no_place (h ∷ hs) (suc i) beyond = no_place hs i (omega (arith, beyond))
+
+pub no_field : (kept : Kept) (i : ℕ) (slot : Option Kept) → Some kept ≡ slot → length kept.rec.fields ≤ i
+    → option_and_then (field_at i) (option_map kept_record slot) ≡ None
+unfolding kept_record
+no_field kept i slot is beyond =
+    subst (λ o. option_and_then (field_at i) (option_map kept_record o) ≡ None) is
+    (no_place (kept_record kept).fields i (omega (arith, joined_length kept.rec.fields kept.links kept.tied, beyond)))
+
+pub valid_field : (kept : Kept) (i : ℕ) (field : Field) (slot : Option Kept) → Some kept ≡ slot → IfSome (option_map kept_record slot) (StaysRecord i field)
+    → i < length kept.rec.fields → is_record kept.rec.leader (slice_set kept.rec.fields i field) ≡ true
+unfolding kept_record
+valid_field kept i field slot is stays within =
+    let here : StaysRecord i field (kept_record kept) = subst (λ o. IfSome (option_map kept_record o) (StaysRecord i field)) (sym is) stays in
+    let fields = joined_fields kept.rec.fields kept.links kept.tied in
+    ap (λ l. is_record kept.rec.leader (slice_set l i field)) (sym fields)
+    ∙ here (omega (arith, joined_length kept.rec.fields kept.links kept.tied, within))

@@ -15,24 +15,24 @@ use Rattle.marc_types.specs.declared.key.Key.{Key}
 use Rattle.entry_record.specs.Identity.{same_key}
 use Rattle.record_store.specs.Shelf.{filled}
 
-abbrev Slots : Type 0 → Type 0
+abbrev pub Slots : Type 0 → Type 0
 Slots V = List (Key × Option V)
 
 -- the key is below all of these
-abbrev IsBelow : Key → List Key → Type 0
+abbrev pub IsBelow : Key → List Key → Type 0
 IsBelow key keys = AllByRecursion (λ other. key_cmp key other ≡ Less) keys
 
-abbrev IsInOrder : {X : Type 0} → List (Key × X) → Type 0
+abbrev pub IsInOrder : {X : Type 0} → List (Key × X) → Type 0
 IsInOrder slots = IsStrictlySortedBy key_cmp (keys_of slots)
 
-still_below : (key other : Key) → key_cmp key other ≡ Less → (keys : List Key) → IsBelow other keys → IsBelow key keys
+pub still_below : (key other : Key) → key_cmp key other ≡ Less → (keys : List Key) → IsBelow other keys → IsBelow key keys
 still_below key other less [] below = tt
 still_below key other less (k ∷ keys) below = (key_cmp_total.trans key other k less below.0, still_below key other less keys below.1)
 
-same_below : (key other : Key) (keys : List Key) → key_cmp key other ≡ Equal → IsBelow other keys → IsBelow key keys
+pub same_below : (key other : Key) (keys : List Key) → key_cmp key other ≡ Equal → IsBelow other keys → IsBelow key keys
 same_below key other keys tie below = subst (λ k. IsBelow k keys) (sym ((key_Decides key other).0 (ap is_eq tie))) below
 
-lookup_below : {X : Type 0} (key : Key) (slots : List (Key × X)) → IsBelow key (keys_of slots) → lookup (same_key key) slots ≡ None
+pub lookup_below : {X : Type 0} (key : Key) (slots : List (Key × X)) → IsBelow key (keys_of slots) → lookup (same_key key) slots ≡ None
 lookup_below key [] below = refl
 lookup_below key (slot ∷ slots) below = rw below.0 (lookup_below key slots below.1)
 

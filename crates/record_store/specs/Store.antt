@@ -1,8 +1,9 @@
 -- What clauses see of a store: the state of a catalogue, and the keys that have a place for a record.
-use Rattle.std.specs.Prelude.{ℕ, Bool, List, [], ◌∷◌, map, length, slice_get, slice_set, if◌then◌else◌, Option, Some, None}
+use Rattle.std.specs.Prelude.{◌≡◌, ℕ, ◌<◌, Bool, true, List, [], ◌∷◌, map, length, slice_get, slice_set, if◌then◌else◌, Option, Some, None}
 use Rattle.std.specs.Borrow.{Bor}
 use Rattle.std.specs.List.{list_any}
 use Rattle.std.specs.Option.{option_and_then}
+use Rattle.marc_types.specs.Valid.{is_record}
 use Rattle.marc_types.specs.declared.field.Field.{Field}
 use Rattle.marc_types.specs.declared.key.Class.{Class}
 use Rattle.marc_types.specs.declared.key.Class.TheVariants.{Authority, Bibliographic}
@@ -11,7 +12,7 @@ use Rattle.marc_types.specs.declared.key.Place.{Place}
 use Rattle.marc_types.specs.declared.entry.Tie.{Tie}
 use Rattle.marc_types.specs.declared.entry.Kept.{Kept}
 use Rattle.entry_record.specs.Identity.{same_key}
-use Rattle.entry_record.specs.State.{KeptField, KeptRecord, Row, State, rows_of}
+use Rattle.entry_record.specs.State.{KeptField, KeptRecord, Row, State, rows_of, fields_of}
 use Rattle.entry_record.specs.Receipt.{kept_under}
 use Rattle.record_store.specs.Shelf.{Shelved}
 
@@ -70,6 +71,10 @@ with_rows Bibliographic rows s = record { authorities = s.authorities; bibliogra
 -- a record with another field and tie at one place
 abbrev pub with_field : ℕ → KeptField → KeptRecord → KeptRecord
 with_field place h r = record { leader = r.leader; fields = slice_set r.fields place h }
+
+-- a record stays one with the field at that place, where it has the place
+abbrev pub StaysRecord : ℕ → Field → KeptRecord → Type 0
+StaysRecord place field r = place < length r.fields → is_record r.leader (slice_set (fields_of r) place field) ≡ true
 
 -- the field and tie at a place, where there is one
 abbrev pub field_at : ℕ → KeptRecord → Option KeptField

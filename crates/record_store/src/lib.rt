@@ -13,3 +13,4 @@ mod rows;
 mod shelf;
 mod steps;
 mod store;
+mod swapping;

@@ -1,5 +1,5 @@
-ghost use Rattle.std.specs.Prelude.{◌≡◌, [], length, IsOk, IsErr, IfOk, IfErr, OnOk, OnErr, ◌↔◌, true, false, ◌||◌, ◌+◌, ◌<◌, ◌^◌, Some, None, is_some, slice_get, if◌then◌else◌};
-ghost use Rattle.std.specs.Option.{option_copied, option_map};
+ghost use Rattle.std.specs.Prelude.{◌≡◌, [], length, IsOk, IsErr, IfSome, IfOk, IfErr, OnOk, OnErr, ◌↔◌, true, false, ◌||◌, ◌+◌, ◌<◌, ◌^◌, Some, None, is_some, slice_get, if◌then◌else◌};
+ghost use Rattle.std.specs.Option.{option_and_then, option_copied, option_map};
 ghost use Rattle.std.specs.List.Sorted.{IsStrictlySortedBy};
 ghost use Rattle.std.specs.Map.Iter.{deref_pair};
 ghost use Rattle.std.specs.List.{list_any};
@@ -8,9 +8,11 @@ ghost use Rattle.std.specs.Map.{keys_of, lookup, remove_entry};
 ghost use Rattle.marc_types.specs.Order.{key_cmp};
 ghost use Rattle.entry_record.specs.Identity.{same_key};
 ghost use Rattle.record_store.specs.Shelf.{filled, has_place};
+ghost use Rattle.record_store.specs.Store.{StaysRecord, field_at, kept_field, kept_rows, with_field_under};
 
 use crate::rows::Rows;
-use marc_types::{Key, NoMemory, TryCopy};
+use crate::swapping::swap_under;
+use marc_types::{Field, Kept, Key, NoMemory, Tie, TryCopy};
 use std::alloc::Global;
 use std::collections::BTreeMap;
 use std::marker::Model;
@@ -135,6 +137,25 @@ impl<V: Drop> Shelf<V> {
             self.count -= 1;
         }
         taken
+    }
+}
+
+impl Shelf<Kept> {
+    /// Puts a field and its tie into a place of the record under a key, and gives those that stood there. Where there is
+    /// no such place the two come back. It takes no memory.
+    pub(crate) fn swap(&mut self, key: &Key, at: usize, field: Field, tie: Tie) -> Result<(Field, Tie), (Field, Tie)>
+        requires { IfSome (lookup (same_key key.now) (kept_rows self.old.rows)) (StaysRecord at field) }
+        ensures ok { OnOk result (kept_rows self.new.rows ≡ with_field_under key.now at (kept_field field tie) (kept_rows self.old.rows)) }
+        ensures before { IfOk result (λ before. option_and_then (field_at at) (lookup (same_key key.now) (kept_rows self.old.rows)) ≡ Some (kept_field before.0 before.1)) }
+        ensures absent { OnErr result (option_and_then (field_at at) (lookup (same_key key.now) (kept_rows self.old.rows)) ≡ None) }
+        ensures back { IfErr result (λ back. back ≡ (field, tie)) }
+        ensures err { OnErr result (self.new ≡ self.old) }
+        ensures places { self.new.places ≡ self.old.places }
+    {
+        match swap_under(&mut self.slots, key, at, field, tie) {
+            Ok(before) => Ok(before),
+            Err(back) => Err(back),
+        }
     }
 }
 

@@ -7,12 +7,12 @@ ghost use Rattle.entry_record.specs.Identity.{same_key};
 ghost use Rattle.entry_record.specs.State.{empty_state, rows_of};
 ghost use Rattle.entry_record.specs.Receipt.{kept_under};
 ghost use Rattle.record_store.specs.Shelf.{has_place};
-ghost use Rattle.record_store.specs.Store.{has_room, kept_record, kept_rows, shown_row, with_rows};
+ghost use Rattle.record_store.specs.Store.{StaysRecord, field_under, has_room, kept_field, kept_record, kept_rows, shown_row, with_field_under, with_rows};
 
 use crate::kept_rows::KeptRows;
 use crate::shelf::Shelf;
 use crate::steps::Steps;
-use marc_types::{Class, Kept, Key, NoMemory};
+use marc_types::{Class, Field, Kept, Key, NoMemory, Place, Tie};
 use std::alloc::Global;
 use std::marker::Model;
 use std::sync::ledger::Ledger;
@@ -100,6 +100,24 @@ impl Store {
         match class {
             Class::Authority => remove_from(&mut self.authorities, key),
             Class::Bibliographic => remove_from(&mut self.bibliographic, key),
+        }
+    }
+
+    /// Puts a field and its tie into a place, and gives those that stood there. Where there is no such place the two come
+    /// back. It takes no memory.
+    pub fn swap(&mut self, place: &Place, field: Field, tie: Tie) -> Result<(Field, Tie), (Field, Tie)>
+        requires { IfSome (kept_under place.now.class place.now.key self.old.state) (StaysRecord place.now.field field) }
+        ensures ok { OnOk result (self.new.state ≡ with_rows place.now.class (with_field_under place.now.key place.now.field (kept_field field tie) (rows_of place.now.class self.old.state)) self.old.state) }
+        ensures before { IfOk result (λ before. field_under place.now self.old.state ≡ Some (kept_field before.0 before.1)) }
+        ensures absent { OnErr result (field_under place.now self.old.state ≡ None) }
+        ensures back { IfErr result (λ back. back ≡ (field, tie)) }
+        ensures err { OnErr result (self.new ≡ self.old) }
+        ensures places { self.new.places ≡ self.old.places }
+    {
+        let at = place.field as usize;
+        match place.class {
+            Class::Authority => self.authorities.swap(&place.key, at, field, tie),
+            Class::Bibliographic => self.bibliographic.swap(&place.key, at, field, tie),
         }
     }
 
