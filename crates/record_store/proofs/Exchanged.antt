@@ -47,7 +47,8 @@ changed key change r [] order there = absurd (false≢true (ap is_some there))
 changed key change r (row ∷ rows) order there =
     change_at key change r (key_cmp key row.0) row rows refl order there (changed key change r rows (sorted_tail key_cmp row.0 (keys_of rows) order))
 
-same_keys : (rows : List (Key × Kept)) → keys_of (kept_rows rows) ≡ keys_of rows
+-- the rows of a state have a shelf's keys
+pub same_keys : (rows : List (Key × Kept)) → keys_of (kept_rows rows) ≡ keys_of rows
 same_keys [] = refl
 same_keys (row ∷ rows) = ap (λ l. row.0 ∷ l) (same_keys rows)
 

@@ -261,4 +261,4 @@ pub placed_again : {X : Type 0} (q key : Key) (slots : List (Key × X)) → IsSo
     → list_any (same_key q) (keys_of slots) ≡ (same_key q key || list_any (same_key q) (keys_of slots))
 placed_again q key slots has =
     same_place (same_key q key) (list_any (same_key q) (keys_of slots)) (λ tie.
-        subst (λ k. list_any (same_key k) (keys_of slots) ≡ true) (sym ((key_Decides q key).0 tie)) (placed key slots ∙ has))
+    subst (λ k. list_any (same_key k) (keys_of slots) ≡ true) (sym ((key_Decides q key).0 tie)) (placed key slots ∙ has))

@@ -8,7 +8,12 @@ use std::mem;
 
 /// Puts a field and its tie into a place of the record that a slot holds, and gives those that stood there. Where there
 /// is no such place the two come back. It takes no memory.
-pub(crate) fn swap_in(slot: &mut Option<Kept>, at: usize, field: Field, tie: Tie) -> Result<(Field, Tie), (Field, Tie)>
+pub(crate) fn swap_in(
+    slot: &mut Option<Kept>,
+    at: usize,
+    field: Field,
+    tie: Tie,
+) -> Result<(Field, Tie), (Field, Tie)>
     requires { IfSome (option_map kept_record slot.old) (StaysRecord at field) }
     ensures ok { OnOk result (option_map kept_record slot.new ≡ option_map (with_field at (kept_field field tie)) (option_map kept_record slot.old)) }
     ensures before { IfOk result (λ before. option_and_then (field_at at) (option_map kept_record slot.old) ≡ Some (kept_field before.0 before.1)) }

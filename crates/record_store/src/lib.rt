@@ -14,3 +14,5 @@ mod shelf;
 mod steps;
 mod store;
 mod swapping;
+#[cfg(test)]
+mod tests;

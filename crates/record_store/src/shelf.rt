@@ -143,7 +143,13 @@ impl<V: Drop> Shelf<V> {
 impl Shelf<Kept> {
     /// Puts a field and its tie into a place of the record under a key, and gives those that stood there. Where there is
     /// no such place the two come back. It takes no memory.
-    pub(crate) fn swap(&mut self, key: &Key, at: usize, field: Field, tie: Tie) -> Result<(Field, Tie), (Field, Tie)>
+    pub(crate) fn swap(
+        &mut self,
+        key: &Key,
+        at: usize,
+        field: Field,
+        tie: Tie,
+    ) -> Result<(Field, Tie), (Field, Tie)>
         requires { IfSome (lookup (same_key key.now) (kept_rows self.old.rows)) (StaysRecord at field) }
         ensures ok { OnOk result (kept_rows self.new.rows ≡ with_field_under key.now at (kept_field field tie) (kept_rows self.old.rows)) }
         ensures before { IfOk result (λ before. option_and_then (field_at at) (lookup (same_key key.now) (kept_rows self.old.rows)) ≡ Some (kept_field before.0 before.1)) }

@@ -6,6 +6,7 @@ ghost use Rattle.marc_types.specs.Order.{key_cmp};
 ghost use Rattle.entry_record.specs.Identity.{same_key};
 ghost use Rattle.entry_record.specs.State.{empty_state, rows_of};
 ghost use Rattle.entry_record.specs.Receipt.{kept_under};
+ghost use Rattle.entry_record.specs.Valid.{IsAscending};
 ghost use Rattle.record_store.specs.Shelf.{has_place};
 ghost use Rattle.record_store.specs.Store.{StaysRecord, field_under, has_room, kept_field, kept_record, kept_rows, shown_row, with_field_under, with_rows};
 
@@ -63,7 +64,12 @@ impl Store {
     }
 
     /// The key and the record with so many before them in key order. It counts one step, and walks over those before.
-    pub fn at<L: Ledger>(&self, class: Class, index: u64, steps: &mut Steps<L>) -> Option<(&Key, &Kept)>
+    pub fn at<L: Ledger>(
+        &self,
+        class: Class,
+        index: u64,
+        steps: &mut Steps<L>,
+    ) -> Option<(&Key, &Kept)>
         ensures row { option_map shown_row result ≡ slice_get (rows_of class self.now.state) index }
         ensures step { steps.new ≡ steps.old + 1 }
     {
@@ -72,8 +78,10 @@ impl Store {
     }
 
     /// The records of a class in key order.
+    #[tactic(auto, using(crate::proofs::Exchanged::same_keys))]
     pub fn rows(&self, class: Class) -> KeptRows<'_>
-        ensures { result ≡ rows_of class self.now.state }
+        ensures rows { result ≡ rows_of class self.now.state }
+        ensures ascend { IsAscending (rows_of class self.now.state) }
     {
         KeptRows::over(self.shelf(class).rows())
     }
@@ -105,7 +113,12 @@ impl Store {
 
     /// Puts a field and its tie into a place, and gives those that stood there. Where there is no such place the two come
     /// back. It takes no memory.
-    pub fn swap(&mut self, place: &Place, field: Field, tie: Tie) -> Result<(Field, Tie), (Field, Tie)>
+    pub fn swap(
+        &mut self,
+        place: &Place,
+        field: Field,
+        tie: Tie,
+    ) -> Result<(Field, Tie), (Field, Tie)>
         requires { IfSome (kept_under place.now.class place.now.key self.old.state) (StaysRecord place.now.field field) }
         ensures ok { OnOk result (self.new.state ≡ with_rows place.now.class (with_field_under place.now.key place.now.field (kept_field field tie) (rows_of place.now.class self.old.state)) self.old.state) }
         ensures before { IfOk result (λ before. field_under place.now self.old.state ≡ Some (kept_field before.0 before.1)) }

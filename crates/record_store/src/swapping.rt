@@ -11,7 +11,13 @@ use std::collections::BTreeMap;
 
 /// Puts a field and its tie into a place of the record under a key, and gives those that stood there. Where there is no
 /// such place the two come back. It takes no memory.
-pub(crate) fn swap_under(slots: &mut BTreeMap<Key, Option<Kept>>, key: &Key, at: usize, field: Field, tie: Tie) -> Result<(Field, Tie), (Field, Tie)>
+pub(crate) fn swap_under(
+    slots: &mut BTreeMap<Key, Option<Kept>>,
+    key: &Key,
+    at: usize,
+    field: Field,
+    tie: Tie,
+) -> Result<(Field, Tie), (Field, Tie)>
     requires { IfSome (lookup (same_key key.now) (kept_rows (filled slots.old.entries))) (StaysRecord at field) }
     ensures ok { OnOk result (kept_rows (filled slots.new.entries) ≡ with_field_under key.now at (kept_field field tie) (kept_rows (filled slots.old.entries))) }
     ensures before { IfOk result (λ before. option_and_then (field_at at) (lookup (same_key key.now) (kept_rows (filled slots.old.entries))) ≡ Some (kept_field before.0 before.1)) }

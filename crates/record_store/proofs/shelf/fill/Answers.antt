@@ -24,9 +24,10 @@ pub returns-in-Some-clause-fits : goal.returns-in-Some-clause-fits
 returns-in-Some-clause-fits g c = omega (arith, length_blank c.args.slots.now.entries, c.len-places.ensures.len, c.len-places.ensures.small)
 
 pub returns-in-Some-clause-placeless : goal.returns-in-Some-clause-placeless
-returns-in-Some-clause-placeless g c =
-    (λ e. absurd (false≢true e),
-    λ e. sym (ap is_some c.in-Some.ensures.value ∙ sym (placed c.args.key.now c.args.slots.now.entries) ∙ e))
+returns-in-Some-clause-placeless g c = (
+  λ e. absurd (false≢true e),
+  λ e. sym (ap is_some c.in-Some.ensures.value ∙ sym (placed c.args.key.now c.args.slots.now.entries) ∙ e),
+)
 
 pub returns-in-None-clause-fits : goal.returns-in-None-clause-fits
 returns-in-None-clause-fits g c = omega (arith, length_blank c.args.slots.now.entries, c.len-places.ensures.len, c.len-places.ensures.small)

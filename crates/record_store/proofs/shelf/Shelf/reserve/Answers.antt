@@ -11,9 +11,10 @@ returns-then-contains_key-clause-ok g c = λ q.
     rw (← c.self.view_is) (placed_again q c.args.key.now c.self.inside.slots.entries (sym c.contains_key.ensures ∙ c.if-contains_key.true))
 
 pub invariant_of-self-2 : goal.invariant_of-self-2
-invariant_of-self-2 g c =
-    (c.self.invariant.0 ∙ ap length (sym (reserved_then c.args.key.now c.in_ok-own.own c.contains_key.result c.self.inside.slots.entries c.insert.new.self.entries c.in_ok-own.ensures c.contains_key.ensures c.if-contains_key.false c.in_ok-insert.ensures.entries)),
-    c.insert.ensures.ordered)
+invariant_of-self-2 g c = (
+  c.self.invariant.0 ∙ ap length (sym (reserved_then c.args.key.now c.in_ok-own.own c.contains_key.result c.self.inside.slots.entries c.insert.new.self.entries c.in_ok-own.ensures c.contains_key.ensures c.if-contains_key.false c.in_ok-insert.ensures.entries)),
+  c.insert.ensures.ordered,
+)
 
 pub returns-clause-rows : goal.returns-clause-rows
 returns-clause-rows g c =
