@@ -1,5 +1,5 @@
 //! The outside of the catalogue: where bytes come from, where they go, the disk that keeps them over a crash, and the room
-//! that opens and closes sources and sinks by name.
+//! that opens and closes sources, sinks and logs by name.
 //!
 //! Each trait says by its clauses what a call does to the bytes that it tells, and counts its faults. A call answers
 //! [`Failed`] only where the count of its object rose in that call, or stands at a `u64`'s greatest number.

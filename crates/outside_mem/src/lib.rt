@@ -1,4 +1,5 @@
-//! The outside in memory: sources, sinks and a room that tell their contents, and fail at listed calls.
+//! The outside in memory: sources, sinks, disks and a room that tell their contents, and fail at listed calls; and others,
+//! which fail for want of room alone.
 #![tactic(auto)]
 
 mod calls;
