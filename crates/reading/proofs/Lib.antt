@@ -3,3 +3,4 @@ pub mod Texts
 pub mod Fields
 pub mod Records
 pub mod Entries
+pub mod OneReading

@@ -6,6 +6,7 @@ pub use record::read_record;
 
 mod entry;
 mod field;
+pub mod laws;
 mod record;
 mod subfields;
 #[cfg(test)]
