@@ -4,3 +4,4 @@ pub mod Fields
 pub mod Records
 pub mod Entries
 pub mod OneReading
+pub mod Written

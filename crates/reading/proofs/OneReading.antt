@@ -2,6 +2,7 @@
 use Rattle.std.proofs.Common.{◌≡◌, ◌∙◌, ℕ, suc, ◌+◌, ◌<◌, ◌≤◌, true, false, List, [], ◌∷◌, ◌++◌, length, get_or, Some, None, refl, sym, ap, subst, arith, inl, inr, ◌⊎◌}
 use Rattle.std.specs.Prelude.{slice_get}
 use Rattle.std.specs.Str.{IsUtf8}
+use Rattle.std.specs.Str.Lossy.{utf8_valid_len}
 use Rattle.std.proofs.lemmas.Bool.{both_ways, cases_order}
 use Rattle.std.proofs.lemmas.Option.{slice_get_cases}
 use Rattle.marc_types.specs.declared.field.Leader.{Leader}
@@ -92,3 +93,61 @@ read_or_refused bytes l fs UnknownCoding p q = both_ways _ q.1 p.coding
 read_or_refused bytes l fs (BadText entry offset) p q = text_refused bytes l fs (BadText entry offset) p q
 read_or_refused bytes l fs (OtherSet set entry offset) p q = text_refused bytes l fs (OtherSet set entry offset) p q
 read_or_refused bytes l fs refusal p q = sound_or_refused bytes refusal p.sound q
+
+marc8_fault_once : (coding : ℕ) (bytes : List ℕ) (one other : Marc8Fault) → is_marc8 coding ≡ true → IsFault bytes one → IsFaultIn coding bytes other → one ≡ other
+marc8_fault_once _ _ one _ e p (OfMarc8 coding bytes other f q) = one_fault bytes one other p q
+marc8_fault_once _ _ one _ e p (OfUtf8 coding bytes f q) = absurd (both_ways _ f e)
+
+utf8_fault_once : (coding : ℕ) (bytes : List ℕ) (other : Marc8Fault) → is_marc8 coding ≡ false → IsFaultIn coding bytes other → BadByte (utf8_valid_len bytes) ≡ other
+utf8_fault_once _ _ _ e (OfMarc8 coding bytes other f q) = absurd (both_ways _ e f)
+utf8_fault_once _ _ _ e (OfUtf8 coding bytes f q) = refl
+
+-- bytes have one first fault in a coding
+fault_once : (coding : ℕ) (bytes : List ℕ) (one other : Marc8Fault) → IsFaultIn coding bytes one → IsFaultIn coding bytes other → one ≡ other
+fault_once _ _ _ other (OfMarc8 coding bytes one e p) q = marc8_fault_once coding bytes one other e p q
+fault_once _ _ _ other (OfUtf8 coding bytes e p) q = utf8_fault_once coding bytes other e q
+
+named_once : (entry start : ℕ) (fault : Marc8Fault) (one other : Refusal) → IsTextRefusal entry start fault one → IsTextRefusal entry start fault other → one ≡ other
+named_once entry start (BadByte place) one other p q = p ∙ sym q
+named_once entry start (marc8.OtherSet set place) one other p q = p ∙ sym q
+named_once entry start NoMemory one other p q = absurd p
+
+entry_fault_once : (bytes : List ℕ) (entry : ℕ) (one other : Refusal) → IsEntryFault bytes entry one → IsEntryFault bytes entry other → one ≡ other
+entry_fault_once bytes entry one other p q =
+    let same : q.fault ≡ p.fault = fault_once (coding_at bytes) (text_at bytes entry) q.fault p.fault q.here p.here in
+    named_once entry (text_start bytes entry) p.fault one other p.named (subst (λ fault. IsTextRefusal entry (text_start bytes entry) fault other) same q.named)
+
+text_fault_once : (bytes : List ℕ) (one other : Refusal) → IsTextFault bytes one → IsTextFault bytes other → one ≡ other
+text_fault_once bytes one other p q =
+    elim (cases_order p.entry q.entry) [
+      | inl same ↦ entry_fault_once bytes q.entry one other (subst (λ entry. IsEntryFault bytes entry one) same p.here) q.here
+      | inr (inl below) ↦ absurd (no_fault bytes p.entry one (q.before p.entry below) p.here)
+      | inr (inr above) ↦ absurd (no_fault bytes q.entry other (p.before q.entry above) q.here)
+    ]
+
+-- the three reasons against a piece: its layout, its coding, or a text
+data Reason (bytes : List ℕ) (refusal : Refusal) : Type 0 where
+  OfLayout : IsFirstFault bytes refusal → Reason bytes refusal
+  OfCoding : refusal ≡ UnknownCoding → IsSound bytes → is_known_coding (coding_at bytes) ≡ false → Reason bytes refusal
+  OfText : IsTextFault bytes refusal → Reason bytes refusal
+
+reason_of : (bytes : List ℕ) (refusal : Refusal) → IsRefusedAs bytes refusal → Reason bytes refusal
+reason_of bytes UnknownCoding h = OfCoding refl h.0 h.1
+reason_of bytes (BadText entry offset) h = OfText h
+reason_of bytes (OtherSet set entry offset) h = OfText h
+reason_of bytes refusal h = OfLayout h
+
+reason_once : (bytes : List ℕ) (one other : Refusal) → Reason bytes one → Reason bytes other → one ≡ other
+reason_once bytes one other (OfLayout p) (OfLayout q) = refused_once bytes one other p q
+reason_once bytes one other (OfLayout p) (OfCoding is sound unknown) = absurd (sound_or_refused bytes one sound p)
+reason_once bytes one other (OfLayout p) (OfText q) = absurd (sound_or_refused bytes one q.sound p)
+reason_once bytes one other (OfCoding is sound unknown) (OfLayout q) = absurd (sound_or_refused bytes other sound q)
+reason_once bytes one other (OfCoding is sound unknown) (OfCoding also s u) = is ∙ sym also
+reason_once bytes one other (OfCoding is sound unknown) (OfText q) = absurd (both_ways _ unknown q.coding)
+reason_once bytes one other (OfText p) (OfLayout q) = absurd (sound_or_refused bytes other p.sound q)
+reason_once bytes one other (OfText p) (OfCoding is sound unknown) = absurd (both_ways _ unknown p.coding)
+reason_once bytes one other (OfText p) (OfText q) = text_fault_once bytes one other p q
+
+-- a piece is refused for one reason alone
+pub refused_as_once : (bytes : List ℕ) (one other : Refusal) → IsRefusedAs bytes one → IsRefusedAs bytes other → one ≡ other
+refused_as_once bytes one other p q = reason_once bytes one other (reason_of bytes one p) (reason_of bytes other q)

@@ -2,3 +2,4 @@ pub mod Reading
 pub mod Preparing
 pub mod Cutting
 pub mod Answers
+pub mod Texts

@@ -1,12 +1,16 @@
-//! Laws of reading: each is the contract of a function that does nothing.
-ghost use Rattle.std.specs.Prelude.{◌≡◌, List};
+//! Laws of reading: each is the contract of a function that does nothing, or only looks at the texts of a record.
+ghost use Rattle.std.specs.Prelude.{◌≡◌, List, All, IsTrue, IsUtf8};
 ghost use Rattle.marc_types.specs.declared.field.Leader.{Leader};
 ghost use Rattle.marc_types.specs.declared.field.Field.{Field};
 ghost use Rattle.marc_types.specs.declared.refusal.Refusal.{Refusal};
+ghost use Rattle.iso2709_record.specs.Written.{record_bytes, fits};
 ghost use Rattle.reading.specs.Reading.{IsReadAs, IsRefusedAs};
+ghost use Rattle.reading.specs.Texts.{HasUtf8Text, HasUtf8Texts};
 
-/// A piece is read as one record alone, and a piece that is read is refused for no reason.
-#[tactic(auto, using(crate::proofs::OneReading::one_leader, crate::proofs::OneReading::one_fields, crate::proofs::OneReading::read_or_refused))]
+use marc_types::{Field, Record, Subfields, Text};
+
+/// A piece is read as one record alone, or refused for one reason alone.
+#[tactic(auto, using(crate::proofs::OneReading::one_leader, crate::proofs::OneReading::one_fields, crate::proofs::OneReading::read_or_refused, crate::proofs::OneReading::refused_as_once))]
 pub fn a_piece_is_one_record(bytes: &[u8])
     ensures leader { (one other : Leader) (fields others : List Field) →
         IsReadAs bytes.now one fields → IsReadAs bytes.now other others → one ≡ other }
@@ -14,4 +18,45 @@ pub fn a_piece_is_one_record(bytes: &[u8])
         IsReadAs bytes.now one fields → IsReadAs bytes.now other others → fields ≡ others }
     ensures taken { (leader : Leader) (fields : List Field) (refusal : Refusal) →
         IsReadAs bytes.now leader fields → IsRefusedAs bytes.now refusal → ⊥ }
+    ensures once { (one other : Refusal) → IsRefusedAs bytes.now one → IsRefusedAs bytes.now other → one ≡ other }
 {}
+
+/// What a record is written as is read as that record.
+pub fn a_written_record_reads_as_itself(rec: &Record)
+    requires { IsTrue (fits rec.now.fields) }
+    ensures { IsReadAs (record_bytes rec.now.leader rec.now.fields) rec.now.leader rec.now.fields }
+{
+    each_text_is_utf8(rec);
+}
+
+/// Each text of a record is UTF-8, as its type says.
+pub fn each_text_is_utf8(rec: &Record)
+    ensures { All HasUtf8Texts rec.now.fields }
+{
+    for field in rec.fields.as_slice() {
+        texts_are_utf8(field);
+    }
+}
+
+fn texts_are_utf8(field: &Field)
+    ensures { HasUtf8Texts field.now }
+{
+    match field {
+        Field::Control { text, .. } => text_is_utf8(text),
+        Field::Variable { subs, .. } => subfields_are_utf8(subs),
+    }
+}
+
+fn subfields_are_utf8(subs: &Subfields)
+    ensures { All HasUtf8Text subs.now }
+{
+    for subfield in subs.as_slice() {
+        text_is_utf8(&subfield.text);
+    }
+}
+
+fn text_is_utf8(text: &Text)
+    ensures { IsUtf8 text.now }
+{
+    let _text = text.as_str();
+}
