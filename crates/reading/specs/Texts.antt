@@ -1,5 +1,5 @@
 -- What the types of texts say of a field: each is UTF-8.
-use Rattle.std.specs.Prelude.{ℕ, IsUtf8, All}
+use Rattle.std.specs.Prelude.{IsUtf8, All}
 use Rattle.marc_types.specs.declared.field.Subfield.{Subfield}
 use Rattle.marc_types.specs.declared.field.Field.{Field}
 use Rattle.marc_types.specs.declared.field.Field.TheVariants.{Control, Variable}

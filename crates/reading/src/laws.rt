@@ -9,19 +9,20 @@ ghost use Rattle.reading.specs.Texts.{HasUtf8Text, HasUtf8Texts};
 
 use marc_types::{Field, Record, Subfields, Text};
 
-/// A piece is read as one record alone, or refused for one reason alone.
+/// A piece is read as one record at most, or refused for one reason at most, and never both. This is a law for proofs; the
+/// call does nothing.
 #[tactic(auto, using(crate::proofs::OneReading::one_leader, crate::proofs::OneReading::one_fields, crate::proofs::OneReading::read_or_refused, crate::proofs::OneReading::refused_as_once))]
 pub fn a_piece_is_one_record(bytes: &[u8])
     ensures leader { (one other : Leader) (fields others : List Field) →
         IsReadAs bytes.now one fields → IsReadAs bytes.now other others → one ≡ other }
     ensures fields { (one other : Leader) (fields others : List Field) →
         IsReadAs bytes.now one fields → IsReadAs bytes.now other others → fields ≡ others }
-    ensures taken { (leader : Leader) (fields : List Field) (refusal : Refusal) →
+    ensures read { (leader : Leader) (fields : List Field) (refusal : Refusal) →
         IsReadAs bytes.now leader fields → IsRefusedAs bytes.now refusal → ⊥ }
     ensures once { (one other : Refusal) → IsRefusedAs bytes.now one → IsRefusedAs bytes.now other → one ≡ other }
 {}
 
-/// What a record is written as is read as that record.
+/// A record's written form is read as that record. This is a law for proofs; the call only looks at the record's texts.
 pub fn a_written_record_reads_as_itself(rec: &Record)
     requires { IsTrue (fits rec.now.fields) }
     ensures { IsReadAs (record_bytes rec.now.leader rec.now.fields) rec.now.leader rec.now.fields }
@@ -29,7 +30,7 @@ pub fn a_written_record_reads_as_itself(rec: &Record)
     each_text_is_utf8(rec);
 }
 
-/// Each text of a record is UTF-8, as its type says.
+/// Each text of a record is UTF-8: to look at it as a `&str` shows it. This is a law for proofs.
 pub fn each_text_is_utf8(rec: &Record)
     ensures { All HasUtf8Texts rec.now.fields }
 {
