@@ -2,7 +2,7 @@
 //! control numbers in `$0`, and how a field takes over the heading of an authority.
 #![tactic(auto)]
 
-pub use numbers::names;
+pub use numbers::{is_number_of, names};
 pub use parts::{controlled, full, has_subdivision, heading_len};
 pub use rewriting::{rewrite, unlink};
 pub use tables::{authority_kind, heading_kind, takes_subdivisions};

@@ -47,8 +47,9 @@ fn is_key_text(text: &[u8], key: &Key) -> bool
     key_byte(key, place).is_none()
 }
 
+/// Whether the subfield is a `$0` that names the key.
 #[tactic(auto, unfolding(crate::specs::Numbers::is_naming))]
-pub(crate) fn is_number_of(subfield: &Subfield, key: &Key) -> bool
+pub fn is_number_of(subfield: &Subfield, key: &Key) -> bool
     ensures { result ≡ is_naming key.now subfield.now }
 {
     subfield.code == NUMBER && is_key_text(subfield.text.as_bytes(), key)
