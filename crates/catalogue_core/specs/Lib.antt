@@ -1,2 +1,4 @@
-pub mod Views
+pub mod Changes
 pub mod Sought
+pub mod Stands
+pub mod Views
