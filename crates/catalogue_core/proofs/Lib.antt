@@ -1,0 +1,4 @@
+pub mod Authorities
+pub mod Sames
+pub mod Seeking
+pub mod Standings

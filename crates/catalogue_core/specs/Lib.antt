@@ -1,0 +1,4 @@
+pub mod Changes
+pub mod Sought
+pub mod Stands
+pub mod Views

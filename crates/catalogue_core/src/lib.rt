@@ -1,0 +1,9 @@
+//! What a commit does to one field and to one record of a catalogue.
+#![tactic(auto)]
+
+pub use standing::{Standing, Standings};
+
+mod authority;
+mod choice;
+mod settling;
+mod standing;
