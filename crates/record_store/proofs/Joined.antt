@@ -1,0 +1,72 @@
+-- Fields and ties, joined in turn: reading and changing one place.
+use Rattle.std.proofs.Common.{◌≡◌, ℕ, zero, suc, ◌<◌, ◌≤◌, true, List, [], ◌∷◌, length, map, Option, Some, None, IfSome, refl, sym, ap, ◌∙◌, subst, arith}
+use mathlib.Core.Bool.{false≢true}
+use Rattle.std.specs.Prelude.{slice_get, slice_set}
+use Rattle.std.specs.Option.{is_some, option_map, option_and_then}
+use Rattle.marc_types.specs.Valid.{is_record}
+use Rattle.marc_types.specs.declared.field.Leader.{Leader}
+use Rattle.marc_types.specs.declared.field.Field.{Field}
+use Rattle.marc_types.specs.declared.entry.Tie.{Tie}
+use Rattle.marc_types.specs.declared.entry.Kept.{Kept}
+use Rattle.entry_record.specs.State.{KeptField, KeptRecord, fields_of}
+use Rattle.record_store.specs.Store.{StaysRecord, field_at, kept_field, kept_fields, kept_record, with_field}
+
+pub joined_set : (fields : List Field) (ties : List Tie) (i : ℕ) (field : Field) (tie : Tie) → length ties ≡ length fields
+    → kept_fields (slice_set fields i field) (slice_set ties i tie) ≡ slice_set (kept_fields fields ties) i (kept_field field tie)
+joined_set [] ties i field tie same = refl
+joined_set (f ∷ fields) [] i field tie same = absurd (omega (arith, same))
+joined_set (f ∷ fields) (t ∷ ties) zero field tie same = refl
+joined_set (f ∷ fields) (t ∷ ties) (suc i) field tie same = ap (λ l. kept_field f t ∷ l) (joined_set fields ties i field tie (omega (arith, same)))
+
+pub joined_get : (fields : List Field) (ties : List Tie) (i : ℕ) (field : Field) (tie : Tie) → slice_get fields i ≡ Some field → slice_get ties i ≡ Some tie
+    → slice_get (kept_fields fields ties) i ≡ Some (kept_field field tie)
+joined_get [] ties i field tie f t = absurd (false≢true (ap is_some f))
+joined_get (x ∷ fields) [] i field tie f t = absurd (false≢true (ap is_some t))
+joined_get (x ∷ fields) (y ∷ ties) zero field tie f t = grind (arith, f, t)
+joined_get (x ∷ fields) (y ∷ ties) (suc i) field tie f t = joined_get fields ties i field tie f t
+
+pub joined_fields : (fields : List Field) (ties : List Tie) → length ties ≡ length fields → map (λ h. h.field) (kept_fields fields ties) ≡ fields
+joined_fields [] ties same = refl
+joined_fields (f ∷ fields) [] same = absurd (omega (arith, same))
+joined_fields (f ∷ fields) (t ∷ ties) same = ap (λ l. f ∷ l) (joined_fields fields ties (omega (arith, same)))
+
+pub joined_length : (fields : List Field) (ties : List Tie) → length ties ≡ length fields → length (kept_fields fields ties) ≡ length fields
+joined_length [] ties same = refl
+joined_length (f ∷ fields) [] same = absurd (omega (arith, same))
+joined_length (f ∷ fields) (t ∷ ties) same = ap suc (joined_length fields ties (omega (arith, same)))
+
+-- ---- kept records
+
+pub record_set : (before after : Kept) (i : ℕ) (field : Field) (tie : Tie) → after.rec.leader ≡ before.rec.leader
+    → after.rec.fields ≡ slice_set before.rec.fields i field → after.links ≡ slice_set before.links i tie
+    → kept_record after ≡ with_field i (kept_field field tie) (kept_record before)
+unfolding kept_record
+record_set before after i field tie leader fields links =
+    let joined = ap (λ l. kept_fields l after.links) fields ∙ ap (kept_fields (slice_set before.rec.fields i field)) links ∙ joined_set before.rec.fields before.links i field tie before.tied in
+    λ n. record { leader = leader n; fields = joined n }
+
+pub record_get : (kept : Kept) (i : ℕ) (field : Field) (tie : Tie) → slice_get kept.rec.fields i ≡ Some field → slice_get kept.links i ≡ Some tie
+    → slice_get (kept_record kept).fields i ≡ Some (kept_field field tie)
+unfolding kept_record
+record_get kept i field tie f t = joined_get kept.rec.fields kept.links i field tie f t
+
+no_place : (h : List KeptField) (i : ℕ) → length h ≤ i → slice_get h i ≡ None
+no_place [] i beyond = refl
+no_place (h ∷ hs) zero beyond = absurd (omega (arith, beyond))
+no_place (h ∷ hs) (suc i) beyond = no_place hs i (omega (arith, beyond))
+
+pub no_field : (kept : Kept) (i : ℕ) (slot : Option Kept) → Some kept ≡ slot → length kept.rec.fields ≤ i
+    → option_and_then (field_at i) (option_map kept_record slot) ≡ None
+unfolding kept_record
+no_field kept i slot is beyond =
+    subst (λ o. option_and_then (field_at i) (option_map kept_record o) ≡ None) is
+    (no_place (kept_record kept).fields i (omega (arith, joined_length kept.rec.fields kept.links kept.tied, beyond)))
+
+pub valid_field : (kept : Kept) (i : ℕ) (field : Field) (slot : Option Kept) → Some kept ≡ slot → IfSome (option_map kept_record slot) (StaysRecord i field)
+    → i < length kept.rec.fields → is_record kept.rec.leader (slice_set kept.rec.fields i field) ≡ true
+unfolding kept_record
+valid_field kept i field slot is stays within =
+    let here : StaysRecord i field (kept_record kept) = subst (λ o. IfSome (option_map kept_record o) (StaysRecord i field)) (sym is) stays in
+    let fields = joined_fields kept.rec.fields kept.links kept.tied in
+    ap (λ l. is_record kept.rec.leader (slice_set l i field)) (sym fields)
+    ∙ here (omega (arith, joined_length kept.rec.fields kept.links kept.tied, within))

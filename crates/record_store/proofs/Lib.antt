@@ -1,0 +1,4 @@
+pub mod Exchanged
+pub mod Joined
+pub mod Mapped
+pub mod Places

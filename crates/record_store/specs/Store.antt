@@ -1,0 +1,88 @@
+-- What clauses see of a store: the state of a catalogue, and the keys that have a place for a record.
+use Rattle.std.specs.Prelude.{◌≡◌, ℕ, ◌<◌, Bool, true, List, [], ◌∷◌, map, length, slice_get, slice_set, if◌then◌else◌, Option, Some, None}
+use Rattle.std.specs.Borrow.{Bor}
+use Rattle.std.specs.List.{list_any}
+use Rattle.std.specs.Option.{option_and_then}
+use Rattle.marc_types.specs.Valid.{is_record}
+use Rattle.marc_types.specs.declared.field.Field.{Field}
+use Rattle.marc_types.specs.declared.key.Class.{Class}
+use Rattle.marc_types.specs.declared.key.Class.TheVariants.{Authority, Bibliographic}
+use Rattle.marc_types.specs.declared.key.Key.{Key}
+use Rattle.marc_types.specs.declared.key.Place.{Place}
+use Rattle.marc_types.specs.declared.entry.Tie.{Tie}
+use Rattle.marc_types.specs.declared.entry.Kept.{Kept}
+use Rattle.entry_record.specs.Identity.{same_key}
+use Rattle.entry_record.specs.State.{KeptField, KeptRecord, Row, State, rows_of, fields_of}
+use Rattle.entry_record.specs.Receipt.{kept_under}
+use Rattle.record_store.specs.Shelf.{Shelved}
+
+abbrev pub kept_field : Field → Tie → KeptField
+kept_field field tie = record { field = field; tie = tie }
+
+-- fields and ties, joined in turn
+abbrev pub kept_fields : List Field → List Tie → List KeptField
+kept_fields [] ties = []
+kept_fields (field ∷ fields) [] = []
+kept_fields (field ∷ fields) (tie ∷ ties) = kept_field field tie ∷ kept_fields fields ties
+
+unfoldable pub kept_record : Kept → KeptRecord
+kept_record kept = record { leader = kept.rec.leader; fields = kept_fields kept.rec.fields kept.links }
+
+-- the keys that have a place, by class
+pub record Places : Type 0 where
+  pub authorities : List Key
+  pub bibliographic : List Key
+
+-- the state, and the places that were taken for records
+pub record Stored : Type 0 where
+  pub state : State
+  pub places : Places
+
+abbrev pub places_of : Class → Places → List Key
+places_of Authority p = p.authorities
+places_of Bibliographic p = p.bibliographic
+
+-- the key has a place in its class, with a record or without
+abbrev pub has_room : Class → Key → Stored → Bool
+has_room class key stored = list_any (same_key key) (places_of class stored.places)
+
+abbrev pub kept_row : Key × Kept → Row
+kept_row row = (row.0, kept_record row.1)
+
+-- a row as it is lent
+abbrev pub shown_row : Bor Key × Bor Kept → Row
+shown_row row = (row.0.now, kept_record row.1.now)
+
+-- the rows of a shelf, each record as fields with their ties
+abbrev pub kept_rows : List (Key × Kept) → List Row
+kept_rows rows = map kept_row rows
+
+abbrev pub stored : Shelved Kept → Shelved Kept → Stored
+stored authorities bibliographic = record {
+  state = record { authorities = kept_rows authorities.rows; bibliographic = kept_rows bibliographic.rows };
+  places = record { authorities = authorities.places; bibliographic = bibliographic.places };
+}
+
+-- the state with other rows of one class
+abbrev pub with_rows : Class → List Row → State → State
+with_rows Authority rows s = record { authorities = rows; bibliographic = s.bibliographic }
+with_rows Bibliographic rows s = record { authorities = s.authorities; bibliographic = rows }
+
+-- a record with another field and tie at one place
+abbrev pub with_field : ℕ → KeptField → KeptRecord → KeptRecord
+with_field place h r = record { leader = r.leader; fields = slice_set r.fields place h }
+
+-- a record stays one with the field at that place, where it has the place
+abbrev pub StaysRecord : ℕ → Field → KeptRecord → Type 0
+StaysRecord place field r = place < length r.fields → is_record r.leader (slice_set (fields_of r) place field) ≡ true
+
+-- the field and tie at a place, where there is one
+abbrev pub field_at : ℕ → KeptRecord → Option KeptField
+field_at place r = slice_get r.fields place
+
+abbrev pub field_under : Place → State → Option KeptField
+field_under place s = option_and_then (field_at place.field) (kept_under place.class place.key s)
+
+-- the record under a key with another field and tie at one place; the other rows stay
+abbrev pub with_field_under : Key → ℕ → KeptField → List Row → List Row
+with_field_under key place h rows = map (λ row. if same_key key row.0 then (row.0, with_field place h row.1) else row) rows
