@@ -1,4 +1,5 @@
 pub mod Changes
+pub mod Commits
 pub mod Sought
 pub mod Stands
 pub mod Views
