@@ -1,4 +1,7 @@
 pub mod Changes
+pub mod Counted
+pub mod Drafts
+pub mod KeptRecords
 pub mod Sought
 pub mod Stands
 pub mod Views
