@@ -5,5 +5,7 @@ pub use standing::{Standing, Standings};
 
 mod authority;
 mod choice;
+mod counts;
+mod records;
 mod settling;
 mod standing;
