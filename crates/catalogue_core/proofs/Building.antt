@@ -73,3 +73,9 @@ module _ {V W : Type 0} (f : V → W) where
 
   pub order_over : (rows : List (Key × V)) → IsInOrder rows → IsInOrder (map over rows)
   order_over rows order = rw (keys_over rows) order
+
+-- a list through which a loop goes, as what is done and what is left
+
+pub map_more : {A B : Type 0} (f : A → B) (done : List A) (x : A) (left : List B) → map f (done ++ x ∷ []) ++ left ≡ map f done ++ f x ∷ left
+map_more f [] x left = refl
+map_more f (y ∷ done) x left = ap (λ l. f y ∷ l) (map_more f done x left)

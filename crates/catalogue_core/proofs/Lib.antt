@@ -1,7 +1,10 @@
 pub mod Authorities
+pub mod Building
 pub mod Commits
 pub mod Counting
+pub mod Halfway
 pub mod Making
+pub mod Rows
 pub mod Sames
 pub mod Seeking
 pub mod Standings

@@ -36,6 +36,18 @@ impl Model for Authority {
     } };
 }
 
+impl TryCopy for Authority {
+    fn copy(&self, alloc: Global) -> Result<Self, NoMemory> {
+        Ok(Authority {
+            key: self.key.copy(alloc)?,
+            kind: self.kind,
+            heading: self.heading.copy(alloc)?,
+            established: self.established.copy(alloc)?,
+            see_from: self.see_from.copy(alloc)?,
+        })
+    }
+}
+
 pub(crate) fn tag(field: &Field) -> &Tag
     ensures { result.now ≡ tag_of field.now }
 {

@@ -4,6 +4,7 @@
 pub use standing::{Standing, Standings};
 
 mod authority;
+mod behind;
 mod choice;
 mod counts;
 mod records;

@@ -1,0 +1,78 @@
+-- The rows of a catalogue behind a commit, and how the fields of each stand.
+use Rattle.std.specs.Prelude.{◌≡◌, ℕ, ◌+◌, ◌<◌, Bool, ◌&&◌, not, List, map, filter_map, Option, Some, None, if◌then◌else◌}
+use Rattle.std.specs.Borrow.{Bor}
+use Rattle.std.specs.List.{count_by}
+use Rattle.std.specs.Option.{option_map, option_copied}
+use Rattle.std.specs.BTreeMap.{insert_entry}
+use Rattle.std.specs.Map.{remove_entry}
+use Rattle.marc_types.specs.Order.{key_cmp}
+use Rattle.marc_types.specs.declared.key.Class.{Class}
+use Rattle.marc_types.specs.declared.key.Key.{Key}
+use Rattle.record_store.specs.Store.{kept_rows}
+use Rattle.entry_record.specs.Identity.{is_deletion, same_key}
+use Rattle.entry_record.specs.Authority.{Linkable}
+use Rattle.entry_record.specs.State.{KeptRecord, Row, new_record, row_linkable}
+use Rattle.entry_record.specs.Settle.{Arrival}
+use Rattle.entry_record.specs.Receipt.{differs, is_committed}
+use Rattle.catalogue_core.specs.Stands.{standings_of}
+use Rattle.catalogue_core.specs.Commits.{record_behind, rows_behind}
+use Rattle.catalogue_core.specs.KeptRecords.{kept_record, new_record_after, HasSize}
+use Rattle.catalogue_core.specs.declared.standing.Standing.{Standing}
+use Rattle.catalogue_core.specs.declared.settling.Loosening.{Loosening}
+use Rattle.catalogue_core.specs.declared.behind.RowAfter.{RowAfter}
+use Rattle.catalogue_core.specs.declared.behind.RowsAfter.{RowsAfter}
+
+abbrev pub ended_as : Bor Loosening → Key × Option Key
+ended_as l = (l.now.key.now, option_copied l.now.successor)
+
+-- the key whose links may end, and its successor
+abbrev pub ended : Option (Bor Loosening) → Option (Key × Option Key)
+ended loosening = option_map ended_as loosening
+
+-- the authority of each row of a class of authorities, where fields can be linked to it
+abbrev pub authority_row : Row → Key × Option Linkable
+authority_row row = (row.0, row_linkable row)
+
+abbrev pub row_authority : Key × Option Linkable → Option Linkable
+row_authority row = row.1
+
+-- those that fields can be linked to
+abbrev pub linkable_rows : List (Key × Option Linkable) → List Linkable
+linkable_rows rows = filter_map row_authority rows
+
+abbrev pub standings_row : List Linkable → Class → Row → Key × List Standing
+standings_row authorities class row = (row.0, standings_of authorities class row.1)
+
+-- how the fields of each row stand
+abbrev pub standings_rows : List Linkable → Class → List Row → List (Key × List Standing)
+standings_rows authorities class rows = map (standings_row authorities class) rows
+
+-- a row that isn't the committed record's, and differs behind the commit
+abbrev pub is_other_changed : List Linkable → Option (Key × Option Key) → Arrival → Class → Row → Bool
+is_other_changed authorities ended a class row =
+    differs (record_behind authorities ended class row.1) row.1 && not (is_committed a class row.0)
+
+-- there is room for what a row becomes
+abbrev pub HasSizeBehind : List Linkable → Option (Key × Option Key) → Class → Row → Type 0
+HasSizeBehind authorities ended class row = HasSize (record_behind authorities ended class row.1)
+
+-- what is told of a row
+pub record IsRowAfter (authorities : List Linkable) (class : Class) (before now : KeptRecord) (after : RowAfter) : Type 0 where
+  pub kept : kept_record after.kept ≡ now
+  pub standings : after.standings ≡ standings_of authorities class now
+  pub differs : after.differs ≡ differs now before
+
+-- what is told of the rows of a class, before the committed record comes into its place
+pub record IsRowsAfter (authorities : List Linkable) (ended : Option (Key × Option Key)) (a : Arrival) (class : Class) (before : List Row) (after : RowsAfter) : Type 0 where
+  pub kept : kept_rows after.kept.rows ≡ rows_behind authorities ended class before
+  pub standings : after.standings.rows ≡ standings_rows authorities class (rows_behind authorities ended class before)
+  pub changed : after.changed ≡ count_by (is_other_changed authorities ended a class) before
+
+-- a value comes into the place of the committed record's key; a deletion takes away what stands there
+abbrev pub committed : {X : Type 0} → Arrival → X → List (Key × X) → List (Key × X)
+committed a x rows =
+    if is_deletion a.leader then remove_entry (same_key a.key) rows else insert_entry key_cmp rows a.key x
+
+-- the committed record behind its commit
+abbrev pub incoming : List Linkable → Arrival → KeptRecord
+incoming authorities a = new_record_after authorities a.class (new_record a.leader a.fields)
