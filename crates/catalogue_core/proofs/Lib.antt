@@ -1,6 +1,7 @@
 pub mod Authorities
 pub mod Building
 pub mod Commits
+pub mod Committed
 pub mod Counting
 pub mod Halfway
 pub mod Making

@@ -8,19 +8,23 @@ use Rattle.std.specs.Map.{remove_entry}
 use Rattle.marc_types.specs.Order.{key_cmp}
 use Rattle.marc_types.specs.declared.key.Class.{Class}
 use Rattle.marc_types.specs.declared.key.Key.{Key}
-use Rattle.record_store.specs.Store.{kept_rows}
+use Rattle.marc_types.specs.declared.key.Class.TheVariants.{Authority, Bibliographic}
+use Rattle.record_store.specs.Store.{kept_rows, stored}
 use Rattle.entry_record.specs.Identity.{is_deletion, same_key}
 use Rattle.entry_record.specs.Authority.{Linkable}
-use Rattle.entry_record.specs.State.{KeptRecord, Row, new_record, row_linkable}
+use Rattle.entry_record.specs.State.{KeptRecord, Row, State, new_record, row_linkable}
 use Rattle.entry_record.specs.Settle.{Arrival}
-use Rattle.entry_record.specs.Receipt.{differs, is_committed}
+use Rattle.entry_record.specs.Receipt as definition
+use Rattle.entry_record.specs.Receipt.{is_linked, is_ambiguous, is_unlinked, count_standing, differs, is_committed}
 use Rattle.catalogue_core.specs.Stands.{standings_of}
-use Rattle.catalogue_core.specs.Commits.{record_behind, rows_behind}
+use Rattle.catalogue_core.specs.Commits.{placed, ended_by, record_behind, rows_behind, state_behind}
 use Rattle.catalogue_core.specs.KeptRecords.{kept_record, new_record_after, HasSize}
 use Rattle.catalogue_core.specs.declared.standing.Standing.{Standing}
 use Rattle.catalogue_core.specs.declared.settling.Loosening.{Loosening}
 use Rattle.catalogue_core.specs.declared.behind.RowAfter.{RowAfter}
 use Rattle.catalogue_core.specs.declared.behind.RowsAfter.{RowsAfter}
+use Rattle.catalogue_core.specs.declared.behind.StateAfter.{StateAfter}
+use Rattle.catalogue_core.specs.declared.counts.Counts.{Counts}
 
 abbrev pub ended_as : Bor Loosening → Key × Option Key
 ended_as l = (l.now.key.now, option_copied l.now.successor)
@@ -28,6 +32,11 @@ ended_as l = (l.now.key.now, option_copied l.now.successor)
 -- the key whose links may end, and its successor
 abbrev pub ended : Option (Bor Loosening) → Option (Key × Option Key)
 ended loosening = option_map ended_as loosening
+
+-- links end only where an authority is committed
+abbrev pub ended_if : Class → Key × Option Key → Option (Key × Option Key)
+ended_if Authority links = Some links
+ended_if Bibliographic links = None
 
 -- the authority of each row of a class of authorities, where fields can be linked to it
 abbrev pub authority_row : Row → Key × Option Linkable
@@ -76,3 +85,30 @@ committed a x rows =
 -- the committed record behind its commit
 abbrev pub incoming : List Linkable → Arrival → KeptRecord
 incoming authorities a = new_record_after authorities a.class (new_record a.leader a.fields)
+
+abbrev pub authorities_in : Class → Arrival → Option Linkable → List (Key × Option Linkable) → List (Key × Option Linkable)
+authorities_in Authority a authority rows = committed a authority rows
+authorities_in Bibliographic a authority rows = rows
+
+-- the authorities behind a commit: an authority's comes into its place
+abbrev pub authorities_behind : Arrival → Option Linkable → List (Key × Option Linkable) → List (Key × Option Linkable)
+authorities_behind a authority rows = authorities_in a.class a authority rows
+
+-- how many fields of the committed record stand so; a deletion leaves no record to count in
+abbrev pub count_incoming : (definition.Standing → Bool) → List Linkable → Arrival → ℕ
+count_incoming test authorities a = if is_deletion a.leader then 0 else count_standing test authorities a.class (incoming authorities a)
+
+-- the numbers of the committed record
+pub record AreCounts (authorities : List Linkable) (a : Arrival) (counts : Counts) : Type 0 where
+  pub linked : counts.linked ≡ count_incoming is_linked authorities a
+  pub ambiguous : counts.ambiguous ≡ count_incoming is_ambiguous authorities a
+  pub unlinked : counts.unlinked ≡ count_incoming is_unlinked authorities a
+
+-- what is told of a catalogue behind a commit
+pub record IsStateAfter (authorities : List Linkable) (a : Arrival) (s : State) (after : StateAfter) : Type 0 where
+  pub state : (stored after.authorities.kept after.bibliographic.kept).state ≡ state_behind authorities (ended_by a) (placed a s)
+  pub authorities_stand : after.authorities.standings.rows ≡ standings_rows authorities Authority (state_behind authorities (ended_by a) (placed a s)).authorities
+  pub bibliographic_stand : after.bibliographic.standings.rows ≡ standings_rows authorities Bibliographic (state_behind authorities (ended_by a) (placed a s)).bibliographic
+  pub authorities_changed : after.authorities.changed ≡ count_by (is_other_changed authorities (ended_by a) a Authority) s.authorities
+  pub bibliographic_changed : after.bibliographic.changed ≡ count_by (is_other_changed authorities (ended_by a) a Bibliographic) s.bibliographic
+  pub counts : AreCounts authorities a after.counts

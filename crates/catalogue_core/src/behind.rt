@@ -8,10 +8,17 @@ ghost use Rattle.entry_record.specs.History.{arrival_of};
 ghost use Rattle.entry_record.specs.Receipt.{is_committed};
 ghost use Rattle.catalogue_core.specs.Views.{linkables};
 ghost use Rattle.catalogue_core.specs.KeptRecords.{kept_record, record_after, CanStand, HasSize};
-ghost use Rattle.catalogue_core.specs.Behind.{ended, linkable_rows, committed, HasSizeBehind, IsRowAfter, IsRowsAfter};
+ghost use Rattle.catalogue_core.specs.Behind.{ended_if, ended, linkable_rows, committed, incoming, authorities_behind, HasSizeBehind, AreCounts, IsRowAfter, IsRowsAfter};
+ghost use Rattle.catalogue_core.specs.Counted.{IsCountOf};
+ghost use Rattle.catalogue_core.specs.Stands.{standings_of};
+ghost use Rattle.record_store.specs.Store.{kept_rows};
+ghost use Rattle.std.specs.Option.{option_copied};
+ghost use Rattle.std.specs.Map.{remove_entry};
+ghost use Rattle.entry_record.specs.Identity.{same_key};
 
 use crate::authority::{Authority, authority_of};
-use crate::records::{RecordAfter, record_after};
+use crate::counts::{Counts, count_standings};
+use crate::records::{NewRecord, RecordAfter, new_record_after, record_after};
 use crate::settling::Loosening;
 use crate::standing::Standings;
 use entry_record::Prepared;
@@ -69,23 +76,39 @@ fn copy_authorities(
     Ok(twin)
 }
 
-/// The authorities behind the commit of an entry of their class: its authority comes into its key's place.
+/// The entry's authority comes into its key's place; a deletion takes away what stands there.
+fn put_authority(
+    alloc: Global,
+    authorities: &mut Shelf<Option<Authority>>,
+    item: &Prepared,
+) -> Result<(), NoMemory>
+    ensures { OnOk result (authorities.new.rows ≡ committed (arrival_of item.now) (authority_of item.now) authorities.old.rows) }
+{
+    let key = &item.entry().key;
+    if item.is_deletion() {
+        authorities.take(key);
+        return Ok(());
+    }
+    let authority = authority_of(alloc, item)?;
+    add(alloc, authorities, key, authority)
+}
+
+/// The authorities behind the commit of an entry: where it is one of theirs, it comes into its key's place.
 pub(crate) fn authorities_after(
     alloc: Global,
     authorities: &Shelf<Option<Authority>>,
     item: &Prepared,
 ) -> Result<Shelf<Option<Authority>>, NoMemory>
-    ensures { IfOk result (λ after. after.rows ≡ committed (arrival_of item.now) (authority_of item.now) authorities.now.rows) }
+    ensures { IfOk result (λ after. after.rows ≡ authorities_behind (arrival_of item.now) (authority_of item.now) authorities.now.rows) }
 {
     let mut after = copy_authorities(alloc, authorities)?;
-    let key = &item.entry().key;
-    if item.is_deletion() {
-        after.take(key);
-    } else {
-        let authority = authority_of(alloc, item)?;
-        add(alloc, &mut after, key, authority)?;
+    match item.entry().class {
+        Class::Authority => {
+            put_authority(alloc, &mut after, item)?;
+            Ok(after)
+        }
+        Class::Bibliographic => Ok(after),
     }
-    Ok(after)
 }
 
 /// The authorities that fields can be linked to, in key order.
@@ -197,4 +220,86 @@ pub(crate) fn rows_after<L: Ledger>(
         add_row(alloc, &mut after, key, row, counts)?;
     }
     Ok(after)
+}
+
+/// The committed record comes into its key's place, in which nothing is awaited.
+#[tactic(auto, using(crate::proofs::Committed::put_kept, crate::proofs::Committed::put_standings, crate::proofs::Committed::few_fields))]
+fn put_row(
+    alloc: Global,
+    item: &Prepared,
+    authorities: &[&Authority],
+    after: &mut RowsAfter,
+) -> Result<Counts, NoMemory>
+    requires authorities { All CanStand (linkables authorities.now) }
+    requires size { HasSize (incoming (linkables authorities.now) (arrival_of item.now)) }
+    ensures kept { OnOk result (kept_rows after.new.kept.rows
+        ≡ insert_entry key_cmp (kept_rows after.old.kept.rows) item.now.key (incoming (linkables authorities.now) (arrival_of item.now))) }
+    ensures standings { OnOk result (after.new.standings.rows
+        ≡ insert_entry key_cmp after.old.standings.rows item.now.key (standings_of (linkables authorities.now) item.now.class (incoming (linkables authorities.now) (arrival_of item.now)))) }
+    ensures changed { after.new.changed ≡ after.old.changed }
+    ensures counts { IfOk result (IsCountOf (linkables authorities.now) item.now.class (incoming (linkables authorities.now) (arrival_of item.now))) }
+{
+    let entry = item.entry();
+    let rec = entry.rec.copy(alloc)?;
+    let NewRecord { kept, standings } = new_record_after(alloc, authorities, entry.class, rec)?;
+    let counts = count_standings(standings.as_slice());
+    add(alloc, &mut after.kept, &entry.key, kept)?;
+    add(alloc, &mut after.standings, &entry.key, standings)?;
+    Ok(counts)
+}
+
+/// What stands under the key is taken away.
+#[tactic(auto, using(record_store::proofs::Mapped::kept_remove))]
+fn take_row(after: &mut RowsAfter, key: &Key)
+    ensures kept { kept_rows after.new.kept.rows ≡ remove_entry (same_key key.now) (kept_rows after.old.kept.rows) }
+    ensures standings { after.new.standings.rows ≡ remove_entry (same_key key.now) after.old.standings.rows }
+    ensures changed { after.new.changed ≡ after.old.changed }
+{
+    after.kept.take(key);
+    after.standings.take(key);
+}
+
+/// What a commit does to the place of the committed record's key, and how the record's fields stand; a deletion leaves none.
+fn commit_row(
+    alloc: Global,
+    item: &Prepared,
+    authorities: &[&Authority],
+    after: &mut RowsAfter,
+) -> Result<Counts, NoMemory>
+    requires authorities { All CanStand (linkables authorities.now) }
+    requires size { HasSize (incoming (linkables authorities.now) (arrival_of item.now)) }
+    ensures kept { OnOk result (kept_rows after.new.kept.rows
+        ≡ committed (arrival_of item.now) (incoming (linkables authorities.now) (arrival_of item.now)) (kept_rows after.old.kept.rows)) }
+    ensures standings { OnOk result (after.new.standings.rows
+        ≡ committed (arrival_of item.now) (standings_of (linkables authorities.now) item.now.class (incoming (linkables authorities.now) (arrival_of item.now))) after.old.standings.rows) }
+    ensures changed { after.new.changed ≡ after.old.changed }
+    ensures counts { IfOk result (AreCounts (linkables authorities.now) (arrival_of item.now)) }
+{
+    if !item.is_deletion() {
+        return put_row(alloc, item, authorities, after);
+    }
+    take_row(after, &item.entry().key);
+    Ok(Counts {
+        linked: 0,
+        ambiguous: 0,
+        unlinked: 0,
+    })
+}
+
+/// The records of both classes behind a commit, and how the fields of the committed one stand.
+#[derive(Drop)]
+pub(crate) struct StateAfter {
+    pub(crate) authorities: RowsAfter,
+    pub(crate) bibliographic: RowsAfter,
+    pub(crate) counts: Counts,
+}
+
+/// Links end only where an authority is committed.
+fn ended_links<'a>(class: Class, loosening: &'a Loosening<'a>) -> Option<&'a Loosening<'a>>
+    ensures { ended result ≡ ended_if class (loosening.now.key.now, option_copied loosening.now.successor) }
+{
+    match class {
+        Class::Authority => Some(loosening),
+        Class::Bibliographic => None,
+    }
 }
