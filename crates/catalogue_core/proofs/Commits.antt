@@ -59,7 +59,7 @@ step_valid s e v a =
 ready_are : (all : List Linkable) (class : Class) (rows : List Row) → Each (IsReadyRow all class) rows → Each (IsRow class) rows
 ready_are all class rows r = each_weaker (IsReadyRow all class) (IsRow class) (λ row x. x.row_is) rows r
 
-placed_fit : (k : Class) (a : Arrival) (s : State) → a.class ≡ k → IsFitArrival a → IsReady s → Each (IsFit (linkable_authorities (placed_in k a s))) (linkable_authorities (placed_in k a s))
+pub placed_fit : (k : Class) (a : Arrival) (s : State) → a.class ≡ k → IsFitArrival a → IsReady s → Each (IsFit (linkable_authorities (placed_in k a s))) (linkable_authorities (placed_in k a s))
 placed_fit Authority a s e fit r =
     all_fit (place a s.authorities) (ascend_place a s.authorities r.authorities_ascend)
     (each_place (IsRow Authority) a s.authorities (record { class_is = fit.class_is ∙ e; code = fit.code; number = fit.number })
@@ -75,7 +75,7 @@ new_loose class a s e fit =
     let now = linkable_authorities (placed_in Authority a s) in
     loose_row a.key now now class (λ key apart. refl) (a.key, new_record a.leader a.fields) (new_ready now a class e fit)
 
-placed_loose : (a : Arrival) (s : State) → a.class ≡ Authority → IsFitArrival a → IsReady s → Each (IsLooseRow a.key (linkable_authorities (placed_in Authority a s)) Authority) (place a s.authorities)
+pub placed_loose : (a : Arrival) (s : State) → a.class ≡ Authority → IsFitArrival a → IsReady s → Each (IsLooseRow a.key (linkable_authorities (placed_in Authority a s)) Authority) (place a s.authorities)
 placed_loose a s e fit r =
     each_place (IsLooseRow a.key (linkable_authorities (placed_in Authority a s)) Authority) a s.authorities (new_loose Authority a s e fit)
     (each_weaker (IsReadyRow (linkable_authorities s) Authority) (IsLooseRow a.key (linkable_authorities (placed_in Authority a s)) Authority) (loosened_one Authority a s) s.authorities r.authorities)
@@ -101,7 +101,7 @@ settle_linkables s r =
     (each_weaker (IsReadyRow all Authority) (λ (row : Row). Each (IsLinkOfHeading Authority) row.1.fields)
     (λ row x. each_weaker (IsTied all Authority) (IsLinkOfHeading Authority) (link_of_heading all Authority) row.1.fields x.ties) s.authorities r.authorities)
 
-put_is : (a : Arrival) (s : State) → put a s ≡ put_in a.class a s
+pub put_is : (a : Arrival) (s : State) → put a s ≡ put_in a.class a s
 unfolding put
 put_is a s = refl
 
@@ -153,7 +153,7 @@ step_behind s e v admitted =
 
 -- ---- each record fits behind the commit
 
-done_in : (k class : Class) (a : Arrival) (s : State) → a.class ≡ k → IsFitArrival a → IsReady s → (row : Row) → IsReadyRow (linkable_authorities s) class row →
+pub done_in : (k class : Class) (a : Arrival) (s : State) → a.class ≡ k → IsFitArrival a → IsReady s → (row : Row) → IsReadyRow (linkable_authorities s) class row →
     IsDoneRow (linkable_authorities (placed_in k a s)) class (row_behind (linkable_authorities (placed_in k a s)) (ended_in k a) class row)
 done_in Authority class a s e fit r row x =
     let now = linkable_authorities (placed_in Authority a s) in
@@ -164,7 +164,7 @@ done_in Bibliographic class a s e fit r row x =
     let all = linkable_authorities s in
     subst (λ (q : KeptRecord). IsDoneRow all class (row.0, each_in_record (settle_field all class) q)) (sym (idle row.1)) (settled_row all class (placed_fit Bibliographic a s e fit r) row x)
 
-done_fits : (all : List Linkable) (class : Class) (row : Row) → Each (IsFit all) all → IsDoneRow all class row → fits (fields_of row.1) ≡ true
+pub done_fits : (all : List Linkable) (class : Class) (row : Row) → Each (IsFit all) all → IsDoneRow all class row → fits (fields_of row.1) ≡ true
 done_fits all class row fits_all d =
     row_fits class row
     (each_weaker (λ h. IsTied all class h × IsRewritten all class h) (λ h. field_length h.field ≤ reach class h) (field_within all class fits_all) row.1.fields
@@ -174,7 +174,7 @@ done_fits all class row fits_all d =
 abbrev pub Fits : List Linkable → Option (Key × Option Key) → Class → Row → Type 0
 Fits all ended class row = fits (fields_of (record_behind all ended class row.1)) ≡ true
 
-fit_rows : (class : Class) (s : State) (e : Entry) → IsValid s → IsAdmitted e → (rows : List Row) → Each (IsReadyRow (linkable_authorities s) class) rows →
+pub fit_rows : (class : Class) (s : State) (e : Entry) → IsValid s → IsAdmitted e → (rows : List Row) → Each (IsReadyRow (linkable_authorities s) class) rows →
     Each (Fits (linkable_behind (arrival_of e) s) (ended_by (arrival_of e)) class) rows
 fit_rows class s e v admitted rows r =
     let a = arrival_of e in

@@ -3,8 +3,12 @@ pub mod Building
 pub mod Commits
 pub mod Committed
 pub mod Counting
+pub mod Engines
 pub mod Halfway
+pub mod Made
 pub mod Making
+pub mod Placed
+pub mod Receipts
 pub mod Rows
 pub mod Sames
 pub mod Seeking

@@ -1,5 +1,5 @@
 -- The rows of a catalogue behind a commit, and how the fields of each stand.
-use Rattle.std.specs.Prelude.{◌≡◌, ℕ, ◌+◌, ◌<◌, Bool, ◌&&◌, not, List, map, filter_map, Option, Some, None, if◌then◌else◌}
+use Rattle.std.specs.Prelude.{◌≡◌, ℕ, ◌+◌, ◌<◌, Bool, ◌&&◌, not, List, map, filter_map, All, IfSome, Option, Some, None, if◌then◌else◌}
 use Rattle.std.specs.Borrow.{Bor}
 use Rattle.std.specs.List.{count_by}
 use Rattle.std.specs.Option.{option_map, option_copied}
@@ -18,7 +18,7 @@ use Rattle.entry_record.specs.Receipt as definition
 use Rattle.entry_record.specs.Receipt.{is_linked, is_ambiguous, is_unlinked, count_standing, differs, is_committed}
 use Rattle.catalogue_core.specs.Stands.{standings_of}
 use Rattle.catalogue_core.specs.Commits.{placed, ended_by, record_behind, rows_behind, state_behind}
-use Rattle.catalogue_core.specs.KeptRecords.{kept_record, new_record_after, HasSize}
+use Rattle.catalogue_core.specs.KeptRecords.{kept_record, new_record_after, CanStand, HasSize}
 use Rattle.catalogue_core.specs.declared.standing.Standing.{Standing}
 use Rattle.catalogue_core.specs.declared.settling.Loosening.{Loosening}
 use Rattle.catalogue_core.specs.declared.behind.RowAfter.{RowAfter}
@@ -112,3 +112,14 @@ pub record IsStateAfter (authorities : List Linkable) (a : Arrival) (s : State) 
   pub authorities_changed : after.authorities.changed ≡ count_by (is_other_changed authorities (ended_by a) a Authority) s.authorities
   pub bibliographic_changed : after.bibliographic.changed ≡ count_by (is_other_changed authorities (ended_by a) a Bibliographic) s.bibliographic
   pub counts : AreCounts authorities a after.counts
+
+-- an authority in a row can stand in a record
+abbrev pub StandsIn : Key × Option Linkable → Type 0
+StandsIn row = IfSome row.1 CanStand
+
+-- what a commit can be made of: the authorities can stand in records, and there is room for what each record becomes
+pub record CanFollow (authorities : List Linkable) (a : Arrival) (s : State) : Type 0 where
+  pub stand : All CanStand authorities
+  pub authorities_fit : All (HasSizeBehind authorities (ended_by a) Authority) s.authorities
+  pub bibliographic_fit : All (HasSizeBehind authorities (ended_by a) Bibliographic) s.bibliographic
+  pub incoming_fits : HasSize (incoming authorities a)

@@ -3,6 +3,7 @@ pub mod Changes
 pub mod Commits
 pub mod Counted
 pub mod Drafts
+pub mod Engines
 pub mod KeptRecords
 pub mod Sought
 pub mod Stands

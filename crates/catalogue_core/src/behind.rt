@@ -4,11 +4,12 @@ ghost use Rattle.std.specs.BTreeMap.{insert_entry};
 ghost use Rattle.marc_types.specs.Order.{key_cmp};
 ghost use Rattle.entry_record.specs.Prepared.{authority_of};
 ghost use Rattle.entry_record.specs.State.{rows_of};
-ghost use Rattle.entry_record.specs.History.{arrival_of};
+ghost use Rattle.entry_record.specs.History.{IsAdmitted, arrival_of};
 ghost use Rattle.entry_record.specs.Receipt.{is_committed};
 ghost use Rattle.catalogue_core.specs.Views.{linkables};
 ghost use Rattle.catalogue_core.specs.KeptRecords.{kept_record, record_after, CanStand, HasSize};
-ghost use Rattle.catalogue_core.specs.Behind.{ended_if, ended, linkable_rows, committed, incoming, authorities_behind, HasSizeBehind, AreCounts, IsRowAfter, IsRowsAfter};
+ghost use Rattle.catalogue_core.specs.Behind.{ended_if, ended, linkable_rows, committed, incoming, authorities_behind, CanFollow, HasSizeBehind, AreCounts, IsRowAfter, IsRowsAfter, IsStateAfter};
+ghost use Rattle.catalogue_core.specs.Commits.{ended_by};
 ghost use Rattle.catalogue_core.specs.Counted.{IsCountOf};
 ghost use Rattle.catalogue_core.specs.Stands.{standings_of};
 ghost use Rattle.record_store.specs.Store.{kept_rows};
@@ -99,10 +100,12 @@ pub(crate) fn authorities_after(
     authorities: &Shelf<Option<Authority>>,
     item: &Prepared,
 ) -> Result<Shelf<Option<Authority>>, NoMemory>
-    ensures { IfOk result (λ after. after.rows ≡ authorities_behind (arrival_of item.now) (authority_of item.now) authorities.now.rows) }
+    ensures rows { IfOk result (λ after. after.rows ≡ authorities_behind (arrival_of item.now) (authority_of item.now) authorities.now.rows) }
+    ensures admitted { IsAdmitted item.now }
 {
+    let class = item.entry().class;
     let mut after = copy_authorities(alloc, authorities)?;
-    match item.entry().class {
+    match class {
         Class::Authority => {
             put_authority(alloc, &mut after, item)?;
             Ok(after)
@@ -302,4 +305,77 @@ fn ended_links<'a>(class: Class, loosening: &'a Loosening<'a>) -> Option<&'a Loo
         Class::Authority => Some(loosening),
         Class::Bibliographic => None,
     }
+}
+
+/// Each record behind a commit, over the authorities behind it.
+fn state_over<L: Ledger>(
+    alloc: Global,
+    store: &Store,
+    authorities: &[&Authority],
+    loosening: Option<&Loosening<'_>>,
+    item: &Prepared,
+    steps: &mut Steps<L>,
+) -> Result<StateAfter, NoMemory>
+    requires can_follow { CanFollow (linkables authorities.now) (arrival_of item.now) store.now.state }
+    requires links { ended loosening ≡ ended_by (arrival_of item.now) }
+    ensures { IfOk result (IsStateAfter (linkables authorities.now) (arrival_of item.now) store.now.state) }
+{
+    let entry = item.entry();
+    let mut first = rows_after(
+        alloc,
+        store,
+        authorities,
+        loosening,
+        Class::Authority,
+        entry,
+        steps,
+    )?;
+    let mut second = rows_after(
+        alloc,
+        store,
+        authorities,
+        loosening,
+        Class::Bibliographic,
+        entry,
+        steps,
+    )?;
+    match entry.class {
+        Class::Authority => {
+            let counts = commit_row(alloc, item, authorities, &mut first)?;
+            Ok(StateAfter {
+                authorities: first,
+                bibliographic: second,
+                counts,
+            })
+        }
+        Class::Bibliographic => {
+            let counts = commit_row(alloc, item, authorities, &mut second)?;
+            Ok(StateAfter {
+                authorities: first,
+                bibliographic: second,
+                counts,
+            })
+        }
+    }
+}
+
+/// Each record behind a commit, over the authorities behind it.
+pub(crate) fn state_after<L: Ledger>(
+    alloc: Global,
+    store: &Store,
+    authorities: &Shelf<Option<Authority>>,
+    item: &Prepared,
+    steps: &mut Steps<L>,
+) -> Result<StateAfter, NoMemory>
+    requires { CanFollow (linkable_rows authorities.now.rows) (arrival_of item.now) store.now.state }
+    ensures { IfOk result (IsStateAfter (linkable_rows authorities.now.rows) (arrival_of item.now) store.now.state) }
+{
+    let linkable = linkable(alloc, authorities)?;
+    let entry = item.entry();
+    let loosening = Loosening {
+        key: &entry.key,
+        successor: item.successor(),
+    };
+    let loosening = ended_links(entry.class, &loosening);
+    state_over(alloc, store, &linkable, loosening, item, steps)
 }
