@@ -3,6 +3,7 @@ pub mod Counting
 pub mod Making
 pub mod Sames
 pub mod Seeking
+pub mod Standable
 pub mod Standings
 pub mod Sound
 pub mod Ties
