@@ -1,5 +1,5 @@
 -- The test for equal kept fields decides whether they are the same.
-use Rattle.std.proofs.Common.{◌≡◌, ℕ, ◌==◌, Bool, true, false, ◌&&◌, List, Option, Some, None, refl, sym, ap, ◌∙◌, if◌then◌else◌}
+use Rattle.std.proofs.Common.{◌≡◌, ◌==◌, Bool, true, false, ◌&&◌, Option, Some, None, refl, sym, ap, if◌then◌else◌}
 use Rattle.std.specs.Prelude.{bytes_eq}
 use Rattle.std.specs.Bool.{Decides, beq}
 use Rattle.std.specs.Option.{option_eq}
@@ -16,7 +16,6 @@ use Rattle.entry_record.specs.Identity.{same_key}
 use Rattle.entry_record.specs.State.{KeptField}
 use Rattle.entry_record.specs.Sameness.{same_tag, same_subfield, same_field, same_tie, same_kept}
 use Rattle.entry_record.proofs.Proper.{and_both}
-use Rattle.catalogue_core.specs.Views.{kept_field}
 use Rattle.catalogue_core.specs.Changes.{change}
 
 both : (a b : Bool) → a ≡ true → b ≡ true → (a && b) ≡ true

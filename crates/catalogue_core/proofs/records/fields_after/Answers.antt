@@ -1,4 +1,4 @@
-use Rattle.std.proofs.Common.{◌≡◌, ◌≤◌, arith, length, sym}
+use Rattle.std.proofs.Common.{◌≤◌, length}
 use Rattle.catalogue_core.specs.Views.{linkables, kept_field}
 use Rattle.catalogue_core.specs.KeptRecords.{tied, kept_record}
 use Rattle.catalogue_core.proofs.Ties.{tied_at, length_tied}

@@ -1,9 +1,9 @@
-use Rattle.std.proofs.Common.{◌≡◌, ◌≤◌, List, Option, map, sym, ◌∙◌, subst}
+use Rattle.std.proofs.Common.{◌≤◌, List, Option, map, sym, ◌∙◌, subst}
 use Rattle.marc_types.specs.Valid.{fields_size}
 use Rattle.entry_record.specs.State.{KeptField}
 use Rattle.catalogue_core.specs.Views.{linkables}
 use Rattle.catalogue_core.specs.Changes.{field_after}
-use Rattle.catalogue_core.specs.KeptRecords.{tied, kept_record}
+use Rattle.catalogue_core.specs.KeptRecords.{kept_record}
 use Rattle.catalogue_core.specs.Drafts.{IsDraftOf}
 use Rattle.catalogue_core.specs.declared.records.Draft.{Draft}
 use Rattle.catalogue_core.proofs.Making.{record_fields, record_same, record_other}
