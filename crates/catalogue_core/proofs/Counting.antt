@@ -1,5 +1,5 @@
 -- Counting how fields stand, one after another.
-use Rattle.std.proofs.Common.{◌≡◌, ℕ, suc, ◌+◌, ◌<◌, ◌≤◌, Bool, true, false, cond, List, [], ◌∷◌, ◌++◌, length, take, get_or, map, refl, sym, ap, ◌∙◌, arith, add-one}
+use Rattle.std.proofs.Common.{◌≡◌, ℕ, ◌+◌, ◌<◌, ◌≤◌, Bool, true, false, cond, List, [], ◌∷◌, length, take, get_or, map, refl, sym, ap, ◌∙◌, arith}
 use Rattle.std.specs.List.{count_by}
 use Rattle.std.proofs.lemmas.Grind.{common_steps}
 use Rattle.std.proofs.lemmas.List.Sums.{count_by_more_yes, count_by_more_no, count_by-le-length, sum_by-cons}
@@ -68,7 +68,7 @@ unlinked_alike definition.WithoutHeading = refl
 count_alike : (p : Standing → Bool) (q : definition.Standing → Bool) → ((s : definition.Standing) → p (stands_as s) ≡ q s) → (all : List Linkable) (class : Class) (hs : List KeptField) →
     count_by p (map (field_standing all class) hs) ≡ count_by (λ h. q (standing_of all class h)) hs
 count_alike p q same all class [] = refl
-count_alike p q same all class (h ∷ hs) = 
+count_alike p q same all class (h ∷ hs) =
     sum_by-cons (λ s. cond (p s) 1 0) (field_standing all class h) (map (field_standing all class) hs)
     ∙ ap (λ b. cond b 1 0 + count_by p (map (field_standing all class) hs)) (same (standing_of all class h))
     ∙ ap (λ n. cond (q (standing_of all class h)) 1 0 + n) (count_alike p q same all class hs)

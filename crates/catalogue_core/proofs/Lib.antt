@@ -12,6 +12,7 @@ pub mod Receipts
 pub mod Rows
 pub mod Sames
 pub mod Seeking
+pub mod Standable
 pub mod Standings
 pub mod Sound
 pub mod Ties

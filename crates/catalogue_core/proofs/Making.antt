@@ -64,19 +64,19 @@ begun_none hs told e = λ after h same c.
 
 pub begun_some : (hs : List KeptField) (told : Option Held) (held : Held) (d : Draft) → told ≡ Some held → IsDraft (hs ++ held_as held ∷ []) d → IsBegunAt hs told (Some d)
 begun_some hs told held d e draft = λ after h same c. record {
-    draft = subst (λ (l : List KeptField). IsDraft l d)
+  draft = subst (λ (l : List KeptField). IsDraft l d)
       (ap (λ (g : KeptField). hs ++ g ∷ []) (became h (after h) told held e c) ∙ ap (λ l. l ++ after h ∷ []) (sym same) ∙ sym (map_one after hs h)) draft;
-    other = last_other after hs h (other_by (same_kept h (after h)) (held_as held) (after h) (sym (ap (option_map held_as) e) ∙ c));
-  }
+  other = last_other after hs h (other_by (same_kept h (after h)) (held_as held) (after h) (sym (ap (option_map held_as) e) ∙ c));
+}
 
 pub went_on : (h : KeptField) (told : Option Held) (held : Held) (before made : Draft) →
     ((now : KeptField) → option_map held_as told ≡ change h now → held_as held ≡ now) →
     ((hs : List KeptField) → IsDraft hs before → IsDraft (hs ++ held_as held ∷ []) made) → GoesOn h told before made
 went_on h told held before made is pushed = λ after hs begun c. record {
-    draft = subst (λ (l : List KeptField). IsDraft l made)
+  draft = subst (λ (l : List KeptField). IsDraft l made)
       (ap (λ (g : KeptField). map after hs ++ g ∷ []) (is (after h) c) ∙ sym (map_one after hs h)) (pushed (map after hs) begun.draft);
-    other = first_other after hs h begun.other;
-  }
+  other = first_other after hs h begun.other;
+}
 
 pub added_by : (hs : List KeptField) (i : ℕ) (g : KeptField) (told : Option Held) (draft : Option Draft) (before made : Draft) → slice_get hs i ≡ Some g →
     draft ≡ Some before → GoesOn g told before made → IsAdded hs i told draft (Some made)
@@ -116,12 +116,12 @@ pub through_more : (all : List Linkable) (l : Option (Bor Loosening)) (class : C
     IsThrough all l class hs i before standings → slice_get hs i ≡ Some h → IsFieldAfter all class h (field_after all l class h) told →
     IsAdded hs i told.changed before made → more ≡ standings ++ told.standing ∷ [] → IsThrough all l class hs (i + 1) made more
 through_more all l class hs i before made standings more h told so_far at after added e = record {
-    drafted = added (field_after all l class) h at so_far.drafted after.changed;
-    standing =
+  drafted = added (field_after all l class) h at so_far.drafted after.changed;
+  standing =
       let stands = λ (g : KeptField). field_standing all class (field_after all l class g) in
       e ∙ ap (λ s. standings ++ s ∷ []) after.standing ∙ ap (λ ss. ss ++ stands h ∷ []) so_far.standing ∙ sym (map_more stands (take i hs) h)
       ∙ ap (map stands) (sym (take_one hs i h at) ∙ ap (λ n. take n hs) (sym (add-one i)));
-  }
+}
 
 pub take_whole : {A : Type 0} (xs : List A) (i : ℕ) → length xs ≤ i → take i xs ≡ xs
 take_whole [] zero e = refl

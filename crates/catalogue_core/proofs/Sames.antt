@@ -1,5 +1,5 @@
 -- The test for equal kept fields decides whether they are the same.
-use Rattle.std.proofs.Common.{◌≡◌, ℕ, ◌==◌, Bool, true, false, ◌&&◌, List, Option, Some, None, refl, sym, ap, ◌∙◌, if◌then◌else◌}
+use Rattle.std.proofs.Common.{◌≡◌, ◌==◌, Bool, true, false, ◌&&◌, Option, Some, None, refl, sym, ap, if◌then◌else◌}
 use Rattle.std.specs.Prelude.{bytes_eq}
 use Rattle.std.specs.Bool.{Decides, beq}
 use Rattle.std.specs.Option.{option_eq}
@@ -16,7 +16,6 @@ use Rattle.entry_record.specs.Identity.{same_key}
 use Rattle.entry_record.specs.State.{KeptField}
 use Rattle.entry_record.specs.Sameness.{same_tag, same_subfield, same_field, same_tie, same_kept}
 use Rattle.entry_record.proofs.Proper.{and_both}
-use Rattle.catalogue_core.specs.Views.{kept_field}
 use Rattle.catalogue_core.specs.Changes.{change}
 
 both : (a b : Bool) → a ≡ true → b ≡ true → (a && b) ≡ true
@@ -120,28 +119,6 @@ kept_Decides g h = (kept_same g h, λ e. rw (← e) (kept_alike g))
 
 pub no_change : (h : KeptField) → None ≡ change h h
 no_change h = ap (λ b. if b then None else Some h) (sym (kept_alike h))
-
-pub same_change : (f : Field) (t : Tie) (g : Field) (s : Tie) → f ≡ g → t ≡ s →
-    None ≡ change (kept_field f t) (kept_field g s)
-same_change f t g s e d =
-    let same : kept_field f t ≡ kept_field g s = λ i. record { field = e i; tie = d i } in
-    no_change (kept_field f t) ∙ ap (change (kept_field f t)) same
-
-differ : (b : Bool) (h : KeptField) → (b ≡ true → ⊥) → Some h ≡ (if b then None else Some h)
-differ true h no_way = absurd (no_way refl)
-differ false h no_way = refl
-
-pub other_field : (f : Field) (t : Tie) (g : Field) (s : Tie) → (f ≡ g → ⊥) →
-    Some (kept_field g s) ≡ change (kept_field f t) (kept_field g s)
-other_field f t g s no_way =
-    differ (same_kept (kept_field f t) (kept_field g s)) (kept_field g s)
-    (λ e. no_way (ap (λ (k : KeptField). k.field) (kept_same (kept_field f t) (kept_field g s) e)))
-
-pub other_tie : (f : Field) (t : Tie) (g : Field) (s : Tie) → (t ≡ s → ⊥) →
-    Some (kept_field g s) ≡ change (kept_field f t) (kept_field g s)
-other_tie f t g s no_way =
-    differ (same_kept (kept_field f t) (kept_field g s)) (kept_field g s)
-    (λ e. no_way (ap (λ (k : KeptField). k.tie) (kept_same (kept_field f t) (kept_field g s) e)))
 
 unchanged_by : (b : Bool) (h : KeptField) → None ≡ (if b then None else Some h) → b ≡ true
 unchanged_by true h e = refl

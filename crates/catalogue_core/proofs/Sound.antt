@@ -1,12 +1,12 @@
 -- What a commit makes of the fields of a record are fields as records have them, where the authorities' headings and keys are.
-use Rattle.std.proofs.Common.{◌≡◌, ℕ, suc, ◌≤◌, Bool, true, false, ◌&&◌, List, [], ◌∷◌, length, map, Option, Some, None, refl, sym, ap, ◌∙◌, arith, subst, IsTrue}
+use Rattle.std.proofs.Common.{◌≡◌, suc, ◌≤◌, Bool, true, false, ◌&&◌, List, [], ◌∷◌, length, map, Option, Some, None, refl, sym, ap, ◌∙◌, subst}
 use Rattle.std.specs.Prelude.{find, filter, All, IfSome, unwrap_or, nat_le, if◌then◌else◌}
 use Rattle.std.specs.List.{list_all}
 use Rattle.std.specs.Borrow.{Bor}
 use Rattle.std.specs.Option.{option_map, option_map_or, option_copied}
 use Rattle.std.proofs.lemmas.List.Elements.{recursion_from_All}
 use Rattle.std.proofs.lemmas.Bool.{le-leb}
-use Rattle.marc_types.specs.Valid.{is_field, is_text, is_leader, is_record, fields_size}
+use Rattle.marc_types.specs.Valid.{is_field, is_leader, is_record, fields_size}
 use Rattle.marc_types.specs.declared.field.Subfield.{Subfield}
 use Rattle.marc_types.specs.declared.field.Leader.{Leader}
 use Rattle.marc_types.specs.declared.field.Field.{Field}
@@ -19,19 +19,18 @@ use Rattle.heading_fields.specs.Parts.{subfields_of}
 use Rattle.heading_fields.specs.Numbers.{is_naming}
 use Rattle.heading_fields.proofs.Fieldlaws.{is_field_rewriting, is_field_unlinking}
 use Rattle.entry_record.specs.Authority.{Linkable, is_bare, base_form, full_form, heading_kind}
-use Rattle.entry_record.specs.State.{KeptField, fields_of}
+use Rattle.entry_record.specs.State.{KeptField}
 use Rattle.entry_record.specs.Choice.{Choice, Link, Ambiguous, Unlinked, has_key, takes_subdivisions, is_taken_whole, can_take, link_where, by_awaited, by_first_name, by_number, choice_among, is_established, is_see_from_form, by_form, by_full_form, asks_base, by_base_form, choice}
 use Rattle.entry_record.specs.Settle.{keeps_link, is_linked_to, awaits_key, end_link, await, hand_on, loosen, link_to, take_choice, settle_linked, settle_unlinked, settle_field}
 use Rattle.entry_record.proofs.Elements.{Each, each_weaker, each_filter, find_found, if_some_or, if_some_then}
 use Rattle.entry_record.proofs.Fit.{IfLink}
 use Rattle.entry_record.proofs.Proper.{and_both}
 use Rattle.catalogue_core.specs.Changes.{loosened, field_after}
-use Rattle.catalogue_core.specs.KeptRecords.{tied, kept_record, record_after, CanStand, HasSize}
+use Rattle.catalogue_core.specs.KeptRecords.{tied, CanStand}
 use Rattle.catalogue_core.specs.Drafts.{IsDraft}
 use Rattle.catalogue_core.specs.declared.records.Draft.{Draft}
 use Rattle.catalogue_core.specs.declared.settling.Loosening.{Loosening}
 use Rattle.catalogue_core.proofs.Ties.{length_tied, fields_tied}
-use Rattle.catalogue_core.proofs.Making.{record_fields}
 
 -- ---- a choice links to one of the authorities
 
@@ -190,9 +189,9 @@ drafted_record all l class leader fields ties d can even valid size draft =
     let hs = tied fields ties in
     let each = recursion_from_All CanStand all can in
     let made : map (λ (h : KeptField). h.field) (map (field_after all l class) hs) ≡ d.fields.items =
-        sym (ap (map (λ (h : KeptField). h.field)) draft.fields_are) ∙ fields_tied d.fields.items d.ties.items (sym draft.even) in
+    sym (ap (map (λ (h : KeptField). h.field)) draft.fields_are) ∙ fields_tied d.fields.items d.ties.items (sym draft.even) in
     let before : list_all is_field (map (λ (h : KeptField). h.field) hs) ≡ true = rw (fields_tied fields ties even) (fields_sound leader fields valid) in
     let long : length (map (λ (h : KeptField). h.field) (map (field_after all l class) hs)) ≡ length fields =
-        length_map (λ (h : KeptField). h.field) (map (field_after all l class) hs) ∙ length_map (field_after all l class) hs ∙ length_tied fields ties even in
+    length_map (λ (h : KeptField). h.field) (map (field_after all l class) hs) ∙ length_map (field_after all l class) hs ∙ length_tied fields ties even in
     subst (λ (xs : List Field). is_record leader xs ≡ true) made
     (is_record_by leader fields (map (λ (h : KeptField). h.field) (map (field_after all l class) hs)) valid (all_sound all each l class hs before) long size)

@@ -1,5 +1,5 @@
 -- How a field stands once it is settled.
-use Rattle.std.proofs.Common.{◌≡◌, Bool, true, false, List, Option, Some, None, refl, sym, ap, ◌∙◌}
+use Rattle.std.proofs.Common.{◌≡◌, List, Option, Some, None, refl, sym, ap, ◌∙◌}
 use Rattle.std.specs.Prelude.{find}
 use Rattle.std.specs.Prelude.{unwrap_or}
 use Rattle.std.specs.Borrow.{Bor}
@@ -114,7 +114,7 @@ pub both_after : (all : List Linkable) (l : Option (Bor Loosening)) (m : Bor Loo
 both_after all l m class h loose settled final e some after told =
     let same = changed h (held_as loose) (loosen all m.now.key.now (option_copied m.now.successor) class h) some in
     let end : settle_field all class (held_as loose) ≡ field_after all l class h =
-        ap (settle_field all class) same ∙ sym (ap (λ o. field_after all o class h) e) in
+    ap (settle_field all class) same ∙ sym (ap (λ o. field_after all o class h) e) in
     record {
       changed = told ∙ ap (change h) (now_is settled.changed loose (settle_field all class (held_as loose)) after.changed ∙ end);
       standing = after.standing ∙ ap (field_standing all class) end;

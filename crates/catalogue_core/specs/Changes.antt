@@ -1,12 +1,10 @@
 -- What a commit makes of a field and of a record, where that is something else than before.
-use Rattle.std.specs.Prelude.{◌≡◌, Option, Some, None, List, [], ◌∷◌, if◌then◌else◌}
+use Rattle.std.specs.Prelude.{◌≡◌, Option, Some, None, List, if◌then◌else◌}
 use Rattle.std.specs.Option.{option_map, option_copied}
 use Rattle.std.specs.Borrow.{Bor}
 use Rattle.marc_types.specs.declared.key.Class.{Class}
-use Rattle.marc_types.specs.declared.field.Field.{Field}
-use Rattle.marc_types.specs.declared.entry.Tie.{Tie}
 use Rattle.entry_record.specs.Authority.{Linkable}
-use Rattle.entry_record.specs.State.{KeptField, KeptRecord}
+use Rattle.entry_record.specs.State.{KeptField}
 use Rattle.entry_record.specs.Sameness.{same_kept}
 use Rattle.entry_record.specs.Settle.{loosen, settle_field}
 use Rattle.catalogue_core.specs.Views.{kept_field}

@@ -1,5 +1,5 @@
 -- The numbers of a receipt, by how the fields of the committed record stand.
-use Rattle.std.specs.Prelude.{◌≡◌, ℕ, ◌<◌, Bool, true, false, List}
+use Rattle.std.specs.Prelude.{◌≡◌, ◌<◌, Bool, true, false, List}
 use Rattle.marc_types.specs.declared.key.Class.{Class}
 use Rattle.entry_record.specs.Authority.{Linkable}
 use Rattle.entry_record.specs.State.{KeptRecord}

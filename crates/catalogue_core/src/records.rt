@@ -166,8 +166,14 @@ fn fields_after(
     let mut draft = None;
     let mut standings = Vec::with_capacity(alloc, fields.len())?;
     for (place, field) in fields.iter().enumerate() {
-        let FieldAfter { changed, standing } =
-            field_after(alloc, authorities, loosening, class, field, &ties[place])?;
+        let FieldAfter { changed, standing } = field_after(
+            alloc,
+            authorities,
+            loosening,
+            class,
+            field,
+            &ties[place],
+        )?;
         standings.push(standing)?;
         draft = add(alloc, draft, kept, place, changed)?;
     }
@@ -205,8 +211,13 @@ pub(crate) fn record_after(
     ensures { let before = kept_record kept.now in IfOk result (IsRecordAfter (linkables authorities.now) class before
         (record_after (linkables authorities.now) loosening.entry class before)) }
 {
-    let FieldsAfter { draft, standings } =
-        fields_after(alloc, authorities, loosening, class, kept)?;
+    let FieldsAfter { draft, standings } = fields_after(
+        alloc,
+        authorities,
+        loosening,
+        class,
+        kept,
+    )?;
     let standings = Standings::from_vec(standings);
     match draft {
         Some(draft) => Ok(RecordAfter {

@@ -87,13 +87,7 @@ fn is_key(key: &Key, other: &Option<Key>) -> bool
 }
 
 /// Whether a link to the authority with that key can stay.
-fn keeps_link(
-    authorities: &[&Authority],
-    class: Class,
-    field: &Field,
-    tie: &Tie,
-    key: &Key,
-) -> bool
+fn keeps_link(authorities: &[&Authority], class: Class, field: &Field, tie: &Tie, key: &Key) -> bool
     ensures { result ≡ keeps_link (linkables authorities.now) class (kept_field field.now tie.now) key.now }
 {
     match authority_with_key(authorities, key) {
@@ -357,8 +351,13 @@ pub(crate) fn field_after(
     let Some(loosened) = loosen_field(alloc, authorities, loosening, class, field, tie)? else {
         return settle_field(alloc, authorities, class, field, tie);
     };
-    let FieldAfter { changed, standing } =
-        settle_field(alloc, authorities, class, &loosened.field, &loosened.tie)?;
+    let FieldAfter { changed, standing } = settle_field(
+        alloc,
+        authorities,
+        class,
+        &loosened.field,
+        &loosened.tie,
+    )?;
     let now = changed.unwrap_or(loosened);
     Ok(FieldAfter {
         changed: change(field, tie, now),

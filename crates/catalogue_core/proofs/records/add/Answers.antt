@@ -1,6 +1,4 @@
-use Rattle.std.proofs.Common.{◌≡◌, List, IfOk, subst, take}
-use Rattle.marc_types.specs.declared.entry.Kept.{Kept}
-use Rattle.entry_record.specs.State.{KeptField}
+use Rattle.std.proofs.Common.{take}
 use Rattle.catalogue_core.specs.Views.{kept_field}
 use Rattle.catalogue_core.specs.KeptRecords.{tied}
 use Rattle.catalogue_core.specs.Drafts.{IsBegunAt, IsAdded}

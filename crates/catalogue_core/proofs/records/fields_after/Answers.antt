@@ -1,4 +1,4 @@
-use Rattle.std.proofs.Common.{◌≡◌, ◌≤◌, arith, length, sym}
+use Rattle.std.proofs.Common.{◌≤◌, length}
 use Rattle.catalogue_core.specs.Views.{linkables, kept_field}
 use Rattle.catalogue_core.specs.KeptRecords.{tied, kept_record}
 use Rattle.catalogue_core.proofs.Ties.{tied_at, length_tied}
@@ -23,7 +23,7 @@ returns-clause-draft c =
     let fields = c.args.kept.now.rec.fields in
     let ties = c.args.kept.now.links in
     let past : length (tied fields ties) ≤ c.loop-place.place =
-        rw (length_tied fields ties c.args.kept.now.tied) (rw c.as_slice-fields.ensures at c.loop-place-test.false) in
+    rw (length_tied fields ties c.args.kept.now.tied) (rw c.as_slice-fields.ensures at c.loop-place-test.false) in
     through_drafted (linkables c.args.authorities.now) c.args.loosening c.args.class (tied fields ties) c.loop-place.place c.loop-place.draft
     c.loop-place.standings.items past c.loop-place.invariant
 
@@ -32,6 +32,6 @@ returns-clause-standings c =
     let fields = c.args.kept.now.rec.fields in
     let ties = c.args.kept.now.links in
     let past : length (tied fields ties) ≤ c.loop-place.place =
-        rw (length_tied fields ties c.args.kept.now.tied) (rw c.as_slice-fields.ensures at c.loop-place-test.false) in
+    rw (length_tied fields ties c.args.kept.now.tied) (rw c.as_slice-fields.ensures at c.loop-place-test.false) in
     through_standing (linkables c.args.authorities.now) c.args.loosening c.args.class (kept_record c.args.kept.now) c.loop-place.place c.loop-place.draft
     c.loop-place.standings.items past c.loop-place.invariant

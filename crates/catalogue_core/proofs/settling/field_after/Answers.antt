@@ -10,7 +10,7 @@ returns-in_default-2 c =
     let h = kept_field c.args.field.now c.args.tie.now in
     let all = linkables c.args.authorities.now in
     let same = same_after all c.args.loosening c.in-Some.loosening c.args.class h c.in-Some.is
-        (sym (ap (option_map held_as) c.in_default-2.is) ∙ c.in_ok-loosened.ensures) in
+    (sym (ap (option_map held_as) c.in_default-2.is) ∙ c.in_ok-loosened.ensures) in
     subst (λ (now : KeptField). IfOk c.settle_field-in_default-2.result (IsFieldAfter all c.args.class h now)) same c.settle_field-in_default-2.ensures
 
 pub returns : goal.returns
