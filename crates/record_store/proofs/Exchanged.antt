@@ -1,5 +1,5 @@
 -- A field is exchanged in the record under a key.
-use Rattle.std.proofs.Common.{◌≡◌, ℕ, ◌+◌, Bool, true, false, List, [], ◌∷◌, length, map, Option, Some, None, IsSome, IfSome, refl, sym, ap, ◌∙◌, subst, cond, if◌then◌else◌, arith}
+use Rattle.std.proofs.Common.{◌≡◌, ℕ, List, [], ◌∷◌, length, map, Option, Some, None, IsSome, refl, sym, ap, ◌∙◌, subst, cond, if◌then◌else◌, arith}
 use mathlib.Core.Bool.{false≢true}
 use Rattle.std.specs.Option.{is_some, option_map, option_and_then, unwrap_or}
 use Rattle.std.specs.List.Sorted.{IsStrictlySortedBy}
@@ -11,13 +11,12 @@ use Rattle.std.specs.Ordering.{is_eq, match_ordering}
 use Rattle.std.proofs.lemmas.Map.Keys.{sorted_head, sorted_tail}
 use Rattle.std.proofs.lemmas.Map.Steps.{set_value_same}
 use Rattle.marc_types.specs.Order.{key_cmp}
-use Rattle.marc_types.specs.declared.field.Field.{Field}
 use Rattle.marc_types.specs.declared.key.Key.{Key}
 use Rattle.marc_types.specs.declared.entry.Kept.{Kept}
 use Rattle.entry_record.specs.Identity.{same_key}
 use Rattle.entry_record.specs.State.{KeptField, KeptRecord, Row}
 use Rattle.record_store.specs.Shelf.{filled}
-use Rattle.record_store.specs.Store.{StaysRecord, field_at, kept_record, kept_row, kept_rows, with_field, with_field_under}
+use Rattle.record_store.specs.Store.{field_at, kept_record, kept_rows, with_field, with_field_under}
 use Rattle.record_store.proofs.Places.{Slots, IsBelow, IsInOrder, still_below, same_below, lookup_below, filled_in_order, filled_put, found, counted}
 use Rattle.record_store.proofs.Mapped.{kept_insert, kept_lookup}
 

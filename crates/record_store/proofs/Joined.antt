@@ -4,11 +4,10 @@ use mathlib.Core.Bool.{false≢true}
 use Rattle.std.specs.Prelude.{slice_get, slice_set}
 use Rattle.std.specs.Option.{is_some, option_map, option_and_then}
 use Rattle.marc_types.specs.Valid.{is_record}
-use Rattle.marc_types.specs.declared.field.Leader.{Leader}
 use Rattle.marc_types.specs.declared.field.Field.{Field}
 use Rattle.marc_types.specs.declared.entry.Tie.{Tie}
 use Rattle.marc_types.specs.declared.entry.Kept.{Kept}
-use Rattle.entry_record.specs.State.{KeptField, KeptRecord, fields_of}
+use Rattle.entry_record.specs.State.{KeptField}
 use Rattle.record_store.specs.Store.{StaysRecord, field_at, kept_field, kept_fields, kept_record, with_field}
 
 pub joined_set : (fields : List Field) (ties : List Tie) (i : ℕ) (field : Field) (tie : Tie) → length ties ≡ length fields

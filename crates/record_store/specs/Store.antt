@@ -1,5 +1,5 @@
 -- What clauses see of a store: the state of a catalogue, and the keys that have a place for a record.
-use Rattle.std.specs.Prelude.{◌≡◌, ℕ, ◌<◌, Bool, true, List, [], ◌∷◌, map, length, slice_get, slice_set, if◌then◌else◌, Option, Some, None}
+use Rattle.std.specs.Prelude.{◌≡◌, ℕ, ◌<◌, Bool, true, List, [], ◌∷◌, map, length, slice_get, slice_set, if◌then◌else◌, Option}
 use Rattle.std.specs.Borrow.{Bor}
 use Rattle.std.specs.List.{list_any}
 use Rattle.std.specs.Option.{option_and_then}
@@ -12,7 +12,7 @@ use Rattle.marc_types.specs.declared.key.Place.{Place}
 use Rattle.marc_types.specs.declared.entry.Tie.{Tie}
 use Rattle.marc_types.specs.declared.entry.Kept.{Kept}
 use Rattle.entry_record.specs.Identity.{same_key}
-use Rattle.entry_record.specs.State.{KeptField, KeptRecord, Row, State, rows_of, fields_of}
+use Rattle.entry_record.specs.State.{KeptField, KeptRecord, Row, State, fields_of}
 use Rattle.entry_record.specs.Receipt.{kept_under}
 use Rattle.record_store.specs.Shelf.{Shelved}
 

@@ -4,4 +4,4 @@ use Rattle.entry_record.specs.State.{rows_of}
 use Rattle.record_store.proofs.tests.keys_in.Given as goal
 
 abbrev pub invariant-loop-key : goal.invariant-loop-key
-invariant-loop-key l = l.keys.items ++ keys_of l.key-iterator ≡ keys_of (rows_of l.class l.store.state)
+invariant-loop-key l = l.keys.items ++ keys_of l.key-iterator ≡ keys_of (rows_of l.fn.class l.store.state)
