@@ -5,6 +5,7 @@ pub mod Committed
 pub mod Counting
 pub mod Engines
 pub mod Halfway
+pub mod Look
 pub mod Made
 pub mod Making
 pub mod Placed

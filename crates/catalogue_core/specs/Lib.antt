@@ -7,4 +7,5 @@ pub mod Engines
 pub mod KeptRecords
 pub mod Sought
 pub mod Stands
+pub mod Told
 pub mod Views
