@@ -233,7 +233,7 @@ few_changed all a s after made one two =
 
 -- ---- no record yet
 
-empty_is : state_of [] ≡ empty_state
+pub empty_is : state_of [] ≡ empty_state
 unfolding state_after
 empty_is = refl
 

@@ -1,5 +1,6 @@
 pub mod Authorities
 pub mod Building
+pub mod Catalogues
 pub mod Commits
 pub mod Committed
 pub mod Counting
