@@ -134,8 +134,8 @@ settled_in Authority a s now e =
     let before = linkable_authorities (placed_in Authority a s) in
     let successor = successor_of a.leader a.key a.fields in
     let one : (record { authorities = map (each_in_row (settle_field now Authority)) (map (each_in_row (loosen before a.key successor Authority)) (place a s.authorities)); bibliographic = map (each_in_row (settle_field now Bibliographic)) (map (each_in_row (loosen before a.key successor Bibliographic)) s.bibliographic) })
-        ≡ (record { authorities = map (each_in_row (settle_field now Authority)) (map (each_in_row (loosen now a.key successor Authority)) (place a s.authorities)); bibliographic = map (each_in_row (settle_field now Bibliographic)) (map (each_in_row (loosen now a.key successor Bibliographic)) s.bibliographic) }) =
-        ap (λ (all : List Linkable). (record { authorities = map (each_in_row (settle_field now Authority)) (map (each_in_row (loosen all a.key successor Authority)) (place a s.authorities)); bibliographic = map (each_in_row (settle_field now Bibliographic)) (map (each_in_row (loosen all a.key successor Bibliographic)) s.bibliographic) })) (sym e) in
+    ≡ (record { authorities = map (each_in_row (settle_field now Authority)) (map (each_in_row (loosen now a.key successor Authority)) (place a s.authorities)); bibliographic = map (each_in_row (settle_field now Bibliographic)) (map (each_in_row (loosen now a.key successor Bibliographic)) s.bibliographic) }) =
+    ap (λ (all : List Linkable). (record { authorities = map (each_in_row (settle_field now Authority)) (map (each_in_row (loosen all a.key successor Authority)) (place a s.authorities)); bibliographic = map (each_in_row (settle_field now Bibliographic)) (map (each_in_row (loosen all a.key successor Bibliographic)) s.bibliographic) })) (sym e) in
     one ∙ (λ i. record {
       authorities = map-map (each_in_row (settle_field now Authority)) (each_in_row (loosen now a.key successor Authority)) (place a s.authorities) i;
       bibliographic = map-map (each_in_row (settle_field now Bibliographic)) (each_in_row (loosen now a.key successor Bibliographic)) s.bibliographic i;

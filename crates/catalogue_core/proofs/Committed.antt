@@ -1,11 +1,10 @@
 -- The committed record comes into its place.
-use Rattle.std.proofs.Common.{◌≡◌, ℕ, suc, ◌≤◌, Bool, true, false, List, [], ◌∷◌, length, map, Option, Some, None, refl, sym, ap, ◌∙◌, arith}
+use Rattle.std.proofs.Common.{◌≡◌, suc, ◌≤◌, List, [], ◌∷◌, length, map, refl, ap, ◌∙◌, arith}
 use Rattle.std.specs.BTreeMap.{insert_entry}
 use Rattle.marc_types.specs.Order.{key_cmp}
 use Rattle.marc_types.specs.declared.key.Class.{Class}
 use Rattle.marc_types.specs.declared.key.Key.{Key}
 use Rattle.marc_types.specs.declared.entry.Kept.{Kept}
-use Rattle.marc_types.specs.declared.record.Record.{Record}
 use Rattle.iso2709_record.proofs.Lengths.{record_bounds}
 use Rattle.record_store.specs.Store.{kept_rows}
 use Rattle.record_store.proofs.Mapped.{kept_insert}

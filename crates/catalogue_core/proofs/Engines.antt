@@ -1,6 +1,6 @@
 -- What a commit can be made of, and what it makes of a catalogue's state and of what is kept beside it.
 use Rattle.std.proofs.Common.{◌≡◌, ℕ, ◌+◌, ◌<◌, ◌^◌, length, arith, Bool, true, false, cond, List, [], ◌∷◌, map, Option, Some, None, refl, sym, ap, ◌∙◌, subst, if◌then◌else◌}
-use Rattle.std.specs.Prelude.{All, IfSome, filter_map}
+use Rattle.std.specs.Prelude.{All, IfSome}
 use Rattle.std.specs.List.{cons_option, count_by}
 use Rattle.std.specs.Option.{option_map_or}
 use Rattle.std.specs.Map.{remove_entry, lookup}
@@ -11,34 +11,32 @@ use Rattle.std.specs.declared.cmp.Ordering.TheVariants.{Less, Equal, Greater}
 use Rattle.std.proofs.lemmas.List.Elements.{recursion_from_All, All-from_recursion}
 use Rattle.std.proofs.lemmas.List.Sums.{count_by-le-length}
 use Rattle.marc_types.specs.Order.{key_cmp}
-use Rattle.marc_types.specs.Valid.{is_code, is_number}
 use Rattle.marc_types.specs.declared.key.Class.{Class}
 use Rattle.marc_types.specs.declared.key.Class.TheVariants.{Authority, Bibliographic}
 use Rattle.marc_types.specs.declared.key.Key.{Key}
 use Rattle.marc_types.specs.declared.entry.Entry.{Entry}
 use Rattle.iso2709_record.specs.Written.{fits}
 use Rattle.entry_record.specs.Identity.{is_deletion, same_key}
-use Rattle.entry_record.specs.Authority.{Linkable, linkable_of}
+use Rattle.entry_record.specs.Authority.{Linkable}
 use Rattle.entry_record.specs.Prepared.{authority_in, authority_of}
-use Rattle.entry_record.specs.State.{KeptRecord, Row, State, fields_of, empty_state, new_record, row_linkable, linkable_authorities, rows_of}
+use Rattle.entry_record.specs.State.{KeptRecord, Row, State, fields_of, empty_state, new_record, linkable_authorities, rows_of}
 use Rattle.entry_record.specs.Settle.{Arrival, place, step, state_after}
 use Rattle.entry_record.specs.History.{IsAdmitted, arrival_of, state_of}
 use Rattle.entry_record.specs.Receipt.{Standing, count_standing, kept_under, is_changed_row, changed_in, is_linked, is_ambiguous, is_unlinked, receipt_of}
 use Rattle.entry_record.specs.Valid.{IsAscending, IsValid}
-use Rattle.entry_record.proofs.Elements.{Each, each_weaker}
-use Rattle.entry_record.proofs.States.{IsReadyRow, fit_entry, new_ready, every_state_valid}
+use Rattle.entry_record.proofs.Elements.{Each}
+use Rattle.entry_record.proofs.States.{fit_entry, new_ready, every_state_valid}
 use Rattle.catalogue_core.specs.Commits.{placed_in, placed, linkable_behind, ended_by, record_behind, row_behind, rows_behind, state_behind}
 use Rattle.catalogue_core.specs.KeptRecords.{CanStand, HasSize}
-use Rattle.catalogue_core.specs.Behind.{authority_row, row_authority, linkable_rows, standings_rows, committed, incoming, authorities_in, authorities_behind, count_incoming, StandsIn, CanFollow, AreCounts, IsStateAfter, is_other_changed}
+use Rattle.catalogue_core.specs.Behind.{authority_row, linkable_rows, standings_rows, incoming, authorities_in, authorities_behind, count_incoming, StandsIn, CanFollow, IsStateAfter, is_other_changed}
 use Rattle.catalogue_core.specs.Engines.{IsEngine, AreNumbersOf}
-use Rattle.catalogue_core.specs.declared.counts.Counts.{Counts}
 use Rattle.catalogue_core.specs.declared.behind.StateAfter.{StateAfter}
 use Rattle.catalogue_core.specs.declared.engine.Changes.{Changes}
 use Rattle.catalogue_core.specs.declared.standing.Standing as here
 use Rattle.record_store.specs.Store.{stored}
 use Rattle.catalogue_core.proofs.Building.{order_over}
 use Rattle.catalogue_core.proofs.Commits.{valid_ready, step_valid, step_linkables, step_behind, fit_rows, placed_fit, done_in, done_fits}
-use Rattle.catalogue_core.proofs.Placed.{fresh_record, placed_rows, place_is, authorities_placed, linkable_is, step_stays, size_of_fitting, sizes_of, new_stands}
+use Rattle.catalogue_core.proofs.Placed.{fresh_record, placed_rows, authorities_placed, linkable_is, step_stays, size_of_fitting, sizes_of, new_stands}
 use Rattle.catalogue_core.proofs.Receipts.{changed_behind, found_committed}
 
 -- ---- authorities that can stand in records

@@ -1,9 +1,8 @@
 -- The rows of a class behind a commit, as far as a loop over the rows before has come.
-use Rattle.std.proofs.Common.{◌≡◌, ℕ, ◌+◌, ◌<◌, ◌≤◌, ◌^◌, Bool, true, false, ◌&&◌, not, cond, List, [], ◌∷◌, ◌++◌, length, map, Option, Some, None, refl, sym, ap, ◌∙◌, arith, subst}
+use Rattle.std.proofs.Common.{◌≡◌, ℕ, ◌+◌, ◌<◌, ◌^◌, Bool, ◌&&◌, not, cond, List, [], ◌∷◌, ◌++◌, length, Option, Some, None, refl, sym, ap, ◌∙◌, arith, subst}
 use Rattle.std.specs.Prelude.{All}
 use Rattle.std.specs.Borrow.{Bor}
 use Rattle.std.specs.List.{count_by}
-use Rattle.std.specs.Map.{keys_of}
 use Rattle.std.specs.BTreeMap.{insert_entry}
 use Rattle.std.proofs.lemmas.List.Elements.{recursion_from_All}
 use Rattle.std.proofs.lemmas.List.Sums.{count_by-le-length, sum_by-cons}
@@ -19,18 +18,18 @@ use Rattle.record_store.proofs.Mapped.{kept_insert}
 use Rattle.entry_record.specs.Authority.{Linkable}
 use Rattle.entry_record.specs.State.{KeptRecord, Row}
 use Rattle.entry_record.specs.Settle.{Arrival}
-use Rattle.entry_record.specs.Receipt.{differs, is_committed}
+use Rattle.entry_record.specs.Receipt.{is_committed}
 use Rattle.entry_record.specs.Valid.{IsAscending}
 use Rattle.entry_record.proofs.Elements.{Each}
 use Rattle.catalogue_core.specs.Stands.{standings_of}
-use Rattle.catalogue_core.specs.Commits.{record_behind, row_behind, rows_behind}
+use Rattle.catalogue_core.specs.Commits.{record_behind, rows_behind}
 use Rattle.catalogue_core.specs.KeptRecords.{tied, kept_record, record_after, HasSize}
-use Rattle.catalogue_core.specs.Behind.{HasSizeBehind, ended, standings_row, standings_rows, is_other_changed, IsRowAfter, IsRowsAfter}
+use Rattle.catalogue_core.specs.Behind.{HasSizeBehind, ended, standings_rows, is_other_changed, IsRowAfter, IsRowsAfter}
 use Rattle.catalogue_core.specs.declared.standing.Standing.{Standing}
 use Rattle.catalogue_core.specs.declared.settling.Loosening.{Loosening}
 use Rattle.catalogue_core.specs.declared.behind.RowAfter.{RowAfter}
 use Rattle.catalogue_core.specs.declared.behind.RowsAfter.{RowsAfter}
-use Rattle.catalogue_core.proofs.Building.{IsInOrder, insert_next, order_over}
+use Rattle.catalogue_core.proofs.Building.{insert_next, order_over}
 
 -- ---- the same by other names
 
@@ -94,7 +93,7 @@ module _ (authorities : List Linkable) (ended : Option (Key × Option Key)) (a :
       ∙ ap (λ rows. rows ++ rows_behind authorities ended class more) (kept_insert key made done)
       ∙ ap (λ (k : KeptRecord). insert_entry key_cmp (kept_rows done) key k ++ rows_behind authorities ended class more) (record_same made ∙ made_is)
       ∙ insert_next (rows_behind authorities ended class all) (kept_rows done) (rows_behind authorities ended class more) key (record_behind authorities ended class r)
-        (order_over (record_behind authorities ended class) all order) is
+      (order_over (record_behind authorities ended class) all order) is
 
   standings_next : (all more : List Row) (key : Key) (r : KeptRecord) (made : List Standing) (done now : List (Key × List Standing)) → IsAscending all →
       done ++ standings_rows authorities class (rows_behind authorities ended class ((key, r) ∷ more)) ≡ standings_rows authorities class (rows_behind authorities ended class all) →
@@ -104,8 +103,8 @@ module _ (authorities : List Linkable) (ended : Option (Key × Option Key)) (a :
       ap (λ rows. rows ++ standings_rows authorities class (rows_behind authorities ended class more)) put
       ∙ ap (λ (k : List Standing). insert_entry key_cmp done key k ++ standings_rows authorities class (rows_behind authorities ended class more)) made_is
       ∙ insert_next (standings_rows authorities class (rows_behind authorities ended class all)) done (standings_rows authorities class (rows_behind authorities ended class more)) key
-        (standings_of authorities class (record_behind authorities ended class r))
-        (order_over (standings_of authorities class) (rows_behind authorities ended class all) (order_over (record_behind authorities ended class) all order)) is
+      (standings_of authorities class (record_behind authorities ended class r))
+      (order_over (standings_of authorities class) (rows_behind authorities ended class all) (order_over (record_behind authorities ended class) all order)) is
 
   sum_next : (done now whole rest own more all : ℕ) → more ≡ own → now ≡ done + more → all ≡ own + rest → done + all ≡ whole → now + rest ≡ whole
   sum_next done now whole rest own more all same put one e = omega arith
@@ -128,7 +127,7 @@ module _ (authorities : List Linkable) (ended : Option (Key × Option Key)) (a :
         kept = kept_next all more key.now before row.kept done.kept.rows now.kept.rows g.order g.kept made.kept put_kept;
         standings = standings_next all more key.now before row.standings done.standings.rows now.standings.rows g.order g.standings made.standings put_standings;
         changed = count_next (is_other_changed authorities ended a class) (key.now, before) more done.changed now.changed (count_by (is_other_changed authorities ended a class) all) counts
-        (counted ∙ ap (λ b. b && not (is_committed a class key.now)) made.differs) put_changed g.changed;
+            (counted ∙ ap (λ b. b && not (is_committed a class key.now)) made.differs) put_changed g.changed;
         sizes = g.sizes.1;
         order = g.order;
         few = g.few;

@@ -12,17 +12,16 @@ use Rattle.marc_types.specs.declared.entry.Kept.{Kept}
 use Rattle.record_store.specs.Store as store
 use Rattle.entry_record.specs.Identity.{same_key}
 use Rattle.entry_record.specs.Authority.{Linkable, linkable_of}
-use Rattle.entry_record.specs.State.{KeptField, KeptRecord, Row, State, fields_of}
+use Rattle.entry_record.specs.State.{KeptField, KeptRecord, Row, fields_of}
 use Rattle.entry_record.specs.Receipt as definition
 use Rattle.catalogue_core.specs.Stands.{stands_as, field_standing, standings_of}
-use Rattle.catalogue_core.specs.Behind.{authority_row, standings_row, standings_rows}
+use Rattle.catalogue_core.specs.Behind.{authority_row, standings_rows}
 use Rattle.entry_record.specs.Authority.{heading_kind}
 use Rattle.entry_record.specs.Choice as choices
 use Rattle.entry_record.specs.Choice.{Choice, Link, choice}
 use Rattle.marc_types.specs.declared.form.Kind.{Kind}
-use Rattle.catalogue_core.specs.Told.{Told, told_by, told_of, field_told, candidates_by, candidates_of, field_candidates}
+use Rattle.catalogue_core.specs.Told.{told_by, told_of, field_told, candidates_by, candidates_of, field_candidates}
 use Rattle.catalogue_core.specs.declared.standing.Standing.{Standing}
-use Rattle.catalogue_core.specs.declared.standing.Standing.TheVariants.{Linked, Ambiguous, Unlinked, NoHeading}
 
 -- ---- authorities
 

@@ -1,5 +1,5 @@
 -- The rows of both classes behind a commit, made together.
-use Rattle.std.proofs.Common.{◌≡◌, List, map, Option, refl, sym, ap, ◌∙◌, subst}
+use Rattle.std.proofs.Common.{◌≡◌, List, Option, sym, ap, ◌∙◌, subst}
 use Rattle.marc_types.specs.declared.key.Class.{Class}
 use Rattle.marc_types.specs.declared.key.Class.TheVariants.{Authority, Bibliographic}
 use Rattle.marc_types.specs.declared.key.Key.{Key}
@@ -8,7 +8,7 @@ use Rattle.entry_record.specs.Authority.{Linkable}
 use Rattle.entry_record.specs.State.{Row, State}
 use Rattle.entry_record.specs.Settle.{Arrival, place}
 use Rattle.catalogue_core.specs.Stands.{standings_of}
-use Rattle.catalogue_core.specs.Commits.{placed_in, placed, ended_by, rows_behind, state_behind}
+use Rattle.catalogue_core.specs.Commits.{placed_in, ended_by, rows_behind, state_behind}
 use Rattle.catalogue_core.specs.Behind.{standings_rows, committed, incoming, AreCounts, IsRowsAfter, IsStateAfter}
 use Rattle.catalogue_core.specs.declared.counts.Counts.{Counts}
 use Rattle.catalogue_core.specs.declared.standing.Standing.{Standing}

@@ -1,5 +1,5 @@
 -- A record that comes into its place, before and after each record becomes what it is behind the commit.
-use Rattle.std.proofs.Common.{◌≡◌, ℕ, ◌+◌, ◌≤◌, Bool, true, false, ◌&&◌, ◌||◌, not, cond, List, [], ◌∷◌, length, map, Option, Some, None, refl, sym, ap, ◌∙◌, arith, subst, if◌then◌else◌}
+use Rattle.std.proofs.Common.{◌≡◌, ℕ, ◌≤◌, Bool, true, false, ◌&&◌, cond, List, [], ◌∷◌, length, map, Option, Some, None, refl, sym, ap, ◌∙◌, arith, if◌then◌else◌}
 use Rattle.std.specs.Prelude.{All, filter_map, nat_le, IfSome}
 use Rattle.std.specs.List.{list_all, cons_option}
 use Rattle.std.specs.Map.{remove_entry}
@@ -7,10 +7,8 @@ use Rattle.std.specs.BTreeMap.{insert_entry}
 use Rattle.std.specs.Ordering.{is_eq, match_ordering}
 use Rattle.std.specs.declared.cmp.Ordering.{Ordering}
 use Rattle.std.specs.declared.cmp.Ordering.TheVariants.{Less, Equal, Greater}
-use Rattle.std.proofs.lemmas.Bool.{leb-true}
 use Rattle.std.proofs.lemmas.Grind.{common_steps}
-use Rattle.std.proofs.lemmas.List.{map-id}
-use Rattle.std.proofs.lemmas.List.Elements.{recursion_from_All, All-from_recursion}
+use Rattle.std.proofs.lemmas.List.Elements.{All-from_recursion}
 use Rattle.marc_types.specs.Order.{key_cmp, key_Decides}
 use Rattle.marc_types.specs.Valid.{is_code, is_code_byte, is_number, is_graphic, is_data, is_text, is_field, is_record, field_size, fields_size}
 use Rattle.marc_types.specs.declared.key.Class.{Class}
@@ -21,16 +19,16 @@ use Rattle.marc_types.specs.declared.form.Kind.{Kind}
 use Rattle.marc_types.specs.declared.field.Field.{Field}
 use Rattle.marc_types.specs.declared.field.Field.TheVariants.{Control, Variable}
 use Rattle.marc_types.specs.declared.field.Leader.{Leader}
-use Rattle.iso2709_record.specs.Written.{field_length, fields_length, record_length, fits}
+use Rattle.iso2709_record.specs.Written.{field_length, fields_length, fits}
 use Rattle.iso2709_record.proofs.Lengths.{field_length-control, field_length-variable}
 use Rattle.entry_record.specs.Identity.{is_deletion, same_key}
 use Rattle.entry_record.specs.Authority.{Linkable, is_heading, heading_of, linkable_of, linkable_by, linkable_with, linkable_kind, successor_of}
 use Rattle.entry_record.specs.Prepared.{authority_in, authority_of}
-use Rattle.entry_record.specs.State.{KeptField, KeptRecord, Row, State, fields_of, new_field, new_record, row_linkable, linkable_authorities, each_in_record, each_in_row, each_field}
+use Rattle.entry_record.specs.State.{KeptField, KeptRecord, Row, State, fields_of, new_field, new_record, row_linkable, linkable_authorities, each_in_row, each_field}
 use Rattle.entry_record.specs.Settle.{Arrival, place, loosen, put_in, put, settle_field, settle, step}
 use Rattle.entry_record.specs.History.{IsAdmitted, arrival_of}
-use Rattle.entry_record.specs.Valid.{IsTied, IsLinkOfHeading, IsValid}
-use Rattle.entry_record.proofs.Elements.{Each, each_weaker, each_anything, find_found}
+use Rattle.entry_record.specs.Valid.{IsTied, IsValid}
+use Rattle.entry_record.proofs.Elements.{Each, each_weaker, find_found}
 use Rattle.entry_record.proofs.Once.{steady_field}
 use Rattle.entry_record.proofs.Proper.{and_both}
 use Rattle.entry_record.proofs.Put.{IsTiedBut, steady_loosen}
@@ -38,10 +36,9 @@ use Rattle.entry_record.proofs.States.{IsReadyRow, IsReady, IsFitArrival, IsLoos
 use Rattle.entry_record.proofs.Steady.{IsSteady, linkable_stays}
 use Rattle.entry_record.proofs.Written.{fitting_length}
 use Rattle.catalogue_core.specs.Stands.{standings_of}
-use Rattle.catalogue_core.specs.Commits.{placed_in, placed, linkable_behind, ended_in, ended_by, loosened_by, record_behind, rows_behind, state_behind}
-use Rattle.catalogue_core.specs.KeptRecords.{CanStand, HasSize, new_record_after}
-use Rattle.catalogue_core.specs.Behind.{ended_if, authority_row, row_authority, linkable_rows, standings_rows, committed, incoming, authorities_in, authorities_behind, HasSizeBehind}
-use Rattle.catalogue_core.specs.declared.standing.Standing.{Standing}
+use Rattle.catalogue_core.specs.Commits.{placed_in, placed, ended_in, loosened_by, record_behind, rows_behind}
+use Rattle.catalogue_core.specs.KeptRecords.{CanStand, new_record_after}
+use Rattle.catalogue_core.specs.Behind.{ended_if, authority_row, linkable_rows, standings_rows, committed, incoming, authorities_in, authorities_behind, HasSizeBehind}
 use Rattle.catalogue_core.proofs.Building.{over, insert_over, remove_over}
 use Rattle.catalogue_core.proofs.Commits.{placed_loose, put_is, valid_ready, Fits}
 

@@ -1,7 +1,6 @@
 -- The numbers of a receipt, from the rows behind a commit.
 use Rattle.std.proofs.Common.{◌≡◌, ℕ, ◌+◌, Bool, true, false, ◌&&◌, not, cond, List, [], ◌∷◌, map, Option, Some, None, refl, sym, ap, ◌∙◌, arith, subst, if◌then◌else◌}
 use Rattle.std.specs.List.{count_by, AllByRecursion}
-use Rattle.std.specs.List.Sorted.{IsStrictlySortedBy}
 use Rattle.std.specs.Option.{option_map_or}
 use Rattle.std.specs.Map.{keys_of, lookup, remove_entry}
 use Rattle.std.specs.BTreeMap.{insert_entry}
@@ -22,8 +21,8 @@ use Rattle.entry_record.specs.Receipt.{same_class, is_committed, differs, is_cha
 use Rattle.entry_record.specs.Valid.{IsAscending}
 use Rattle.entry_record.proofs.Elements.{Each, each_weaker}
 use Rattle.catalogue_core.specs.Commits.{placed_in, record_behind, row_behind, rows_behind}
-use Rattle.catalogue_core.specs.Behind.{committed, incoming, is_other_changed}
-use Rattle.catalogue_core.proofs.Placed.{place_is, placed_rows}
+use Rattle.catalogue_core.specs.Behind.{committed, is_other_changed}
+use Rattle.catalogue_core.proofs.Placed.{place_is}
 
 -- ---- a row in key order is found under its key
 
@@ -40,9 +39,10 @@ looked_behind first ys (row ∷ xs) below there =
 
 looked : (rows : List Row) → IsAscending rows → Each (look_in rows) rows
 looked [] order = tt
-looked (row ∷ rows) order =
-    (ap (λ b. cond b (Some row.1) (lookup (same_key row.0) rows)) ((key_Decides row.0 row.0).1 refl),
-    looked_behind row rows rows (sorted_head key_cmp row.0 (keys_of rows) order) (looked rows (sorted_tail key_cmp row.0 (keys_of rows) order)))
+looked (row ∷ rows) order = (
+  ap (λ b. cond b (Some row.1) (lookup (same_key row.0) rows)) ((key_Decides row.0 row.0).1 refl),
+  looked_behind row rows rows (sorted_head key_cmp row.0 (keys_of rows) order) (looked rows (sorted_tail key_cmp row.0 (keys_of rows) order)),
+)
 
 -- ---- counting
 

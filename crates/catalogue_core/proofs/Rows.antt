@@ -1,10 +1,8 @@
 -- What a commit makes of a row, told as a change.
-use Rattle.std.proofs.Common.{◌≡◌, Bool, true, false, not, Option, Some, None, refl, sym, ap, ◌∙◌, if◌then◌else◌}
+use Rattle.std.proofs.Common.{◌≡◌, Bool, true, false, Option, Some, None, refl, sym, ap, ◌∙◌, if◌then◌else◌}
 use Rattle.std.specs.Option.{option_map}
-use Rattle.std.specs.Cmp.Lexicographic.{pointwise}
 use Rattle.marc_types.specs.declared.entry.Kept.{Kept}
 use Rattle.entry_record.specs.State.{KeptRecord}
-use Rattle.entry_record.specs.Sameness.{same_kept}
 use Rattle.entry_record.specs.Receipt.{differs}
 use Rattle.catalogue_core.specs.KeptRecords.{kept_record, record_change}
 use Rattle.catalogue_core.proofs.Making.{record_becomes}

@@ -1,9 +1,8 @@
 -- What is kept of a catalogue's state beside its records, and what is told of a field and of a commit.
-use Rattle.std.specs.Prelude.{◌≡◌, ℕ, List, map, All, Option, Some, None, option_map}
+use Rattle.std.specs.Prelude.{◌≡◌, List, map, All, Option}
 use Rattle.std.specs.Borrow.{Bor}
 use Rattle.std.specs.Option.{option_and_then}
 use Rattle.marc_types.specs.declared.key.Class.TheVariants.{Authority, Bibliographic}
-use Rattle.marc_types.specs.declared.key.Class.{Class}
 use Rattle.marc_types.specs.declared.key.Key.{Key}
 use Rattle.marc_types.specs.declared.form.Form.{Form}
 use Rattle.marc_types.specs.declared.entry.Receipt.{Receipt}

@@ -1,5 +1,5 @@
 -- What is told of a field: under which key it is linked, that it is ambiguous, that it has no link, or that it is no heading.
-use Rattle.std.specs.Prelude.{List, [], Option, Some, None}
+use Rattle.std.specs.Prelude.{List, Option, Some, None}
 use Rattle.marc_types.specs.declared.key.Class.{Class}
 use Rattle.marc_types.specs.declared.key.Key.{Key}
 use Rattle.marc_types.specs.declared.entry.Status.{Status}

@@ -144,8 +144,13 @@ fn row_after(
     ensures { let before = kept_record kept.now in IfOk result (IsRowAfter (linkables authorities.now) class before
         (record_after (linkables authorities.now) loosening.entry class before)) }
 {
-    let RecordAfter { changed, standings } =
-        record_after(alloc, authorities, loosening, class, kept)?;
+    let RecordAfter { changed, standings } = record_after(
+        alloc,
+        authorities,
+        loosening,
+        class,
+        kept,
+    )?;
     match changed {
         Some(kept) => Ok(RowAfter {
             kept,

@@ -126,8 +126,8 @@ impl Engine {
         Ok(Behind { engine, changes })
     }
 
-    /// Each record fits its written form, the links are of authorities that are there, and so on, whatever was committed.
-    pub fn is_valid(&self)
+    /// Says that the state is valid, whatever was committed.
+    pub fn stays_valid(&self)
         ensures { IsValid self.now }
     {
         let _store = &self.store;

@@ -1,4 +1,4 @@
-use Rattle.std.proofs.Common.{◌≡◌, ◌∙◌, refl, sym}
+use Rattle.std.proofs.Common.{◌∙◌, refl, sym}
 use mathlib.Core.Bool.{false≢true}
 use Rattle.record_store.proofs.Mapped.{place_now}
 use Rattle.catalogue_core.proofs.behind.add.Goals as goal

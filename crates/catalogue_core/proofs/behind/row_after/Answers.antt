@@ -1,4 +1,4 @@
-use Rattle.std.proofs.Common.{◌≡◌, refl, ap}
+use Rattle.std.proofs.Common.{refl, ap}
 use Rattle.catalogue_core.specs.Views.{linkables}
 use Rattle.catalogue_core.specs.KeptRecords.{kept_record, record_after}
 use Rattle.catalogue_core.proofs.Rows.{row_same}

@@ -1,4 +1,4 @@
-use Rattle.std.proofs.Common.{◌≡◌, sym, subst}
+use Rattle.std.proofs.Common.{sym, subst}
 use Rattle.entry_record.specs.State.{KeptRecord, rows_of}
 use Rattle.entry_record.specs.History.{arrival_of}
 use Rattle.catalogue_core.specs.Views.{linkables}

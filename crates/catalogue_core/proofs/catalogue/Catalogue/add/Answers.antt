@@ -1,4 +1,4 @@
-use Rattle.std.proofs.Common.{◌≡◌, ◌+◌, ◌≤◌, ℕ, List, [], ◌∷◌, ◌++◌, length, map, false, Some, arith, sym, ap, ◌∙◌, subst}
+use Rattle.std.proofs.Common.{◌≡◌, ◌+◌, ℕ, List, [], ◌∷◌, ◌++◌, length, map, false, Some, arith, sym, ap, ◌∙◌, subst}
 use Rattle.std.specs.Prelude.{unwrap_or}
 use Rattle.marc_types.specs.declared.entry.Entry.{Entry}
 use Rattle.entry_record.specs.Settle.{step}
@@ -6,7 +6,6 @@ use Rattle.entry_record.specs.History.{arrival_of, entry_size}
 use Rattle.entry_record.specs.Receipt.{receipt}
 use Rattle.catalogue_core.specs.Catalogues.{Catalogued, all_entries, catalogued, is_full, IsCatalogue}
 use Rattle.catalogue_core.specs.declared.catalogue.Before.{Before}
-use Rattle.catalogue_core.specs.declared.engine.Changes.{Changes}
 use Rattle.catalogue_core.proofs.Catalogues.{all_is, first_before, catalogue_added, room_in_bytes, numbered, receipt_made}
 use Rattle.catalogue_core.proofs.catalogue.Catalogue.add.Goals as goal
 
@@ -32,7 +31,7 @@ invariant_of-self-2 g c =
     let len = c.len-entries.ensures in
     let count : c.len-entries.result ≡ length k.entries.items = omega (arith, size, len) in
     let first : c.unwrap_or.result ≡ first_before k.before k.engine k.entries.items k.bytes =
-        c.unwrap_or.ensures ∙ (λ i. unwrap_or (c.take.ensures.value i) (record { engine = c.replace.ensures.value i; entries = count i; bytes = k.bytes })) in
+    c.unwrap_or.ensures ∙ (λ i. unwrap_or (c.take.ensures.value i) (record { engine = c.replace.ensures.value i; entries = count i; bytes = k.bytes })) in
     subst (λ (n : ℕ). IsCatalogue c.replace.new.dest (Some c.unwrap_or.result) c.push.new.self.items (k.bytes + n) k.limits) (sym c.size-size.ensures)
     (subst (λ (b : Before). IsCatalogue c.replace.new.dest (Some b) c.push.new.self.items (k.bytes + entry_size e) k.limits) (sym first)
     (catalogue_added k.engine c.replace.new.dest k.before k.entries.items c.push.new.self.items k.bytes k.limits e c.self.invariant c.into_entry.ensures.admitted full next put))

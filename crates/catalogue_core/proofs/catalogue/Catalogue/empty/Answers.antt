@@ -1,4 +1,4 @@
-use Rattle.std.proofs.Common.{◌≡◌, List, None, sym, subst}
+use Rattle.std.proofs.Common.{List, None, sym, subst}
 use Rattle.marc_types.specs.declared.entry.Entry.{Entry}
 use Rattle.entry_record.specs.State.{State, empty_state}
 use Rattle.catalogue_core.specs.Catalogues.{IsCatalogue}

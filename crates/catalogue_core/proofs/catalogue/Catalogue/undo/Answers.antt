@@ -1,4 +1,4 @@
-use Rattle.std.proofs.Common.{◌≡◌, Option, sym, subst}
+use Rattle.std.proofs.Common.{Option, sym, subst}
 use Rattle.catalogue_core.specs.Catalogues.{IsCatalogue}
 use Rattle.catalogue_core.specs.declared.catalogue.Before.{Before}
 use Rattle.catalogue_core.proofs.Catalogues.{undone_catalogue}

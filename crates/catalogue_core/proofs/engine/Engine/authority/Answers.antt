@@ -1,5 +1,4 @@
-use Rattle.std.proofs.Common.{◌≡◌, Some, None, ap, ◌∙◌}
-use Rattle.entry_record.specs.State.{State}
+use Rattle.std.proofs.Common.{Some, None, ap, ◌∙◌}
 use Rattle.catalogue_core.specs.Engines.{linkable_under}
 use Rattle.catalogue_core.proofs.Look.{linkable_found}
 use Rattle.catalogue_core.proofs.engine.Engine.authority.Goals as goal

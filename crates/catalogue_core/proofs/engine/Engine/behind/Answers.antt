@@ -1,10 +1,9 @@
-use Rattle.std.proofs.Common.{◌≡◌, ◌+◌, ◌<◌, ◌^◌, arith, refl, sym, ap, ◌∙◌, subst}
-use Rattle.entry_record.specs.Authority.{Linkable}
+use Rattle.std.proofs.Common.{◌+◌, ◌<◌, ◌^◌, arith, refl, sym, ap, ◌∙◌, subst}
 use Rattle.entry_record.specs.State.{State}
 use Rattle.entry_record.specs.Settle.{step}
 use Rattle.entry_record.specs.History.{arrival_of}
 use Rattle.entry_record.specs.Receipt.{receipt_of}
-use Rattle.record_store.specs.Store.{Stored, stored}
+use Rattle.record_store.specs.Store.{Stored}
 use Rattle.catalogue_core.specs.Behind.{linkable_rows}
 use Rattle.catalogue_core.specs.Engines.{IsEngine, AreNumbersOf}
 use Rattle.catalogue_core.specs.declared.engine.Changes.{Changes}
@@ -48,8 +47,8 @@ returns-clause-changes g c at =
       changed_records = c.in_ok-first.field-0.authorities.changed + c.in_ok-first.field-0.bibliographic.changed;
     } in
     let made = ap (λ (x : Stored). x.state) c.of.ensures
-        ∙ step_made s c.args.item.now c.self.inside.authorities.rows c.in_ok-authorities.authorities.rows c.self.inside.authorities_stand.rows c.self.inside.bibliographic_stand.rows
-          c.in_ok-first.field-0 c.self.invariant c.in_ok-authorities.ensures.admitted c.in_ok-authorities.ensures.rows c.in_ok-first.ensures in
+    ∙ step_made s c.args.item.now c.self.inside.authorities.rows c.in_ok-authorities.authorities.rows c.self.inside.authorities_stand.rows c.self.inside.bibliographic_stand.rows
+    c.in_ok-first.field-0 c.self.invariant c.in_ok-authorities.ensures.admitted c.in_ok-authorities.ensures.rows c.in_ok-first.ensures in
     subst (λ (t : State). AreNumbersOf (receipt_of at c.args.self.now a t) changes) (sym made)
     (subst (λ (b : State). AreNumbersOf (receipt_of at b a (step s a)) changes) c.self.view_is
     (numbers_made s c.args.item.now c.self.inside.authorities.rows c.in_ok-authorities.authorities.rows c.self.inside.authorities_stand.rows c.self.inside.bibliographic_stand.rows
