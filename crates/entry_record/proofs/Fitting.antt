@@ -88,7 +88,7 @@ within_at all class h None fits e tied r = let same = other_reach class h e in o
 within_at all class h (Some kind) fits e tied r = heading_within all class h kind h.tie.key fits e refl tied.linked r
 
 -- a field is no longer than its reach
-field_within : (all : List Linkable) (class : Class) → Each (IsFit all) all → (h : KeptField) → IsTied all class h × IsRewritten all class h → field_length h.field ≤ reach class h
+pub field_within : (all : List Linkable) (class : Class) → Each (IsFit all) all → (h : KeptField) → IsTied all class h × IsRewritten all class h → field_length h.field ≤ reach class h
 field_within all class fits h both = within_at all class h (heading_kind class h.field) fits refl both.0 both.1
 
 total_within : (class : Class) (hs : List KeptField) → Each (λ h. field_length h.field ≤ reach class h) hs → fields_length (map (λ h. h.field) hs) ≤ sum_by (reach class) hs
@@ -112,7 +112,7 @@ fields_count : (hs : List KeptField) → length (map (λ (h : KeptField). h.fiel
 fields_count [] = refl
 fields_count (h ∷ hs) = ap suc (fields_count hs)
 
-row_fits : (class : Class) (row : Row) → Each (λ h. field_length h.field ≤ reach class h) row.1.fields → HasRoom class row → fits (fields_of row.1) ≡ true
+pub row_fits : (class : Class) (row : Row) → Each (λ h. field_length h.field ≤ reach class h) row.1.fields → HasRoom class row → fits (fields_of row.1) ≡ true
 row_fits class row a room =
     let fields = fields_of row.1 in
     let total = total_within class row.1.fields a in

@@ -101,7 +101,7 @@ steady_at : (all : List Linkable) (h : KeptField) (o : Option Key) → h.tie.key
 steady_at all h None e heading = steady_unlinked all h (heading_kind Authority h.field) refl
 steady_at all h (Some key) e heading = steady_found h (find (has_key key) all) (heading (rw e refl))
 
-steady_field : (all : List Linkable) (h : KeptField) → IsLinkOfHeading Authority h → IsSteady h.field (settle_field all Authority h).field
+pub steady_field : (all : List Linkable) (h : KeptField) → IsLinkOfHeading Authority h → IsSteady h.field (settle_field all Authority h).field
 unfolding settle_field
 steady_field all h heading = steady_at all h h.tie.key refl heading
 

@@ -35,34 +35,34 @@ use Rattle.entry_record.proofs.Steady.{IsSteady, linkables_stay}
 
 -- ---- rows and states before and after settling
 
-record IsReadyRow (all : List Linkable) (class : Class) (row : Row) : Type 0 where
-  row_is : IsRow class row
-  ties : Each (IsTied all class) row.1.fields
-  room : HasRoom class row
+pub record IsReadyRow (all : List Linkable) (class : Class) (row : Row) : Type 0 where
+  pub row_is : IsRow class row
+  pub ties : Each (IsTied all class) row.1.fields
+  pub room : HasRoom class row
 
-record IsDoneRow (all : List Linkable) (class : Class) (row : Row) : Type 0 where
-  ready : IsReadyRow all class row
-  rewritten : Each (IsRewritten all class) row.1.fields
-  settled : Each (IsSettled all class) row.1.fields
+pub record IsDoneRow (all : List Linkable) (class : Class) (row : Row) : Type 0 where
+  pub ready : IsReadyRow all class row
+  pub rewritten : Each (IsRewritten all class) row.1.fields
+  pub settled : Each (IsSettled all class) row.1.fields
 
-record IsReady (s : State) : Type 0 where
-  authorities_ascend : IsAscending s.authorities
-  bibliographic_ascend : IsAscending s.bibliographic
-  authorities : Each (IsReadyRow (linkable_authorities s) Authority) s.authorities
-  bibliographic : Each (IsReadyRow (linkable_authorities s) Bibliographic) s.bibliographic
+pub record IsReady (s : State) : Type 0 where
+  pub authorities_ascend : IsAscending s.authorities
+  pub bibliographic_ascend : IsAscending s.bibliographic
+  pub authorities : Each (IsReadyRow (linkable_authorities s) Authority) s.authorities
+  pub bibliographic : Each (IsReadyRow (linkable_authorities s) Bibliographic) s.bibliographic
 
-record IsDoneState (s : State) : Type 0 where
-  authorities_ascend : IsAscending s.authorities
-  bibliographic_ascend : IsAscending s.bibliographic
-  authorities : Each (IsDoneRow (linkable_authorities s) Authority) s.authorities
-  bibliographic : Each (IsDoneRow (linkable_authorities s) Bibliographic) s.bibliographic
+pub record IsDoneState (s : State) : Type 0 where
+  pub authorities_ascend : IsAscending s.authorities
+  pub bibliographic_ascend : IsAscending s.bibliographic
+  pub authorities : Each (IsDoneRow (linkable_authorities s) Authority) s.authorities
+  pub bibliographic : Each (IsDoneRow (linkable_authorities s) Bibliographic) s.bibliographic
 
 still_row : (class : Class) (change : KeptField → KeptField) (row : Row) → IsRow class row → IsRow class (each_in_row change row)
 still_row class change row r = record { class_is = r.class_is; code = r.code; number = r.number }
 
 -- ---- settling
 
-settled_row : (all : List Linkable) (class : Class) → Each (IsFit all) all → (row : Row) → IsReadyRow all class row → IsDoneRow all class (each_in_row (settle_field all class) row)
+pub settled_row : (all : List Linkable) (class : Class) → Each (IsFit all) all → (row : Row) → IsReadyRow all class row → IsDoneRow all class (each_in_row (settle_field all class) row)
 settled_row all class fits row r =
     let f = settle_field all class in
     let P = λ (h : KeptField). IsDone all class h (settle_field all class h) in
@@ -77,10 +77,10 @@ settled_row all class fits row r =
       settled = each_map P (IsSettled all class) f (λ h d. d.settled) row.1.fields done;
     }
 
-link_of_heading : (all : List Linkable) (class : Class) (h : KeptField) → IsTied all class h → IsLinkOfHeading class h
+pub link_of_heading : (all : List Linkable) (class : Class) (h : KeptField) → IsTied all class h → IsLinkOfHeading class h
 link_of_heading all class h t e = (link_some all class h h.tie.key e t.linked).1.heading
 
-settled_done : (s : State) → IsReady s → IsDoneState (settle s)
+pub settled_done : (s : State) → IsReady s → IsDoneState (settle s)
 unfolding settle each_field
 settled_done s r =
     let all = linkable_authorities s in
@@ -99,29 +99,29 @@ settled_done s r =
 -- ---- putting
 
 -- what a commit brings, where its record was admitted
-record IsFitArrival (a : Arrival) : Type 0 where
-  class_is : class_of a.leader ≡ a.class
-  code : is_code a.key.code ≡ true
-  number : is_number a.key.number ≡ true
-  room : has_no_room a.class a.fields ≡ false
+pub record IsFitArrival (a : Arrival) : Type 0 where
+  pub class_is : class_of a.leader ≡ a.class
+  pub code : is_code a.key.code ≡ true
+  pub number : is_number a.key.number ≡ true
+  pub room : has_no_room a.class a.fields ≡ false
 
-record IsLooseRow (own : Key) (all : List Linkable) (class : Class) (row : Row) : Type 0 where
-  row_is : IsRow class row
-  ties : Each (IsTiedBut own all class) row.1.fields
-  room : HasRoom class row
+pub record IsLooseRow (own : Key) (all : List Linkable) (class : Class) (row : Row) : Type 0 where
+  pub row_is : IsRow class row
+  pub ties : Each (IsTiedBut own all class) row.1.fields
+  pub room : HasRoom class row
 
 new_ties : (all : List Linkable) (class : Class) (fields : List Field) → Each (IsTied all class) (map new_field fields)
 new_ties all class [] = tt
 new_ties all class (f ∷ fs) = (tied_new all class (new_field f) refl refl refl, new_ties all class fs)
 
-new_ready : (all : List Linkable) (a : Arrival) (class : Class) → a.class ≡ class → IsFitArrival a → IsReadyRow all class (a.key, new_record a.leader a.fields)
+pub new_ready : (all : List Linkable) (a : Arrival) (class : Class) → a.class ≡ class → IsFitArrival a → IsReadyRow all class (a.key, new_record a.leader a.fields)
 new_ready all a class e fit = record {
   row_is = record { class_is = fit.class_is ∙ e; code = fit.code; number = fit.number };
   ties = new_ties all class a.fields;
   room = room_admitted class a.key a.leader a.fields (rw e at fit.room);
 }
 
-loose_row : (own : Key) (all now : List Linkable) (class : Class) → ((key : Key) → same_key own key ≡ false → find (has_key key) now ≡ find (has_key key) all) →
+pub loose_row : (own : Key) (all now : List Linkable) (class : Class) → ((key : Key) → same_key own key ≡ false → find (has_key key) now ≡ find (has_key key) all) →
     (row : Row) → IsReadyRow all class row → IsLooseRow own now class row
 loose_row own all now class others row r = record {
   row_is = r.row_is;
@@ -129,7 +129,7 @@ loose_row own all now class others row r = record {
   room = r.room;
 }
 
-loosened_row : (own : Key) (all : List Linkable) (successor : Option Key) (class : Class) (row : Row) → IsLooseRow own all class row → IsReadyRow all class (each_in_row (loosen all own successor class) row)
+pub loosened_row : (own : Key) (all : List Linkable) (successor : Option Key) (class : Class) (row : Row) → IsLooseRow own all class row → IsReadyRow all class (each_in_row (loosen all own successor class) row)
 loosened_row own all successor class row r =
     let f = loosen all own successor class in
     let P = λ (h : KeptField). IsLoosened all class h (loosen all own successor class h) in
@@ -178,7 +178,7 @@ put_at : (a : Arrival) (s : State) (class : Class) → a.class ≡ class → IsF
 put_at a s Authority e fit r = put_authority a s e fit r
 put_at a s Bibliographic e fit r = put_bibliographic a s e fit r
 
-put_ready : (a : Arrival) (s : State) → IsFitArrival a → IsReady s → IsReady (put a s)
+pub put_ready : (a : Arrival) (s : State) → IsFitArrival a → IsReady s → IsReady (put a s)
 unfolding put
 put_ready a s fit r = put_at a s a.class refl fit r
 
@@ -216,7 +216,7 @@ fields_all P Q f rows a = each_all P (λ (row : Row). All Q row.1.fields) (λ ro
 short_heading : (all : List Linkable) (c : Linkable) → IsFit all c → IsShort c
 short_heading all c fit = let within = part_within_full false c.kind (subfields_of c.heading) in let short = fit.short in omega arith
 
-done_valid : (s : State) → IsDoneState s → IsValid s
+pub done_valid : (s : State) → IsDoneState s → IsValid s
 done_valid s d =
     let all = linkable_authorities s in
     let A = IsDoneRow all Authority in
@@ -264,7 +264,7 @@ key_parts : (library : List ℕ) (fields : List Field) → ((key_of library fiel
 unfolding key_of
 key_parts library fields = (refl, refl)
 
-fit_entry : (e : Entry) → IsAdmitted e → IsFitArrival (arrival_of e)
+pub fit_entry : (e : Entry) → IsAdmitted e → IsFitArrival (arrival_of e)
 fit_entry e a =
     let t = taken e.library e.rec.leader e.rec.fields a.taken in
     let parts = key_parts e.library e.rec.fields in

@@ -52,9 +52,13 @@ impl<V: Drop> Shelf<V> {
     }
 
     /// How many rows there are.
+    #[tactic(auto, using(crate::proofs::Places::length_blank))]
     pub fn len(&self) -> u64
-        ensures { result ≡ length self.now.rows }
+        ensures count { result ≡ length self.now.rows }
+        ensures fits { result < 2 ^ 63 }
     {
+        // there are as many rows as places at the most, and those can be counted
+        let _places = self.slots.len();
         self.count
     }
 

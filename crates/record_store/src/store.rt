@@ -1,4 +1,4 @@
-ghost use Rattle.std.specs.Prelude.{◌≡◌, ◌+◌, ◌<◌, [], length, true, IfOk, IfErr, OnOk, OnErr, IfSome, Some, None, slice_get};
+ghost use Rattle.std.specs.Prelude.{◌≡◌, ◌+◌, ◌<◌, ◌^◌, [], length, true, IfOk, IfErr, OnOk, OnErr, IfSome, Some, None, slice_get};
 ghost use Rattle.std.specs.Option.{option_map};
 ghost use Rattle.std.specs.BTreeMap.{insert_entry};
 ghost use Rattle.std.specs.Map.{lookup, remove_entry};
@@ -8,7 +8,7 @@ ghost use Rattle.entry_record.specs.State.{empty_state, rows_of};
 ghost use Rattle.entry_record.specs.Receipt.{kept_under};
 ghost use Rattle.entry_record.specs.Valid.{IsAscending};
 ghost use Rattle.record_store.specs.Shelf.{has_place};
-ghost use Rattle.record_store.specs.Store.{StaysRecord, field_under, has_room, kept_field, kept_record, kept_rows, shown_row, with_field_under, with_rows};
+ghost use Rattle.record_store.specs.Store.{StaysRecord, field_under, has_room, kept_field, kept_record, kept_rows, shown_row, stored, with_field_under, with_rows};
 
 use crate::kept_rows::KeptRows;
 use crate::shelf::Shelf;
@@ -43,14 +43,40 @@ impl Store {
         }
     }
 
+    /// A store of these rows.
+    pub fn of(authorities: Shelf<Kept>, bibliographic: Shelf<Kept>) -> Store
+        ensures { result ≡ stored authorities bibliographic }
+    {
+        Store {
+            authorities,
+            bibliographic,
+        }
+    }
+
     /// How many records of the class there are.
     pub fn count(&self, class: Class) -> u64
-        ensures { result ≡ length (rows_of class self.now.state) }
+        ensures count { result ≡ length (rows_of class self.now.state) }
+        ensures fits { result < 2 ^ 63 }
     {
         match class {
             Class::Authority => self.authorities.len(),
             Class::Bibliographic => self.bibliographic.len(),
         }
+    }
+
+    /// The record under a key, for those who only read. It counts no step.
+    #[tactic(auto, using(crate::proofs::Mapped::visited))]
+    pub fn look(&self, class: Class, key: &Key) -> Option<&Kept>
+        ensures { option_map (λ kept. kept_record kept.now) result ≡ lookup (same_key key.now) (rows_of class self.now.state) }
+    {
+        self.shelf(class).get(key)
+    }
+
+    /// The key and the record with so many before them in key order, for those who only read. It counts no step.
+    pub fn look_at(&self, class: Class, index: u64) -> Option<(&Key, &Kept)>
+        ensures { option_map shown_row result ≡ slice_get (rows_of class self.now.state) index }
+    {
+        self.shelf(class).at(index)
     }
 
     /// The record under a key. It counts one step.

@@ -1,0 +1,10 @@
+use Rattle.std.proofs.Common.{◌≡◌, drop}
+use Rattle.heading_fields.specs.Parts.{subfields_of}
+use Rattle.entry_record.specs.Choice.{by_first_name}
+use Rattle.catalogue_core.specs.Views.{linkables, kept_field}
+use Rattle.catalogue_core.proofs.choice.by_first_name.Given as goal
+
+abbrev pub invariant-loop-subfield : goal.invariant-loop-subfield
+invariant-loop-subfield l =
+    by_first_name (linkables l.authorities) l.class l.kind (kept_field l.field l.tie) (subfields_of l.field)
+    ≡ by_first_name (linkables l.authorities) l.class l.kind (kept_field l.field l.tie) (drop l.subfield-index (subfields_of l.field))
