@@ -75,7 +75,8 @@ impl Engine {
     }
 
     /// Takes the state to that behind one more entry: the entry's record comes into its key's place, links that can't stay are
-    /// ended, and every heading is settled. It counts a step for each record before. Want of memory changes nothing.
+    /// ended, and every heading is settled. It counts a step for each record before, which no clause bounds yet. Want of memory
+    /// changes nothing.
     pub fn step<L: Ledger>(
         &mut self,
         alloc: Global,

@@ -1,4 +1,5 @@
-//! What a commit does to one field and to one record of a catalogue.
+//! A catalogue: its history, its state, and what a commit does to both. The bodies are plain: each commit looks at all
+//! authorities for all fields, and makes all records anew.
 #![tactic(auto)]
 
 pub use catalogue::{Catalogue, CoreFault};

@@ -3,7 +3,7 @@
 use marc_types::{Keys, Sequence};
 
 /// How a field stands: it is linked, it is ambiguous between the authorities with these keys (in key order), it is a heading
-/// field without a link, or it is no heading field.
+/// field that is neither, or it is no heading field.
 #[derive(Debug, Drop)]
 pub enum Standing {
     Linked,
