@@ -4,14 +4,14 @@ set -eu
 top=$(cd "$(dirname "$0")/../.." && pwd)
 work=${1:-$(mktemp -d)}
 mkdir -p "$work/crates/read/src"
-for crate in outside marc_types iso2709_record marc8_latin marc_stream reading; do
+for crate in outside marc_types naco_form heading_fields iso2709_record marc8_latin marc_stream entry_record reading; do
     rm -rf "$work/crates/$crate"
     cp -r "$top/crates/$crate" "$work/crates/"
     rm -rf "$work/crates/$crate/out" "$work/crates/$crate/must-fail"
 done
 cp "$top/bench/reading/read.rt.txt" "$work/crates/read/src/main.rt"
 cp "$top/HANDLES" "$work/"
-grep -E '^(marc_types|outside|iso2709_record|marc8_latin|marc_stream|reading):' "$top/crates.txt" >"$work/crates.txt"
+grep -E '^(marc_types|outside|naco_form|heading_fields|iso2709_record|marc8_latin|marc_stream|entry_record|reading):' "$top/crates.txt" >"$work/crates.txt"
 echo 'read: reading marc_stream marc_types outside' >>"$work/crates.txt"
 rustc -O --edition 2024 -o "$work/read_rust" "$top/bench/reading/read.rs"
 for kind in small large; do
