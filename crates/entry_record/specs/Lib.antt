@@ -12,6 +12,7 @@ pub mod Output
 pub mod Payload
 pub mod Prepared
 pub mod Receipt
+pub mod Receipts
 pub mod Sameness
 pub mod Settle
 pub mod State

@@ -1,6 +1,6 @@
 use Rattle.std.specs.Prelude.{ℕ}
 use Rattle.marc_types.specs.declared.refusal.Refusal.{Refusal}
-use Rattle.marc_types.specs.declared.refusal.Refusal.TheVariants.{Overlong, Unfinished, BadLength, BadLeader, BadDirectory, BadField, UnknownCoding, BadText, OtherType, NoNumber, BadCode, NoHeading, HeadingTooLong, NoRoom, OtherSet, NotYet}
+use Rattle.marc_types.specs.declared.refusal.Refusal.TheVariants.{Overlong, Unfinished, BadLength, BadLeader, BadDirectory, BadField, UnknownCoding, BadText, OtherType, NoNumber, BadCode, NoHeading, HeadingTooLong, NoRoom, OtherSet}
 
 -- the number of a refusal in printed lines
 abbrev pub number_of : Refusal → ℕ
@@ -19,4 +19,3 @@ number_of NoHeading = 12
 number_of HeadingTooLong = 13
 number_of NoRoom = 14
 number_of (OtherSet set entry offset) = 15
-number_of NotYet = 16

@@ -40,8 +40,6 @@ pub enum Refusal {
     NoRoom,
     /// The set, the entry, and the offset of its designation.
     OtherSet(Set, u32, u32),
-    /// The record is sound, and the catalogue doesn't take its like yet.
-    NotYet,
 }
 
 impl Refusal {
@@ -67,7 +65,6 @@ impl Refusal {
             Refusal::HeadingTooLong => 13,
             Refusal::NoRoom => 14,
             Refusal::OtherSet(_, _, _) => 15,
-            Refusal::NotYet => 16,
         }
     }
 }
