@@ -198,6 +198,8 @@ impl Disk for MemDisk {
 
     ghost only_now = { λ d c left. laws.only_now d.tape.first d.tape.changes c left };
 
+    ghost left_since_earlier = { λ d t u c le left. laws.left_since_earlier d.tape.first d.tape.changes t u c le left };
+
     ghost synced_after = { λ d t s is. laws.synced_after d.tape.changes t s is };
 
     ghost synced_by_now = { λ d t s is. laws.synced_by_now d.tape.changes t s is };

@@ -60,6 +60,8 @@ impl Disk for FileDisk {
 
     ghost only_now = { λ d c left. left };
 
+    ghost left_since_earlier = { λ d t u c le left. left };
+
     ghost synced_after = { λ d t s is. laws.syncs_none s is };
 
     ghost synced_by_now = { λ d t s is. laws.syncs_none s is };
