@@ -94,3 +94,11 @@ pub record TapeState : Type 0 where
   pub first : List ℕ
   pub changes : List Change
   pub bytes : List ℕ
+
+-- a tape with one more change, as a call leaves it
+abbrev pub after_change : TapeState → Change → TapeState
+after_change tape change = record { first = tape.first; changes = change ∷ tape.changes; bytes = next_content change tape.bytes }
+
+-- what a failed call leaves: its change, where it was listed and there was memory for that; else what was there
+abbrev pub FailsWith : Bool → Change → TapeState → TapeState → Type 0
+FailsWith listed change old new = (listed ≡ false → new ≡ old) × ((new ≡ old) ⊎ (new ≡ after_change old change))

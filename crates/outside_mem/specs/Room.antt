@@ -5,6 +5,7 @@ use Rattle.outside.specs.Disk.{DiskView}
 use Rattle.outside.specs.Room.{RoomView, OpenSort, AsOutput, AsLog, bytes_or_none}
 use Rattle.outside_mem.specs.Disk.{view_of}
 use Rattle.outside_mem.specs.declared.disk.MemDisk.{MemDisk}
+use Rattle.outside_mem.specs.MemDisk.{disk_view}
 use Rattle.outside_mem.specs.declared.files.FileState.{FileState}
 use Rattle.outside_mem.specs.declared.files.FileState.TheVariants.{Absent, Closed, ClosedLog, OpenOutput, OpenLog}
 use Rattle.outside_mem.specs.declared.room.MemRoom.{MemRoom}
@@ -32,10 +33,6 @@ is_closed_log (Closed bytes) = false
 is_closed_log (ClosedLog disk) = true
 is_closed_log OpenOutput = false
 is_closed_log OpenLog = false
-
--- a disk in memory as any disk is seen
-abbrev pub disk_view : MemDisk → DiskView
-disk_view disk = view_of disk.tape.first disk.tape.changes disk.tape.bytes disk.calls.faults
 
 -- a closed log as any disk is seen, and an empty disk for what is none
 abbrev pub log_view : FileState → DiskView

@@ -5,7 +5,8 @@ ghost use Rattle.outside.specs.Fault.{HasCause, count_sum};
 ghost use Rattle.outside.specs.Room.{AsOutput, AsLog, bytes_or_none, Stays, Apart};
 ghost use Rattle.outside_mem.specs.Calls.{fresh_calls};
 ghost use Rattle.outside_mem.specs.Files.{NamedFile, file_in, told_file};
-ghost use Rattle.outside_mem.specs.Room.{file_under, room_view, open_sort, is_closed_log, SameFiles, SameCounts, HasCounts, counted, in_count, out_count, ChangesUnder, IsSourceOf, IsSinkOf, IsLogOf, log_count, disk_view, log_view};
+ghost use Rattle.outside_mem.specs.Room.{file_under, room_view, open_sort, is_closed_log, SameFiles, SameCounts, HasCounts, counted, in_count, out_count, ChangesUnder, IsSourceOf, IsSinkOf, IsLogOf, log_count, log_view};
+ghost use Rattle.outside_mem.specs.MemDisk.{disk_view};
 ghost use Rattle.outside_mem.specs.declared.files.FileState.TheVariants.{Absent, Closed, ClosedLog, OpenOutput, OpenLog};
 
 use crate::files::{self, FileState, MemFile};
