@@ -1,5 +1,6 @@
-ghost use Rattle.std.specs.Prelude.{◌≡◌, ℕ, ◌≤◌, IfOk};
+ghost use Rattle.std.specs.Prelude.{◌≡◌, ℕ, ◌+◌, ◌-◌, ◌<◌, ◌≤◌, ◌↔◌, length, max, IfOk, IsErr, OnOk, OnErr};
 ghost use Rattle.outside.specs.Disk.{longest_disk};
+ghost use Rattle.outside.specs.Fault.{HasCause, counted};
 
 use crate::count::raised;
 use outside::{Disk, Failed, LONGEST_DISK};

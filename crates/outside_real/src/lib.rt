@@ -15,5 +15,5 @@ pub use disk::FileDisk;
 pub use gate::OpenGate;
 pub use room::FileRoom;
 pub use sink::FileSink;
-pub use source::FileSource;
+pub use source::{FileSource, LONGEST_INPUT};
 pub use target::Target;
