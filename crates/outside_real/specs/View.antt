@@ -2,6 +2,7 @@
 use Rattle.std.specs.Prelude.{ℕ, Bool, false, List, Option, Some, None, if◌then◌else◌}
 use Rattle.outside.specs.Disk.{DiskView}
 use Rattle.outside.specs.Room.{RoomView, OpenSort, AsOutput, AsLog}
+use Rattle.outside_real.specs.declared.disk.FileDisk.{FileDisk}
 
 -- a disk that tells its length alone
 abbrev pub untold_disk : ℕ → ℕ → DiskView
@@ -15,6 +16,10 @@ untold_disk len faults = record {
   dated = false;
   faults = faults;
 }
+
+-- a disk over a file as any disk is seen
+abbrev pub file_disk_view : FileDisk → DiskView
+file_disk_view disk = untold_disk disk.len disk.faults
 
 -- how a name is open that is or isn't among the outputs and among the logs
 abbrev pub opened : Bool → Bool → Option OpenSort

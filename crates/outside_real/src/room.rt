@@ -29,6 +29,7 @@ impl<R: Files<File = File> + Print + Clone + Drop> FileRoom<R> {
 
     pub fn new(rt: R, alloc: Global) -> Self
         ensures closed { (n : List ℕ) → (⟦<FileRoom<R> as Room>⟧.seen result).open_as n ≡ None }
+        ensures counts { (result.ins ≡ 0) × (result.outs ≡ 0) × (result.logs ≡ 0) }
     {
         FileRoom {
             rt,
@@ -93,20 +94,23 @@ impl<R: Files<File = File> + Print + Clone + Drop> Room for FileRoom<R> {
     }
 
     fn open_out(&mut self, name: &str) -> Result<Self::Out, Failed> {
-        if let Ok(file) = File::create(&self.rt, name) {
-            if self.outputs.add(self.alloc, name).is_ok() {
+        // The name first, so that want of memory leaves the file as it was.
+        if self.outputs.add(self.alloc, name).is_ok() {
+            if let Ok(file) = File::create(&self.rt, name) {
                 return Ok(FileSink::gathering(self.alloc, Target::File(file)));
             }
+            self.outputs.remove(name);
         }
         self.outs = raised(self.outs);
         Err(Failed)
     }
 
     fn open_log(&mut self, name: &str) -> Result<Self::Log, Failed> {
-        if let Ok(disk) = self.disk_of(name) {
-            if self.open_logs.add(self.alloc, name).is_ok() {
+        if self.open_logs.add(self.alloc, name).is_ok() {
+            if let Ok(disk) = self.disk_of(name) {
                 return Ok(disk);
             }
+            self.open_logs.remove(name);
         }
         self.logs = raised(self.logs);
         Err(Failed)
