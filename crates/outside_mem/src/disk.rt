@@ -2,7 +2,7 @@ ghost use Rattle.std.specs.Prelude.{◌≡◌, ℕ, ◌+◌, ◌-◌, ◌<◌, �
 ghost use Rattle.outside.specs.Disk.{longest_disk, patch, Torn, TornCut, Follows, ContentFollows, NoNewImage, OnlyContent, Elapses, SameSyncs, SyncsNow, Unchanged};
 ghost use Rattle.outside.specs.Fault.{HasCause};
 ghost use Rattle.outside_mem.specs.Calls.{is_next_listed, after_call, fresh_calls};
-ghost use Rattle.outside_mem.specs.Disk.{IsRun, IsImageAfter, image_after, after_change, FailsWith};
+ghost use Rattle.outside_mem.specs.Disk.{IsRun, IsImageAfter, image_after, synced_content, after_change, FailsWith};
 ghost use Rattle.outside_mem.specs.declared.change.Change.TheVariants.{Write, Cut, Sync};
 ghost use Rattle.outside_mem.specs.DiskLaws as laws;
 
@@ -62,11 +62,13 @@ impl MemDisk {
 
     /// An image that a crash at that moment may leave: choice 0 keeps what isn't synced as before, 1 as written, any other
     /// fills it with FF.
-    #[tactic(auto, using(crate::proofs::Crashes::crash_image))]
+    #[tactic(auto, using(crate::proofs::Crashes::crash_image, crate::proofs::Crashes::kept_image))]
     pub fn crash(&self, alloc: Global, moment: u64, choice: u8) -> Result<Vec<u8>, NoMemory>
         requires { moment < length self.now.tape.changes + 1 }
         ensures chosen { IfOk result (λ image. image.items
             ≡ image_after choice self.now.tape.first (drop (length self.now.tape.changes - moment) self.now.tape.changes)) }
+        ensures kept { IfOk result (λ image. choice ≡ 0 → image.items
+            ≡ synced_content self.now.tape.first (drop (length self.now.tape.changes - moment) self.now.tape.changes)) }
         ensures image { IfOk result (λ image.
             IsImageAfter self.now.tape.first (drop (length self.now.tape.changes - moment) self.now.tape.changes) image.items) }
     {
