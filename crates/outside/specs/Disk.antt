@@ -46,6 +46,10 @@ pub record TornCut (n : ℕ) (old new : List ℕ) : Type 0 where
 abbrev pub Follows : (List ℕ → List ℕ → Type 0) → DiskView → DiskView → Type 0
 Follows step old new = (c : List ℕ) → new.image c → (d : List ℕ) × old.image d × step d c
 
+-- where it tells its content, the content now is the one from before, after this step
+abbrev pub ContentFollows : (List ℕ → List ℕ → Type 0) → DiskView → DiskView → Type 0
+ContentFollows step old new = (b c : List ℕ) → old.content ≡ Some b → new.content ≡ Some c → step b c
+
 -- no image is new
 abbrev pub NoNewImage : DiskView → DiskView → Type 0
 NoNewImage old new = (c : List ℕ) → new.image c → old.image c

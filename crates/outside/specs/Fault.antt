@@ -1,5 +1,5 @@
 -- Counts of faults, which stop at the greatest number of a u64, and answers that have their cause in a count.
-use Rattle.std.specs.Prelude.{ℕ, ◌+◌, ◌-◌, ◌^◌, ◌≤◌, min, List, [], ◌∷◌, Result, OnErr, IsErrOf}
+use Rattle.std.specs.Prelude.{ℕ, ◌+◌, ◌-◌, ◌^◌, ◌≤◌, min, List, [], ◌∷◌, Result, Ok, Err, OnErr, IsErrOf}
 use Rattle.outside.specs.declared.fault.WriteFault.{WriteFault}
 use Rattle.outside.specs.declared.fault.WriteFault.TheVariants.{OutputFault}
 
@@ -14,6 +14,11 @@ Rose before now = min (before + 1) greatest_count ≤ now
 -- two counts, one added to the other
 abbrev pub count_sum : ℕ → ℕ → ℕ
 count_sum a b = min (a + b) greatest_count
+
+-- a count with one more fault, where the call failed
+abbrev pub counted : {T E : Type 0} → Result T E → ℕ → ℕ
+counted (Ok value) count = count
+counted (Err error) count = count_sum count 1
 
 -- the counts of several names together
 abbrev pub count_total : (List ℕ → ℕ) → List (List ℕ) → ℕ

@@ -1,7 +1,7 @@
 ghost use Rattle.std.specs.Prelude.{◌≡◌, ℕ, ◌+◌, ◌-◌, ◌<◌, ◌≤◌, ◌↔◌, List, length, take, drop, max, Option, Some, None, true, false, IsErr, IfOk, OnOk, OnErr};
 ghost use Rattle.std.specs.Option.{option_map};
 ghost use Rattle.outside.specs.Fault.{HasCause};
-ghost use Rattle.outside.specs.Disk.{DiskView, longest_disk, patch, Torn, TornCut, Follows, NoNewImage, OnlyContent, Elapses, SameSyncs, SyncsNow, Unchanged};
+ghost use Rattle.outside.specs.Disk.{DiskView, longest_disk, patch, Torn, TornCut, Follows, ContentFollows, NoNewImage, OnlyContent, Elapses, SameSyncs, SyncsNow, Unchanged};
 
 use crate::Failed;
 
@@ -41,6 +41,7 @@ pub trait Disk {
         // A failed call may have happened in any part.
         ensures no_shorter { (seen self.old).len ≤ (seen self.new).len }
         ensures no_longer { (seen self.new).len ≤ max (seen self.old).len (at + length bytes.now) }
+        ensures torn { OnErr result (ContentFollows (Torn at (length bytes.now)) (seen self.old) (seen self.new)) }
         ensures crash { Follows (Torn at (length bytes.now)) (seen self.old) (seen self.new) }
         ensures time { Elapses (seen self.old) (seen self.new) }
         ensures syncs { SameSyncs (seen self.old) (seen self.new) }
@@ -55,6 +56,7 @@ pub trait Disk {
         // A failed call may have happened in any part.
         ensures no_shorter { len ≤ (seen self.new).len }
         ensures no_longer { (seen self.new).len ≤ (seen self.old).len }
+        ensures torn { OnErr result (ContentFollows (TornCut len) (seen self.old) (seen self.new)) }
         ensures crash { Follows (TornCut len) (seen self.old) (seen self.new) }
         ensures time { Elapses (seen self.old) (seen self.new) }
         ensures syncs { SameSyncs (seen self.old) (seen self.new) }
@@ -89,6 +91,9 @@ pub trait Disk {
         → (seen disk).image c → (seen disk).left t c };
 
     ghost only_now: { (disk : Self) (c : List ℕ) → (seen disk).left (seen disk).moment c → (seen disk).image c };
+
+    // What a crash since a later moment may leave, a crash since an earlier one may leave.
+    ghost left_since_earlier: { (disk : Self) (t u : ℕ) (c : List ℕ) → t ≤ u → (seen disk).left u c → (seen disk).left t c };
 
     // A sync since a moment comes after it, and the first is no later than the first since any later moment.
     ghost synced_after: { (disk : Self) (t s : ℕ) → (seen disk).synced t ≡ Some s → t < s };

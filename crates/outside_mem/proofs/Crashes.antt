@@ -6,7 +6,7 @@ use Rattle.std.proofs.lemmas.Bool.Decides.{nat_tests}
 use Rattle.outside.specs.Disk.{patch, Torn, TornCut}
 use Rattle.outside_mem.specs.declared.change.Change.{Change}
 use Rattle.outside_mem.specs.declared.change.Change.TheVariants.{Write, Cut, Sync}
-use Rattle.outside_mem.specs.Disk.{content_after, next_content, IsImageAfter, are_within, IsRun, image_after, next_image, chosen}
+use Rattle.outside_mem.specs.Disk.{content_after, next_content, IsImageAfter, are_within, IsRun, image_after, next_image, chosen, synced_content}
 use Rattle.outside_mem.specs.DiskLaws.{torn_self, cut_self, length-patch, torn_patch, torn_cut, both, at_most}
 
 -- what a crash leaves by a choice is an image, and no shorter than the content where it keeps what was written
@@ -109,6 +109,14 @@ chosen_image choice first (Cut len done ∷ earlier) within =
     }
 chosen_image choice first (Sync true ∷ earlier) within = record { image = refl; long = λ some. omega arith }
 chosen_image choice first (Sync false ∷ earlier) within = (let before = chosen_image choice first earlier within in record { image = before.image; long = before.long })
+
+-- choice 0 keeps what isn't synced as before
+pub kept_image : (first : List ℕ) (changes : List Change) → image_after 0 first changes ≡ synced_content first changes
+kept_image first [] = refl
+kept_image first (Write at bytes done ∷ earlier) = kept_image first earlier
+kept_image first (Cut len done ∷ earlier) = kept_image first earlier
+kept_image first (Sync true ∷ earlier) = refl
+kept_image first (Sync false ∷ earlier) = kept_image first earlier
 
 -- a choice, by its tests
 pub chosen_tests : (choice : ℕ) (before written filled : List ℕ) → chosen choice before written filled ≡ (if choice == 0 then before else if choice == 1 then written else filled)

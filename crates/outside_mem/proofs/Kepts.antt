@@ -1,5 +1,5 @@
 -- What a sure room keeps under each name, after one entry changed or was added.
-use Rattle.std.proofs.Common.{◌≡◌, ◌≢◌, ℕ, ◌+◌, ◌-◌, ◌<◌, ◌≤◌, List, [], ◌∷◌, ◌++◌, length, set, get_or, take, replicate, Option, Some, None, IfSome, IfNone, Bool, true, false, not, cond, refl, sym, ap, ◌∙◌, arith, true≢false, inl, inr}
+use Rattle.std.proofs.Common.{◌≡◌, ◌≢◌, ℕ, ◌+◌, ◌-◌, ◌<◌, ◌≤◌, List, [], ◌∷◌, ◌++◌, length, set, get_or, take, replicate, Option, Some, None, IfSome, IfNone, Bool, true, false, not, cond, refl, sym, ap, ◌∙◌, arith, inl, inr}
 use Rattle.std.specs.List.{find, position, position_or_len, slice_get}
 use Rattle.std.specs.Option.{option_or}
 use Rattle.std.specs.Str.{bytes_eq}
@@ -10,7 +10,6 @@ use Rattle.std.proofs.lemmas.List.Folds.{find-set, find_past, find-append, find_
 use Rattle.std.proofs.lemmas.List.Sums.{prefix_len-le-length, passes_at_first}
 use Rattle.std.proofs.lemmas.Slice.Eq.{bytes_eq-Decides}
 use Rattle.outside_mem.proofs.Places.{found_at, missing_at}
-use Rattle.outside_mem.specs.declared.sure_files.Kept.{Kept}
 use Rattle.outside_mem.specs.declared.sure_files.SureFile.{SureFile}
 use Rattle.outside_mem.specs.SureFiles.{is_called, kept_by, kept_in, IsAt, IsUncalled, ChangesKept}
 

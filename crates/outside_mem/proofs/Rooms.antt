@@ -9,7 +9,8 @@ use Rattle.outside_mem.specs.declared.files.FileState.{FileState}
 use Rattle.outside_mem.specs.declared.files.FileState.TheVariants.{ClosedLog}
 use Rattle.outside_mem.specs.declared.room.MemRoom.{MemRoom}
 use Rattle.outside_mem.specs.Files.{NamedFile, told_file}
-use Rattle.outside_mem.specs.Room.{file_under, room_view, disk_view, log_view, open_sort, is_closed_log, in_count, out_count, log_count, SameFiles, ChangesUnder}
+use Rattle.outside_mem.specs.Room.{file_under, room_view, log_view, open_sort, is_closed_log, in_count, out_count, log_count, SameFiles, ChangesUnder}
+use Rattle.outside_mem.specs.MemDisk.{disk_view}
 
 same_log : (a b : FileState) → b ≡ a → SameDisk (log_view a) (log_view b)
 same_log a b same = subst (λ s. SameDisk (log_view a) (log_view s)) (sym same) (same_disk (log_view a))

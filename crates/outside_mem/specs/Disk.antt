@@ -40,6 +40,14 @@ synced_since (Sync false ∷ earlier) t = synced_since earlier t
 synced_since (Write at bytes done ∷ earlier) t = synced_since earlier t
 synced_since (Cut len done ∷ earlier) t = synced_since earlier t
 
+-- the content at the last sync that succeeded, or else at the start
+abbrev pub synced_content : List ℕ → List Change → List ℕ
+synced_content first [] = first
+synced_content first (Sync true ∷ earlier) = content_after first earlier
+synced_content first (Sync false ∷ earlier) = synced_content first earlier
+synced_content first (Write at bytes done ∷ earlier) = synced_content first earlier
+synced_content first (Cut len done ∷ earlier) = synced_content first earlier
+
 -- whether each write and cut began within the content
 abbrev pub are_within : List ℕ → List Change → Bool
 are_within first [] = true
@@ -94,3 +102,11 @@ pub record TapeState : Type 0 where
   pub first : List ℕ
   pub changes : List Change
   pub bytes : List ℕ
+
+-- a tape with one more change, as a call leaves it
+abbrev pub after_change : TapeState → Change → TapeState
+after_change tape change = record { first = tape.first; changes = change ∷ tape.changes; bytes = next_content change tape.bytes }
+
+-- what a failed call leaves: its change, where it was listed and there was memory for that; else what was there
+abbrev pub FailsWith : Bool → Change → TapeState → TapeState → Type 0
+FailsWith listed change old new = (listed ≡ false → new ≡ old) × ((new ≡ old) ⊎ (new ≡ after_change old change))

@@ -71,6 +71,12 @@ pub counts_now : (first : List ℕ) (changes : List Change) (t : ℕ) (c : List 
 counts_now first [] t c le image = (le, image)
 counts_now first (change ∷ earlier) t c le image = inl (omega (arith, le), image)
 
+-- what a crash since a later moment may leave, one since an earlier moment may leave
+pub left_since_earlier : (first : List ℕ) (changes : List Change) (t u : ℕ) (c : List ℕ) → t ≤ u → LeavesSince first changes u c → LeavesSince first changes t c
+left_since_earlier first [] t u c le left = (let l = left.0 in omega (arith, l, le), left.1)
+left_since_earlier first (change ∷ earlier) t u c le (inl now) = inl (let l = now.0 in omega (arith, l, le), now.1)
+left_since_earlier first (change ∷ earlier) t u c le (inr before) = inr (left_since_earlier first earlier t u c le before)
+
 left_until : (first : List ℕ) (changes : List Change) (t : ℕ) (c : List ℕ) → LeavesSince first changes t c → t ≤ length changes
 left_until first [] t c left = left.0
 left_until first (change ∷ earlier) t c (inl now) = (let l = now.0 in omega (arith, l))

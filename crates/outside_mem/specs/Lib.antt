@@ -6,6 +6,7 @@ pub mod SureFiles
 pub mod SureRoom
 pub mod Objects
 pub mod Files
+pub mod MemDisk
 pub mod Room
 pub mod Disk
 pub mod DiskLaws

@@ -1,15 +1,15 @@
 -- What clauses see of a room in memory.
-use Rattle.std.specs.Prelude.{◌≡◌, ◌≢◌, ℕ, ◌-◌, ◌^◌, List, [], Option, Some, None, IsSome, Bool, true, false, Result, Ok, Err, refl}
+use Rattle.std.specs.Prelude.{◌≡◌, ◌≢◌, ℕ, ◌-◌, ◌^◌, List, [], Option, Some, None, IsSome, Bool, true, false, refl}
 use Rattle.std.proofs.Common.{true≢false, sym}
 use Rattle.outside.specs.Disk.{DiskView}
 use Rattle.outside.specs.Room.{RoomView, OpenSort, AsOutput, AsLog, bytes_or_none}
 use Rattle.outside_mem.specs.Disk.{view_of}
 use Rattle.outside_mem.specs.declared.disk.MemDisk.{MemDisk}
+use Rattle.outside_mem.specs.MemDisk.{disk_view}
 use Rattle.outside_mem.specs.declared.files.FileState.{FileState}
 use Rattle.outside_mem.specs.declared.files.FileState.TheVariants.{Absent, Closed, ClosedLog, OpenOutput, OpenLog}
 use Rattle.outside_mem.specs.declared.room.MemRoom.{MemRoom}
 use Rattle.outside_mem.specs.Files.{NamedFile, file_in, told_file}
-use Rattle.outside.specs.Fault.{count_sum}
 use Rattle.outside_mem.specs.Calls.{fresh_calls}
 use Rattle.outside_mem.specs.Objects.{SourceState, SinkState}
 
@@ -32,10 +32,6 @@ is_closed_log (Closed bytes) = false
 is_closed_log (ClosedLog disk) = true
 is_closed_log OpenOutput = false
 is_closed_log OpenLog = false
-
--- a disk in memory as any disk is seen
-abbrev pub disk_view : MemDisk → DiskView
-disk_view disk = view_of disk.tape.first disk.tape.changes disk.tape.bytes disk.calls.faults
 
 -- a closed log as any disk is seen, and an empty disk for what is none
 abbrev pub log_view : FileState → DiskView
@@ -92,11 +88,6 @@ out_count room = room.out_faults
 
 abbrev pub log_count : MemRoom → ℕ
 log_count room = room.log_faults
-
--- a count with one more fault, where the call failed
-abbrev pub counted : {T E : Type 0} → Result T E → ℕ → ℕ
-counted (Ok value) count = count
-counted (Err error) count = count_sum count 1
 
 -- the counts are these
 pub record HasCounts (room : MemRoom) (inputs outputs of_logs : ℕ) : Type 0 where

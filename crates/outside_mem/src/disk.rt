@@ -1,8 +1,8 @@
-ghost use Rattle.std.specs.Prelude.{◌≡◌, ℕ, ◌+◌, ◌-◌, ◌<◌, ◌≤◌, List, [], ◌∷◌, length, take, drop, min, max, Option, Some, None, Bool, true, false, IfOk, OnOk, OnErr, if◌then◌else◌};
-ghost use Rattle.outside.specs.Disk.{longest_disk, patch};
+ghost use Rattle.std.specs.Prelude.{◌≡◌, ℕ, ◌+◌, ◌-◌, ◌<◌, ◌≤◌, List, [], ◌∷◌, length, take, drop, min, max, Option, Some, None, Bool, true, false, is_err, IsErr, IfOk, OnOk, OnErr, if◌then◌else◌};
+ghost use Rattle.outside.specs.Disk.{longest_disk, patch, Torn, TornCut, Follows, ContentFollows, NoNewImage, OnlyContent, Elapses, SameSyncs, SyncsNow, Unchanged};
 ghost use Rattle.outside.specs.Fault.{HasCause};
-ghost use Rattle.outside_mem.specs.Calls.{fresh_calls};
-ghost use Rattle.outside_mem.specs.Disk.{IsRun, view_of, IsImageAfter, image_after};
+ghost use Rattle.outside_mem.specs.Calls.{is_next_listed, after_call, fresh_calls};
+ghost use Rattle.outside_mem.specs.Disk.{IsRun, IsImageAfter, image_after, synced_content, after_change, FailsWith};
 ghost use Rattle.outside_mem.specs.declared.change.Change.TheVariants.{Write, Cut, Sync};
 ghost use Rattle.outside_mem.specs.DiskLaws as laws;
 
@@ -62,11 +62,13 @@ impl MemDisk {
 
     /// An image that a crash at that moment may leave: choice 0 keeps what isn't synced as before, 1 as written, any other
     /// fills it with FF.
-    #[tactic(auto, using(crate::proofs::Crashes::crash_image))]
+    #[tactic(auto, using(crate::proofs::Crashes::crash_image, crate::proofs::Crashes::kept_image))]
     pub fn crash(&self, alloc: Global, moment: u64, choice: u8) -> Result<Vec<u8>, NoMemory>
         requires { moment < length self.now.tape.changes + 1 }
         ensures chosen { IfOk result (λ image. image.items
             ≡ image_after choice self.now.tape.first (drop (length self.now.tape.changes - moment) self.now.tape.changes)) }
+        ensures kept { IfOk result (λ image. choice ≡ 0 → image.items
+            ≡ synced_content self.now.tape.first (drop (length self.now.tape.changes - moment) self.now.tape.changes)) }
         ensures image { IfOk result (λ image.
             IsImageAfter self.now.tape.first (drop (length self.now.tape.changes - moment) self.now.tape.changes) image.items) }
     {
@@ -129,9 +131,9 @@ impl MemDisk {
 
     // Counts a call that was made, and answers whether it failed.
     fn counted(&mut self, failed: bool) -> Result<(), Failed>
+        ensures answer { is_err result ≡ failed }
+        ensures calls { self.new.calls ≡ after_call self.old.calls failed }
         ensures tape { self.new.tape ≡ self.old.tape }
-        ensures ok { OnOk result (failed ≡ false) }
-        ensures err { OnErr result (failed ≡ true) }
         ensures cause { HasCause self.old.calls.faults self.new.calls.faults result }
     {
         if failed {
@@ -144,13 +146,26 @@ impl MemDisk {
 }
 
 impl Disk for MemDisk {
-    ghost seen = { λ d. view_of d.tape.first d.tape.changes d.tape.bytes d.calls.faults };
+    ghost use Rattle.outside_mem.specs.MemDisk.{disk_view};
+
+    ghost seen = { disk_view };
 
     fn len(&self) -> u64 {
         self.tape.bytes().len() as u64
     }
 
-    fn read_at(&mut self, at: u64, buf: &mut [u8]) -> Result<usize, Failed> {
+    fn read_at(&mut self, at: u64, buf: &mut [u8]) -> Result<usize, Failed>
+        requires { 0 < length buf.old }
+        ensures unchanged { Unchanged (disk_view self.old) (disk_view self.new) }
+        ensures cause { HasCause self.old.calls.faults self.new.calls.faults result }
+
+        // It fails exactly where the call is listed, and else gives all that the buffer takes.
+        ensures listed { is_err result ≡ is_next_listed self.old.calls }
+        ensures calls { self.new.calls ≡ after_call self.old.calls (is_err result) }
+        ensures count { IfOk result (λ n. n ≡ min (length buf.old) (length self.old.tape.bytes - at)) }
+        ensures bytes { IfOk result (λ n. take n buf.new ≡ take n (drop at self.old.tape.bytes)) }
+        ensures tape { self.new.tape ≡ self.old.tape }
+    {
         if self.calls.is_next_listed() {
             self.calls.count_fault();
             return Err(Failed);
@@ -163,7 +178,27 @@ impl Disk for MemDisk {
         Ok(copy_front(&bytes[at as usize..], buf))
     }
 
-    fn write_at(&mut self, at: u64, bytes: &[u8]) -> Result<(), Failed> {
+    fn write_at(&mut self, at: u64, bytes: &[u8]) -> Result<(), Failed>
+        requires { at ≤ length self.old.tape.bytes }
+        ensures len { OnOk result (length self.new.tape.bytes ≡ max (length self.old.tape.bytes) (at + length bytes.now)) }
+        ensures no_shorter { length self.old.tape.bytes ≤ length self.new.tape.bytes }
+        ensures no_longer { length self.new.tape.bytes ≤ max (length self.old.tape.bytes) (at + length bytes.now) }
+        ensures torn { OnErr result (ContentFollows (Torn at (length bytes.now)) (disk_view self.old) (disk_view self.new)) }
+        ensures crash { Follows (Torn at (length bytes.now)) (disk_view self.old) (disk_view self.new) }
+        ensures time { Elapses (disk_view self.old) (disk_view self.new) }
+        ensures syncs { SameSyncs (disk_view self.old) (disk_view self.new) }
+        ensures cause { HasCause self.old.calls.faults self.new.calls.faults result }
+
+        // It fails where the call is listed, and where the bytes would pass the longest disk, which changes nothing.
+        ensures listed { is_next_listed self.old.calls ≡ true → IsErr result }
+        ensures too_long { longest_disk < at + length bytes.now → IsErr result }
+        ensures too_long_unchanged { longest_disk < at + length bytes.now → self.new.tape ≡ self.old.tape }
+        ensures calls { self.new.calls ≡ after_call self.old.calls (is_err result) }
+
+        // It adds one moment. A call that isn't listed and finds no memory fails, and changes nothing.
+        ensures ok { OnOk result (self.new.tape ≡ after_change self.old.tape (Write at bytes.now true)) }
+        ensures failed { OnErr result (FailsWith (is_next_listed self.old.calls) (Write at bytes.now false) self.old.tape self.new.tape) }
+    {
         if bytes.len() as u64 > LONGEST_DISK - at {
             return self.counted(true);
         }
@@ -172,13 +207,43 @@ impl Disk for MemDisk {
         self.counted(failed)
     }
 
-    fn cut(&mut self, len: u64) -> Result<(), Failed> {
+    fn cut(&mut self, len: u64) -> Result<(), Failed>
+        requires { len ≤ length self.old.tape.bytes }
+        ensures len { OnOk result (length self.new.tape.bytes ≡ len) }
+        ensures no_shorter { len ≤ length self.new.tape.bytes }
+        ensures no_longer { length self.new.tape.bytes ≤ length self.old.tape.bytes }
+        ensures torn { OnErr result (ContentFollows (TornCut len) (disk_view self.old) (disk_view self.new)) }
+        ensures crash { Follows (TornCut len) (disk_view self.old) (disk_view self.new) }
+        ensures time { Elapses (disk_view self.old) (disk_view self.new) }
+        ensures syncs { SameSyncs (disk_view self.old) (disk_view self.new) }
+        ensures cause { HasCause self.old.calls.faults self.new.calls.faults result }
+
+        // It fails where the call is listed, and adds one moment. Any other fails for want of memory, and changes nothing.
+        ensures listed { is_next_listed self.old.calls ≡ true → IsErr result }
+        ensures calls { self.new.calls ≡ after_call self.old.calls (is_err result) }
+        ensures ok { OnOk result (self.new.tape ≡ after_change self.old.tape (Cut len true)) }
+        ensures failed { OnErr result (FailsWith (is_next_listed self.old.calls) (Cut len false) self.old.tape self.new.tape) }
+    {
         let done = !self.calls.is_next_listed();
         let failed = self.cut_to(len, done).is_err() || !done;
         self.counted(failed)
     }
 
-    fn sync(&mut self) -> Result<(), Failed> {
+    fn sync(&mut self) -> Result<(), Failed>
+        ensures durable { OnOk result (OnlyContent (disk_view self.new)) }
+        ensures synced { OnOk result (SyncsNow (disk_view self.old) (disk_view self.new)) }
+        ensures unsynced { OnErr result (SameSyncs (disk_view self.old) (disk_view self.new)) }
+        ensures bytes { self.new.tape.bytes ≡ self.old.tape.bytes }
+        ensures crash { NoNewImage (disk_view self.old) (disk_view self.new) }
+        ensures time { Elapses (disk_view self.old) (disk_view self.new) }
+        ensures cause { HasCause self.old.calls.faults self.new.calls.faults result }
+
+        // It fails where the call is listed, and adds one moment. Any other fails for want of memory, and changes nothing.
+        ensures listed { is_next_listed self.old.calls ≡ true → IsErr result }
+        ensures calls { self.new.calls ≡ after_call self.old.calls (is_err result) }
+        ensures ok { OnOk result (self.new.tape ≡ after_change self.old.tape (Sync true)) }
+        ensures failed { OnErr result (FailsWith (is_next_listed self.old.calls) (Sync false) self.old.tape self.new.tape) }
+    {
         let done = !self.calls.is_next_listed();
         let failed = self.sync_all(done).is_err() || !done;
         self.counted(failed)
@@ -197,6 +262,8 @@ impl Disk for MemDisk {
     ghost counts_now = { λ d t c dated le image. laws.counts_now d.tape.first d.tape.changes t c le image };
 
     ghost only_now = { λ d c left. laws.only_now d.tape.first d.tape.changes c left };
+
+    ghost left_since_earlier = { λ d t u c le left. laws.left_since_earlier d.tape.first d.tape.changes t u c le left };
 
     ghost synced_after = { λ d t s is. laws.synced_after d.tape.changes t s is };
 

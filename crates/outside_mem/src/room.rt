@@ -1,11 +1,12 @@
 ghost use Rattle.std.specs.Prelude.{◌≡◌, ◌≢◌, ℕ, ◌≤◌, List, [], ◌∷◌, ◌++◌, length, Option, Some, None, true, false, IsOk, IsErr, IfOk, IfErr, IfSome, IfNone, OnOk, OnErr, OnSome, IsSome};
 ghost use Rattle.std.specs.Option.{option_copied};
 ghost use Rattle.outside.specs.Disk.{SameDisk, longest_disk};
-ghost use Rattle.outside.specs.Fault.{HasCause, count_sum};
+ghost use Rattle.outside.specs.Fault.{HasCause, count_sum, counted};
 ghost use Rattle.outside.specs.Room.{AsOutput, AsLog, bytes_or_none, Stays, Apart};
 ghost use Rattle.outside_mem.specs.Calls.{fresh_calls};
 ghost use Rattle.outside_mem.specs.Files.{NamedFile, file_in, told_file};
-ghost use Rattle.outside_mem.specs.Room.{file_under, room_view, open_sort, is_closed_log, SameFiles, SameCounts, HasCounts, counted, in_count, out_count, ChangesUnder, IsSourceOf, IsSinkOf, IsLogOf, log_count, disk_view, log_view};
+ghost use Rattle.outside_mem.specs.Room.{file_under, room_view, open_sort, is_closed_log, SameFiles, SameCounts, HasCounts, in_count, out_count, ChangesUnder, IsSourceOf, IsSinkOf, IsLogOf, log_count, log_view};
+ghost use Rattle.outside_mem.specs.MemDisk.{disk_view};
 ghost use Rattle.outside_mem.specs.declared.files.FileState.TheVariants.{Absent, Closed, ClosedLog, OpenOutput, OpenLog};
 
 use crate::files::{self, FileState, MemFile};
@@ -27,7 +28,9 @@ impl MemRoom {
     /// An empty room.
     #[tactic(auto, using(crate::proofs::Places::file_in_none))]
     pub fn new(alloc: Global) -> Self
-        ensures { (n : List ℕ) → file_under result n ≡ record { state = Absent; fails = []; opening_fails = false } }
+        ensures files { (n : List ℕ) → file_under result n ≡ record { state = Absent; fails = []; opening_fails = false } }
+        ensures closed { (n : List ℕ) → (room_view result).open_as n ≡ None }
+        ensures counts { HasCounts result 0 0 0 }
     {
         MemRoom {
             alloc,

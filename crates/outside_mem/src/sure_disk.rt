@@ -164,6 +164,8 @@ impl Disk for SureDisk {
 
     ghost only_now = { λ d c left. absurd left };
 
+    ghost left_since_earlier = { λ d t u c le left. absurd left };
+
     ghost synced_after = { λ d t s is. laws.syncs_none s is };
 
     ghost synced_by_now = { λ d t s is. laws.syncs_none s is };

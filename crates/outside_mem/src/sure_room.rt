@@ -1,9 +1,8 @@
 ghost use Rattle.std.specs.Prelude.{◌≡◌, ◌≢◌, ℕ, ◌+◌, ◌-◌, ◌<◌, ◌≤◌, ◌==◌, List, [], max, length, Option, Some, None, IsOk, IfOk, IfSome, IfNone, OnOk, OnErr, OnSome, is_err, is_none, true, false, ◌||◌, nat_lt, if◌then◌else◌};
 ghost use Rattle.std.specs.Option.{option_copied};
 ghost use Rattle.outside.specs.Disk.{SameDisk, longest_disk};
-ghost use Rattle.outside.specs.Fault.{HasCause, count_sum};
+ghost use Rattle.outside.specs.Fault.{HasCause, count_sum, counted};
 ghost use Rattle.outside.specs.Room.{AsOutput, AsLog, bytes_or_none, Stays, Apart};
-ghost use Rattle.outside_mem.specs.Room.{counted};
 ghost use Rattle.outside_mem.specs.SureDisk.{disk_state, sure_disk_view};
 ghost use Rattle.outside_mem.specs.SureFiles.{told_kept, copies_left};
 ghost use Rattle.outside_mem.specs.SureRoom.{sure_room_view, kept_under, free_places, kept_log, room_kept, lacks_place, lacks_log, places_after, SameKept, KeepsUnder, HasTaken, HasSureCounts};

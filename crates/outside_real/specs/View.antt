@@ -1,7 +1,10 @@
 -- What clauses see of real files: a room tells no file, and one count of faults per sort stands for every name.
-use Rattle.std.specs.Prelude.{ℕ, Bool, false, List, Option, Some, None, if◌then◌else◌}
+use Rattle.std.specs.Prelude.{◌≡◌, ℕ, Bool, false, List, Option, Some, None, if◌then◌else◌}
 use Rattle.outside.specs.Disk.{DiskView}
 use Rattle.outside.specs.Room.{RoomView, OpenSort, AsOutput, AsLog}
+use Rattle.outside_real.specs.declared.disk.FileDisk.{FileDisk}
+use Rattle.outside_real.specs.declared.room.FileRoom.{FileRoom}
+use Rattle.std.specs.BTreeSet.{contains_text}
 
 -- a disk that tells its length alone
 abbrev pub untold_disk : ℕ → ℕ → DiskView
@@ -15,6 +18,10 @@ untold_disk len faults = record {
   dated = false;
   faults = faults;
 }
+
+-- a disk over a file as any disk is seen
+abbrev pub file_disk_view : FileDisk → DiskView
+file_disk_view disk = untold_disk disk.len disk.faults
 
 -- how a name is open that is or isn't among the outputs and among the logs
 abbrev pub opened : Bool → Bool → Option OpenSort
@@ -31,3 +38,13 @@ untold_room is_output is_log ins outs logs = record {
   out_faults = λ _. outs;
   log_faults = λ _. logs;
 }
+
+-- a room over real files as any room is seen
+abbrev pub file_room_view : {R File Dir : Type 0} → FileRoom R File Dir → RoomView
+file_room_view room = untold_room (contains_text room.outputs.set) (contains_text room.open_logs.set) room.ins room.outs room.logs
+
+-- the faults of all inputs, of all outputs, and of all logs
+pub record HasCounts {R File Dir : Type 0} (room : FileRoom R File Dir) (inputs outputs of_logs : ℕ) : Type 0 where
+  pub ins : room.ins ≡ inputs
+  pub outs : room.outs ≡ outputs
+  pub logs : room.logs ≡ of_logs

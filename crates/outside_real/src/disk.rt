@@ -1,5 +1,6 @@
-ghost use Rattle.std.specs.Prelude.{◌≡◌, ℕ, ◌≤◌, IfOk};
-ghost use Rattle.outside.specs.Disk.{longest_disk};
+ghost use Rattle.std.specs.Prelude.{◌≡◌, ℕ, ◌+◌, ◌-◌, ◌<◌, ◌≤◌, ◌↔◌, length, max, IfOk, IsErr, OnOk, OnErr};
+ghost use Rattle.outside.specs.Disk.{longest_disk, Elapses, SameSyncs, Unchanged};
+ghost use Rattle.outside.specs.Fault.{HasCause, counted};
 
 use crate::count::raised;
 use outside::{Disk, Failed, LONGEST_DISK};
@@ -40,11 +41,11 @@ impl FileDisk {
 }
 
 impl Disk for FileDisk {
-    ghost use Rattle.outside_real.specs.View.{untold_disk};
+    ghost use Rattle.outside_real.specs.View.{file_disk_view};
     ghost use Rattle.outside_real.specs.DiskLaws as laws;
     ghost use Rattle.std.proofs.Common.{refl};
 
-    ghost seen = { λ disk. untold_disk disk.len disk.faults };
+    ghost seen = { file_disk_view };
 
     ghost bounded = { λ d. d.short };
 
@@ -60,6 +61,8 @@ impl Disk for FileDisk {
 
     ghost only_now = { λ d c left. left };
 
+    ghost left_since_earlier = { λ d t u c le left. left };
+
     ghost synced_after = { λ d t s is. laws.syncs_none s is };
 
     ghost synced_by_now = { λ d t s is. laws.syncs_none s is };
@@ -70,7 +73,17 @@ impl Disk for FileDisk {
         self.len
     }
 
-    fn read_at(&mut self, at: u64, buf: &mut [u8]) -> Result<usize, Failed> {
+    fn read_at(&mut self, at: u64, buf: &mut [u8]) -> Result<usize, Failed>
+        requires { 0 < length buf.old }
+        ensures at_most { IfOk result (λ n. n ≤ length buf.new) }
+        ensures there { IfOk result (λ n. n ≤ self.old.len - at) }
+        ensures end { IfOk result (λ n. (n ≡ 0) ↔ (self.old.len ≤ at)) }
+        ensures unchanged { Unchanged (file_disk_view self.old) (file_disk_view self.new) }
+        ensures cause { HasCause self.old.faults self.new.faults result }
+
+        // A fault counts once.
+        ensures counts { self.new.faults ≡ counted result self.old.faults }
+    {
         if at >= self.len {
             return Ok(0);
         }
@@ -84,7 +97,18 @@ impl Disk for FileDisk {
         }
     }
 
-    fn write_at(&mut self, at: u64, bytes: &[u8]) -> Result<(), Failed> {
+    fn write_at(&mut self, at: u64, bytes: &[u8]) -> Result<(), Failed>
+        requires { at ≤ self.old.len }
+        ensures len { OnOk result (self.new.len ≡ max self.old.len (at + length bytes.now)) }
+        ensures too_long { longest_disk < at + length bytes.now → IsErr result }
+        ensures time { Elapses (file_disk_view self.old) (file_disk_view self.new) }
+        ensures syncs { SameSyncs (file_disk_view self.old) (file_disk_view self.new) }
+        ensures cause { HasCause self.old.faults self.new.faults result }
+
+        // After a fault the length is as it was, and the fault counts once.
+        ensures failed { OnErr result (self.new.len ≡ self.old.len) }
+        ensures counts { self.new.faults ≡ counted result self.old.faults }
+    {
         let count = bytes.len() as u64;
         if count > LONGEST_DISK - at || self.file.write_all_at(bytes, at).is_err() {
             self.faults = raised(self.faults);
@@ -94,7 +118,17 @@ impl Disk for FileDisk {
         Ok(())
     }
 
-    fn cut(&mut self, len: u64) -> Result<(), Failed> {
+    fn cut(&mut self, len: u64) -> Result<(), Failed>
+        requires { len ≤ self.old.len }
+        ensures len { OnOk result (self.new.len ≡ len) }
+        ensures time { Elapses (file_disk_view self.old) (file_disk_view self.new) }
+        ensures syncs { SameSyncs (file_disk_view self.old) (file_disk_view self.new) }
+        ensures cause { HasCause self.old.faults self.new.faults result }
+
+        // After a fault the length is as it was, and the fault counts once.
+        ensures failed { OnErr result (self.new.len ≡ self.old.len) }
+        ensures counts { self.new.faults ≡ counted result self.old.faults }
+    {
         if self.file.set_len(len).is_err() {
             self.faults = raised(self.faults);
             return Err(Failed);
@@ -103,7 +137,15 @@ impl Disk for FileDisk {
         Ok(())
     }
 
-    fn sync(&mut self) -> Result<(), Failed> {
+    fn sync(&mut self) -> Result<(), Failed>
+        ensures len { self.new.len ≡ self.old.len }
+        ensures time { Elapses (file_disk_view self.old) (file_disk_view self.new) }
+        ensures syncs { SameSyncs (file_disk_view self.old) (file_disk_view self.new) }
+        ensures cause { HasCause self.old.faults self.new.faults result }
+
+        // A fault counts once.
+        ensures counts { self.new.faults ≡ counted result self.old.faults }
+    {
         if self.file.sync_data().is_err() {
             self.faults = raised(self.faults);
             return Err(Failed);

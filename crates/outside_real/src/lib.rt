@@ -10,10 +10,12 @@ mod room;
 mod sink;
 mod source;
 mod target;
+#[cfg(test)]
+mod tests;
 
 pub use disk::FileDisk;
 pub use gate::OpenGate;
 pub use room::FileRoom;
 pub use sink::FileSink;
-pub use source::FileSource;
+pub use source::{FileSource, LONGEST_INPUT};
 pub use target::Target;

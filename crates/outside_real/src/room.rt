@@ -1,5 +1,7 @@
-ghost use Rattle.std.specs.Prelude.{◌≡◌, ◌≢◌, ℕ, List, None, IfOk};
-ghost use Rattle.std.specs.BTreeSet.{contains_text};
+ghost use Rattle.std.specs.Prelude.{◌≡◌, ◌≢◌, ℕ, List, Some, None, IfOk, OnOk, OnErr};
+ghost use Rattle.outside.specs.Fault.{HasCause, count_sum, counted};
+ghost use Rattle.outside.specs.Room.{AsOutput, AsLog, Stays, Apart};
+ghost use Rattle.outside_real.specs.View.{file_room_view, HasCounts};
 
 use crate::count::{added, raised};
 use crate::disk::FileDisk;
@@ -7,7 +9,7 @@ use crate::names::Names;
 use crate::sink::FileSink;
 use crate::source::FileSource;
 use crate::target::Target;
-use outside::{Disk, Failed, Room};
+use outside::{Disk, Failed, Room, Sink, Source};
 use std::alloc::Global;
 use std::fs::{File, OpenOptions};
 use std::rt::Files;
@@ -25,10 +27,9 @@ pub struct FileRoom<R: Files> {
 }
 
 impl<R: Files<File = File> + Print + Clone + Drop> FileRoom<R> {
-    ghost use Rattle.outside_real.specs.View.{untold_room};
-
     pub fn new(rt: R, alloc: Global) -> Self
-        ensures closed { (n : List ℕ) → (⟦<FileRoom<R> as Room>⟧.seen result).open_as n ≡ None }
+        ensures closed { (n : List ℕ) → (file_room_view result).open_as n ≡ None }
+        ensures counts { HasCounts result 0 0 0 }
     {
         FileRoom {
             rt,
@@ -55,10 +56,10 @@ impl<R: Files<File = File> + Print + Clone + Drop> FileRoom<R> {
 
     // The name is open in no way any more.
     fn forget(&mut self, name: &str)
-        ensures closed { (⟦<FileRoom<R> as Room>⟧.seen self.new).open_as name.now ≡ None }
+        ensures closed { (file_room_view self.new).open_as name.now ≡ None }
         ensures others { (n : List ℕ) → n ≢ name.now
-            → (⟦<FileRoom<R> as Room>⟧.seen self.new).open_as n ≡ (⟦<FileRoom<R> as Room>⟧.seen self.old).open_as n }
-        ensures counts { (self.new.ins ≡ self.old.ins) × (self.new.outs ≡ self.old.outs) × (self.new.logs ≡ self.old.logs) }
+            → (file_room_view self.new).open_as n ≡ (file_room_view self.old).open_as n }
+        ensures counts { HasCounts self.new self.old.ins self.old.outs self.old.logs }
     {
         self.outputs.remove(name);
         self.open_logs.remove(name);
@@ -66,8 +67,6 @@ impl<R: Files<File = File> + Print + Clone + Drop> FileRoom<R> {
 }
 
 impl<R: Files<File = File> + Print + Clone + Drop> Room for FileRoom<R> {
-    ghost use Rattle.outside_real.specs.View.{untold_room};
-    ghost use Rattle.std.specs.BTreeSet.{contains_text};
     ghost use Rattle.std.proofs.Common.{refl};
 
     type In = FileSource<File>;
@@ -76,13 +75,21 @@ impl<R: Files<File = File> + Print + Clone + Drop> Room for FileRoom<R> {
 
     type Log = FileDisk;
 
-    ghost seen = { λ room. untold_room (contains_text room.outputs.set) (contains_text room.open_logs.set) room.ins room.outs room.logs };
+    ghost seen = { file_room_view };
 
     ghost open_untold = { λ room name _. refl };
 
     ghost open_unlogged = { λ room name _. refl };
 
-    fn open_in(&mut self, name: &str) -> Result<Self::In, Failed> {
+    fn open_in(&mut self, name: &str) -> Result<FileSource<File>, Failed>
+        requires { (file_room_view self.old).open_as name.now ≡ None }
+        ensures stays { Stays (file_room_view self.old) (file_room_view self.new) }
+        ensures cause { HasCause self.old.ins self.new.ins result }
+        ensures fresh { IfOk result (λ object. ⟦<FileSource<File> as Source>⟧.faults object ≡ 0) }
+
+        // A fault counts once, and the other counts stay.
+        ensures counts { HasCounts self.new (counted result self.old.ins) self.old.outs self.old.logs }
+    {
         match File::open(&self.rt, name) {
             Ok(file) => Ok(FileSource::new(file)),
             Err(_) => {
@@ -92,38 +99,79 @@ impl<R: Files<File = File> + Print + Clone + Drop> Room for FileRoom<R> {
         }
     }
 
-    fn open_out(&mut self, name: &str) -> Result<Self::Out, Failed> {
-        if let Ok(file) = File::create(&self.rt, name) {
-            if self.outputs.add(self.alloc, name).is_ok() {
+    fn open_out(&mut self, name: &str) -> Result<FileSink<Target<R>>, Failed>
+        requires { (file_room_view self.old).open_as name.now ≡ None }
+        ensures apart { Apart (file_room_view self.old) (file_room_view self.new) name.now }
+        ensures opened { OnOk result ((file_room_view self.new).open_as name.now ≡ Some AsOutput) }
+        ensures failed { OnErr result (Stays (file_room_view self.old) (file_room_view self.new)) }
+        ensures cause { HasCause self.old.outs self.new.outs result }
+        ensures fresh { IfOk result (λ object. ⟦<FileSink<Target<R>> as Sink>⟧.faults object ≡ 0) }
+
+        // A fault counts once, and the other counts stay.
+        ensures counts { HasCounts self.new self.old.ins (counted result self.old.outs) self.old.logs }
+    {
+        // The name first, so that want of memory leaves the file as it was.
+        if self.outputs.add(self.alloc, name).is_ok() {
+            if let Ok(file) = File::create(&self.rt, name) {
                 return Ok(FileSink::gathering(self.alloc, Target::File(file)));
             }
+            self.outputs.remove(name);
         }
         self.outs = raised(self.outs);
         Err(Failed)
     }
 
-    fn open_log(&mut self, name: &str) -> Result<Self::Log, Failed> {
-        if let Ok(disk) = self.disk_of(name) {
-            if self.open_logs.add(self.alloc, name).is_ok() {
+    fn open_log(&mut self, name: &str) -> Result<FileDisk, Failed>
+        requires { (file_room_view self.old).open_as name.now ≡ None }
+        ensures apart { Apart (file_room_view self.old) (file_room_view self.new) name.now }
+        ensures opened { OnOk result ((file_room_view self.new).open_as name.now ≡ Some AsLog) }
+        ensures failed { OnErr result (Stays (file_room_view self.old) (file_room_view self.new)) }
+        ensures cause { HasCause self.old.logs self.new.logs result }
+        ensures fresh { IfOk result (λ object. (⟦<FileDisk as Disk>⟧.seen object).faults ≡ 0) }
+
+        // A fault counts once, and the other counts stay.
+        ensures counts { HasCounts self.new self.old.ins self.old.outs (counted result self.old.logs) }
+    {
+        if self.open_logs.add(self.alloc, name).is_ok() {
+            if let Ok(disk) = self.disk_of(name) {
                 return Ok(disk);
             }
+            self.open_logs.remove(name);
         }
         self.logs = raised(self.logs);
         Err(Failed)
     }
 
-    fn close_in(&mut self, _name: &str, object: Self::In) {
+    fn close_in(&mut self, _name: &str, object: FileSource<File>)
+        ensures stays { Stays (file_room_view self.old) (file_room_view self.new) }
+        ensures counts { HasCounts self.new (count_sum self.old.ins (⟦<FileSource<File> as Source>⟧.faults object)) self.old.outs self.old.logs }
+    {
         self.ins = added(self.ins, object.faults());
     }
 
-    fn close_out(&mut self, name: &str, mut object: Self::Out) -> Result<(), Failed> {
+    fn close_out(&mut self, name: &str, mut object: FileSink<Target<R>>) -> Result<(), Failed>
+        requires { (file_room_view self.old).open_as name.now ≡ Some AsOutput }
+        ensures apart { Apart (file_room_view self.old) (file_room_view self.new) name.now }
+        ensures closed { (file_room_view self.new).open_as name.now ≡ None }
+        ensures cause { HasCause (count_sum self.old.outs (⟦<FileSink<Target<R>> as Sink>⟧.faults object)) self.new.outs result }
+
+        // A fault of the last write counts once, and the other counts stay.
+        ensures counts { HasCounts self.new self.old.ins
+            (count_sum self.old.outs (counted result (⟦<FileSink<Target<R>> as Sink>⟧.faults object))) self.old.logs }
+    {
         let flushed = object.flush();
         self.outs = added(self.outs, object.faults());
         self.forget(name);
         flushed
     }
 
-    fn close_log(&mut self, name: &str, object: Self::Log) {
+    fn close_log(&mut self, name: &str, object: FileDisk)
+        requires { (file_room_view self.old).open_as name.now ≡ Some AsLog }
+        ensures apart { Apart (file_room_view self.old) (file_room_view self.new) name.now }
+        ensures closed { (file_room_view self.new).open_as name.now ≡ None }
+        ensures counts { HasCounts self.new self.old.ins self.old.outs
+            (count_sum self.old.logs (⟦<FileDisk as Disk>⟧.seen object).faults) }
+    {
         self.logs = added(self.logs, object.faults());
         self.forget(name);
     }

@@ -1,9 +1,11 @@
-ghost use Rattle.std.specs.Prelude.{◌≡◌, None, OnOk};
-ghost use Rattle.outside.specs.Fault.{HasCause};
+ghost use Rattle.std.specs.Prelude.{◌≡◌, ◌≤◌, [], None, is_ok, OnOk};
+ghost use Rattle.std.specs.Io.KnownBytes.{append_known, Appends, Keeps};
+ghost use Rattle.outside.specs.Fault.{HasCause, counted};
 
 use crate::count::raised;
 use outside::{Failed, Sink};
 use std::alloc::Global;
+use std::io;
 use std::io::Write;
 
 /// How many bytes a file's sink gathers before it writes them.
@@ -22,6 +24,8 @@ impl<W: Write + Drop> FileSink<W> {
     /// A sink that gathers what it is given, where there is memory for that.
     pub fn gathering(alloc: Global, to: W) -> Self
         ensures fresh { ⟦<FileSink<W> as Sink>⟧.faults result ≡ 0 }
+        ensures to { result.to ≡ to }
+        ensures none { result.gathered.items ≡ [] }
     {
         let gathered = Vec::with_capacity(alloc, BUFFER).unwrap_or(Vec::new(alloc));
         FileSink {
@@ -34,6 +38,8 @@ impl<W: Write + Drop> FileSink<W> {
     /// A sink that hands each piece on at once.
     pub fn direct(alloc: Global, to: W) -> Self
         ensures fresh { ⟦<FileSink<W> as Sink>⟧.faults result ≡ 0 }
+        ensures to { result.to ≡ to }
+        ensures none { result.gathered.items ≡ [] }
     {
         FileSink {
             to,
@@ -51,20 +57,25 @@ impl<W: Write + Drop> FileSink<W> {
 
     /// Writes what was gathered.
     pub fn flush(&mut self) -> Result<(), Failed>
+        // The writer has all that was gathered, and nothing is left to be written.
+        ensures written { OnOk result (Appends (W.contents self.old.to) (W.contents self.new.to) self.old.gathered.items) }
+        ensures none { self.new.gathered.items ≡ [] }
+
+        // A fault counts once.
+        ensures counts { self.new.faults ≡ counted result self.old.faults }
         ensures cause { HasCause (⟦<FileSink<W> as Sink>⟧.faults self.old) (⟦<FileSink<W> as Sink>⟧.faults self.new) result }
-        ensures same { OnOk result (⟦<FileSink<W> as Sink>⟧.faults self.new ≡ ⟦<FileSink<W> as Sink>⟧.faults self.old) }
     {
-        let written = self
-            .to
-            .write_all(self.gathered.as_slice())
-            .and_then(|()| self.to.flush());
+        let written = pass_on(&mut self.to, self.gathered.as_slice());
         self.gathered.clear();
         self.counted(written.is_ok())
     }
 
     fn counted(&mut self, done: bool) -> Result<(), Failed>
+        ensures answer { is_ok result ≡ done }
+        ensures to { self.new.to ≡ self.old.to }
+        ensures gathered { self.new.gathered ≡ self.old.gathered }
+        ensures counts { self.new.faults ≡ counted result self.old.faults }
         ensures cause { HasCause (⟦<FileSink<W> as Sink>⟧.faults self.old) (⟦<FileSink<W> as Sink>⟧.faults self.new) result }
-        ensures same { OnOk result (⟦<FileSink<W> as Sink>⟧.faults self.new ≡ ⟦<FileSink<W> as Sink>⟧.faults self.old) }
     {
         if done {
             return Ok(());
@@ -74,12 +85,28 @@ impl<W: Write + Drop> FileSink<W> {
     }
 }
 
+/// Writes the bytes, and lets the writer write what it gathered itself.
+fn pass_on<W: Write>(to: &mut W, bytes: &[u8]) -> io::Result<()>
+    ensures { OnOk result (Appends (W.contents to.old) (W.contents to.new) bytes.now) }
+{
+    to.write_all(bytes)?;
+    to.flush()
+}
+
 impl<W: Write + Drop> Sink for FileSink<W> {
+    ghost use Rattle.outside.specs.Sink.{WritesFront};
+
     ghost written = { λ _. None };
 
     ghost faults = { λ s. s.faults };
 
-    fn write_all(&mut self, piece: &[u8]) -> Result<(), Failed> {
+    fn write_all(&mut self, piece: &[u8]) -> Result<(), Failed>
+        // The writer has, or will have at the next flush, what it had and then the piece. A fault counts once.
+        ensures bytes { OnOk result (Appends (append_known (W.contents self.old.to) self.old.gathered.items)
+            (append_known (W.contents self.new.to) self.new.gathered.items) piece.now) }
+        ensures counts { self.new.faults ≡ counted result self.old.faults }
+        ensures cause { HasCause self.old.faults self.new.faults result }
+    {
         if piece.len() > self.gathered.capacity() - self.gathered.len() {
             self.flush()?;
         }

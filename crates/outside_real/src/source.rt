@@ -1,11 +1,14 @@
-ghost use Rattle.std.specs.Prelude.{◌≡◌, ◌≤◌, None};
+ghost use Rattle.std.specs.Prelude.{◌≡◌, ◌+◌, ◌<◌, ◌≤◌, length, take, None, IfOk, OnErr};
+ghost use Rattle.std.specs.Io.{ReadsAtMost};
+ghost use Rattle.std.specs.Io.KnownBytes.{Consumes, IsAtEnd};
+ghost use Rattle.outside.specs.Fault.{HasCause, counted};
 
 use crate::count::raised;
 use outside::{Failed, Source};
 use std::io::Read;
 
 /// The longest input: one gibibyte.
-const MOST_BYTES: u64 = 1_073_741_824;
+pub const LONGEST_INPUT: u64 = 1_073_741_824;
 
 /// A file that is read, or any other reader. A further byte behind the longest input is a fault.
 #[derive(Drop)]
@@ -16,12 +19,15 @@ pub struct FileSource<F: Read> {
 }
 
 impl<F: Read> FileSource<F> {
+    /// A source of at most [`LONGEST_INPUT`] bytes.
     pub fn new(file: F) -> Self
         ensures fresh { ⟦<FileSource<F> as Source>⟧.faults result ≡ 0 }
+        ensures bound { ⟦<FileSource<F> as Source>⟧.bound result ≡ LONGEST_INPUT }
+        ensures file { result.file ≡ file }
     {
         FileSource {
             file,
-            remaining: MOST_BYTES,
+            remaining: LONGEST_INPUT,
             faults: 0,
         }
     }
@@ -47,7 +53,18 @@ impl<F: Read> Source for FileSource<F> {
         self.remaining
     }
 
-    fn read(&mut self, buf: &mut [u8]) -> Result<usize, Failed> {
+    fn read(&mut self, buf: &mut [u8]) -> Result<usize, Failed>
+        requires { 0 < length buf.old }
+        ensures at_most { ReadsAtMost result buf.new }
+        ensures cause { HasCause self.old.faults self.new.faults result }
+
+        // It gives the file's next bytes, and the end only where the file ends. A fault counts once.
+        ensures bytes { IfOk result (λ n. Consumes (F.remaining self.old.file) (F.remaining self.new.file) (take n buf.new)) }
+        ensures end { IfOk result (λ n. n ≡ 0 → IsAtEnd (F.remaining self.new.file)) }
+        ensures falls { IfOk result (λ n. self.new.remaining + n ≡ self.old.remaining) }
+        ensures failed { OnErr result (self.new.remaining ≡ self.old.remaining) }
+        ensures counts { self.new.faults ≡ counted result self.old.faults }
+    {
         // At the limit one byte is asked for, to tell the end from a longer input.
         let most = self.remaining.clamp(1, buf.len() as u64) as usize;
         match self.file.read(&mut buf[..most]) {

@@ -1,4 +1,4 @@
-use Rattle.std.proofs.Common.{◌≡◌, ℕ, ◌==◌, List, Some, is_none, refl, sym, ap, ◌∙◌}
+use Rattle.std.proofs.Common.{◌≡◌, ℕ, ◌==◌, List, Some, refl, sym, ap, ◌∙◌}
 use Rattle.outside_mem.specs.SureFiles.{IsAt, kept_in, told_kept, copies_left, one_fewer}
 use Rattle.outside_mem.proofs.Kepts.{changes_kept, kept_at, if_some_then}
 use Rattle.outside_mem.proofs.sure_files.take_copy.Goals as goal
