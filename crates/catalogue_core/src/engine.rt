@@ -10,14 +10,15 @@ ghost use Rattle.entry_record.specs.Valid.{IsValid};
 ghost use Rattle.catalogue_core.specs.Behind.{standings_rows};
 ghost use Rattle.catalogue_core.specs.Engines.{AreNumbersOf, linkable_under, forms_as, forms_in};
 ghost use Rattle.catalogue_core.specs.Stands.{field_standing};
+ghost use Rattle.catalogue_core.specs.Views.{linkables};
 ghost use Rattle.catalogue_core.specs.Told.{told_as, told_of, field_told, candidates_of, field_candidates};
 
 use crate::authority::Authority;
-use crate::behind::{StateAfter, authorities_after, state_after};
+use crate::behind::{StateAfter, authorities_after, linkable, state_after};
 use crate::standing::{Standing, Standings};
 use entry_record::Prepared;
 use marc_types::{Class, Form, Forms, Kept, Key, Keys, NoMemory, Place, Status};
-use record_store::{KeptRows, Shelf, Steps, Store};
+use record_store::{KeptRows, Rows, Shelf, Steps, Store};
 use std::alloc::Global;
 use std::marker::Model;
 use std::sync::ledger::Ledger;
@@ -160,6 +161,21 @@ impl Engine {
         ensures { result ≡ rows_of class self.now }
     {
         self.store.rows(class)
+    }
+
+    /// How the fields of each record of a class stand, by its key, in key order.
+    pub fn standing_rows(&self, class: Class) -> Rows<'_, Standings>
+        ensures { result ≡ standings_rows (linkable_authorities self.now) class (rows_of class self.now) }
+    {
+        self.standings(class).rows()
+    }
+
+    /// The authorities that fields can be linked to, in key order.
+    #[tactic(auto, using(crate::proofs::Placed::linkable_is))]
+    pub fn linkable(&self, alloc: Global) -> Result<Vec<&Authority>, NoMemory>
+        ensures { IfOk result (λ found. linkables found.items ≡ linkable_authorities self.now) }
+    {
+        linkable(alloc, &self.authorities)
     }
 
     /// The forms under which the key's authority is found: by its heading, and by its see from tracings. None where no authority
