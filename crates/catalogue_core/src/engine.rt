@@ -1,5 +1,5 @@
 //! A catalogue's state, without its history.
-ghost use Rattle.std.specs.Prelude.{◌≡◌, ℕ, ◌+◌, ◌<◌, length, IfOk, OnOk, OnErr, slice_get};
+ghost use Rattle.std.specs.Prelude.{◌≡◌, ℕ, ◌+◌, ◌<◌, ◌^◌, length, IfOk, OnOk, OnErr, slice_get};
 ghost use Rattle.std.specs.Option.{option_map, option_and_then, option_copied};
 ghost use Rattle.record_store.specs.Store.{field_at, field_under, kept_record, shown_row};
 ghost use Rattle.entry_record.specs.State.{empty_state, rows_of, linkable_authorities};
@@ -137,7 +137,8 @@ impl Engine {
 
     /// How many records of the class there are.
     pub fn count(&self, class: Class) -> u64
-        ensures { result ≡ length (rows_of class self.now) }
+        ensures count { result ≡ length (rows_of class self.now) }
+        ensures fits { result < 2 ^ 63 }
     {
         self.store.count(class)
     }
