@@ -2,4 +2,6 @@
 //! authority, and how many of its fields are linked.
 #![tactic(auto)]
 
+mod ambiguous;
+mod awaits;
 mod words;

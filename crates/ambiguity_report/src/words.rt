@@ -13,6 +13,8 @@ use std::alloc::AllocError;
 
 const BLANK: u8 = b' ';
 
+pub(crate) const LINE_FEED: u8 = b'\n';
+
 /// The text of a key: the code in parentheses, and the number.
 #[tactic(auto, unfolding(heading_fields::specs::Numbers::key_text))]
 fn add_key(text: &mut Vec<u8>, key: &Key) -> Result<(), AllocError>
