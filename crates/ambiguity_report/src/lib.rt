@@ -2,6 +2,12 @@
 //! authority, and how many of its fields are linked.
 #![tactic(auto)]
 
+pub use report::{write_report, write_state_report};
+
 mod ambiguous;
 mod awaits;
+mod cross;
+mod report;
+mod shared;
+mod totals;
 mod words;
