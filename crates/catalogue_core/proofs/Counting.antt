@@ -47,25 +47,25 @@ counted_room xs i counts within most so_far = record {
   unlinked = few is_unlinked_here xs i counts.unlinked within most so_far.unlinked;
 }
 
-linked_alike : (s : definition.Standing) → is_linked_here (stands_as s) ≡ is_linked s
+pub linked_alike : (s : definition.Standing) → is_linked_here (stands_as s) ≡ is_linked s
 linked_alike (definition.LinkedTo key) = refl
 linked_alike (definition.AmbiguousAmong keys) = refl
 linked_alike definition.WithoutLink = refl
 linked_alike definition.WithoutHeading = refl
 
-ambiguous_alike : (s : definition.Standing) → is_ambiguous_here (stands_as s) ≡ is_ambiguous s
+pub ambiguous_alike : (s : definition.Standing) → is_ambiguous_here (stands_as s) ≡ is_ambiguous s
 ambiguous_alike (definition.LinkedTo key) = refl
 ambiguous_alike (definition.AmbiguousAmong keys) = refl
 ambiguous_alike definition.WithoutLink = refl
 ambiguous_alike definition.WithoutHeading = refl
 
-unlinked_alike : (s : definition.Standing) → is_unlinked_here (stands_as s) ≡ is_unlinked s
+pub unlinked_alike : (s : definition.Standing) → is_unlinked_here (stands_as s) ≡ is_unlinked s
 unlinked_alike (definition.LinkedTo key) = refl
 unlinked_alike (definition.AmbiguousAmong keys) = refl
 unlinked_alike definition.WithoutLink = refl
 unlinked_alike definition.WithoutHeading = refl
 
-count_alike : (p : Standing → Bool) (q : definition.Standing → Bool) → ((s : definition.Standing) → p (stands_as s) ≡ q s) → (all : List Linkable) (class : Class) (hs : List KeptField) →
+pub count_alike : (p : Standing → Bool) (q : definition.Standing → Bool) → ((s : definition.Standing) → p (stands_as s) ≡ q s) → (all : List Linkable) (class : Class) (hs : List KeptField) →
     count_by p (map (field_standing all class) hs) ≡ count_by (λ h. q (standing_of all class h)) hs
 count_alike p q same all class [] = refl
 count_alike p q same all class (h ∷ hs) =

@@ -14,12 +14,12 @@ use std::marker::Model;
 /// An authority that fields can be linked to: its heading, of a kind, and the forms under which it is found. Contracts see
 /// it as the definitions do.
 #[derive(Debug, Drop)]
-pub(crate) struct Authority {
-    pub(crate) key: Key,
-    pub(crate) kind: Kind,
-    pub(crate) heading: Field,
-    pub(crate) established: Form,
-    pub(crate) see_from: Forms,
+pub struct Authority {
+    pub key: Key,
+    pub kind: Kind,
+    pub heading: Field,
+    pub established: Form,
+    pub see_from: Forms,
 }
 
 impl Model for Authority {

@@ -1,5 +1,5 @@
 //! A catalogue's state, without its history.
-ghost use Rattle.std.specs.Prelude.{◌≡◌, ℕ, ◌+◌, ◌<◌, length, IfOk, OnOk, OnErr, slice_get};
+ghost use Rattle.std.specs.Prelude.{◌≡◌, ℕ, ◌+◌, ◌<◌, ◌^◌, length, IfOk, OnOk, OnErr, slice_get};
 ghost use Rattle.std.specs.Option.{option_map, option_and_then, option_copied};
 ghost use Rattle.record_store.specs.Store.{field_at, field_under, kept_record, shown_row};
 ghost use Rattle.entry_record.specs.State.{empty_state, rows_of, linkable_authorities};
@@ -10,14 +10,15 @@ ghost use Rattle.entry_record.specs.Valid.{IsValid};
 ghost use Rattle.catalogue_core.specs.Behind.{standings_rows};
 ghost use Rattle.catalogue_core.specs.Engines.{AreNumbersOf, linkable_under, forms_as, forms_in};
 ghost use Rattle.catalogue_core.specs.Stands.{field_standing};
+ghost use Rattle.catalogue_core.specs.Views.{linkables};
 ghost use Rattle.catalogue_core.specs.Told.{told_as, told_of, field_told, candidates_of, field_candidates};
 
 use crate::authority::Authority;
-use crate::behind::{StateAfter, authorities_after, state_after};
+use crate::behind::{StateAfter, authorities_after, linkable, state_after};
 use crate::standing::{Standing, Standings};
 use entry_record::Prepared;
 use marc_types::{Class, Form, Forms, Kept, Key, Keys, NoMemory, Place, Status};
-use record_store::{KeptRows, Shelf, Steps, Store};
+use record_store::{KeptRows, Rows, Shelf, Steps, Store};
 use std::alloc::Global;
 use std::marker::Model;
 use std::sync::ledger::Ledger;
@@ -136,7 +137,8 @@ impl Engine {
 
     /// How many records of the class there are.
     pub fn count(&self, class: Class) -> u64
-        ensures { result ≡ length (rows_of class self.now) }
+        ensures count { result ≡ length (rows_of class self.now) }
+        ensures fits { result < 2 ^ 63 }
     {
         self.store.count(class)
     }
@@ -160,6 +162,21 @@ impl Engine {
         ensures { result ≡ rows_of class self.now }
     {
         self.store.rows(class)
+    }
+
+    /// How the fields of each record of a class stand, by its key, in key order.
+    pub fn standing_rows(&self, class: Class) -> Rows<'_, Standings>
+        ensures { result ≡ standings_rows (linkable_authorities self.now) class (rows_of class self.now) }
+    {
+        self.standings(class).rows()
+    }
+
+    /// The authorities that fields can be linked to, in key order.
+    #[tactic(auto, using(crate::proofs::Placed::linkable_is))]
+    pub fn linkable(&self, alloc: Global) -> Result<Vec<&Authority>, NoMemory>
+        ensures { IfOk result (λ found. linkables found.items ≡ linkable_authorities self.now) }
+    {
+        linkable(alloc, &self.authorities)
     }
 
     /// The forms under which the key's authority is found: by its heading, and by its see from tracings. None where no authority

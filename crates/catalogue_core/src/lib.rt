@@ -2,6 +2,7 @@
 //! authorities for all fields, and makes all records anew.
 #![tactic(auto)]
 
+pub use authority::Authority;
 pub use catalogue::{Catalogue, CoreFault};
 pub use engine::{Changes, Engine};
 pub use standing::{Standing, Standings};

@@ -1,0 +1,18 @@
+use Rattle.std.proofs.Common.{◌≡◌, ◌≤◌}
+use Rattle.std.specs.Prelude.{is_some}
+use Rattle.iso2709_record.proofs.Progress.{IsWriting}
+use Rattle.entry_record.specs.State.{linkable_authorities, rows_of}
+use Rattle.entry_record.specs.Output.{ambiguous_line}
+use Rattle.catalogue_core.specs.Behind.{standings_rows}
+use Rattle.ambiguity_report.specs.Beside.{rows_lines}
+use Rattle.ambiguity_report.proofs.ambiguous.write_ambiguous.Given as goal
+
+abbrev pub invariant-loop-key : goal.invariant-loop-key
+invariant-loop-key g l = record {
+  writing : IsWriting (g.K.Sink.written l.initial.out) (g.K.Sink.written l.out)
+      (rows_lines (ambiguous_line (linkable_authorities l.engine)) l.class (rows_of l.class l.engine))
+      (rows_lines (ambiguous_line (linkable_authorities l.engine)) l.class l.key-iterator);
+  beside : l.standing_rows ≡ standings_rows (linkable_authorities l.engine) l.class l.key-iterator;
+  tells : is_some (g.K.Sink.written l.out) ≡ is_some (g.K.Sink.written l.initial.out);
+  later : g.K.Sink.faults l.initial.out ≤ g.K.Sink.faults l.out;
+}

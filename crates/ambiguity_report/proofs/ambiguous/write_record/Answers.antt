@@ -1,0 +1,22 @@
+use Rattle.std.proofs.Common.{◌∙◌, arith}
+use Rattle.iso2709_record.proofs.Progress.{writing_more, writing_failed}
+use Rattle.ambiguity_report.specs.Beside.{ambiguous_text}
+use Rattle.ambiguity_report.proofs.Fields.{beside_next}
+use Rattle.ambiguity_report.proofs.ambiguous.write_record.Goals as goal
+
+pub returns-in_err-write_field-clause-front : goal.returns-in_err-write_field-clause-front
+returns-in_err-write_field-clause-front g c =
+    writing_failed _ _ _ _ _ _ _ c.loop-place.invariant.writing
+    (beside_next (ambiguous_text c.args.class c.args.key.now) c.args.fields.now c.args.standings.now c.loop-place.place _ c.in-Some.standing.now
+    (omega arith) c.index-fields-place.is c.in-Some.ensures.lookup.3.0 c.in-Some.ensures.lookup.1)
+    c.write_field.ensures.front
+
+pub loop-place-preserved : goal.loop-place-preserved
+loop-place-preserved g c = record {
+  writing = writing_more _ _ _ _ _ _ _ c.loop-place.invariant.writing
+      (beside_next (ambiguous_text c.args.class c.args.key.now) c.args.fields.now c.args.standings.now c.loop-place.place _ c.in-Some.standing.now
+      (omega arith) c.index-fields-place.is c.in-Some.ensures.lookup.3.0 c.in-Some.ensures.lookup.1)
+      c.in_ok-write_field.ensures.bytes;
+  tells = c.in_ok-write_field.ensures.tells ∙ c.loop-place.invariant.tells;
+  later = omega (arith, c.in_ok-write_field.ensures.cause.later);
+}

@@ -1,0 +1,14 @@
+use Rattle.std.proofs.Common.{◌≡◌, ◌≤◌, drop}
+use Rattle.std.specs.Prelude.{is_some}
+use Rattle.iso2709_record.proofs.Progress.{IsWriting}
+use Rattle.ambiguity_report.specs.Beside.{ambiguous_text, lines_beside}
+use Rattle.ambiguity_report.proofs.ambiguous.write_record.Given as goal
+
+abbrev pub invariant-loop-place : goal.invariant-loop-place
+invariant-loop-place g l = record {
+  writing : IsWriting (g.K.Sink.written l.initial.out) (g.K.Sink.written l.out)
+      (lines_beside (ambiguous_text l.class l.key) 0 l.fields l.standings)
+      (lines_beside (ambiguous_text l.class l.key) l.place (drop l.place l.fields) (drop l.place l.standings));
+  tells : is_some (g.K.Sink.written l.out) ≡ is_some (g.K.Sink.written l.initial.out);
+  later : g.K.Sink.faults l.initial.out ≤ g.K.Sink.faults l.out;
+}

@@ -1,0 +1,105 @@
+//! The lines of fields that await a key.
+ghost use Rattle.std.specs.Prelude.{◌≡◌, ◌++◌, codes, is_some, OnOk};
+ghost use Rattle.std.specs.Io.KnownBytes.{Appends};
+ghost use Rattle.outside.specs.Fault.{HasWriteCause};
+ghost use Rattle.outside.specs.Sink.{WritesFront};
+ghost use Rattle.heading_fields.specs.Numbers.{key_text};
+ghost use Rattle.entry_record.specs.State.{new_field, rows_of};
+ghost use Rattle.entry_record.specs.Lines.{line, then_word};
+ghost use Rattle.entry_record.specs.Output.{awaits_line, place_words};
+ghost use Rattle.ambiguity_report.specs.Beside.{awaits_text, lines_beside, rows_lines};
+
+use crate::words::{LINE_FEED, add_key_word, begin_with_place};
+use catalogue_core::Engine;
+use marc_types::{Class, Field, Key, Tie};
+use outside::{Sink, WriteFault};
+use std::alloc::AllocError;
+
+fn make_line(
+    text: &mut Vec<u8>,
+    class: Class,
+    key: &Key,
+    place: usize,
+    field: &Field,
+    awaited: &Key,
+) -> Result<(), AllocError>
+    ensures { OnOk result (text.new.items
+        ≡ line (codes "AWAITS" ++ place_words class key.now place (new_field field.now) ++ then_word (key_text awaited.now))) }
+{
+    begin_with_place(text, "AWAITS", class, key, place, field)?;
+    add_key_word(text, awaited)?;
+    text.push(LINE_FEED)?;
+    Ok(())
+}
+
+#[tactic(auto, using(outside::proofs::Fronts::front_none))]
+fn write_field<K: Sink>(
+    class: Class,
+    key: &Key,
+    place: usize,
+    field: &Field,
+    tie: &Tie,
+    text: &mut Vec<u8>,
+    out: &mut K,
+) -> Result<(), WriteFault>
+    ensures bytes { OnOk result
+        (Appends (K.written out.old) (K.written out.new) (awaits_text class key.now place field.now tie.now)) }
+    ensures front { WritesFront (K.written out.old) (K.written out.new)
+        (awaits_text class key.now place field.now tie.now) }
+    ensures tells { is_some (K.written out.new) ≡ is_some (K.written out.old) }
+    ensures cause { HasWriteCause (K.faults out.old) (K.faults out.new) result }
+{
+    let Some(awaited) = &tie.awaits else {
+        return Ok(());
+    };
+    make_line(text, class, key, place, field, awaited)?;
+    out.write_all(text)?;
+    Ok(())
+}
+
+#[tactic(auto, using(iso2709_record::proofs::Progress::writing_begun, iso2709_record::proofs::Progress::writing_more, iso2709_record::proofs::Progress::writing_failed, iso2709_record::proofs::Progress::writing_done))]
+fn write_record<K: Sink>(
+    class: Class,
+    key: &Key,
+    fields: &[Field],
+    ties: &[Tie],
+    text: &mut Vec<u8>,
+    out: &mut K,
+) -> Result<(), WriteFault>
+    ensures bytes { OnOk result
+        (Appends (K.written out.old) (K.written out.new) (lines_beside (awaits_text class key.now) 0 fields.now ties.now)) }
+    ensures front { WritesFront (K.written out.old) (K.written out.new)
+        (lines_beside (awaits_text class key.now) 0 fields.now ties.now) }
+    ensures tells { is_some (K.written out.new) ≡ is_some (K.written out.old) }
+    ensures cause { HasWriteCause (K.faults out.old) (K.faults out.new) result }
+{
+    for (place, field) in fields.iter().enumerate() {
+        let Some(tie) = ties.get(place) else {
+            return Ok(());
+        };
+        write_field(class, key, place, field, tie, text, out)?;
+    }
+    Ok(())
+}
+
+/// Writes the line of each field of the class that awaits a key, records in key order, fields ascending.
+#[tactic(auto, using(iso2709_record::proofs::Progress::writing_begun, iso2709_record::proofs::Progress::writing_more, iso2709_record::proofs::Progress::writing_failed, iso2709_record::proofs::Progress::writing_done))]
+pub(crate) fn write_awaits<K: Sink>(
+    engine: &Engine,
+    class: Class,
+    text: &mut Vec<u8>,
+    out: &mut K,
+) -> Result<(), WriteFault>
+    ensures bytes { OnOk result
+        (Appends (K.written out.old) (K.written out.new) (rows_lines awaits_line class (rows_of class engine.now))) }
+    ensures front { WritesFront (K.written out.old) (K.written out.new)
+        (rows_lines awaits_line class (rows_of class engine.now)) }
+    ensures tells { is_some (K.written out.new) ≡ is_some (K.written out.old) }
+    ensures cause { HasWriteCause (K.faults out.old) (K.faults out.new) result }
+{
+    for (key, kept) in engine.rows(class) {
+        let (fields, ties) = (kept.rec.fields.as_slice(), kept.links.as_slice());
+        write_record(class, key, fields, ties, text, out)?;
+    }
+    Ok(())
+}

@@ -1,0 +1,99 @@
+//! Words that are put behind the bytes of a line.
+ghost use Rattle.std.specs.Prelude.{◌≡◌, ◌++◌, ◌∷◌, [], map, codes, OnOk};
+ghost use Rattle.std.specs.Fmt.{decimal};
+ghost use Rattle.heading_fields.specs.Parts.{tag_of};
+ghost use Rattle.heading_fields.specs.Numbers.{key_text};
+ghost use Rattle.entry_record.specs.State.{new_field};
+ghost use Rattle.entry_record.specs.Lines.{then_word, then_words};
+ghost use Rattle.entry_record.specs.Output.{class_letter, place_words, tag_text};
+
+use itoa::Buffer;
+use marc_types::{Class, Field, Key, Tag};
+use std::alloc::AllocError;
+
+const BLANK: u8 = b' ';
+
+pub(crate) const LINE_FEED: u8 = b'\n';
+
+/// The text of a key: the code in parentheses, and the number.
+#[tactic(auto, unfolding(heading_fields::specs::Numbers::key_text))]
+fn add_key(text: &mut Vec<u8>, key: &Key) -> Result<(), AllocError>
+    ensures { OnOk result (text.new.items ≡ text.old.items ++ key_text key.now) }
+{
+    text.push(b'(')?;
+    text.extend_from_slice(key.code.as_bytes())?;
+    text.push(b')')?;
+    text.extend_from_slice(key.number.as_bytes())?;
+    Ok(())
+}
+
+/// A key behind a blank.
+pub(crate) fn add_key_word(text: &mut Vec<u8>, key: &Key) -> Result<(), AllocError>
+    ensures { OnOk result (text.new.items ≡ text.old.items ++ then_word (key_text key.now)) }
+{
+    text.push(BLANK)?;
+    add_key(text, key)
+}
+
+/// Each key behind a blank.
+pub(crate) fn add_key_words(text: &mut Vec<u8>, keys: &[Key]) -> Result<(), AllocError>
+    ensures { OnOk result (text.new.items ≡ text.old.items ++ then_words (map key_text keys.now)) }
+{
+    for key in keys {
+        add_key_word(text, key)?;
+    }
+    Ok(())
+}
+
+fn tag(field: &Field) -> &Tag
+    ensures { result.now ≡ tag_of field.now }
+{
+    match field {
+        Field::Control { tag, .. } | Field::Variable { tag, .. } => tag,
+    }
+}
+
+fn letter(class: Class) -> u8
+    ensures { result ∷ [] ≡ class_letter class }
+{
+    match class {
+        Class::Authority => b'A',
+        Class::Bibliographic => b'B',
+    }
+}
+
+/// The tag of a field, behind a blank.
+fn add_tag_word(text: &mut Vec<u8>, field: &Field) -> Result<(), AllocError>
+    ensures { OnOk result (text.new.items ≡ text.old.items ++ then_word (tag_text (tag_of field.now))) }
+{
+    let tag = tag(field);
+    text.extend_from_slice(&[BLANK, tag.a, tag.b, tag.c])?;
+    Ok(())
+}
+
+/// A number, in decimal.
+pub(crate) fn add_number(text: &mut Vec<u8>, number: u128) -> Result<(), AllocError>
+    ensures { OnOk result (text.new.items ≡ text.old.items ++ decimal number) }
+{
+    text.extend_from_slice(Buffer::new().format(number).as_bytes())
+}
+
+/// Begins a line with a word and a field as lines name it: its record's class and key, its tag, and its place in the record.
+pub(crate) fn begin_with_place(
+    text: &mut Vec<u8>,
+    word: &str,
+    class: Class,
+    key: &Key,
+    place: usize,
+    field: &Field,
+) -> Result<(), AllocError>
+    ensures { OnOk result (text.new.items ≡ word.now ++ place_words class key.now place (new_field field.now)) }
+{
+    text.clear();
+    text.extend_from_slice(word.as_bytes())?;
+    text.extend_from_slice(&[BLANK, letter(class)])?;
+    add_key_word(text, key)?;
+    add_tag_word(text, field)?;
+    text.push(BLANK)?;
+    add_number(text, place as u128)
+}
