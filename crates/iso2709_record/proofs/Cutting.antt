@@ -1,5 +1,5 @@
 -- Subfields that are cut off one after the other.
-use Rattle.std.proofs.Common.{◌≡◌, ◌≢◌, ℕ, ◌≤◌, true, false, ◌==◌, List, [], ◌∷◌, ◌++◌, length, take, drop, Option, Some, None, lit≤, refl, sym, ap, ◌∙◌, arith, subst, unwrap_or}
+use Rattle.std.proofs.Common.{◌≡◌, ◌≢◌, ℕ, ◌≤◌, true, false, ◌==◌, List, [], ◌∷◌, ◌++◌, length, take, drop, take-append-drop, Option, Some, None, lit≤, refl, sym, ap, ◌∙◌, arith, subst, unwrap_or}
 use Rattle.std.specs.List.{list_any, list_all, flat_map}
 use Rattle.std.proofs.lemmas.Bool.{and_parts, and_from, or_parts, eqb-true, ne_eqb, both_ways, true≢false, leb-true}
 use Rattle.std.proofs.lemmas.List.{drop_more, drop_all}
@@ -40,6 +40,25 @@ codes_follow-text [] rest none = refl
 codes_follow-text (b ∷ text) rest none =
     let parts : ((b == delimiter) ≡ false) × (list_any (λ b. b == delimiter) text ≡ false) = or_parts _ _ none in
     rw parts.0 (codes_follow-text text rest parts.1)
+
+-- the codes behind a text without delimiters are those of all
+pub behind_text : (bytes : List ℕ) (end : ℕ) → list_any (λ b. b == delimiter) (take end bytes) ≡ false → codes_follow (drop end bytes) ≡ codes_follow bytes
+behind_text bytes end none =
+    sym (codes_follow-text (take end bytes) (drop end bytes) none) ∙ ap codes_follow (take-append-drop end bytes)
+
+-- behind a delimiter and a code the codes go on, and without a code they don't
+pub code_follows : (code : ℕ) (rest : List ℕ) → is_graphic code ≡ true → codes_follow (delimiter ∷ code ∷ rest) ≡ codes_follow rest
+code_follows code rest graphic = rw (graphic, graphic_is_no_delimiter code graphic) refl
+
+pub code_fails : (code : ℕ) (rest : List ℕ) → is_graphic code ≡ false → codes_follow (delimiter ∷ code ∷ rest) ≡ false
+code_fails code rest other = rw other refl
+
+-- where no delimiter with one more byte begins, the codes end with the bytes, or a delimiter has none
+pub codes_end : (bytes : List ℕ) → ((code : ℕ) (rest : List ℕ) → bytes ≢ delimiter ∷ code ∷ rest) → starts_subfield bytes ≡ true
+    → codes_follow bytes ≡ (length bytes == 0)
+codes_end [] other starts = refl
+codes_end (b ∷ []) other starts = rw starts refl
+codes_end (b ∷ c ∷ bs) other starts = absurd (other c bs (ap (λ x. x ∷ c ∷ bs) (eqb-true b delimiter starts)))
 
 -- behind a first subfield stand subfields
 pub cut_follows : (code : ℕ) (text rest : List ℕ) → list_any (λ b. b == delimiter) text ≡ false → starts_subfield rest ≡ true

@@ -1,4 +1,4 @@
--- Marks in bytes, and codes behind delimiters.
+-- Marks in bytes.
 use Rattle.std.proofs.Common.{◌≡◌, ℕ, ◌+◌, ◌-◌, ◌<◌, ◌≤◌, Bool, true, false, not, ◌&&◌, ◌==◌, cond, List, [], ◌∷◌, length, get_or, take, drop, Some, None, refl, sym, ap, ◌∙◌, arith, inl, inr}
 use Rattle.std.specs.List.{list_any}
 use Rattle.std.proofs.lemmas.Bool.{eq-eqb, ne_eqb, false_from_ne_true, lt-ltb, cases_eq, and_from, and_left, and_right, not_from_true, not_from_false, not-true, and_parts, both_ways}
@@ -8,19 +8,6 @@ use Rattle.memchr.specs.Find.{IsFirstByte, is_byte}
 use Rattle.marc_types.specs.Valid.{is_graphic}
 use Rattle.iso2709_record.specs.Written.{delimiter}
 use Rattle.iso2709_record.specs.Faults.{ends_once, starts_with_code, codes_follow}
-
--- what is left to look at, behind a byte that is a delimiter or not
-abbrev pub follows_on : Bool → List ℕ → Bool
-follows_on wants_code bytes = cond wants_code (starts_with_code bytes) true && codes_follow bytes
-
-pub follows_next : (wants_code : Bool) (bytes : List ℕ) (i : ℕ) → i < length bytes
-    → follows_on wants_code (drop i bytes) ≡ (cond wants_code (is_graphic (get_or bytes i 0)) true && follows_on (get_or bytes i 0 == delimiter) (drop (i + 1) bytes))
-follows_next true bytes i lt = ap (follows_on true) (drop_more bytes i 0 lt)
-follows_next false bytes i lt = ap (follows_on false) (drop_more bytes i 0 lt)
-
-pub follows_end : (wants_code : Bool) (bytes : List ℕ) (i : ℕ) → length bytes ≤ i → follows_on wants_code (drop i bytes) ≡ not wants_code
-follows_end true bytes i le = ap (follows_on true) (drop_all i bytes le)
-follows_end false bytes i le = ap (follows_on false) (drop_all i bytes le)
 
 -- no byte before the place is the mark
 pub none_before : (mark : ℕ) (bytes : List ℕ) (place : ℕ) → place ≤ length bytes → ((k : ℕ) → k < place → (get_or bytes k 0 == mark) ≡ true → ⊥)

@@ -1,10 +1,11 @@
-ghost use Rattle.std.specs.Prelude.{◌≡◌, ◌==◌, not};
+ghost use Rattle.std.specs.Prelude.{◌≡◌, ◌≤◌, ◌==◌, true, length, not};
 ghost use Rattle.std.specs.List.{list_any, list_all};
 ghost use Rattle.marc_types.specs.Valid.{is_printable, is_alphanumeric};
 ghost use Rattle.iso2709_record.specs.Written.{delimiter};
 ghost use Rattle.iso2709_record.specs.Faults.{ends_once, is_control_data, starts_subfield, codes_follow, is_subfield_data, is_variable_data};
 
 use crate::blocks::DELIMITER;
+use crate::subfields::{code_and_rest, text_len};
 use marc_types::{is_alphanumeric_byte, is_graphic_byte, is_printable_byte};
 use memchr::memchr;
 
@@ -46,19 +47,30 @@ pub(crate) fn is_control_data(bytes: &[u8]) -> bool
     !has_delimiter(bytes)
 }
 
-/// Whether each delimiter is followed by a code.
-#[tactic(auto, using(crate::proofs::Endings::follows_next, crate::proofs::Endings::follows_end))]
+/// The bytes from the first delimiter on.
+#[tactic(auto, using(crate::proofs::Cutting::behind_text))]
+fn behind_text(bytes: &[u8]) -> &[u8]
+    ensures starts { starts_subfield result.now ≡ true }
+    ensures follow { codes_follow result.now ≡ codes_follow bytes.now }
+    ensures within { length result.now ≤ length bytes.now }
+{
+    let (_, rest) = bytes.split_at(text_len(bytes));
+    rest
+}
+
+/// Whether each delimiter is followed by a code. Delimiters are few, so they are sought and not each byte looked at.
+#[tactic(auto, using(crate::proofs::Cutting::code_follows, crate::proofs::Cutting::code_fails, crate::proofs::Cutting::codes_end))]
 fn codes_follow(bytes: &[u8]) -> bool
     ensures { result ≡ codes_follow bytes.now }
 {
-    let mut wants_code = false;
-    for byte in bytes {
-        if wants_code && !is_graphic_byte(*byte) {
+    let mut rest = behind_text(bytes);
+    while let Some((code, after)) = code_and_rest(rest) {
+        if !is_graphic_byte(code) {
             return false;
         }
-        wants_code = *byte == DELIMITER;
+        rest = behind_text(after);
     }
-    !wants_code
+    rest.is_empty()
 }
 
 /// Whether there is no byte, or the first is a delimiter.

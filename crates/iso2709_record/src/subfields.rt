@@ -18,7 +18,7 @@ pub struct Cut<'a> {
 }
 
 /// The code behind a delimiter, and the bytes behind both.
-fn code_and_rest(bytes: &[u8]) -> Option<(u8, &[u8])>
+pub(crate) fn code_and_rest(bytes: &[u8]) -> Option<(u8, &[u8])>
     ensures { MatchOption result
         ((code : ℕ) (rest : List ℕ) → bytes.now ≢ delimiter ∷ code ∷ rest)
         (λ found. bytes.now ≡ delimiter ∷ found.0 ∷ found.1.now) }
@@ -31,7 +31,7 @@ fn code_and_rest(bytes: &[u8]) -> Option<(u8, &[u8])>
 
 /// How many bytes stand before the first delimiter.
 #[tactic(auto, using(crate::proofs::Cutting::text_end))]
-fn text_len(bytes: &[u8]) -> usize
+pub(crate) fn text_len(bytes: &[u8]) -> usize
     ensures within { result ≤ length bytes.now }
     ensures text { list_any (λ b. b == delimiter) (take result bytes.now) ≡ false }
     ensures rest { starts_subfield (drop result bytes.now) ≡ true }

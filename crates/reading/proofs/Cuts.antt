@@ -1,4 +1,4 @@
--- One more subfield is cut off a text.
+-- How far a text is cut into subfields, and one more cut off it.
 use Rattle.std.proofs.Common.{◌≡◌, ◌∙◌, ℕ, ◌<◌, true, List, [], ◌∷◌, ◌++◌, length, get_or, sym, ap, subst, arith, append_assoc, append-nil, length-append, Some}
 use Rattle.std.specs.Str.{IsUtf8, IsCharBoundary}
 use Rattle.std.specs.List.{flat_map, list_all}
@@ -13,7 +13,14 @@ use Rattle.iso2709_record.specs.Faults.{starts_subfield}
 use Rattle.iso2709_record.specs.Spelling.{Spells, IsFirstOf}
 use Rattle.iso2709_record.specs.declared.subfields.Cut.{Cut}
 use Rattle.iso2709_record.proofs.Cutting.{starts-subfields}
-use Rattle.reading.specs.Cutting.{IsCutUpTo}
+
+-- these subfields are cut off the text, and the rest of it spells others
+pub record IsCutUpTo (text rest : List ℕ) (subfields : List Subfield) : Type 0 where
+  pub others : List Subfield
+  pub spells : Spells others rest
+  pub done : flat_map subfield_bytes subfields ++ rest ≡ text
+  pub valid : list_all is_subfield subfields ≡ true
+  pub utf8 : IsUtf8 rest
 
 -- both are texts
 pub record AreTexts (front back : List ℕ) : Type 0 where

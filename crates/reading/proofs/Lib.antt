@@ -4,4 +4,5 @@ pub mod Fields
 pub mod Records
 pub mod Entries
 pub mod OneReading
+pub mod OneEntry
 pub mod Written

@@ -1,5 +1,5 @@
 -- What a conversion's answer says of a text in its coding.
-use Rattle.std.proofs.Common.{◌≡◌, ◌≢◌, ℕ, ◌+◌, ◌≤◌, true, false, List, ◌++◌, length, length-append, Option, Some, None, Result, Ok, Err, IfOk, IfErr, refl, ap, subst, arith}
+use Rattle.std.proofs.Common.{◌≡◌, ◌≢◌, ℕ, ◌+◌, ◌≤◌, true, false, List, ◌++◌, length, length-append, Option, Some, None, refl, ap, subst, arith}
 use Rattle.std.specs.Option.{option_map}
 use Rattle.std.specs.Str.{IsUtf8}
 use Rattle.std.specs.Str.Lossy.{utf8_valid_len}
@@ -11,15 +11,12 @@ use Rattle.marc8_latin.specs.declared.fault.Marc8Fault.{Marc8Fault}
 use Rattle.marc8_latin.specs.declared.fault.Marc8Fault.TheVariants.{BadByte, OtherSet, NoMemory}
 use Rattle.reading.specs.Reading.{is_marc8, IsTextIn, InMarc8, InUtf8, IsFaultIn, OfMarc8, OfUtf8}
 
-pub marc8_text : (coding : ℕ) (bytes : List ℕ) (r : Result (List ℕ) Marc8Fault) → is_marc8 coding ≡ true
-    → IfOk r (IsText bytes) → IfOk r (IsTextIn coding bytes)
-marc8_text coding bytes (Ok text) e h = InMarc8 coding bytes text e h
-marc8_text coding bytes (Err fault) e h = tt
+pub marc8_text : (coding : ℕ) (bytes text : List ℕ) → is_marc8 coding ≡ true → IsText bytes text → IsTextIn coding bytes text
+marc8_text coding bytes text e h = InMarc8 coding bytes text e h
 
-pub marc8_fault : (coding : ℕ) (bytes : List ℕ) (r : Result (List ℕ) Marc8Fault) → is_marc8 coding ≡ true
-    → IfErr r (λ fault. fault ≢ NoMemory → IsFault bytes fault) → IfErr r (λ fault. fault ≢ NoMemory → IsFaultIn coding bytes fault)
-marc8_fault coding bytes (Ok text) e h = tt
-marc8_fault coding bytes (Err fault) e h = λ n. OfMarc8 coding bytes fault e (h n)
+pub marc8_fault : (coding : ℕ) (bytes : List ℕ) (fault : Marc8Fault) → is_marc8 coding ≡ true
+    → (fault ≢ NoMemory → IsFault bytes fault) → fault ≢ NoMemory → IsFaultIn coding bytes fault
+marc8_fault coding bytes fault e h other = OfMarc8 coding bytes fault e (h other)
 
 pub utf8_text : (coding : ℕ) (bytes text : List ℕ) → is_marc8 coding ≡ false → IsUtf8 bytes → text ≡ bytes → IsTextIn coding bytes text
 utf8_text coding bytes text e h same = rw same (InUtf8 coding bytes e h)
@@ -50,9 +47,8 @@ fault_place bytes fault h =
     (λ f. place_of_fault (after_all latin h.parts) h.rest f) h.stops in
     omega (arith, length-append (joined h.parts) h.rest)
 
-pub marc8_place : (bytes : List ℕ) (r : Result (List ℕ) Marc8Fault) → length bytes ≤ 99999
-    → IfErr r (λ fault. fault ≢ NoMemory → IsFault bytes fault) → IfErr r (λ fault. place_of fault ≤ 100000)
-marc8_place bytes (Ok text) short h = tt
-marc8_place bytes (Err (BadByte place)) short h = omega (arith, fault_place bytes (BadByte place) (h (λ e. cc)))
-marc8_place bytes (Err (OtherSet set place)) short h = omega (arith, fault_place bytes (OtherSet set place) (h (λ e. cc)))
-marc8_place bytes (Err NoMemory) short h = omega arith
+pub marc8_place : (bytes : List ℕ) (fault : Marc8Fault) → length bytes ≤ 99999 → (fault ≢ NoMemory → IsFault bytes fault)
+    → place_of fault ≤ 100000
+marc8_place bytes (BadByte place) short h = omega (arith, fault_place bytes (BadByte place) (h (λ e. cc)))
+marc8_place bytes (OtherSet set place) short h = omega (arith, fault_place bytes (OtherSet set place) (h (λ e. cc)))
+marc8_place bytes NoMemory short h = omega arith

@@ -1,5 +1,5 @@
 pub mod Reading
 pub mod Preparing
-pub mod Cutting
 pub mod Answers
+pub mod FieldTexts
 pub mod Texts

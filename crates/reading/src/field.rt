@@ -56,7 +56,7 @@ fn control_field(
     ensures refused { IfErr result (IsRefusedText coding area.now entry 0) }
     ensures size { IfOk result (λ field. field_size field ≤ 3 * length area.now) }
 {
-    let text = text_of_entry(alloc, coding, area, entry, 0)?;
+    let text = text_of_entry(alloc, coding, area, entry, 0)?.into_text(alloc)?;
     Ok(Field::Control { tag, text })
 }
 

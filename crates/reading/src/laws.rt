@@ -1,10 +1,12 @@
 //! Laws of reading: each is the contract of a function that does nothing, or only looks at the texts of a record.
-ghost use Rattle.std.specs.Prelude.{◌≡◌, List, All, IsTrue, IsUtf8};
+ghost use Rattle.std.specs.Prelude.{◌≡◌, ℕ, List, All, IsTrue, IsUtf8};
 ghost use Rattle.marc_types.specs.declared.field.Leader.{Leader};
 ghost use Rattle.marc_types.specs.declared.field.Field.{Field};
+ghost use Rattle.marc_types.specs.declared.entry.Entry.{Entry};
 ghost use Rattle.marc_types.specs.declared.refusal.Refusal.{Refusal};
 ghost use Rattle.iso2709_record.specs.Written.{record_bytes, fits};
 ghost use Rattle.reading.specs.Reading.{IsReadAs, IsRefusedAs};
+ghost use Rattle.reading.specs.Preparing.{MakesEntry, IsRefusedInFile};
 ghost use Rattle.reading.specs.Texts.{HasUtf8Text, HasUtf8Texts};
 
 use marc_types::{Field, Record, Subfields, Text};
@@ -20,6 +22,17 @@ pub fn a_piece_is_one_record(bytes: &[u8])
     ensures read { (leader : Leader) (fields : List Field) (refusal : Refusal) →
         IsReadAs bytes.now leader fields → IsRefusedAs bytes.now refusal → ⊥ }
     ensures once { (one other : Refusal) → IsRefusedAs bytes.now one → IsRefusedAs bytes.now other → one ≡ other }
+{}
+
+/// A piece of a file makes one entry at most, or is refused for one reason at most, and never both. This is a law for
+/// proofs; the call does nothing.
+pub fn a_piece_is_one_entry_or_one_refusal(bytes: &[u8], library: &Text)
+    ensures entry { (loader ordinal : ℕ) (one other : Entry) →
+        MakesEntry library.now bytes.now loader ordinal one → MakesEntry library.now bytes.now loader ordinal other → one ≡ other }
+    ensures either { (loader ordinal : ℕ) (entry : Entry) (refusal : Refusal) →
+        MakesEntry library.now bytes.now loader ordinal entry → IsRefusedInFile library.now bytes.now refusal → ⊥ }
+    ensures once { (one other : Refusal) →
+        IsRefusedInFile library.now bytes.now one → IsRefusedInFile library.now bytes.now other → one ≡ other }
 {}
 
 /// A record's written form is read as that record. This is a law for proofs; the call only looks at the record's texts.

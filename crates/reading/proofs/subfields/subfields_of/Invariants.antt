@@ -1,5 +1,5 @@
 use Rattle.std.proofs.Common.{length}
-use Rattle.reading.specs.Cutting.{IsCutUpTo}
+use Rattle.reading.proofs.Cuts.{IsCutUpTo}
 use Rattle.reading.proofs.subfields.subfields_of.Given as goal
 
 abbrev pub invariant-loop-cut : goal.invariant-loop-cut
