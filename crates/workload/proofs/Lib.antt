@@ -1,0 +1,5 @@
+pub mod Counts
+pub mod Plain
+pub mod Sound
+pub mod States
+pub mod Writing
