@@ -1,0 +1,4 @@
+pub mod Batches
+pub mod Commits
+pub mod Events
+pub mod Payloads
