@@ -2,3 +2,4 @@ pub mod Batches
 pub mod Commits
 pub mod Events
 pub mod Payloads
+pub mod Reading

@@ -6,17 +6,12 @@ ghost use Rattle.entry_record.specs.History.{IsAdmitted, with_run};
 ghost use Rattle.entry_record.specs.Payload.{entry_bytes};
 ghost use Rattle.entry_history.specs.Batches.{IsLike, IsBatch, batch_payload, part_behind};
 
+use crate::part::{count_place, entry_part};
 use entry_record::{Prepared, write_run};
 use marc_types::{NoMemory, TryCopy};
-use outside::Bytes;
+use outside::{Bytes, LARGEST_BATCH};
 use std::alloc::Global;
 use std::marker::Model;
-
-/// The most entries of a batch.
-pub const LARGEST_BATCH: u32 = 32;
-
-/// How many bytes a payload has before its library code, whose length is the last of them.
-const CODE_PLACE: usize = 13;
 
 /// Entries that are committed together: up to 32, of one run, one loader and one library, with their payload laid out. Contracts
 /// see a batch as the list of its entries.
@@ -37,23 +32,6 @@ impl Model for Batch {
     ghost view = { λ b. b.items.items };
 
     ghost invariant = { λ b. IsLaidOut b.items.items b.payload.items };
-}
-
-/// Where the count of entries stands in an item's payload.
-fn count_place(item: &Prepared) -> usize
-    ensures value { result ≡ 13 + length item.now.library }
-    ensures small { result ≤ 29 }
-    ensures admitted { IsAdmitted item.now }
-{
-    CODE_PLACE + item.entry().library.len()
-}
-
-/// An entry as it stands in a payload.
-fn entry_part(item: &Prepared) -> &[u8]
-    ensures value { result.now ≡ entry_bytes item.now }
-    ensures small { length result.now ≤ 100011 }
-{
-    &item.payload()[count_place(item) + 1..]
 }
 
 /// What a payload gains by an item: all of the item's own payload where it is the first, and else the entry.

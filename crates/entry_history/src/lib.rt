@@ -4,8 +4,13 @@
 
 pub use batch::Batch;
 pub use event::Event;
+pub use fault::EntryFault;
 pub use reply::{BatchReply, Receipts};
 
 mod batch;
+mod entry;
 mod event;
+mod fault;
+mod numbers;
+mod part;
 mod reply;
