@@ -13,6 +13,7 @@ pub mod Reach
 pub mod Readings
 pub mod Room
 pub mod Rows
+pub mod Runs
 pub mod Settled
 pub mod Sizes
 pub mod States

@@ -3,6 +3,7 @@
 
 pub use admission::admission_refusal;
 pub use identity::{class_of, is_deletion, key_of};
+pub use payload::write_run;
 pub use prepared::{Prepared, admit};
 
 mod access;

@@ -4,7 +4,7 @@ ghost use Rattle.std.specs.Option.{option_copied};
 ghost use Rattle.marc_types.specs.Valid.{is_code};
 ghost use Rattle.entry_record.specs.Identity.{is_deletion};
 ghost use Rattle.entry_record.specs.Admission.{admission_refusal};
-ghost use Rattle.entry_record.specs.History.{IsAdmitted, entry_size};
+ghost use Rattle.entry_record.specs.History.{IsAdmitted, entry_size, in_run};
 ghost use Rattle.entry_record.specs.Answers.{IsRefusalOf};
 ghost use Rattle.entry_record.specs.Headings.{heading_forms};
 ghost use Rattle.entry_record.specs.Payload.{payload_of};
@@ -14,10 +14,9 @@ use crate::access::{Access, access_of};
 use crate::admission::{Examined, examine};
 use crate::headings::{HeadingForms, Headings};
 use crate::identity::{class_of, is_deletion};
-use crate::payload::{HEAD_LEN, payload};
+use crate::payload::{HEAD_LEN, payload, write_run};
 use crate::successor::successor;
 use marc_types::{Entry, Form, Forms, Key, NoMemory, Record, RecordFault, Text, TryCopy};
-use outside::Bytes;
 use std::alloc::Global;
 use std::marker::Model;
 
@@ -30,7 +29,7 @@ pub struct Prepared {
     see_from: Forms,
     headings: Headings,
     successor: Option<Key>,
-    payload: Bytes,
+    payload: Vec<u8>,
 }
 
 impl Model for Prepared {
@@ -41,7 +40,7 @@ impl Model for Prepared {
 
     ghost view = { λ p. p.entry };
 
-    ghost invariant = { λ p. IsPreparation p.entry p.established p.see_from p.headings p.successor p.payload };
+    ghost invariant = { λ p. IsPreparation p.entry p.established p.see_from p.headings p.successor p.payload.items };
 }
 
 /// The forms of the field at a place, where it is a heading field.
@@ -127,6 +126,14 @@ impl Prepared {
         self.payload.as_slice()
     }
 
+    /// Puts the entry into a run; takes no memory.
+    pub fn set_run(&mut self, run: u64)
+        ensures { self.new ≡ in_run run self.old }
+    {
+        self.entry.run = run;
+        write_run(&mut self.payload, run);
+    }
+
     /// What the entry counts against the limit in bytes: 12, and its written record.
     pub fn size(&self) -> u64
         ensures { result ≡ entry_size self.now }
@@ -143,7 +150,7 @@ impl TryCopy for Prepared {
             see_from: self.see_from.copy(alloc)?,
             headings: self.headings.copy(alloc)?,
             successor: self.successor.copy(alloc)?,
-            payload: Bytes::from_vec(Vec::from_slice(alloc, self.payload.as_slice())?),
+            payload: Vec::from_slice(alloc, self.payload.as_slice())?,
         })
     }
 }

@@ -1,0 +1,4 @@
+pub mod Batches
+pub mod ReadEntries
+pub mod ReadNumbers
+pub mod Spelled

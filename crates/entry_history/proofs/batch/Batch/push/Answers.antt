@@ -1,0 +1,26 @@
+use Rattle.std.proofs.Common.{rules, ◌≡◌, ◌++◌, ◌∷◌, [], length, vec_len}
+use Rattle.std.specs.List.{All}
+use Rattle.entry_history.specs.Batches.{IsLike, part_behind}
+use Rattle.entry_history.proofs.Batches.{place_within, pushed_laid}
+use Rattle.entry_history.proofs.batch.Batch.push.Goals as goal
+
+pub index_mut-requires : goal.index_mut-requires
+index_mut-requires c =
+    let items = c.self.inside.items.items in
+    let like : All (λ x. IsLike x c.args.item) items = rw (← c.self.view_is) at c.requires.like in
+    let part : c.next_part-part.result.now ≡ part_behind items c.args.item = rw (← c.as_slice.ensures.value) c.next_part-part.ensures in
+    let added = c.in-Ok.ensures.items in
+    let count : vec_len c.extend_from_slice.new.self ≡ length (c.self.inside.payload.items ++ c.next_part-part.result.now) = search rules in
+    rw count (place_within items c.self.inside.payload.items c.next_part-part.result.now c.args.item c.count_place-place.result c.self.invariant like part c.count_place-place.ensures.value)
+
+pub invariant_of-self-2 : goal.invariant_of-self-2
+invariant_of-self-2 c =
+    let items = c.self.inside.items.items in
+    let like : All (λ x. IsLike x c.args.item) items = rw (← c.self.view_is) at c.requires.like in
+    let part : c.next_part-part.result.now ≡ part_behind items c.args.item = rw (← c.as_slice.ensures.value) c.next_part-part.ensures in
+    let room = rw (← c.self.view_is) at c.requires.room in
+    let pushed = c.in_default-push.ensures.items in
+    let count : c.len.result ≡ length (items ++ c.args.item ∷ []) = search rules in
+    rw (pushed, c.in-Ok.ensures.items)
+    (pushed_laid items c.self.inside.payload.items c.next_part-part.result.now c.args.item c.count_place-place.result c.len.result c.self.invariant room
+    c.count_place-place.ensures.admitted like part c.count_place-place.ensures.value count)

@@ -1,0 +1,5 @@
+pub mod Batches
+pub mod Commits
+pub mod Events
+pub mod Payloads
+pub mod Reading

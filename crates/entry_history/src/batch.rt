@@ -1,0 +1,196 @@
+//! Batches: entries that are committed together.
+ghost use Rattle.std.specs.Prelude.{◌≡◌, ◌≢◌, ◌↔◌, ◌<◌, ◌≤◌, ◌+◌, [], ◌∷◌, ◌++◌, length, take, drop, slice_get, sum, map, All, IsTrue, IfOk, IfErr, OnOk, OnErr};
+ghost use Rattle.std.specs.Option.{option_copied};
+ghost use Rattle.std.specs.List.{flat_map};
+ghost use Rattle.entry_record.specs.History.{IsAdmitted, with_run};
+ghost use Rattle.entry_record.specs.Payload.{entry_bytes};
+ghost use Rattle.entry_history.specs.Batches.{IsLike, IsBatch, batch_payload, part_behind};
+
+use crate::part::{count_place, entry_part};
+use entry_record::{Prepared, write_run};
+use marc_types::{NoMemory, TryCopy};
+use outside::{Bytes, LARGEST_BATCH};
+use std::alloc::Global;
+use std::marker::Model;
+
+/// Entries that are committed together: up to 32, of one run, one loader and one library, with their payload laid out. Contracts
+/// see a batch as the list of its entries.
+#[derive(Debug, Drop)]
+pub struct Batch {
+    items: Vec<Prepared>,
+    payload: Vec<u8>,
+}
+
+impl Model for Batch {
+    ghost use Rattle.std.specs.Prelude.{List};
+    ghost use Rattle.marc_types.specs.declared.entry.Entry.{Entry};
+
+    ghost Value = { List Entry };
+
+    ghost use Rattle.entry_history.specs.Batches.{IsLaidOut};
+
+    ghost view = { λ b. b.items.items };
+
+    ghost invariant = { λ b. IsLaidOut b.items.items b.payload.items };
+}
+
+/// What a payload gains by an item: all of the item's own payload where it is the first, and else the entry.
+fn next_part<'a>(items: &[Prepared], item: &'a Prepared) -> &'a [u8]
+    ensures { result.now ≡ part_behind items.now item.now }
+{
+    if items.is_empty() {
+        item.payload()
+    } else {
+        entry_part(item)
+    }
+}
+
+/// How many bytes some entries take in a payload.
+fn parts_len(items: &[Prepared]) -> usize
+    requires { length items.now ≤ 32 }
+    ensures value { result ≡ length (flat_map entry_bytes items.now) }
+    ensures small { result ≤ 3200352 }
+{
+    let mut len = 0;
+    for item in items {
+        len += entry_part(item).len();
+    }
+    len
+}
+
+/// Puts each entry into a run.
+fn set_runs(items: &mut [Prepared], run: u64)
+    ensures { items.new ≡ with_run run items.old }
+{
+    for item in items.iter_mut() {
+        item.set_run(run);
+    }
+}
+
+fn copies(alloc: Global, items: &[Prepared]) -> Result<Vec<Prepared>, NoMemory>
+    ensures { IfOk result (λ twins. twins.items ≡ items.now) }
+{
+    let mut twins = Vec::with_capacity(alloc, items.len())?;
+    for item in items {
+        twins.push(item.copy(alloc)?)?;
+    }
+    Ok(twins)
+}
+
+impl Batch {
+    /// No entry yet.
+    pub fn new(alloc: Global) -> Batch
+        ensures { result ≡ [] }
+    {
+        Batch {
+            items: Vec::new(alloc),
+            payload: Vec::new(alloc),
+        }
+    }
+
+    /// Puts an entry behind those that are there. At want of memory it comes back, and the batch is as it was.
+    pub fn push(&mut self, item: Prepared) -> Result<(), (Prepared, NoMemory)>
+        requires room { length self.old < 32 }
+        requires like { All (λ e. IsLike e item) self.old }
+        ensures pushed { OnOk result (self.new ≡ self.old ++ item ∷ []) }
+        ensures unchanged { OnErr result (self.new ≡ self.old) }
+        ensures back { IfErr result (λ e. e.0 ≡ item) }
+    {
+        let before = self.payload.len();
+        let place = count_place(&item);
+        let part = next_part(self.items.as_slice(), &item);
+        let Ok(()) = self.payload.extend_from_slice(part) else {
+            return Err((item, NoMemory));
+        };
+        if let Err(failed) = self.items.push(item) {
+            self.payload.truncate(before);
+            return Err((failed.value, NoMemory));
+        }
+        self.payload[place] = self.items.len() as u8;
+        Ok(())
+    }
+
+    /// How many entries there are.
+    pub fn len(&self) -> u32
+        ensures value { result ≡ length self.now }
+        ensures few { result ≤ LARGEST_BATCH }
+    {
+        self.items.len() as u32
+    }
+
+    pub fn is_empty(&self) -> bool
+        ensures { IsTrue result ↔ (self.now ≡ []) }
+    {
+        self.items.is_empty()
+    }
+
+    /// The entry with so many before it.
+    pub fn item(&self, index: u32) -> Option<&Prepared>
+        ensures { option_copied result ≡ slice_get self.now index }
+    {
+        self.items.get(index as usize)
+    }
+
+    /// The entries in their order.
+    pub fn items(&self) -> &[Prepared]
+        ensures value { result.now ≡ self.now }
+        ensures batch { IsBatch self.now }
+    {
+        self.items.as_slice()
+    }
+
+    /// The payload of a journal's frame that holds the entries; empty where there is none.
+    pub fn payload(&self) -> &[u8]
+        ensures value { result.now ≡ batch_payload self.now }
+        ensures some { self.now ≢ [] → 1 ≤ length result.now }
+        ensures most { length result.now ≤ 3200382 }
+    {
+        self.payload.as_slice()
+    }
+
+    /// Keeps the first `n` entries and their payload; takes no memory.
+    pub fn cut(&mut self, n: u32)
+        requires some { 1 ≤ n }
+        requires within { n ≤ length self.old }
+        ensures { self.new ≡ take n self.old }
+    {
+        let kept = n as usize;
+        let place = count_place(&self.items[0]);
+        let len = parts_len(&self.items[..kept]);
+        self.items.truncate(kept);
+        self.payload.truncate(place + 1 + len);
+        self.payload[place] = n as u8;
+    }
+
+    /// Puts all entries into a run, and their payload too; takes no memory.
+    pub fn set_run(&mut self, run: u64)
+        ensures { self.new ≡ with_run run self.old }
+    {
+        if self.items.is_empty() {
+            return;
+        }
+        set_runs(self.items.as_mut_slice(), run);
+        write_run(&mut self.payload, run);
+    }
+
+    /// The entries, and their payload; takes no memory.
+    pub fn into_parts(self) -> (Vec<Prepared>, Bytes)
+        ensures items { result.0.items ≡ self }
+        ensures batch { IsBatch self }
+        ensures payload { result.1 ≡ batch_payload self }
+        ensures some { self ≢ [] → 1 ≤ length result.1 }
+        ensures most { length result.1 ≤ 3200382 }
+    {
+        let Batch { items, payload } = self;
+        (items, Bytes::from_vec(payload))
+    }
+}
+
+impl TryCopy for Batch {
+    fn copy(&self, alloc: Global) -> Result<Self, NoMemory> {
+        Ok(Batch {
+            items: copies(alloc, self.items.as_slice())?,
+            payload: Vec::from_slice(alloc, self.payload.as_slice())?,
+        })
+    }
+}

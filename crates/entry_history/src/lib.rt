@@ -1,0 +1,16 @@
+//! What a journal keeps of a catalogue's history: batches of entries, their payloads, the reading of payloads, and what a
+//! commit of a batch answers.
+#![tactic(auto)]
+
+pub use batch::Batch;
+pub use event::Event;
+pub use fault::EntryFault;
+pub use reply::{BatchReply, Receipts};
+
+mod batch;
+mod entry;
+mod event;
+mod fault;
+mod numbers;
+mod part;
+mod reply;
