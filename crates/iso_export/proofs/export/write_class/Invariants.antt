@@ -1,0 +1,15 @@
+use Rattle.std.proofs.Common.{◌≤◌}
+use Rattle.entry_record.proofs.Elements.{Each}
+use Rattle.entry_record.specs.Output.{export_of_rows}
+use Rattle.entry_record.specs.State.{rows_of}
+use Rattle.iso2709_record.proofs.Progress.{IsWriting}
+use Rattle.selection.specs.Selections.{ForSelected}
+use Rattle.iso_export.proofs.Exported.{RowFits}
+use Rattle.iso_export.proofs.export.write_class.Given as goal
+
+abbrev pub invariant-loop-key : goal.invariant-loop-key
+invariant-loop-key g l = record {
+  writing : ForSelected g.F.Fn l.selection (λ kept. IsWriting (g.K.Sink.written l.initial.out) (g.K.Sink.written l.out) (export_of_rows kept (rows_of l.fn.class l.engine)) (export_of_rows kept l.key-iterator));
+  fit : Each RowFits l.key-iterator;
+  later : g.K.Sink.faults l.initial.out ≤ g.K.Sink.faults l.out;
+}

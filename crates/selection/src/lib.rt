@@ -1,0 +1,8 @@
+//! Stored selections of keys.
+#![tactic(auto)]
+
+pub use selection::Selection;
+
+mod selection;
+#[cfg(test)]
+mod tests;
