@@ -1,5 +1,5 @@
 -- What an export has written row by row, and that each row fits.
-use Rattle.std.proofs.Common.{◌≡◌, ℕ, Bool, true, false, List, [], ◌∷◌, ◌++◌, refl, ap, sym, ◌∙◌, subst}
+use Rattle.std.proofs.Common.{◌≡◌, Bool, true, false, List, ◌∷◌, ◌++◌, refl, ap, sym, ◌∙◌, subst}
 use Rattle.std.proofs.lemmas.List.Elements.{recursion_from_All}
 use Rattle.entry_record.proofs.Elements.{Each}
 use Rattle.marc_types.specs.declared.key.Class.{Class}
@@ -11,7 +11,7 @@ use Rattle.entry_record.specs.State.{Row, State, fields_of, rows_of}
 use Rattle.entry_record.specs.Valid.{IsValid}
 use Rattle.entry_record.specs.Output.{export_of_rows, written_row}
 use Rattle.entry_record.proofs.Fitting.{valid_fits}
-use Rattle.record_store.specs.Store.{kept_fields, kept_record}
+use Rattle.record_store.specs.Store.{kept_record}
 use Rattle.record_store.proofs.Joined.{joined_fields}
 
 -- a row's record fits its written form

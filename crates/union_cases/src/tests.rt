@@ -25,6 +25,14 @@ const TWICE: &[u8] =
 const HEADING: &[u8] =
     b"00091nam a2200061 a 4500001000300000100001600003245001000019\x1eb5\x1e1 \x1faTwain, Mark\x1e00\x1faTales\x1e\x1d";
 
+/// A book, and then the authority that governs its heading.
+const BOOK_AND_AUTHOR: &[u8] =
+    b"00102nam a2200061 a 4500001000300000100002700003245001000030\x1eb5\x1e1 \x1faTwain, Mark\x1fd1835-1910\x1e00\x1faTales\x1e\x1d00158nz  a2200073n  4500001001000000003000400010100002800014400004200042\x1en79021164\x1eDLC\x1e1 \x1faTwain, Mark,\x1fd1835-1910\x1e1 \x1faClemens, Samuel Langhorne,\x1fd1835-1910\x1e\x1d";
+
+/// The export of both: the authority comes first, and the book's heading is the authority's, with its number.
+const LINKED: &[u8] =
+    b"00158nz  a2200073n  4500001001000000003000400010100002800014400004200042\x1en79021164\x1eDLC\x1e1 \x1faTwain, Mark,\x1fd1835-1910\x1e1 \x1faClemens, Samuel Langhorne,\x1fd1835-1910\x1e\x1d00119nam a2200061 a 4500001000300000100004400003245001000047\x1eb5\x1e1 \x1faTwain, Mark,\x1fd1835-1910\x1f0(DLC)n79021164\x1e00\x1faTales\x1e\x1d";
+
 /// A run: its words, the bytes of `in.mrc`, the name whose first call fails, and what comes of it.
 #[derive(Drop)]
 struct Case {
@@ -105,17 +113,25 @@ fn runs(rt: HostRuntime) -> Result<(), Fail> {
             PASS,
             TWICE,
             none,
-            1,
-            "in.mrc 2 65 16 not yet\nin.mrc: accepted 1, refused 1, linked 0, ambiguous 0, unlinked 0, changed 0\n",
+            0,
+            "in.mrc: accepted 2, refused 0, linked 0, ambiguous 0, unlinked 0, changed 0\n",
             Some(ZOOLOGY),
         ),
         row(
             PASS,
             HEADING,
             none,
-            1,
-            "in.mrc 1 0 16 not yet\nin.mrc: accepted 0, refused 1, linked 0, ambiguous 0, unlinked 0, changed 0\n",
-            Some(b""),
+            0,
+            "in.mrc: accepted 1, refused 0, linked 0, ambiguous 0, unlinked 1, changed 0\n",
+            Some(HEADING),
+        ),
+        row(
+            PASS,
+            BOOK_AND_AUTHOR,
+            none,
+            0,
+            "in.mrc: accepted 2, refused 0, linked 0, ambiguous 0, unlinked 1, changed 1\n",
+            Some(LINKED),
         ),
         row(PASS, ZOOLOGY, "in.mrc", 3, "union_cat: input fault\n", None),
         row(PASS, ZOOLOGY, "out.mrc", 4, "", Some(b"")),

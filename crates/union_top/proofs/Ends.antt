@@ -5,7 +5,7 @@ use Rattle.marc_types.specs.Order.{text_Decides}
 use Rattle.outside.specs.Room.{RoomView, Apart}
 use Rattle.union_top.specs.Faults.{fault_status, fault_line, IsFaultTold}
 use Rattle.union_top.specs.declared.fault.Fault.{Fault}
-use Rattle.union_top.specs.declared.fault.Fault.TheVariants.{Usage, Input, Memory}
+use Rattle.union_top.specs.declared.fault.Fault.TheVariants.{Usage, Input, Full, Memory}
 
 closed_at : (b : Bool) (old new : RoomView) (out name : List ℕ) → (b ≡ true → name ≡ out) → (name ≡ out → b ≡ true) → Apart old new out
     → new.open_as out ≡ None → old.open_as name ≡ None → new.open_as name ≡ None
@@ -23,12 +23,19 @@ closed_everywhere old new out apart closed free name =
 same_fault : (a b : Fault) → fault_status a ≡ fault_status b → a ≡ b
 same_fault Usage Usage h = refl
 same_fault Usage Input h = absurd (omega (arith, h))
+same_fault Usage Full h = absurd (omega (arith, h))
 same_fault Usage Memory h = absurd (omega (arith, h))
 same_fault Input Usage h = absurd (omega (arith, h))
 same_fault Input Input h = refl
+same_fault Input Full h = absurd (omega (arith, h))
 same_fault Input Memory h = absurd (omega (arith, h))
+same_fault Full Usage h = absurd (omega (arith, h))
+same_fault Full Input h = absurd (omega (arith, h))
+same_fault Full Full h = refl
+same_fault Full Memory h = absurd (omega (arith, h))
 same_fault Memory Usage h = absurd (omega (arith, h))
 same_fault Memory Input h = absurd (omega (arith, h))
+same_fault Memory Full h = absurd (omega (arith, h))
 same_fault Memory Memory h = refl
 
 -- the fault that was told is the one of the status
@@ -44,5 +51,7 @@ no_fault status Usage (inl few) is = absurd (omega (arith, few, is))
 no_fault status Usage (inr four) is = absurd (omega (arith, four, is))
 no_fault status Input (inl few) is = absurd (omega (arith, few, is))
 no_fault status Input (inr four) is = absurd (omega (arith, four, is))
+no_fault status Full (inl few) is = absurd (omega (arith, few, is))
+no_fault status Full (inr four) is = absurd (omega (arith, four, is))
 no_fault status Memory (inl few) is = absurd (omega (arith, few, is))
 no_fault status Memory (inr four) is = absurd (omega (arith, four, is))

@@ -1,9 +1,7 @@
-pub mod ShelfRows
-pub mod Parts
+pub mod FewRows
+pub mod Summed
 pub mod Loads
-pub mod Keys
-pub mod Plain
-pub mod Verdicts
+pub mod Parts
 pub mod Passes
 pub mod Ends
 pub mod Asked

@@ -4,16 +4,18 @@ use Rattle.std.specs.Io.KnownBytes.{Appends}
 use Rattle.outside.specs.Fault.{Rose}
 use Rattle.outside.specs.Sink.{WritesFront}
 use Rattle.union_top.specs.declared.fault.Fault.{Fault}
-use Rattle.union_top.specs.declared.fault.Fault.TheVariants.{Usage, Input, Memory}
+use Rattle.union_top.specs.declared.fault.Fault.TheVariants.{Usage, Input, Full, Memory}
 
 abbrev pub fault_status : Fault → ℕ
 fault_status Usage = 2
 fault_status Input = 3
+fault_status Full = 7
 fault_status Memory = 8
 
 abbrev pub fault_line : Fault → List ℕ
 fault_line Usage = codes "union_cat: usage\n"
 fault_line Input = codes "union_cat: input fault\n"
+fault_line Full = codes "union_cat: full\n"
 fault_line Memory = codes "union_cat: out of memory\n"
 
 -- the console got the line, or its count of faults rose and it got a front of the line

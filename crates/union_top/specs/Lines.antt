@@ -6,8 +6,9 @@ use Rattle.marc_types.specs.Refusals.{number_of}
 use Rattle.marc_types.specs.declared.refusal.Set.{Set}
 use Rattle.marc_types.specs.declared.refusal.Set.TheVariants.{Eacc, BasicHebrew, BasicArabic, ExtendedArabic, BasicCyrillic, ExtendedCyrillic, BasicGreek, GreekSymbols, Subscripts, Superscripts, Unknown}
 use Rattle.marc_types.specs.declared.refusal.Refusal.{Refusal}
-use Rattle.marc_types.specs.declared.refusal.Refusal.TheVariants.{Overlong, Unfinished, BadLength, BadLeader, BadDirectory, BadField, UnknownCoding, BadText, OtherType, NoNumber, BadCode, NoHeading, HeadingTooLong, NoRoom, OtherSet, NotYet}
-use Rattle.union_top.specs.declared.refused.RefusedItem.{RefusedItem}
+use Rattle.marc_types.specs.declared.refusal.Refusal.TheVariants.{Overlong, Unfinished, BadLength, BadLeader, BadDirectory, BadField, UnknownCoding, BadText, OtherType, NoNumber, BadCode, NoHeading, HeadingTooLong, NoRoom, OtherSet}
+use Rattle.file_entries.specs.declared.refused.RefusedItem.{RefusedItem}
+use Rattle.union_top.specs.declared.totals.Sums.{Sums}
 use Rattle.union_top.specs.declared.totals.Totals.{Totals}
 
 abbrev pub set_name : Set → List ℕ
@@ -40,7 +41,6 @@ reason_of HeadingTooLong = codes "heading too long"
 reason_of NoRoom = codes "no room"
 reason_of (OtherSet set entry offset) =
     codes "other set " ++ set_name set ++ codes " in entry " ++ decimal entry ++ codes " at " ++ decimal offset
-reason_of NotYet = codes "not yet"
 
 abbrev pub blank : List ℕ
 blank = 32 ∷ []
@@ -57,13 +57,12 @@ refused_line file item =
 abbrev pub refused_lines : List ℕ → List RefusedItem → List ℕ
 refused_lines file items = flat_map (refused_line file) items
 
--- what a command counts of one file: its accepted and refused pieces, and the sums over the receipts of its entries
 -- the sums over the receipts, as they end a line
-unfoldable pub sums_text : Totals → List ℕ
-sums_text t =
-    codes ", linked " ++ decimal t.linked ++ codes ", ambiguous " ++ decimal t.ambiguous
-    ++ codes ", unlinked " ++ decimal t.unlinked ++ codes ", changed " ++ decimal t.changed ++ line_end
+unfoldable pub sums_text : Sums → List ℕ
+sums_text s =
+    codes ", linked " ++ decimal s.linked ++ codes ", ambiguous " ++ decimal s.ambiguous
+    ++ codes ", unlinked " ++ decimal s.unlinked ++ codes ", changed " ++ decimal s.changed ++ line_end
 
 unfoldable pub totals_line : List ℕ → Totals → List ℕ
 totals_line file t =
-    file ++ codes ": accepted " ++ decimal t.accepted ++ codes ", refused " ++ decimal t.refused ++ sums_text t
+    file ++ codes ": accepted " ++ decimal t.accepted ++ codes ", refused " ++ decimal t.refused ++ sums_text t.sums

@@ -1,42 +1,47 @@
--- How far a file is loaded.
-use Rattle.std.specs.Prelude.{◌≡◌, ℕ, ◌≤◌, true, false, List, ◌++◌, length, None}
-use Rattle.iso2709_record.specs.Written.{fits}
+-- What a file's items make of an empty catalogue.
+use Rattle.std.specs.Prelude.{◌≡◌, ℕ, true, List, [], ◌∷◌, ◌++◌}
+use Rattle.marc_types.specs.declared.entry.Entry.{Entry}
 use Rattle.marc_stream.specs.Pieces.{Item}
-use Rattle.marc_stream.specs.Stream.{Stream}
-use Rattle.union_top.specs.Judging.{IsTaken, IsRefusedItem, IsJudged, in_key_order}
-use Rattle.union_top.specs.Shelf.{Shelved}
-use Rattle.union_top.specs.declared.refused.RefusedItem.{RefusedItem}
-use Rattle.union_top.specs.declared.verdict.Verdict.{Verdict}
-use Rattle.union_top.specs.declared.verdict.Verdict.TheVariants.{Taken, Refused}
+use Rattle.catalogue_core.specs.Catalogues.{Catalogued, is_full}
+use Rattle.file_entries.specs.Files.{IsEntryOf, IsJudged}
+use Rattle.file_entries.specs.declared.refused.RefusedItem.{RefusedItem}
+use Rattle.union_top.specs.Totals.{holding, IsWithinLimits, IsSummed}
+use Rattle.union_top.specs.declared.totals.Sums.{Sums}
 
-abbrev pub IsVerdict : List ℕ → List Shelved → Item → Verdict → Type 0
-IsVerdict library taken item (Taken key rec) = IsTaken library taken item key rec
-IsVerdict library taken item (Refused refusal) = IsRefusedItem library taken item refusal
+-- the entries of a file that were committed, and its items that are refused
+pub record LoadedView : Type 0 where
+  pub accepted : List Entry
+  pub refused : List RefusedItem
 
--- the verdict on a piece with these bytes, over the records of a shelf
-abbrev pub IsVerdictOver : List ℕ → List Shelved → List ℕ → Verdict → Type 0
-IsVerdictOver library rows bytes verdict =
-    (item : Item) (taken : List Shelved) → item.refusal ≡ None → item.bytes ≡ bytes → rows ≡ in_key_order taken
-    → IsVerdict library taken item verdict
+-- the catalogue has these entries, they are within its limits, and their receipts are summed
+pub record IsCommitted (core : Catalogued) (sums : Sums) : Type 0 where
+  pub holds : core ≡ holding core.history
+  pub within : IsWithinLimits core.history
+  pub summed : IsSummed core.history sums
 
--- a record that is taken fits into its written form
-abbrev pub CanBeWritten : Verdict → Type 0
-CanBeWritten (Taken key rec) = fits rec.fields ≡ true
-CanBeWritten (Refused refusal) = Unit {0}
+abbrev pub nothing_loaded : LoadedView
+nothing_loaded = record { accepted = []; refused = [] }
 
--- what a file's items made so far: the records on the shelf, how many they are, and the refused items
-pub record IsLoaded (library : List ℕ) (items : List Item) (rows : List Shelved) (accepted : ℕ) (refused : List RefusedItem) : Type 0 where
-  pub taken : List Shelved
-  pub judged : IsJudged library items taken refused
-  pub shelved : rows ≡ in_key_order taken
-  pub counted : accepted ≡ length taken
+abbrev pub with_accepted : LoadedView → Entry → LoadedView
+with_accepted l e = record { accepted = l.accepted ++ e ∷ []; refused = l.refused }
 
--- the items that were answered are loaded, and the others are to come
-pub record IsLoading (library : List ℕ) (old now : Stream) (rows : List Shelved) (accepted : ℕ) (refused : List RefusedItem) : Type 0 where
-  pub going : now.over ≡ false
-  pub tells : now.tells ≡ old.tells
-  pub faults : old.faults ≤ now.faults
-  pub items : List Item
-  pub loaded : IsLoaded library items rows accepted refused
-  pub split : old.tells ≡ true → old.coming ≡ items ++ now.coming
-  pub few : accepted ≤ now.answered
+abbrev pub with_refused : LoadedView → RefusedItem → LoadedView
+with_refused l item = record { accepted = l.accepted; refused = l.refused ++ item ∷ [] }
+
+-- the items were judged, and the accepted entries are within the limits
+pub record IsLoaded (library : List ℕ) (items : List Item) (loaded : LoadedView) : Type 0 where
+  pub judged : IsJudged library 0 items loaded.accepted loaded.refused
+  pub within : IsWithinLimits loaded.accepted
+
+-- the limits have no room for the next accepted entry of these items
+pub record IsFullAt (library : List ℕ) (items : List Item) : Type 0 where
+  pub done : List Item
+  pub accepted : List Entry
+  pub refused : List RefusedItem
+  pub judged : IsJudged library 0 done accepted refused
+  pub item : Item
+  pub rest : List Item
+  pub split : items ≡ done ++ item ∷ rest
+  pub next : Entry
+  pub entry : IsEntryOf library 0 item next
+  pub full : is_full (holding accepted) next ≡ true

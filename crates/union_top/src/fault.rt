@@ -8,6 +8,7 @@ use outside::Sink;
 pub enum Fault {
     Usage,
     Input,
+    Full,
     Memory,
 }
 
@@ -19,6 +20,7 @@ impl Fault {
         match self {
             Fault::Usage => 2,
             Fault::Input => 3,
+            Fault::Full => 7,
             Fault::Memory => 8,
         }
     }
@@ -29,6 +31,7 @@ impl Fault {
         match self {
             Fault::Usage => "union_cat: usage\n",
             Fault::Input => "union_cat: input fault\n",
+            Fault::Full => "union_cat: full\n",
             Fault::Memory => "union_cat: out of memory\n",
         }
     }

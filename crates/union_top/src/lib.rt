@@ -2,18 +2,15 @@
 #![tactic(auto)]
 
 pub use command::run;
-pub use refused::RefusedItem;
-pub use totals::Totals;
+pub use totals::{Sums, Totals};
 
 mod command;
+mod exporting;
 mod fault;
-mod judging;
 mod lines;
+mod loaded;
 mod loading;
 mod output;
 mod passing;
-mod refused;
 mod results;
-mod shelf;
 mod totals;
-mod verdict;

@@ -2,8 +2,8 @@ ghost use Rattle.std.specs.Prelude.{◌≡◌, ◌++◌, ℕ, List, IfOk, string
 ghost use Rattle.std.specs.Fmt.{decimal};
 ghost use Rattle.union_top.specs.Lines.{set_name, reason_of, refused_line, sums_text, totals_line};
 
-use crate::refused::RefusedItem;
-use crate::totals::Totals;
+use crate::totals::{Sums, Totals};
+use file_entries::RefusedItem;
 use marc_types::{NoMemory, Refusal, Set};
 use std::alloc::Global;
 
@@ -77,7 +77,6 @@ fn reason(alloc: Global, refusal: Refusal) -> Result<String, NoMemory>
         Refusal::HeadingTooLong => plain(alloc, "heading too long"),
         Refusal::NoRoom => plain(alloc, "no room"),
         Refusal::OtherSet(set, entry, offset) => other_set(alloc, set, entry, offset),
-        Refusal::NotYet => plain(alloc, "not yet"),
     }
 }
 
@@ -95,13 +94,13 @@ pub fn line_of_refused(alloc: Global, file: &str, item: &RefusedItem) -> Result<
 
 /// The sums over the receipts, as they end a line.
 #[tactic(auto, unfolding(crate::specs::Lines::sums_text))]
-fn sums(alloc: Global, totals: &Totals) -> Result<String, NoMemory>
-    ensures { IfOk result (λ text. string_bytes text ≡ sums_text totals.now) }
+fn sums(alloc: Global, sums: &Sums) -> Result<String, NoMemory>
+    ensures { IfOk result (λ text. string_bytes text ≡ sums_text sums.now) }
 {
-    let linked = totals.linked;
-    let ambiguous = totals.ambiguous;
-    let unlinked = totals.unlinked;
-    let changed = totals.changed;
+    let linked = sums.linked;
+    let ambiguous = sums.ambiguous;
+    let unlinked = sums.unlinked;
+    let changed = sums.changed;
     Ok(format!(in alloc;
         ", linked {linked}, ambiguous {ambiguous}, unlinked {unlinked}, changed {changed}\n"
     )?)
@@ -114,6 +113,6 @@ pub fn line_of_totals(alloc: Global, file: &str, totals: &Totals) -> Result<Stri
 {
     let accepted = totals.accepted;
     let refused = totals.refused;
-    let sums = sums(alloc, totals)?;
+    let sums = sums(alloc, &totals.sums)?;
     Ok(format!(in alloc; "{file}: accepted {accepted}, refused {refused}{sums}")?)
 }

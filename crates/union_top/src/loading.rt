@@ -1,115 +1,113 @@
-ghost use Rattle.std.specs.Prelude.{◌≡◌, ◌≢◌, ◌≤◌, ℕ, List, true, false, Some, None, IsSome, IsTrue, OnOk, IfOk, IfErr};
+ghost use Rattle.std.specs.Prelude.{◌≡◌, ◌≢◌, ◌<◌, ◌≤◌, ℕ, List, true, false, Some, None, IsSome, IsTrue, OnOk, IfOk, IfErr};
 ghost use Rattle.marc_types.specs.Valid.{is_code};
 ghost use Rattle.outside.specs.Fault.{Rose};
 ghost use Rattle.outside.specs.Room.{Stays};
 ghost use Rattle.marc_stream.specs.Pieces.{items};
-ghost use Rattle.union_top.specs.Loading.{IsLoaded};
+ghost use Rattle.union_top.specs.Loading.{IsLoaded, IsFullAt};
 
 use crate::fault::Fault;
-use crate::judging::judge;
-use crate::refused::RefusedItem;
-use crate::shelf::Shelf;
-use crate::verdict::Verdict;
-use marc_stream::{Next, Pieces};
+use crate::loaded::Loaded;
+use catalogue_core::CoreFault;
+use file_entries::{FileEntries, NextEntry};
 use marc_types::{NoMemory, Text};
 use outside::{Room, Source};
+use record_store::Steps;
 use std::alloc::Global;
+use std::marker::Brand;
+use std::sync::ledger::{Blank, Ledger};
 
-/// What became of a file's items.
-#[derive(Drop)]
-pub struct Loaded {
-    pub shelf: Shelf,
-    pub accepted: u64,
-    pub refused: Vec<RefusedItem>,
-}
+/// The loader of the only file of a pass.
+const LOADER: u32 = 0;
 
-fn load_pieces<S: Source>(
+fn load_entries<S: Source, L: Ledger>(
     alloc: Global,
-    pieces: &mut Pieces<S>,
-    library: &Text,
+    entries: &mut FileEntries<S>,
+    steps: &mut Steps<L>,
 ) -> Result<Loaded, Fault>
-    requires going { pieces.old.over ≡ false }
-    requires library { IsTrue (is_code library.now) }
-    ensures loaded { IfOk result (λ loaded. pieces.old.tells ≡ true →
-        IsLoaded library.now pieces.old.coming loaded.shelf.rows.entries loaded.accepted loaded.refused.items) }
-    ensures faults { pieces.old.faults ≤ pieces.new.faults }
-    ensures cause { IfErr result (λ fault. fault ≡ Fault.Input → Rose pieces.old.faults pieces.new.faults) }
+    requires going { entries.old.over ≡ false }
+    requires loader { entries.old.loader ≡ 0 }
+    ensures loaded { IfOk result (λ loaded. entries.old.stream.tells ≡ true → IsLoaded entries.old.library entries.old.stream.coming loaded) }
+    ensures full { IfErr result (λ fault. fault ≡ Fault.Full → entries.old.stream.tells ≡ true →
+        IsFullAt entries.old.library entries.old.stream.coming) }
+    ensures faults { entries.old.stream.faults ≤ entries.new.stream.faults }
+    ensures cause { IfErr result (λ fault. fault ≡ Fault.Input → Rose entries.old.stream.faults entries.new.stream.faults) }
     ensures usage { IfErr result (λ fault. fault ≢ Fault.Usage) }
 {
-    let mut loaded = Loaded {
-        shelf: Shelf::new(alloc),
-        accepted: 0,
-        refused: Vec::new(alloc),
-    };
+    let mut loaded = Loaded::new(alloc);
     'items: loop {
-        match pieces.next() {
-            Next::Piece {
-                ordinal,
-                offset,
-                bytes,
-            } => match judge(alloc, bytes, library, ordinal, &loaded.shelf) {
-                Ok(Verdict::Taken(key, rec)) => match loaded.shelf.put(key, rec) {
-                    Ok(()) => loaded.accepted += 1,
-                    Err(NoMemory) => return Err(Fault::Memory),
-                },
-                Ok(Verdict::Refused(refusal)) => match loaded.refused.push(RefusedItem {
-                    ordinal,
-                    offset,
-                    refusal,
-                }) {
-                    Ok(()) => {}
-                    Err(_) => return Err(Fault::Memory),
-                },
+        match entries.next(alloc) {
+            NextEntry::Entry(item) => match loaded.commit(alloc, item, steps) {
+                Ok(()) => {}
+                Err(CoreFault::Full) => return Err(Fault::Full),
+                Err(CoreFault::NoMemory) => return Err(Fault::Memory),
+            },
+            NextEntry::Refused(item) => match loaded.refuse(item) {
+                Ok(()) => {}
                 Err(NoMemory) => return Err(Fault::Memory),
             },
-            Next::Refused {
-                ordinal,
-                offset,
-                refusal,
-            } => match loaded.refused.push(RefusedItem {
-                ordinal,
-                offset,
-                refusal,
-            }) {
-                Ok(()) => {}
-                Err(_) => return Err(Fault::Memory),
-            },
-            Next::End => return Ok(loaded),
-            Next::ReadFault => return Err(Fault::Input),
+            NextEntry::End => {
+                loaded.is_within_limits();
+                return Ok(loaded);
+            }
+            NextEntry::ReadFault => return Err(Fault::Input),
+            NextEntry::NoMemory => return Err(Fault::Memory),
         }
     }
 }
 
-fn load_source<S: Source>(alloc: Global, source: S, library: &Text) -> (Result<Loaded, Fault>, S)
-    requires library { IsTrue (is_code library.now) }
-    ensures loaded { IfOk result.0 (λ loaded. (bytes : List ℕ) → S.left source ≡ Some bytes →
-        IsLoaded library.now (items bytes) loaded.shelf.rows.entries loaded.accepted loaded.refused.items) }
+/// Loads a source whose steps nobody asks for.
+fn load_counted<S: Source, L: Ledger>(
+    alloc: Global,
+    source: S,
+    library: Text,
+    blank: Blank,
+) -> (Result<Loaded, Fault>, S)
+    requires library { IsTrue (is_code library) }
+    requires name { blank.name ≡ L.name }
+    requires parts { blank.parts ≡ L.parts }
+    requires shared { 0 < blank.parts }
+    ensures loaded { IfOk result.0 (λ loaded. (bytes : List ℕ) → S.left source ≡ Some bytes → IsLoaded library (items bytes) loaded) }
+    ensures full { IfErr result.0 (λ fault. fault ≡ Fault.Full → (bytes : List ℕ) → S.left source ≡ Some bytes → IsFullAt library (items bytes)) }
     ensures later { S.faults source ≤ S.faults result.1 }
     ensures cause { IfErr result.0 (λ fault. fault ≡ Fault.Input → Rose (S.faults source) (S.faults result.1)) }
     ensures usage { IfErr result.0 (λ fault. fault ≢ Fault.Usage) }
 {
-    match Pieces::new(alloc, source) {
-        Ok(mut pieces) => {
-            let loaded = load_pieces(alloc, &mut pieces, library);
-            (loaded, pieces.finish())
+    let mut steps = Steps::<L>::new(blank);
+    match FileEntries::new(alloc, source, library, LOADER) {
+        Ok(mut entries) => {
+            let loaded = load_entries(alloc, &mut entries, &mut steps);
+            (loaded, entries.finish())
         }
         Err((source, NoMemory)) => (Err(Fault::Memory), source),
     }
 }
 
-/// Loads the file of that name, which is closed again on every path.
+fn load_source<S: Source>(alloc: Global, source: S, library: Text) -> (Result<Loaded, Fault>, S)
+    requires library { IsTrue (is_code library) }
+    ensures loaded { IfOk result.0 (λ loaded. (bytes : List ℕ) → S.left source ≡ Some bytes → IsLoaded library (items bytes) loaded) }
+    ensures full { IfErr result.0 (λ fault. fault ≡ Fault.Full → (bytes : List ℕ) → S.left source ≡ Some bytes → IsFullAt library (items bytes)) }
+    ensures later { S.faults source ≤ S.faults result.1 }
+    ensures cause { IfErr result.0 (λ fault. fault ≡ Fault.Input → Rose (S.faults source) (S.faults result.1)) }
+    ensures usage { IfErr result.0 (λ fault. fault ≢ Fault.Usage) }
+{
+    load_counted::<S, Brand>(alloc, source, library, Blank::new(1))
+}
+
+/// Loads the file of that name into an empty catalogue. It is closed again on every path.
 pub fn load_file<R: Room>(
     alloc: Global,
     room: &mut R,
     name: &str,
-    library: &Text,
+    library: Text,
 ) -> Result<Loaded, Fault>
     requires free { (R.seen room.old).open_as name.now ≡ None }
-    requires library { IsTrue (is_code library.now) }
+    requires library { IsTrue (is_code library) }
     ensures stays { Stays (R.seen room.old) (R.seen room.new) }
     ensures there { OnOk result ((R.seen room.old).tells ≡ true → IsSome ((R.seen room.old).file name.now)) }
     ensures loaded { IfOk result (λ loaded. (bytes : List ℕ) → (R.seen room.old).tells ≡ true → (R.seen room.old).file name.now ≡ Some bytes →
-        IsLoaded library.now (items bytes) loaded.shelf.rows.entries loaded.accepted loaded.refused.items) }
+        IsLoaded library (items bytes) loaded) }
+    ensures full { IfErr result (λ fault. fault ≡ Fault.Full → (bytes : List ℕ) → (R.seen room.old).tells ≡ true →
+        (R.seen room.old).file name.now ≡ Some bytes → IsFullAt library (items bytes)) }
     ensures cause { IfErr result (λ fault. fault ≡ Fault.Input →
         Rose ((R.seen room.old).in_faults name.now) ((R.seen room.new).in_faults name.now)) }
     ensures usage { IfErr result (λ fault. fault ≢ Fault.Usage) }

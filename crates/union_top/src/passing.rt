@@ -2,16 +2,15 @@ ghost use Rattle.std.specs.Prelude.{◌≡◌, ◌≢◌, ◌≤◌, ◌⊎◌, 
 ghost use Rattle.marc_types.specs.Valid.{is_code};
 ghost use Rattle.outside.specs.Fault.{Rose};
 ghost use Rattle.outside.specs.Room.{Stays, Apart};
-ghost use Rattle.union_top.specs.Passing.{IsReady, IsEndOfPass};
-ghost use Rattle.union_top.specs.Loading.{IsLoaded};
 ghost use Rattle.marc_stream.specs.Pieces.{items};
+ghost use Rattle.union_top.specs.Loading.{IsLoaded, IsFullAt};
+ghost use Rattle.union_top.specs.Passing.{IsReady, IsEndOfPass};
 
 use crate::fault::Fault;
-use crate::loading::{Loaded, load_file};
+use crate::loaded::Loaded;
+use crate::loading::load_file;
 use crate::output::write_out;
 use crate::results::results_text;
-use crate::shelf::Shelf;
-use crate::totals::Totals;
 use marc_types::{NoMemory, Text};
 use outside::{Room, Sink};
 use std::alloc::Global;
@@ -23,39 +22,19 @@ const REFUSED: u8 = 1;
 
 const OUTPUT_FAULT: u8 = 4;
 
-/// What a file is loaded into, before anything is written: the accepted records, what the console is told, and whether
-/// something was refused.
+/// What a file comes to, before anything is written: the catalogue of its accepted entries with its refused items, and what
+/// the console is told.
 #[derive(Drop)]
 pub struct Ready {
-    pub shelf: Shelf,
+    pub loaded: Loaded,
     pub text: String,
-    pub any_refused: bool,
 }
 
 fn ready_of(alloc: Global, file: &str, loaded: Loaded) -> Result<Ready, NoMemory>
-    ensures { IfOk result (λ ready. (library bytes : List ℕ) →
-        IsLoaded library (items bytes) loaded.shelf.rows.entries loaded.accepted loaded.refused.items →
-        IsReady library file.now bytes ready) }
+    ensures { IfOk result (λ ready. (library bytes : List ℕ) → IsLoaded library (items bytes) loaded → IsReady library file.now bytes ready) }
 {
-    let Loaded {
-        shelf,
-        accepted,
-        refused,
-    } = loaded;
-    let totals = Totals {
-        accepted,
-        refused: refused.len() as u64,
-        linked: 0,
-        ambiguous: 0,
-        unlinked: 0,
-        changed: 0,
-    };
-    let text = results_text(alloc, file, refused.as_slice(), &totals)?;
-    Ok(Ready {
-        shelf,
-        text,
-        any_refused: !refused.is_empty(),
-    })
+    let text = results_text(alloc, file, loaded.refused(), &loaded.totals())?;
+    Ok(Ready { loaded, text })
 }
 
 /// Reads a file whole, and makes what is to be written and told of it.
@@ -66,6 +45,8 @@ pub fn prepare<R: Room>(alloc: Global, room: &mut R, code: &str, file: &str) -> 
     ensures there { OnOk result ((R.seen room.old).tells ≡ true → IsSome ((R.seen room.old).file file.now)) }
     ensures ready { IfOk result (λ ready. (bytes : List ℕ) → (R.seen room.old).tells ≡ true → (R.seen room.old).file file.now ≡ Some bytes →
         IsReady code.now file.now bytes ready) }
+    ensures full { IfErr result (λ fault. fault ≡ Fault.Full → (bytes : List ℕ) → (R.seen room.old).tells ≡ true →
+        (R.seen room.old).file file.now ≡ Some bytes → IsFullAt code.now (items bytes)) }
     ensures cause { IfErr result (λ fault. fault ≡ Fault.Input →
         Rose ((R.seen room.old).in_faults file.now) ((R.seen room.new).in_faults file.now)) }
     ensures usage { IfErr result (λ fault. fault ≢ Fault.Usage) }
@@ -74,7 +55,7 @@ pub fn prepare<R: Room>(alloc: Global, room: &mut R, code: &str, file: &str) -> 
         Ok(library) => library,
         Err(_) => return Err(Fault::Memory),
     };
-    let loaded = match load_file(alloc, room, file, &library) {
+    let loaded = match load_file(alloc, room, file, library) {
         Ok(loaded) => loaded,
         Err(fault) => return Err(fault),
     };
@@ -84,7 +65,7 @@ pub fn prepare<R: Room>(alloc: Global, room: &mut R, code: &str, file: &str) -> 
     }
 }
 
-/// Writes the records into the file `out`, and then tells the console; answers the exit status.
+/// Writes the export into the file `out`, and then tells the console; answers the exit status.
 pub fn deliver<R: Room>(room: &mut R, console: &mut R::Out, out: &str, ready: &Ready) -> u8
     requires free { (R.seen room.old).open_as out.now ≡ None }
     ensures apart { Apart (R.seen room.old) (R.seen room.new) out.now }
@@ -96,7 +77,7 @@ pub fn deliver<R: Room>(room: &mut R, console: &mut R::Out, out: &str, ready: &R
         IsEndOfPass library file bytes ((R.seen room.old).file out.now) ((R.seen room.new).file out.now)
         (R.Out.written console.old) (R.Out.written console.new) result }
 {
-    match write_out(room, out, &ready.shelf) {
+    match write_out(room, out, ready.loaded.core()) {
         Ok(()) => {}
         Err(_) => return OUTPUT_FAULT,
     }
@@ -104,5 +85,9 @@ pub fn deliver<R: Room>(room: &mut R, console: &mut R::Out, out: &str, ready: &R
         Ok(()) => {}
         Err(_) => return OUTPUT_FAULT,
     }
-    if ready.any_refused { REFUSED } else { PASSED }
+    if ready.loaded.refused().is_empty() {
+        PASSED
+    } else {
+        REFUSED
+    }
 }

@@ -2,8 +2,8 @@ ghost use Rattle.std.specs.Prelude.{◌≡◌, ◌++◌, IfOk, string_bytes};
 ghost use Rattle.union_top.specs.Lines.{refused_lines, totals_line};
 
 use crate::lines::{line_of_refused, line_of_totals};
-use crate::refused::RefusedItem;
 use crate::totals::Totals;
+use file_entries::RefusedItem;
 use marc_types::NoMemory;
 use std::alloc::Global;
 

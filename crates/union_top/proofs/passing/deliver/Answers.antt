@@ -1,22 +1,22 @@
-use Rattle.std.proofs.Common.{Bool, sym, ap, if◌then◌else◌}
 use Rattle.outside.proofs.Fronts.{front_none}
-use Rattle.union_top.proofs.Passes.{ended_whole, ended_in_part}
+use Rattle.std.proofs.Common.{◌∙◌, sym}
+use Rattle.union_top.proofs.Passes.{ended_whole, ended_in_part, status_of_none, status_of_some}
 use Rattle.union_top.proofs.passing.deliver.Goals as goal
 
 pub returns-in-Err-clause-end : goal.returns-in-Err-clause-end
 returns-in-Err-clause-end g c library file bytes tells is =
-    ended_in_part _ _ _ _ _ _ _ c.args.ready.now is (c.write_out.ensures.part tells) (front_none _ _)
+    ended_in_part _ _ _ _ _ _ _ c.args.ready.now _ is c.core.ensures (c.write_out.ensures.part tells) (front_none _ _)
 
 pub returns-in-Err-write_all-clause-end : goal.returns-in-Err-write_all-clause-end
 returns-in-Err-write_all-clause-end g c library file bytes tells is =
-    ended_in_part _ _ _ _ _ _ _ c.args.ready.now is (c.write_out.ensures.part tells) (rw (← c.as_bytes.ensures.value) c.write_all.ensures.front)
+    ended_in_part _ _ _ _ _ _ _ c.args.ready.now _ is c.core.ensures (c.write_out.ensures.part tells) (rw (← c.as_bytes.ensures.value) c.write_all.ensures.front)
 
-pub returns-then-ready-clause-end : goal.returns-then-ready-clause-end
-returns-then-ready-clause-end g c library file bytes tells is =
-    ended_whole _ _ _ _ _ _ _ c.args.ready.now _ is (c.in-Ok.ensures.bytes tells) (rw (← c.as_bytes.ensures.value) c.in-Ok-write_all.ensures.bytes)
-    (sym (ap (λ (b : Bool). if b then 1 else 0) c.if-ready.true))
+pub returns-then-is_empty-clause-end : goal.returns-then-is_empty-clause-end
+returns-then-is_empty-clause-end g c library file bytes tells is =
+    ended_whole _ _ _ _ _ _ _ c.args.ready.now _ _ is c.core.ensures (c.in-Ok.ensures.bytes tells) (rw (← c.as_bytes.ensures.value) c.in-Ok-write_all.ensures.bytes)
+    (status_of_none _ _ c.refused.ensures (sym c.is_empty.ensures ∙ c.if-is_empty.true))
 
-pub returns-else-ready-clause-end : goal.returns-else-ready-clause-end
-returns-else-ready-clause-end g c library file bytes tells is =
-    ended_whole _ _ _ _ _ _ _ c.args.ready.now _ is (c.in-Ok.ensures.bytes tells) (rw (← c.as_bytes.ensures.value) c.in-Ok-write_all.ensures.bytes)
-    (sym (ap (λ (b : Bool). if b then 1 else 0) c.if-ready.false))
+pub returns-else-is_empty-clause-end : goal.returns-else-is_empty-clause-end
+returns-else-is_empty-clause-end g c library file bytes tells is =
+    ended_whole _ _ _ _ _ _ _ c.args.ready.now _ _ is c.core.ensures (c.in-Ok.ensures.bytes tells) (rw (← c.as_bytes.ensures.value) c.in-Ok-write_all.ensures.bytes)
+    (status_of_some _ _ c.refused.ensures (sym c.is_empty.ensures ∙ c.if-is_empty.false))
