@@ -1,5 +1,5 @@
 -- Counting how fields stand, one record after another.
-use Rattle.std.proofs.Common.{◌≡◌, ℕ, ◌+◌, ◌*◌, ◌^◌, ◌<◌, ◌≤◌, Bool, List, [], ◌∷◌, suc, length, map, refl, sym, ap, ◌∙◌, arith}
+use Rattle.std.proofs.Common.{◌≡◌, ℕ, ◌+◌, ◌*◌, ◌^◌, ◌<◌, ◌≤◌, Bool, List, [], ◌∷◌, suc, length, refl, sym, ap, ◌∙◌, arith}
 use Rattle.std.specs.List.{sum_by, count_by}
 use Rattle.std.proofs.lemmas.List.Sums.{sum_by-cons}
 use Rattle.marc_types.specs.declared.key.Class.{Class}
@@ -13,7 +13,7 @@ use Rattle.catalogue_core.specs.Behind.{standings_rows}
 use Rattle.catalogue_core.specs.Counted.{is_linked_here, is_ambiguous_here, is_unlinked_here}
 use Rattle.catalogue_core.specs.declared.standing.Standing.{Standing}
 use Rattle.catalogue_core.proofs.Counting.{count_alike, linked_alike, ambiguous_alike, unlinked_alike}
-use Rattle.ambiguity_report.specs.Totals.{count_in, count_stood, AreTotals, HaveRoom}
+use Rattle.ambiguity_report.specs.Totals.{count_in, count_stood, AreTotals}
 use Rattle.ambiguity_report.specs.declared.totals.Totals.{Totals}
 
 -- of all rows, what was counted and what the rows still to come will add; each row adds less than 2^64

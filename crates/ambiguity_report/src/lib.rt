@@ -9,5 +9,7 @@ mod awaits;
 mod cross;
 mod report;
 mod shared;
+#[cfg(test)]
+mod tests;
 mod totals;
 mod words;

@@ -1,4 +1,4 @@
-use Rattle.std.proofs.Common.{◌∙◌, arith, sym}
+use Rattle.std.proofs.Common.{◌∙◌, arith}
 use Rattle.entry_record.specs.State.{linkable_authorities}
 use Rattle.iso2709_record.proofs.Progress.{writing_more, writing_failed}
 use Rattle.ambiguity_report.proofs.Fields.{ambiguous_next, stood_more}
