@@ -4,7 +4,6 @@
 
 pub use catalogue::{Catalogue, CoreFault};
 pub use engine::{Changes, Engine};
-pub use standing::{Standing, Standings};
 
 mod authority;
 mod behind;
@@ -15,3 +14,5 @@ mod engine;
 mod records;
 mod settling;
 mod standing;
+#[cfg(test)]
+mod tests;
