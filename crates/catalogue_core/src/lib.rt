@@ -5,7 +5,6 @@
 pub use authority::Authority;
 pub use catalogue::{Catalogue, CoreFault};
 pub use engine::{Changes, Engine};
-pub use standing::{Standing, Standings};
 
 mod authority;
 mod behind;
@@ -16,3 +15,5 @@ mod engine;
 mod records;
 mod settling;
 mod standing;
+#[cfg(test)]
+mod tests;
