@@ -5,6 +5,7 @@
 pub use authority::Authority;
 pub use catalogue::{Catalogue, CoreFault};
 pub use engine::{Changes, Engine};
+pub use standing::{Standing, Standings};
 
 mod authority;
 mod behind;
