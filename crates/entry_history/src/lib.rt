@@ -13,4 +13,5 @@ mod event;
 mod fault;
 mod numbers;
 mod part;
+mod payload;
 mod reply;
