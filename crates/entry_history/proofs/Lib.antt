@@ -1,4 +1,5 @@
 pub mod Batches
+pub mod Histories
 pub mod ReadEntries
 pub mod ReadNumbers
 pub mod ReadPayloads

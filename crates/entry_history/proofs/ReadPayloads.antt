@@ -170,12 +170,12 @@ head_here payload more library behind entries r l n count split small short fron
       ∙ sym split;
 }
 
-payload_split : (run loader : ℕ) (library : List ℕ) (entries : List Entry)
+pub payload_split : (run loader : ℕ) (library : List ℕ) (entries : List Entry)
     → payload_head run loader library (length entries) ++ flat_map entry_bytes entries ≡ payload_bytes run loader library entries
 unfolding payload_bytes
 payload_split run loader library entries = refl
 
-run_small : (run loader : ℕ) (library : List ℕ) (entries : List Entry) → All (IsOf run loader library) entries → All IsEntry entries → 1 ≤ length entries
+pub run_small : (run loader : ℕ) (library : List ℕ) (entries : List Entry) → All (IsOf run loader library) entries → All IsEntry entries → 1 ≤ length entries
     → (run < 2 ^ 64) × (loader < 2 ^ 32) × (is_code library ≡ true)
 run_small run loader library [] shared are some = absurd (omega arith)
 run_small run loader library (e ∷ es) shared are some =
