@@ -1,10 +1,12 @@
 -- What the parts of a payload are read as.
-use Rattle.std.specs.Prelude.{◌≡◌, ℕ, ◌^◌, ◌<◌, List, ◌++◌, length}
+use Rattle.std.specs.Prelude.{◌≡◌, ℕ, ◌^◌, ◌<◌, false, List, ◌++◌, length, drop, All}
 use Rattle.std.specs.Int.{w32, w64, to_be_bytes}
+use Rattle.std.specs.List.{flat_map}
+use Rattle.marc_types.specs.Valid.{is_code}
 use Rattle.marc_types.specs.declared.entry.Entry.{Entry}
 use Rattle.iso2709_record.specs.Written.{record_bytes}
-use Rattle.entry_record.specs.Payload.{entry_bytes}
-use Rattle.entry_history.specs.Payloads.{IsEntry, IsOf}
+use Rattle.entry_record.specs.Payload.{payload_head, entry_bytes}
+use Rattle.entry_history.specs.Payloads.{IsEntry, IsOf, HoldsNow}
 use Rattle.entry_history.specs.declared.fault.EntryFault.{EntryFault}
 use Rattle.entry_history.specs.declared.fault.EntryFault.TheVariants.{BadEntry, NoMemory}
 
@@ -35,3 +37,41 @@ IsNotWritten library ordinal written NoMemory = Unit {0}
 abbrev pub IsNoEntry : ℕ → ℕ → List ℕ → List ℕ → EntryFault → Type 0
 IsNoEntry run loader library bytes BadEntry = (e : Entry) (rest : List ℕ) → BeginWith run loader library bytes e rest → ⊥
 IsNoEntry run loader library bytes NoMemory = Unit {0}
+
+-- bytes are so many entries of this run, loader and library
+pub record AreEntries (run loader : ℕ) (library : List ℕ) (count : ℕ) (bytes : List ℕ) (entries : List Entry) : Type 0 where
+  pub written : flat_map entry_bytes entries ≡ bytes
+  pub count_is : length entries ≡ count
+  pub shared : All (IsOf run loader library) entries
+  pub entries_are : All IsEntry entries
+
+abbrev pub AreNoEntries : ℕ → ℕ → List ℕ → ℕ → List ℕ → EntryFault → Type 0
+AreNoEntries run loader library count bytes BadEntry = (entries : List Entry) → AreEntries run loader library count bytes entries → ⊥
+AreNoEntries run loader library count bytes NoMemory = Unit {0}
+
+-- what is read so far, and what is left: all entries that the bytes can be go on so
+pub record AreReadSoFar (run loader : ℕ) (library : List ℕ) (count : ℕ) (bytes : List ℕ) (done : ℕ) (entries : List Entry) (rest : List ℕ) : Type 0 where
+  pub written : flat_map entry_bytes entries ++ rest ≡ bytes
+  pub count_is : length entries ≡ done
+  pub shared : All (IsOf run loader library) entries
+  pub entries_are : All IsEntry entries
+  pub left : (all : List Entry) → AreEntries run loader library count bytes all → flat_map entry_bytes (drop done all) ≡ rest
+
+-- a payload begins with this head
+pub record HasHead (payload : List ℕ) (run loader : ℕ) (library : List ℕ) (count : ℕ) (entries : List ℕ) : Type 0 where
+  pub run_fits : run < 2 ^ 64
+  pub loader_fits : loader < 2 ^ 32
+  pub written : payload_head run loader library count ++ entries ≡ payload
+
+abbrev pub HasNoHead : List ℕ → Type 0
+HasNoHead payload = (run loader count : ℕ) (library entries : List ℕ) → HasHead payload run loader library count entries → ⊥
+
+-- the payload holds no entries behind these; want of memory says nothing
+abbrev pub HoldsNoneNow : List Entry → List ℕ → EntryFault → Type 0
+HoldsNoneNow before payload BadEntry = (entries : List Entry) → HoldsNow before entries payload → ⊥
+HoldsNoneNow before payload NoMemory = Unit {0}
+
+-- a text is no library code; want of memory says nothing
+abbrev pub IsNoCode : List ℕ → EntryFault → Type 0
+IsNoCode bytes BadEntry = is_code bytes ≡ false
+IsNoCode bytes NoMemory = Unit {0}
