@@ -6,3 +6,5 @@ pub use refused::{Refused, RefusedItem};
 
 mod entries;
 mod refused;
+#[cfg(test)]
+mod tests;
