@@ -10,12 +10,12 @@ abbrev pub receipt_behind : List Entry → Entry → Receipt
 receipt_behind history e = receipt (map arrival_of history) (arrival_of e)
 
 -- the receipts of entries that are committed one after the other behind a history
-pub receipts_behind : List Entry → List Entry → List Receipt
+unfoldable pub receipts_behind : List Entry → List Entry → List Receipt
 receipts_behind history [] = []
 receipts_behind history (e ∷ entries) = receipt_behind history e ∷ receipts_behind (history ++ e ∷ []) entries
 
 -- those of one loader's entries among them, each at its own place
-pub receipts_of_loader : ℕ → List Entry → List Entry → List Receipt
+unfoldable pub receipts_of_loader : ℕ → List Entry → List Entry → List Receipt
 receipts_of_loader loader history [] = []
 receipts_of_loader loader history (e ∷ entries) =
     let later = receipts_of_loader loader (history ++ e ∷ []) entries in

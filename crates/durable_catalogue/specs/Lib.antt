@@ -1,0 +1,4 @@
+pub mod Durables
+pub mod Images
+pub mod Logs
+pub mod Staged
