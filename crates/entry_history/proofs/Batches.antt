@@ -1,5 +1,5 @@
 -- The payload of a batch, piece by piece, and how it changes with the batch.
-use Rattle.std.proofs.Common.{◌≡◌, ◌∙◌, ℕ, zero, suc, ◌+◌, ◌-◌, ◌*◌, ◌<◌, ◌≤◌, ◌≢◌, List, [], ◌∷◌, ◌++◌, length, take, drop, get_or, set, refl, sym, ap, arith, append_assoc, length-append, length-take}
+use Rattle.std.proofs.Common.{◌≡◌, ◌∙◌, ℕ, zero, suc, ◌+◌, ◌-◌, ◌*◌, ◌<◌, ◌≤◌, ◌≢◌, List, [], ◌∷◌, ◌++◌, length, take, drop, get_or, set, slice_get, Some, refl, sym, ap, subst, arith, append_assoc, length-append, length-take}
 use Rattle.std.specs.Int.{w32, w64, to_be_bytes}
 use Rattle.std.specs.List.{All, AllPairs, flat_map}
 use Rattle.std.proofs.Math.Seq.{drop-append-add, take-append-add, take-append_seam, set-append_seam}
@@ -15,6 +15,7 @@ use Rattle.entry_record.proofs.Written.{fitting_length}
 use Rattle.entry_record.proofs.Runs.{payload_in_run, same_entries}
 use Rattle.entry_record.specs.History.{IsAdmitted, in_run, with_run}
 use Rattle.entry_record.specs.Payload.{payload_head, entry_bytes, payload_bytes, payload_of}
+use Rattle.entry_history.specs.Payloads.{IsEntry, IsOf, CanFollow, HoldsNow}
 use Rattle.entry_history.specs.Batches.{IsLike, IsBatch, batch_payload, part_behind, IsLaidOut}
 
 -- what stands before the count of entries
@@ -250,3 +251,26 @@ cut_within (e ∷ es) payload d place len laid some at =
 -- what a slice of a whole vector leaves of it
 pub written_all : {X : Type 0} (n : ℕ) (new old : List X) → n ≡ length old → length new ≡ length old → take n (new ++ drop (length new) old) ≡ new
 written_all n new old is same = grind (arith, common_steps)
+
+-- the payload of a batch whose entries can stand in one
+alike_first : (e : Entry) (es : List Entry) → AllPairs IsLike (e ∷ es) → All (IsOf e.run e.loader e.library) (e ∷ es)
+alike_first e es like zero d within = record { run_is = refl; loader_is = refl; library_is = refl }
+alike_first e es like (suc k) d within =
+    let h : IsLike e (get_or es k d) = like 0 (suc k) d (omega arith) within in
+    record { run_is = sym h.run; loader_is = sym h.loader; library_is = sym h.library }
+
+pub held_by_payload : (entries before : List Entry) (e : Entry) → IsBatch entries → All IsEntry entries → slice_get entries 0 ≡ Some e → CanFollow before e.run
+    → HoldsNow before entries (batch_payload entries)
+held_by_payload [] before e batch are first follows = cc
+held_by_payload (x ∷ xs) before e batch are first follows =
+    let same : x ≡ e = cc in
+    record {
+      run = x.run;
+      loader = x.loader;
+      library = x.library;
+      written = refl;
+      follows = subst (λ (f : Entry). CanFollow before f.run) (sym same) follows;
+      count = record { some = omega arith; few = batch.few };
+      shared = alike_first x xs batch.alike;
+      entries_are = are;
+    }

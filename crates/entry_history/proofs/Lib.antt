@@ -1,1 +1,6 @@
 pub mod Batches
+pub mod Histories
+pub mod ReadEntries
+pub mod ReadNumbers
+pub mod ReadPayloads
+pub mod Spelled

@@ -2,3 +2,5 @@ pub mod Batches
 pub mod Commits
 pub mod Events
 pub mod Payloads
+pub mod Readers
+pub mod Reading

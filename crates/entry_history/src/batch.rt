@@ -1,22 +1,20 @@
 //! Batches: entries that are committed together.
-ghost use Rattle.std.specs.Prelude.{◌≡◌, ◌≢◌, ◌↔◌, ◌<◌, ◌≤◌, ◌+◌, [], ◌∷◌, ◌++◌, length, take, drop, slice_get, sum, map, All, IsTrue, IfOk, IfErr, OnOk, OnErr};
+ghost use Rattle.std.specs.Prelude.{◌≡◌, ◌≢◌, ◌↔◌, ◌<◌, ◌≤◌, ◌^◌, ◌+◌, [], ◌∷◌, ◌++◌, List, Some, length, take, drop, slice_get, sum, map, All, IsTrue, IfOk, IfErr, OnOk, OnErr};
 ghost use Rattle.std.specs.Option.{option_copied};
 ghost use Rattle.std.specs.List.{flat_map};
 ghost use Rattle.entry_record.specs.History.{IsAdmitted, with_run};
 ghost use Rattle.entry_record.specs.Payload.{entry_bytes};
+ghost use Rattle.marc_types.specs.declared.entry.Entry.{Entry};
+ghost use Rattle.entry_history.specs.Payloads.{IsEntry, CanFollow, HoldsNow};
 ghost use Rattle.entry_history.specs.Batches.{IsLike, IsBatch, batch_payload, part_behind};
 
+use crate::part::{count_place, entry_part};
 use entry_record::{Prepared, write_run};
 use marc_types::{NoMemory, TryCopy};
-use outside::Bytes;
+use outside::{Bytes, LARGEST_BATCH};
+use reading::laws::a_written_record_reads_as_itself;
 use std::alloc::Global;
 use std::marker::Model;
-
-/// The most entries of a batch.
-pub const LARGEST_BATCH: u32 = 32;
-
-/// How many bytes a payload has before its library code, whose length is the last of them.
-const CODE_PLACE: usize = 13;
 
 /// Entries that are committed together: up to 32, of one run, one loader and one library, with their payload laid out. Contracts
 /// see a batch as the list of its entries.
@@ -32,28 +30,13 @@ impl Model for Batch {
 
     ghost Value = { List Entry };
 
+    ghost use Rattle.marc_types.specs.declared.entry.Entry.{Entry};
+    ghost use Rattle.entry_history.specs.Payloads.{IsEntry, CanFollow, HoldsNow};
     ghost use Rattle.entry_history.specs.Batches.{IsLaidOut};
 
     ghost view = { λ b. b.items.items };
 
     ghost invariant = { λ b. IsLaidOut b.items.items b.payload.items };
-}
-
-/// Where the count of entries stands in an item's payload.
-fn count_place(item: &Prepared) -> usize
-    ensures value { result ≡ 13 + length item.now.library }
-    ensures small { result ≤ 29 }
-    ensures admitted { IsAdmitted item.now }
-{
-    CODE_PLACE + item.entry().library.len()
-}
-
-/// An entry as it stands in a payload.
-fn entry_part(item: &Prepared) -> &[u8]
-    ensures value { result.now ≡ entry_bytes item.now }
-    ensures small { length result.now ≤ 100011 }
-{
-    &item.payload()[count_place(item) + 1..]
 }
 
 /// What a payload gains by an item: all of the item's own payload where it is the first, and else the entry.
@@ -86,6 +69,31 @@ fn set_runs(items: &mut [Prepared], run: u64)
 {
     for item in items.iter_mut() {
         item.set_run(run);
+    }
+}
+
+fn numbers_fit(run: u64, ordinal: u64, loader: u32)
+    ensures run { run < 2 ^ 64 }
+    ensures ordinal { ordinal < 2 ^ 64 }
+    ensures loader { loader < 2 ^ 32 }
+{
+    let _numbers = (run, ordinal, loader);
+}
+
+/// What the types of an entry's record and of its numbers say of it.
+fn is_entry(item: &Prepared)
+    ensures { IsEntry item.now }
+{
+    let entry = item.entry();
+    numbers_fit(entry.run, entry.ordinal, entry.loader);
+    a_written_record_reads_as_itself(&entry.rec);
+}
+
+fn all_entries(items: &[Prepared])
+    ensures { All IsEntry items.now }
+{
+    for item in items {
+        is_entry(item);
     }
 }
 
@@ -168,6 +176,16 @@ impl Batch {
         ensures most { length result.now ≤ 3200382 }
     {
         self.payload.as_slice()
+    }
+
+    /// Behind each history that their run can follow, the payload of the entries is valid, and holds them. This is a law for
+    /// proofs; the call only looks at the entries' records.
+    #[tactic(auto, using(crate::proofs::Batches::held_by_payload))]
+    pub fn is_held_by_its_payload(&self)
+        ensures { (before : List Entry) (e : Entry) → slice_get self.now 0 ≡ Some e → CanFollow before e.run
+            → HoldsNow before self.now (batch_payload self.now) }
+    {
+        all_entries(self.items.as_slice());
     }
 
     /// Keeps the first `n` entries and their payload; takes no memory.

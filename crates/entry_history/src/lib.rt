@@ -4,8 +4,19 @@
 
 pub use batch::Batch;
 pub use event::Event;
+pub use fault::EntryFault;
+pub use reader::HistoryReader;
 pub use reply::{BatchReply, Receipts};
 
 mod batch;
+mod entry;
 mod event;
+mod fault;
+pub mod laws;
+mod numbers;
+mod part;
+mod payload;
+mod reader;
 mod reply;
+#[cfg(test)]
+mod tests;

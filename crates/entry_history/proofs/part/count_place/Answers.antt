@@ -1,7 +1,7 @@
 use Rattle.std.proofs.Common.{◌≡◌, length, ap, arith}
 use Rattle.marc_types.specs.declared.entry.Entry.{Entry}
 use Rattle.entry_record.proofs.Admitted.{admitted_library}
-use Rattle.entry_history.proofs.batch.count_place.Goals as goal
+use Rattle.entry_history.proofs.part.count_place.Goals as goal
 
 pub overflow_add-result : goal.overflow_add-result
 overflow_add-result c =

@@ -1,6 +1,6 @@
 use Rattle.std.proofs.Common.{◌∙◌, ◌+◌, length, ap, drop, arith}
 use Rattle.entry_history.proofs.Batches.{entry_alone, length-alone, rest_of, entry_bounded}
-use Rattle.entry_history.proofs.batch.entry_part.Goals as goal
+use Rattle.entry_history.proofs.part.entry_part.Goals as goal
 
 pub slice_bounds-result-count : goal.slice_bounds-result-count
 slice_bounds-result-count c = omega (arith, c.count_place.ensures.value, ap length c.payload.ensures, length-alone c.args.item.now)

@@ -1,0 +1,25 @@
+-- What a reader of payloads has taken.
+use Rattle.std.specs.Prelude.{◌≡◌, ℕ, List, [], ◌++◌}
+use Rattle.marc_types.specs.declared.entry.Entry.{Entry}
+use Rattle.entry_history.specs.Payloads.{Holds}
+use Rattle.entry_history.specs.declared.fault.EntryFault.{EntryFault}
+use Rattle.entry_history.specs.declared.fault.EntryFault.TheVariants.{BadEntry, NoMemory}
+
+-- the version of the payloads, and the entries of those that were taken
+pub record Taken : Type 0 where
+  pub version : ℕ
+  pub entries : List Entry
+
+abbrev pub with_entries : Taken → List Entry → Taken
+with_entries taken entries = record { version = taken.version; entries = taken.entries ++ entries }
+
+-- a valid payload is taken: its entries come behind those that were taken
+pub record Takes (old : Taken) (payload : List ℕ) (new : Taken) : Type 0 where
+  pub entries : List Entry
+  pub holds : Holds old.version old.entries entries payload
+  pub new_is : new ≡ with_entries old entries
+
+-- the payload isn't valid behind those entries; want of memory says nothing
+abbrev pub HoldsNone : ℕ → List Entry → List ℕ → EntryFault → Type 0
+HoldsNone version before payload BadEntry = (entries : List Entry) → Holds version before entries payload → ⊥
+HoldsNone version before payload NoMemory = Unit {0}

@@ -1,0 +1,77 @@
+-- What the parts of a payload are read as.
+use Rattle.std.specs.Prelude.{◌≡◌, ℕ, ◌^◌, ◌<◌, false, List, ◌++◌, length, drop, All}
+use Rattle.std.specs.Int.{w32, w64, to_be_bytes}
+use Rattle.std.specs.List.{flat_map}
+use Rattle.marc_types.specs.Valid.{is_code}
+use Rattle.marc_types.specs.declared.entry.Entry.{Entry}
+use Rattle.iso2709_record.specs.Written.{record_bytes}
+use Rattle.entry_record.specs.Payload.{payload_head, entry_bytes}
+use Rattle.entry_history.specs.Payloads.{IsEntry, IsOf, HoldsNow}
+use Rattle.entry_history.specs.declared.fault.EntryFault.{EntryFault}
+use Rattle.entry_history.specs.declared.fault.EntryFault.TheVariants.{BadEntry, NoMemory}
+
+-- bytes are an ordinal, a length, so many bytes and others
+pub record IsEntryHead (bytes written : List ℕ) (ordinal : ℕ) : Type 0 where
+  pub behind : List ℕ
+  pub ordinal_fits : ordinal < 2 ^ 64
+  pub length_fits : length written < 2 ^ 32
+  pub split : bytes ≡ to_be_bytes w64 ordinal ++ (to_be_bytes w32 (length written) ++ (written ++ behind))
+
+-- bytes begin with no entry
+abbrev pub BeginWithNone : List ℕ → Type 0
+BeginWithNone bytes = (e : Entry) (rest : List ℕ) → IsEntry e → entry_bytes e ++ rest ≡ bytes → ⊥
+
+-- bytes begin with this entry, one of this run, loader and library
+pub record BeginWith (run loader : ℕ) (library bytes : List ℕ) (e : Entry) (rest : List ℕ) : Type 0 where
+  pub written : entry_bytes e ++ rest ≡ bytes
+  pub shared : IsOf run loader library e
+  pub entry_is : IsEntry e
+
+-- no entry of this library and ordinal is written so; want of memory says nothing
+abbrev pub IsNotWritten : List ℕ → ℕ → List ℕ → EntryFault → Type 0
+IsNotWritten library ordinal written BadEntry =
+    (e : Entry) → IsEntry e → e.library ≡ library → e.ordinal ≡ ordinal → record_bytes e.rec.leader e.rec.fields ≡ written → ⊥
+IsNotWritten library ordinal written NoMemory = Unit {0}
+
+-- bytes begin with no entry of this run, loader and library
+abbrev pub IsNoEntry : ℕ → ℕ → List ℕ → List ℕ → EntryFault → Type 0
+IsNoEntry run loader library bytes BadEntry = (e : Entry) (rest : List ℕ) → BeginWith run loader library bytes e rest → ⊥
+IsNoEntry run loader library bytes NoMemory = Unit {0}
+
+-- bytes are so many entries of this run, loader and library
+pub record AreEntries (run loader : ℕ) (library : List ℕ) (count : ℕ) (bytes : List ℕ) (entries : List Entry) : Type 0 where
+  pub written : flat_map entry_bytes entries ≡ bytes
+  pub count_is : length entries ≡ count
+  pub shared : All (IsOf run loader library) entries
+  pub entries_are : All IsEntry entries
+
+abbrev pub AreNoEntries : ℕ → ℕ → List ℕ → ℕ → List ℕ → EntryFault → Type 0
+AreNoEntries run loader library count bytes BadEntry = (entries : List Entry) → AreEntries run loader library count bytes entries → ⊥
+AreNoEntries run loader library count bytes NoMemory = Unit {0}
+
+-- what is read so far, and what is left: all entries that the bytes can be go on so
+pub record AreReadSoFar (run loader : ℕ) (library : List ℕ) (count : ℕ) (bytes : List ℕ) (done : ℕ) (entries : List Entry) (rest : List ℕ) : Type 0 where
+  pub written : flat_map entry_bytes entries ++ rest ≡ bytes
+  pub count_is : length entries ≡ done
+  pub shared : All (IsOf run loader library) entries
+  pub entries_are : All IsEntry entries
+  pub left : (all : List Entry) → AreEntries run loader library count bytes all → flat_map entry_bytes (drop done all) ≡ rest
+
+-- a payload begins with this head
+pub record HasHead (payload : List ℕ) (run loader : ℕ) (library : List ℕ) (count : ℕ) (entries : List ℕ) : Type 0 where
+  pub run_fits : run < 2 ^ 64
+  pub loader_fits : loader < 2 ^ 32
+  pub written : payload_head run loader library count ++ entries ≡ payload
+
+abbrev pub HasNoHead : List ℕ → Type 0
+HasNoHead payload = (run loader count : ℕ) (library entries : List ℕ) → HasHead payload run loader library count entries → ⊥
+
+-- the payload holds no entries behind these; want of memory says nothing
+abbrev pub HoldsNoneNow : List Entry → List ℕ → EntryFault → Type 0
+HoldsNoneNow before payload BadEntry = (entries : List Entry) → HoldsNow before entries payload → ⊥
+HoldsNoneNow before payload NoMemory = Unit {0}
+
+-- a text is no library code; want of memory says nothing
+abbrev pub IsNoCode : List ℕ → EntryFault → Type 0
+IsNoCode bytes BadEntry = is_code bytes ≡ false
+IsNoCode bytes NoMemory = Unit {0}

@@ -1,0 +1,83 @@
+//! The reading of a journal's payloads, one behind the other.
+ghost use Rattle.std.specs.Prelude.{◌≡◌, [], IfOk, OnOk, IfErr, OnErr};
+ghost use Rattle.entry_history.specs.Payloads.{Holds};
+ghost use Rattle.entry_history.specs.Readers.{Takes, HoldsNone};
+
+use crate::EntryFault;
+use crate::payload::read_payload;
+use entry_record::Prepared;
+use std::alloc::Global;
+use std::marker::Model;
+
+/// Takes the payloads of a journal of one version in their order, and keeps their entries. Contracts see the version and the
+/// entries.
+#[derive(Debug, Drop)]
+pub struct HistoryReader {
+    items: Vec<Prepared>,
+    version: u8,
+}
+
+impl Model for HistoryReader {
+    ghost use Rattle.std.specs.Prelude.{◌≡◌};
+    ghost use Rattle.entry_history.specs.Readers.{Taken};
+
+    ghost Value = { Taken };
+
+    ghost view = { λ r. record { version = r.version; entries = r.items.items } };
+
+    ghost invariant = { λ r. r.version ≡ 2 };
+}
+
+/// The entries of a payload that follows these.
+#[tactic(auto, using(crate::proofs::Histories::newer, crate::proofs::Histories::none_newer))]
+fn read(
+    alloc: Global,
+    version: u8,
+    before: &[Prepared],
+    payload: &[u8],
+) -> Result<Vec<Prepared>, EntryFault>
+    requires { version ≡ 2 }
+    ensures holds { IfOk result (λ items. Holds version before.now items.items payload.now) }
+    ensures bad { IfErr result (HoldsNone version before.now payload.now) }
+{
+    read_payload(alloc, before, payload)
+}
+
+impl HistoryReader {
+    /// No payload is taken yet. The version is that of the journal.
+    pub fn new(alloc: Global, version: u8) -> HistoryReader
+        requires { version ≡ 2 }
+        ensures { result ≡ record { version = version; entries = [] } }
+    {
+        HistoryReader {
+            items: Vec::new(alloc),
+            version,
+        }
+    }
+
+    /// Takes a journal's next payload. `BadEntry` comes exactly where it isn't valid behind those that were taken. After a
+    /// fault nothing is changed.
+    pub fn take(&mut self, alloc: Global, payload: &[u8]) -> Result<(), EntryFault>
+        ensures taken { OnOk result (Takes self.old payload.now self.new) }
+        ensures bad { IfErr result (HoldsNone self.old.version self.old.entries payload.now) }
+        ensures unchanged { OnErr result (self.new ≡ self.old) }
+    {
+        let mut read = read(alloc, self.version, self.items.as_slice(), payload)?;
+        self.items.append(&mut read)?;
+        Ok(())
+    }
+
+    /// The entries of all payloads that were taken.
+    pub fn items(&self) -> &[Prepared]
+        ensures { result.now ≡ self.now.entries }
+    {
+        self.items.as_slice()
+    }
+
+    /// The entries of all payloads that were taken; takes no memory.
+    pub fn into_items(self) -> Vec<Prepared>
+        ensures { result.items ≡ self.entries }
+    {
+        self.items
+    }
+}
