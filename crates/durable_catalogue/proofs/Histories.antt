@@ -1,7 +1,7 @@
 -- Histories of payloads, one payload after the other, and the runs of their entries.
-use Rattle.std.proofs.Common.{◌≡◌, ℕ, zero, suc, ◌≤◌, List, [], ◌∷◌, ◌++◌, length, Option, Some, None, get_or, refl, sym, ap, subst, ◌∙◌, arith, length-append}
-use Rattle.std.proofs.lemmas.List.{append-nil}
-use Rattle.std.proofs.lemmas.List.Elements.{All-head, All-tail}
+use Rattle.std.proofs.Common.{◌≡◌, ℕ, zero, suc, ◌+◌, ◌≤◌, List, [], ◌∷◌, ◌++◌, length, take, Option, Some, None, get_or, refl, sym, ap, subst, ◌∙◌, arith, length-append}
+use Rattle.std.proofs.lemmas.List.{append-nil, take_all, take_more}
+use Rattle.std.proofs.lemmas.List.Elements.{All-nil, All-cons, All-head, All-tail}
 use Rattle.std.specs.List.{All, AllPairs, last_or}
 use Rattle.std.specs.Option.{option_map_or}
 use Rattle.marc_types.specs.declared.entry.Entry.{Entry}
@@ -76,3 +76,12 @@ batch_held before (e ∷ es) run follows some batch each all =
       shared = like_first e es batch.alike;
       entries_are = each;
     }
+
+-- the run of the last entry
+pub last_entry : (entries : List Entry) (i : ℕ) (e : Entry) → i + 1 ≡ length entries → e ≡ get_or entries i e → last_run entries ≡ e.run
+last_entry entries i e end is =
+    let split : entries ≡ take i entries ++ e ∷ [] = sym (take_all (i + 1) entries (omega (arith, end))) ∙ take_more entries i e (omega (arith, end)) ∙ ap (λ x. take i entries ++ x ∷ []) (sym is) in
+    ap last_run split ∙ run_behind e.run (take i entries) (e ∷ []) (omega arith) (All-cons (λ x. x.run ≡ e.run) e [] refl (All-nil (λ x. x.run ≡ e.run)))
+
+pub bounded_behind_none : (version : ℕ) (payloads : List (List ℕ)) (all : List Entry) → version ≡ 2 → IsHistory version [] payloads all → last_run all ≤ length all
+bounded_behind_none version payloads all newest holds = runs_bounded version newest holds (omega arith)

@@ -3,6 +3,8 @@ pub mod Frames
 pub mod Histories
 pub mod Images
 pub mod Keeping
+pub mod Loads
+pub mod Opened
 pub mod Readings
 pub mod Replies
 pub mod Stages

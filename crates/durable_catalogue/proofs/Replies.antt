@@ -1,6 +1,7 @@
 -- Histories of events, and what a commit answers and adds.
-use Rattle.std.proofs.Common.{◌≡◌, ◌≢◌, true, false, List, [], ◌∷◌, ◌++◌, Option, Some, None, refl, sym, ap, subst, ◌∙◌}
+use Rattle.std.proofs.Common.{◌≡◌, ◌≢◌, true, false, List, [], ◌∷◌, ◌++◌, Option, Some, None, is_some, refl, sym, ap, subst, ◌∙◌}
 use Rattle.std.proofs.lemmas.List.{append-nil, map-append}
+use Rattle.std.specs.declared.snapshot.Snapshot.{Snapshot}
 use Rattle.marc_types.specs.declared.entry.Entry.{Entry}
 use Rattle.marc_types.specs.declared.entry.Receipt.{Receipt}
 use Rattle.marc_types.specs.declared.entry.CommitFault.{CommitFault}
@@ -13,7 +14,7 @@ use Rattle.entry_history.specs.declared.event.Event.{Event}
 use Rattle.entry_history.specs.declared.event.Event.TheVariants.{Broke, Committed}
 use Rattle.entry_history.specs.declared.reply.BatchReply.{BatchReply}
 use Rattle.catalogue_core.specs.Catalogues.{Catalogued, all_entries}
-use Rattle.durable_catalogue.specs.Durables.{events, IsLostBy}
+use Rattle.durable_catalogue.specs.Durables.{mark_of, events, IsLostBy}
 use Rattle.durable_catalogue.proofs.Stages.{none_behind}
 
 pub entries_back : (entries : List Entry) → entries_of (events entries None) ≡ entries
@@ -139,3 +140,15 @@ pub lost_reply : (o : Origin) (entries after batch frame : List Entry) (mark mar
 lost_reply o entries after batch frame mark mark_now fault reply none same is lost receipts end =
     subst (λ es. ReplyAdds o (events entries mark) (events es mark_now) batch reply) (sym same)
     (adds o entries (events entries mark_now) mark batch reply [] (Some fault) none receipts end (lost_answer o entries batch frame fault mark_now is lost))
+
+-- a device failed before
+pub broken_reply : (o : Origin) (entries batch : List Entry) (mark : Option (Snapshot (List Entry))) (reply : BatchReply) → is_some mark ≡ true → reply.receipts ≡ [] → reply.end ≡ Some Broken
+    → ReplyAdds o (events entries (mark_of mark)) (events entries (mark_of mark)) batch reply
+broken_reply o entries batch None reply is receipts end = cc
+broken_reply o entries batch (Some frame) reply is receipts end =
+    let a = broken_answer o entries frame.value batch in (
+      a.added,
+      a.after_is,
+      subst (λ (r : List Receipt). IsEnd o (events entries (Some frame.value)) batch r a.added reply.end) (sym receipts)
+          (subst (λ (e : Option CommitFault). IsEnd o (events entries (Some frame.value)) batch [] a.added e) (sym end) a.is),
+    )

@@ -1,23 +1,28 @@
 //! A catalogue over a journal.
-ghost use Rattle.std.specs.Prelude.{◌≡◌, ◌≢◌, ℕ, ◌++◌, List, [], true, false, Some, is_some, length, All, IfOk, IfErr, OnOk, OnErr};
+ghost use Rattle.std.specs.Prelude.{◌≡◌, ◌≢◌, ℕ, ◌++◌, List, [], true, false, Some, is_some, length, All, IfOk, IfErr, OnOk, OnErr, MatchResult, None, ◌≤◌};
 ghost use Rattle.marc_types.specs.declared.entry.Entry.{Entry};
 ghost use Rattle.marc_types.specs.declared.entry.CommitFault.TheVariants.{DeviceFault};
 ghost use Rattle.outside.specs.Disk.{LeavesOnly};
 ghost use Rattle.outside.specs.Fault.{Rose};
-ghost use Rattle.entry_record.specs.History.{with_run};
+ghost use Rattle.commit_journal.specs.Log.{version_of};
+ghost use Rattle.entry_record.specs.History.{with_run, next_run};
 ghost use Rattle.entry_record.specs.Receipts.{receipts_behind};
 ghost use Rattle.entry_history.specs.Commits.{fitting, frame_of, IsCommit};
 ghost use Rattle.entry_history.specs.Payloads.{CanFollow};
 ghost use Rattle.entry_history.specs.declared.event.Event.{Event};
 ghost use Rattle.durable_catalogue.specs.Logs.{HasHistory};
+ghost use Rattle.durable_catalogue.specs.declared.fault.OpenFault.{OpenFault};
+ghost use Rattle.durable_catalogue.specs.Openings.{IsWithin, IsUnopened, IsOpening, open_fault};
 ghost use Rattle.durable_catalogue.specs.Images.{HasFrameOrNot};
 ghost use Rattle.durable_catalogue.specs.Durables.{mark_of, marked, events, is_taken, opening, IsKept, IsLostBy, IsSameOpening};
 
+use crate::OpenFault;
 use crate::fitting::fitting_part;
+use crate::loading::{Loaded, load};
 use crate::staging::stage_all;
 use crate::written::each_can_stand_in_a_payload;
 use catalogue_core::Catalogue;
-use commit_journal::Journal;
+use commit_journal::{Journal, JournalFault};
 use entry_history::{Batch, BatchReply, Receipts};
 use marc_types::{CommitFault, Limits};
 use outside::Disk;
@@ -40,13 +45,13 @@ pub struct Durable<D: Disk> {
     mark: Option<Snapshot<Batch>>,
     // The disk as it was handed over, and as the journal's opening left it.
     before: Snapshot<D>,
-    first: Snapshot<D>,
+    first: Snapshot<Journal<D>>,
     ghost unstaged: { core.staged ≡ [] },
     ghost limited: { core.limits ≡ limits },
     ghost newest: { journal.version ≡ 2 },
     ghost broken: { journal.broken ≡ is_some mark },
     ghost follows: { CanFollow core.history run },
-    ghost kept: { IsKept opened core.history (marked (mark_of mark)) (D.seen before.value) (D.seen first.value) (D.seen journal.disk) },
+    ghost kept: { IsKept opened core.history (marked (mark_of mark)) (D.seen before.value) (D.seen first.value.disk) (D.seen journal.disk) },
     ghost rose: { is_some mark ≡ true → Rose (D.seen before.value).faults (D.seen journal.disk).faults },
 }
 
@@ -61,7 +66,71 @@ fn nothing(alloc: Global, end: CommitFault) -> BatchReply
     }
 }
 
+/// The journal's faults in the catalogue's words.
+fn open_fault(fault: JournalFault) -> OpenFault
+    ensures { result ≡ open_fault fault }
+{
+    match fault {
+        JournalFault::DeviceFault => OpenFault::DeviceFault,
+        JournalFault::NotAJournal(place) => OpenFault::NotAJournal(place),
+        JournalFault::NoMemory => OpenFault::NoMemory,
+    }
+}
+
 impl<D: Disk> Durable<D> {
+    /// Opens a log that a crash may have left: its history is the catalogue's. A fault hands the disk back. A crash during an
+    /// opening that has synced leaves the same history.
+    pub fn open(alloc: Global, disk: D, limits: Limits) -> Result<Self, (D, OpenFault)>
+        // The catalogue has the log's history, within the limits, with no mark and nothing staged.
+        ensures history { IfOk result (λ d. (log : List ℕ) → (D.seen disk).content ≡ Some log → HasHistory d.core.history log) }
+        ensures version { IfOk result (λ d. (log : List ℕ) → (D.seen disk).content ≡ Some log → version_of log ≡ 2) }
+        ensures within { IfOk result (λ d. IsWithin limits d.core.history) }
+        ensures unmarked { IfOk result (λ d. mark_of d.mark ≡ None) }
+
+        // What the origin has: the limits, the run that comes next, the number of entries, and the disk as it was.
+        ensures limits { IfOk result (λ d. d.limits ≡ limits) }
+        ensures run { IfOk result (λ d. d.run ≡ next_run d.core.history) }
+        ensures opened { IfOk result (λ d. d.opened ≡ length d.core.history) }
+        ensures before { IfOk result (λ d. d.before.value ≡ disk) }
+        ensures first { IfOk result (λ d. d.first.value ≡ d.journal) }
+
+        // Each image since the first sync has the log's history; where that sync didn't succeed, the content is as it was.
+        ensures crash { MatchResult result (λ d. IsOpening (D.seen disk) (D.seen d.journal.disk)) (λ e. IsOpening (D.seen disk) (D.seen e.0)) }
+        ensures later { MatchResult result (λ d. (D.seen disk).faults ≤ (D.seen d.journal.disk).faults) (λ e. (D.seen disk).faults ≤ (D.seen e.0).faults) }
+
+        // Each fault comes only where the log is so; a device fault only where the count of faults rose.
+        ensures fault { IfErr result (λ e. (log : List ℕ) → (D.seen disk).content ≡ Some log → IsUnopened limits log e.1) }
+        ensures failed { IfErr result (λ e. e.1 ≡ OpenFault.DeviceFault → Rose (D.seen disk).faults (D.seen e.0).faults) }
+    {
+        let before = Snapshot::of(&disk);
+        match Journal::open(alloc, disk) {
+            Ok((journal, frames)) => {
+                let first = Snapshot::of(&journal);
+                match load(alloc, journal.version(), frames.as_slice(), limits) {
+                    Ok(loaded) => {
+                        let Loaded { core, run } = loaded;
+                        let opened = core.history_len();
+                        Ok(Durable {
+                            core,
+                            journal,
+                            limits,
+                            run,
+                            opened,
+                            mark: None,
+                            before,
+                            first,
+                        })
+                    }
+                    Err(fault) => Err((journal.close(), fault)),
+                }
+            }
+            Err(failed) => {
+                let (disk, fault) = failed;
+                Err((disk, open_fault(fault)))
+            }
+        }
+    }
+
     /// The catalogue, with nothing staged.
     pub fn core(&self) -> &Catalogue
         ensures value { result.now ≡ self.now.core }

@@ -2,8 +2,13 @@
 #![tactic(auto)]
 
 pub use durable::Durable;
+pub use fault::OpenFault;
 
 mod durable;
+mod fault;
 mod fitting;
+mod loading;
 mod staging;
+#[cfg(test)]
+mod tests;
 mod written;

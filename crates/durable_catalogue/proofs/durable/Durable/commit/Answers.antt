@@ -9,9 +9,17 @@ use Rattle.durable_catalogue.specs.Durables.{mark_of, marked, events, IsKept}
 use Rattle.durable_catalogue.proofs.Fits.{runs_fit, with_run_runs}
 use Rattle.durable_catalogue.proofs.Frames.{no_mark, none_marked}
 use Rattle.durable_catalogue.proofs.Keeping.{IsDisk, still_only, each_image}
-use Rattle.durable_catalogue.proofs.Replies.{IsTaken, adds, none_fits, part_is, whole_reply, part_reply, lost_reply}
+use Rattle.durable_catalogue.proofs.Replies.{IsTaken, adds, broken_reply, none_fits, part_is, whole_reply, part_reply, lost_reply}
 use Rattle.durable_catalogue.proofs.durable.Durable.commit.Goals.{then-len, else-len}
 use Rattle.durable_catalogue.proofs.durable.Durable.commit.Goals as goal
+
+pub returns-then-is_broken-clause-reply : goal.returns-then-is_broken-clause-reply
+returns-then-is_broken-clause-reply g c =
+    let self = c.args.self.now in
+    let reply = c.nothing.ensures in
+    let marked = sym self.broken ∙ sym c.is_broken.ensures ∙ c.if-is_broken.true in
+    let o : Origin = record { limits = self.limits; run = self.run } in
+    broken_reply o self.core.history c.args.batch self.mark c.nothing.result marked reply.receipts reply.end
 
 pub returns-in_default-clause-reply : goal.returns-in_default-clause-reply
 returns-in_default-clause-reply g c =
@@ -28,9 +36,9 @@ pub returns-in_default-clause-crash : goal.returns-in_default-clause-crash
 returns-in_default-clause-crash g c log whole told =
     let self = c.args.self.now in
     let seen = g.D.Disk.seen in
-    let kept = subst (λ es. IsKept self.opened self.core.history es (seen self.before.value) (seen self.first.value) (seen self.journal.disk)) (none_marked self.mark whole) self.kept in
+    let kept = subst (λ es. IsKept self.opened self.core.history es (seen self.before.value) (seen self.first.value.disk) (seen self.journal.disk)) (none_marked self.mark whole) self.kept in
     let disk : IsDisk (seen self.journal.disk) = record { content_is_image = g.met.D.Disk.content_is_image self.journal.disk; only_now = g.met.D.Disk.only_now self.journal.disk } in
-    still_only self.opened self.core.history (seen self.before.value) (seen self.first.value) (seen self.journal.disk) kept disk log (fitting self.limits self.core.history (with_run self.run c.args.batch))
+    still_only self.opened self.core.history (seen self.before.value) (seen self.first.value.disk) (seen self.journal.disk) kept disk log (fitting self.limits self.core.history (with_run self.run c.args.batch))
     (self.journal.settled (self.broken ∙ whole)).only told
 
 pub returns-in_default-clause-all : goal.returns-in_default-clause-all
@@ -38,7 +46,7 @@ returns-in_default-clause-all g c log image taken told is =
     let self = c.args.self.now in
     let seen = g.D.Disk.seen in
     let whole = sym self.broken ∙ sym c.is_broken.ensures ∙ c.if-is_broken.false in
-    each_image self.opened self.core.history (marked (mark_of self.mark)) (seen self.before.value) (seen self.first.value) (seen self.journal.disk) (none_marked self.mark whole) self.kept log image told is
+    each_image self.opened self.core.history (marked (mark_of self.mark)) (seen self.before.value) (seen self.first.value.disk) (seen self.journal.disk) (none_marked self.mark whole) self.kept log image told is
 
 pub commit_frame-requires-clause-run : goal.commit_frame-requires-clause-run
 commit_frame-requires-clause-run g c =
@@ -77,7 +85,7 @@ returns-in-Ok-clause-all g c log image taken told is =
     let seen = g.D.Disk.seen in
     let whole = sym self.broken ∙ sym c.is_broken.ensures ∙ c.if-is_broken.false in
     let none = none_marked now.mark (ap (λ mark. is_some mark) c.in-Ok.ensures.unmarked ∙ whole) in
-    each_image now.opened now.core.history (marked (mark_of now.mark)) (seen now.before.value) (seen now.first.value) (seen now.journal.disk) none now.kept log image told is
+    each_image now.opened now.core.history (marked (mark_of now.mark)) (seen now.before.value) (seen now.first.value.disk) (seen now.journal.disk) none now.kept log image told is
 
 pub returns-in-Err-clause-reply : goal.returns-in-Err-clause-reply
 returns-in-Err-clause-reply g c =
