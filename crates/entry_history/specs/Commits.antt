@@ -18,7 +18,7 @@ passes_limits limits entries e =
     nat_lt limits.entries (length entries + 1) || nat_lt limits.bytes (entries_size entries + entry_size e)
 
 -- those of some entries that come before the first that passes a limit
-pub fitting : Limits → List Entry → List Entry → List Entry
+unfoldable pub fitting : Limits → List Entry → List Entry → List Entry
 fitting limits before [] = []
 fitting limits before (e ∷ es) = if passes_limits limits before e then [] else e ∷ fitting limits (before ++ e ∷ []) es
 

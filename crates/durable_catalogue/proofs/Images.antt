@@ -1,0 +1,71 @@
+-- Images that hold a history, as the history grows.
+use Rattle.std.proofs.Common.{◌⊎◌, inl, inr, ℕ, ◌≤◌, List, [], ◌++◌, length, take, refl, sym, subst, arith, length-append}
+use Rattle.std.proofs.lemmas.List.{take_all, take-append-le, append-nil}
+use Rattle.marc_types.specs.declared.entry.Entry.{Entry}
+use Rattle.durable_catalogue.specs.Logs.{IsLogOf}
+use Rattle.durable_catalogue.specs.Images.{Reaches}
+
+-- an image of some of the entries, and of none of the marked ones
+pub record IsFront (least : ℕ) (entries : List Entry) (image : List ℕ) : Type 0 where
+  pub count : ℕ
+  pub has : IsLogOf (take count entries) image
+  pub at_least : least ≤ count
+  pub within : count ≤ length entries
+
+pub front_of : (least : ℕ) (entries : List Entry) (image : List ℕ) → Reaches least entries [] image → IsFront least entries image
+front_of least entries image r = record {
+  count = r.count;
+  has = subst (λ es. IsLogOf (take r.count es) image) (append-nil entries) r.has;
+  at_least = r.at_least;
+  within = omega (arith, r.within, length-append entries []);
+}
+
+pub front_reaches : (least : ℕ) (entries more : List Entry) (image : List ℕ) → IsFront least entries image → Reaches least entries more image
+front_reaches least entries more image f = record {
+  count = f.count;
+  has = subst (λ es. IsLogOf es image) (sym (take-append-le f.count entries more f.within)) f.has;
+  at_least = f.at_least;
+  within = omega (arith, f.within, length-append entries more);
+  whole = λ beyond. absurd (omega (arith, beyond, f.within));
+}
+
+-- a front of some entries is one of these and more
+pub front_longer : (least : ℕ) (entries more : List Entry) (image : List ℕ) → IsFront least entries image → IsFront least (entries ++ more) image
+front_longer least entries more image f = record {
+  count = f.count;
+  has = subst (λ es. IsLogOf es image) (sym (take-append-le f.count entries more f.within)) f.has;
+  at_least = f.at_least;
+  within = omega (arith, f.within, length-append entries more);
+}
+
+pub whole_front : (least : ℕ) (entries : List Entry) (image : List ℕ) → least ≤ length entries → IsLogOf entries image → IsFront least entries image
+whole_front least entries image within has = record {
+  count = length entries;
+  has = subst (λ es. IsLogOf es image) (sym (take_all (length entries) entries (omega arith))) has;
+  at_least = within;
+  within = omega arith;
+}
+
+-- an image of all that there are
+pub whole_is : (entries : List Entry) (image : List ℕ) → IsFront (length entries) entries image → IsLogOf entries image
+whole_is entries image f = subst (λ es. IsLogOf es image) (take_all f.count entries f.at_least) f.has
+
+-- an image of the entries and all that are marked
+pub marked_reaches : (least : ℕ) (entries more : List Entry) (image : List ℕ) → least ≤ length entries → IsLogOf (entries ++ more) image → Reaches least entries more image
+marked_reaches least entries more image within has = record {
+  count = length (entries ++ more);
+  has = subst (λ es. IsLogOf es image) (sym (take_all (length (entries ++ more)) (entries ++ more) (omega arith))) has;
+  at_least = omega (arith, within, length-append entries more);
+  within = omega arith;
+  whole = λ beyond. refl;
+}
+
+-- a commit under way: the history before, or that and all of the frame
+pub either_reaches : (least : ℕ) (entries more : List Entry) (image : List ℕ) → least ≤ length entries → IsLogOf entries image ⊎ IsLogOf (entries ++ more) image → Reaches least entries more image
+either_reaches least entries more image within (inl has) = front_reaches least entries more image (whole_front least entries image within has)
+either_reaches least entries more image within (inr has) = marked_reaches least entries more image within has
+
+-- the same once the frame is committed
+pub either_front : (least : ℕ) (entries more : List Entry) (image : List ℕ) → least ≤ length entries → IsLogOf entries image ⊎ IsLogOf (entries ++ more) image → IsFront least (entries ++ more) image
+either_front least entries more image within (inl has) = front_longer least entries more image (whole_front least entries image within has)
+either_front least entries more image within (inr has) = whole_front least (entries ++ more) image (omega (arith, within, length-append entries more)) has

@@ -1,0 +1,142 @@
+-- What a catalogue over a disk keeps as its disk changes.
+use Rattle.std.proofs.Common.{◌≡◌, ◌⊎◌, inl, inr, ℕ, ◌+◌, ◌≤◌, true, List, [], ◌++◌, length, Option, Some, None, is_some, refl, sym, ap, subst, ◌∙◌, arith, length-append}
+use Rattle.std.proofs.Math.Logic.{∥∥₁_map}
+use Rattle.marc_types.specs.declared.entry.Entry.{Entry}
+use Rattle.outside.specs.Disk.{DiskView, OnlyContent, LeavesOnly}
+use Rattle.commit_journal.specs.declared.frame.Frame.{Frame}
+use Rattle.commit_journal.specs.declared.format.TheConstants.{LENGTH_BYTES}
+use Rattle.commit_journal.specs.Log.{frames_of, version_of}
+use Rattle.commit_journal.specs.Journal as journal
+use Rattle.commit_journal.specs.Journal.{and_frame, Continues, IsSettled}
+use Rattle.commit_journal.proofs.Logs.{version_two}
+use Rattle.entry_history.specs.Batches.{batch_payload}
+use Rattle.entry_history.specs.Payloads.{Holds}
+use Rattle.durable_catalogue.specs.Logs.{IsLogOf, HasHistory}
+use Rattle.durable_catalogue.specs.Images.{Reaches, HasFrameOrNot}
+use Rattle.durable_catalogue.specs.Durables.{IsKept}
+use Rattle.durable_catalogue.proofs.Readings.{either_reading, longer_reading}
+use Rattle.durable_catalogue.proofs.Images.{front_of, front_reaches, front_longer, whole_front, whole_is, either_reaches, either_front}
+
+pub some_of : {A : Type 0} (o : Option A) → is_some o ≡ true → (x : A) × (o ≡ Some x)
+some_of None is = cc
+some_of (Some x) is = (x, refl)
+
+-- a disk's view, and what it keeps by being a disk
+pub record IsDisk (disk : DiskView) : Type 0 where
+  pub content_is_image : (b : List ℕ) → disk.content ≡ Some b → disk.image b
+  pub only_now : (c : List ℕ) → disk.left disk.moment c → disk.image c
+
+module _ (opened : ℕ) (entries : List Entry) (before first old : DiskView) (kept : IsKept opened entries [] before first old) (disk : IsDisk old) where
+  told_before : (log : List ℕ) → old.content ≡ Some log → is_some before.content ≡ true
+  told_before log told = sym kept.tells ∙ ap is_some told
+
+  -- the content has the history
+  pub told_history : (log : List ℕ) → old.content ≡ Some log → HasHistory entries log
+  told_history log told =
+      ∥∥₁_map (kept.images log (told_before log told) (disk.content_is_image log told)) (λ r. whole_is entries log (front_of (length entries) entries log r))
+
+  told_now : is_some before.content ≡ true → (log : List ℕ) × (old.content ≡ Some log)
+  told_now told = some_of old.content (kept.tells ∙ told)
+
+  module _ (place : ℕ) (settled : IsSettled place 2 old) (frame : Frame) (more : List Entry) (held : Holds 2 entries more frame.payload) where
+    held_in : (log : List ℕ) → old.content ≡ Some log → Holds (version_of log) entries more frame.payload
+    held_in log told = subst (λ v. Holds v entries more frame.payload) (sym (version_two log (settled.header log told))) held
+
+    -- an image that an append leaves
+    pub left_either : (log c : List ℕ) → old.content ≡ Some log → journal.HasFrameOrNot log frame c → ∥ IsLogOf entries c ⊎ IsLogOf (entries ++ more) c ∥₁
+    left_either log c told left = ∥∥₁_map (told_history log told) (λ is. either_reading entries more log c frame (held_in log told) left is)
+
+    module _ (new : DiskView) (continues : Continues old new) (bounded : (s : ℕ) → first.synced before.moment ≡ Some s → s ≤ first.moment)
+        (leaves : (log : List ℕ) → old.content ≡ Some log → LeavesOnly old new (journal.HasFrameOrNot log frame)) (later : old.faults ≤ new.faults) where
+      tells_still : is_some new.content ≡ is_some before.content
+      tells_still = continues.tells ∙ kept.tells
+
+      since_then : (s : ℕ) → first.synced before.moment ≡ Some s → s ≤ old.moment
+      since_then s synced = omega (arith, bounded s synced, kept.later)
+
+      -- a failed append marks the entries of its frame
+      pub kept_marked : IsKept opened entries more before first new
+      kept_marked = record {
+        images = λ c told image.
+            let now = told_now told in
+            ∥∥₁_map (left_either now.0 c now.1 ((leaves now.0 now.1).now c image)) (λ either. either_reaches (length entries) entries more c (omega arith) either);
+        since = λ s c told synced left.
+            let now = told_now told in
+            since_left c (left_either now.0 c now.1) (kept.since s c told synced) ((leaves now.0 now.1).since s c (since_then s synced) left);
+        tells = tells_still;
+        faults = omega (arith, kept.faults, later);
+        later = omega (arith, kept.later, continues.later);
+        opened_is = kept.opened_is;
+      }
+        where
+          since_left : (c : List ℕ) {P Q : Type 0} → (Q → ∥ IsLogOf entries c ⊎ IsLogOf (entries ++ more) c ∥₁) → (P → ∥ Reaches opened entries [] c ∥₁) → P ⊎ Q → ∥ Reaches opened entries more c ∥₁
+          since_left c now earlier (inl was) = ∥∥₁_map (earlier was) (λ r. front_reaches opened entries more c (front_of opened entries c r))
+          since_left c now earlier (inr is) = ∥∥₁_map (now is) (λ either. either_reaches opened entries more c kept.opened_is either)
+
+      -- an append that succeeded commits them
+      pub kept_committed : (next : ℕ) → IsSettled next 2 new
+          → ((b c : List ℕ) → old.content ≡ Some b → new.content ≡ Some c → frames_of c ≡ and_frame (frames_of b) frame)
+          → IsKept opened (entries ++ more) [] before first new
+      kept_committed next now_settled appended = record {
+        images = λ c told image.
+            let was = told_now told in
+            let now = some_of new.content (tells_still ∙ told) in
+            let is : c ≡ now.0 = now_settled.only now.0 c now.1 image in
+            let version : version_of now.0 ≡ version_of was.0 = version_two now.0 (now_settled.header now.0 now.1) ∙ sym (version_two was.0 (settled.header was.0 was.1)) in
+            ∥∥₁_map (told_history was.0 was.1) (λ reading.
+            subst (λ image. Reaches (length (entries ++ more)) (entries ++ more) [] image) (sym is)
+            (front_reaches (length (entries ++ more)) (entries ++ more) [] now.0
+            (whole_front (length (entries ++ more)) (entries ++ more) now.0 (omega arith)
+            (longer_reading entries more was.0 now.0 frame (appended was.0 now.0 was.1 now.1) version (held_in was.0 was.1) reading))));
+        since = λ s c told synced left.
+            let now = told_now told in
+            since_left c (left_either now.0 c now.1) (kept.since s c told synced) ((leaves now.0 now.1).since s c (since_then s synced) left);
+        tells = tells_still;
+        faults = omega (arith, kept.faults, later);
+        later = omega (arith, kept.later, continues.later);
+        opened_is = omega (arith, kept.opened_is, length-append entries more);
+      }
+        where
+          since_left : (c : List ℕ) {P Q : Type 0} → (Q → ∥ IsLogOf entries c ⊎ IsLogOf (entries ++ more) c ∥₁) → (P → ∥ Reaches opened entries [] c ∥₁) → P ⊎ Q → ∥ Reaches opened (entries ++ more) [] c ∥₁
+          since_left c now earlier (inl was) = ∥∥₁_map (earlier was) (λ r. front_reaches opened (entries ++ more) [] c (front_longer opened entries more c (front_of opened entries c r)))
+          since_left c now earlier (inr is) = ∥∥₁_map (now is) (λ either. front_reaches opened (entries ++ more) [] c (either_front opened entries more c kept.opened_is either))
+
+    -- what an append leaves, in the words of entries
+    pub frame_or_not : (new : DiskView) (log : List ℕ) → old.content ≡ Some log → frame.payload ≡ batch_payload more
+        → LeavesOnly old new (journal.HasFrameOrNot log frame) → LeavesOnly old new (HasFrameOrNot entries more log)
+    frame_or_not new log told payload leaves = record {
+      now = λ c image. told_left c (leaves.now c image);
+      each = λ c left. told_left c (leaves.each c left);
+      since = λ t c before_now left. or_left c (leaves.since t c before_now left);
+    }
+      where
+        told_left : (c : List ℕ) → journal.HasFrameOrNot log frame c → HasFrameOrNot entries more log c
+        told_left c left = record {
+          history = left_either log c told left;
+          no_longer = subst (λ p. length c ≤ length log + LENGTH_BYTES + length p + 1) payload left.no_longer;
+        }
+
+        or_left : (c : List ℕ) {P : Type 0} → P ⊎ journal.HasFrameOrNot log frame c → P ⊎ HasFrameOrNot entries more log c
+        or_left c (inl was) = inl was
+        or_left c (inr is) = inr (told_left c is)
+
+  -- a disk that nobody called
+  pub still_only : (log : List ℕ) (more : List Entry) → OnlyContent old → old.content ≡ Some log → LeavesOnly old old (HasFrameOrNot entries more log)
+  still_only log more only told = record {
+    now = λ c image. still c (only log c told image);
+    each = λ c left. still c (only log c told (disk.only_now c left));
+    since = λ t c before_now left. inl left;
+  }
+    where
+      still : (c : List ℕ) → c ≡ log → HasFrameOrNot entries more log c
+      still c is = record {
+        history = ∥∥₁_map (subst (HasHistory entries) (sym is) (told_history log told)) (λ reading. inl reading);
+        no_longer = omega (arith, ap length is);
+      }
+
+-- with no mark, each image has the history
+pub each_image : (opened : ℕ) (entries more : List Entry) (before first now : DiskView) → more ≡ [] → IsKept opened entries more before first now
+    → (log c : List ℕ) → now.content ≡ Some log → now.image c → HasHistory entries c
+each_image opened entries more before first now none kept log c told image =
+    let unmarked : IsKept opened entries [] before first now = subst (λ es. IsKept opened entries es before first now) none kept in
+    ∥∥₁_map (unmarked.images c (sym unmarked.tells ∙ ap is_some told) image) (λ r. whole_is entries c (front_of (length entries) entries c r))

@@ -1,0 +1,10 @@
+pub mod Fits
+pub mod Frames
+pub mod Histories
+pub mod Images
+pub mod Keeping
+pub mod Loads
+pub mod Opened
+pub mod Readings
+pub mod Replies
+pub mod Stages

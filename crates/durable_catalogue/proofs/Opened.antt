@@ -1,0 +1,109 @@
+-- What an opening leaves.
+use Rattle.std.proofs.Common.{◌≡◌, ◌⊎◌, inl, inr, ℕ, ◌+◌, ◌<◌, ◌≤◌, Bool, true, false, List, [], ◌∷◌, ◌++◌, length, Some, Ok, is_some, refl, sym, ap, subst, ◌∙◌, arith}
+use Rattle.std.specs.Prelude.{◌==◌, ◌≢◌, if◌then◌else◌, slice_index}
+use Rattle.std.proofs.Math.Logic.{∥∥₁_map}
+use Rattle.marc_types.specs.declared.entry.Entry.{Entry}
+use Rattle.marc_types.specs.declared.entry.Limits.{Limits}
+use Rattle.outside.specs.Disk.{DiskView}
+use Rattle.outside.specs.Fault.{Rose}
+use Rattle.commit_journal.specs.declared.frame.Frame.{Frame}
+use Rattle.commit_journal.specs.declared.fault.JournalFault.{JournalFault}
+use Rattle.commit_journal.specs.declared.fault.JournalFault.TheVariants as journal
+use Rattle.commit_journal.specs.declared.format.TheConstants.{BLANK_LENGTH, VERSION_PLACE, DIGIT_1}
+use Rattle.commit_journal.specs.Log.{frames_of, version_of, version_of_header}
+use Rattle.commit_journal.specs.Journal.{IsRecovered, IsSettled, Opens, HasOpenCause}
+use Rattle.commit_journal.proofs.Logs.{version_two, version_blank, version_long, short_or_long}
+use Rattle.entry_record.specs.History.{last_run, next_run}
+use Rattle.entry_history.specs.Payloads.{IsHistory, CanFollow}
+use Rattle.durable_catalogue.specs.declared.fault.OpenFault.{OpenFault}
+use Rattle.durable_catalogue.specs.declared.fault.OpenFault.TheVariants.{DeviceFault, NotAJournal, OldVersion, Full, NoMemory}
+use Rattle.durable_catalogue.specs.Logs.{payloads_of, IsLogOf, HasHistory}
+use Rattle.durable_catalogue.specs.Images.{Reaches}
+use Rattle.durable_catalogue.specs.Durables.{IsKept}
+use Rattle.durable_catalogue.specs.Openings.{IsBadFrame, IsWithin, IsUnloaded, IsNoJournal, NoGate, NoPayload, IsUnopened, IsOpening, open_fault}
+use Rattle.durable_catalogue.proofs.Histories.{runs_bounded}
+use Rattle.durable_catalogue.proofs.Images.{front_reaches, whole_front}
+use Rattle.durable_catalogue.proofs.Keeping.{some_of}
+use Rattle.durable_catalogue.proofs.Readings.{same_log}
+
+reading : (log : List ℕ) (frames : List Frame) (version : ℕ) (entries : List Entry) → frames_of log ≡ Ok frames → version_of log ≡ version
+    → IsHistory version [] (payloads_of frames) entries → IsLogOf entries log
+reading log frames version entries found is holds = record {
+  frames = frames;
+  found = found;
+  holds = subst (λ v. IsHistory v [] (payloads_of frames) entries) (sym is) holds;
+}
+
+-- the run of what is committed next
+pub next_follows : (entries : List Entry) (payloads : List (List ℕ)) → IsHistory 2 [] payloads entries → CanFollow entries (next_run entries)
+next_follows entries payloads holds = let bounded = runs_bounded 2 refl holds (omega arith) in record { rises = omega arith; bounded = omega (arith, bounded) }
+
+module _ (frames : List Frame) (place : ℕ) (old new : DiskView) (entries : List Entry) (recovered : IsRecovered frames place 2 old new) (opens : Opens old new)
+    (holds : IsHistory 2 [] (payloads_of frames) entries) where
+  -- the log as it was
+  pub was_reading : (log : List ℕ) → old.content ≡ Some log → IsLogOf entries log
+  was_reading log told = reading log frames 2 entries (recovered.was log told) (recovered.named log told) holds
+
+  now_reading : (log : List ℕ) → new.content ≡ Some log → IsLogOf entries log
+  now_reading log told = reading log frames 2 entries (recovered.is log told) (version_two log (recovered.settled.header log told)) holds
+
+  whole : (c : List ℕ) → IsLogOf entries c → Reaches (length entries) entries [] c
+  whole c is = front_reaches (length entries) entries [] c (whole_front (length entries) entries c (omega arith) is)
+
+  pub opened_kept : old.faults ≤ new.faults → IsKept (length entries) entries [] old new new
+  opened_kept later = record {
+    images = λ c told image.
+        let now = some_of new.content (opens.continues.tells ∙ told) in
+        ∣ whole c (subst (IsLogOf entries) (sym (recovered.settled.only now.0 c now.1 image)) (now_reading now.0 now.1)) ∣₁;
+    since = λ s c told synced left. let was = some_of old.content told in ∣ whole c (same_log entries was.0 c (opens.crash s was.0 c synced was.1 left) (was_reading was.0 was.1)) ∣₁;
+    tells = opens.continues.tells;
+    faults = later;
+    later = omega arith;
+    opened_is = omega arith;
+  }
+
+-- an opening, whatever it answers
+pub opening_of : (old new : DiskView) → Opens old new → IsOpening old new
+opening_of old new opens = record {
+  history = λ s log c entries synced told left has. ∥∥₁_map has (λ is. same_log entries log c (opens.crash s log c synced told left) is);
+  no_longer = λ s log c synced told left. (opens.crash s log c synced told left).no_longer;
+  unsynced = opens.unsynced;
+}
+
+-- a log's version is 1 or 2
+version_one : (log : List ℕ) → version_of_header log ≢ 2 → version_of_header log ≡ 1
+unfolding version_of_header
+version_one log other = decided (slice_index log VERSION_PLACE == DIGIT_1) refl
+  where
+    decided : (b : Bool) → (slice_index log VERSION_PLACE == DIGIT_1) ≡ b → version_of_header log ≡ 1
+    decided true is = rw is refl
+    decided false is = absurd (other (rw is refl))
+
+old_version : (log : List ℕ) → version_of log ≢ 2 → version_of log ≡ 1
+old_version log other = decided (short_or_long (length log) BLANK_LENGTH)
+  where
+    decided : (length log ≤ BLANK_LENGTH) ⊎ (BLANK_LENGTH < length log) → version_of log ≡ 1
+    decided (inl short) = absurd (other (version_blank log short))
+    decided (inr long) = version_long log long ∙ version_one log (λ two. other (version_long log long ∙ two))
+
+-- why a log is not opened, from its frames
+pub unloaded : (frames : List Frame) (place version : ℕ) (old new : DiskView) (limits : Limits) (fault : OpenFault) → IsRecovered frames place version old new
+    → IsUnloaded version frames limits fault → (log : List ℕ) → old.content ≡ Some log → IsUnopened limits log fault
+unloaded frames place version old new limits DeviceFault r why log told = absurd why
+unloaded frames place version old new limits (NotAJournal at) r why log told =
+    NoPayload frames (r.was log told) (subst (λ v. IsBadFrame v frames at) (sym (r.named log told)) why)
+unloaded frames place version old new limits OldVersion r why log told = old_version log (λ two. why (sym (r.named log told) ∙ two))
+unloaded frames place version old new limits Full r why log told = (why.0, reading log frames version why.0 (r.was log told) (r.named log told) why.1, why.2)
+unloaded frames place version old new limits NoMemory r why log told = tt
+
+-- why it is not opened, from the journal
+pub unopened : (old new : DiskView) (limits : Limits) (fault : JournalFault) → HasOpenCause old new fault → (log : List ℕ) → old.content ≡ Some log → IsUnopened limits log (open_fault fault)
+unopened old new limits journal.DeviceFault cause log told = tt
+unopened old new limits (journal.NotAJournal place) cause log told = NoGate (cause.lost place log refl told)
+unopened old new limits journal.NoMemory cause log told = tt
+
+-- a device fault has its cause in the journal's
+pub device_fault : (old new : DiskView) (fault : JournalFault) → HasOpenCause old new fault → open_fault fault ≡ DeviceFault → Rose old.faults new.faults
+device_fault old new journal.DeviceFault cause is = cause.failed refl
+device_fault old new (journal.NotAJournal place) cause is = cc
+device_fault old new journal.NoMemory cause is = cc

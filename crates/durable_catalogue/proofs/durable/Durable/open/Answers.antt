@@ -1,0 +1,69 @@
+use Rattle.std.proofs.Common.{◌≡◌, ◌++◌, [], length, sym, ap, subst, ◌∙◌}
+use Rattle.std.proofs.lemmas.List.{append-nil}
+use Rattle.commit_journal.specs.Journal.{IsRecovered}
+use Rattle.entry_history.specs.Payloads.{IsHistory, CanFollow}
+use Rattle.durable_catalogue.specs.Logs.{payloads_of}
+use Rattle.durable_catalogue.specs.Durables.{IsKept}
+use Rattle.durable_catalogue.specs.Openings.{IsOpening, IsUnloaded, IsUnopened}
+use Rattle.durable_catalogue.proofs.Opened.{next_follows, was_reading, opened_kept, opening_of, unloaded, unopened}
+use Rattle.durable_catalogue.proofs.durable.Durable.open.Goals as goal
+
+pub invariant_of-result : goal.invariant_of-result
+invariant_of-result g c =
+    let seen = g.D.Disk.seen in
+    let journal = c.in-Ok.journal in
+    let done = c.in-Ok-load.ensures in
+    let history = c.in-Ok-load.loaded.core.history in
+    let two = sym c.version.ensures ∙ done.version in
+    let recovered = subst (λ v. IsRecovered c.in-Ok.frames journal.place v (seen c.args.disk) (seen journal.disk)) two c.in-Ok.ensures.recovered in
+    let holds = subst (λ fs. IsHistory 2 [] (payloads_of fs) history) c.as_slice.ensures done.history in
+    let unstaged = ap (λ core. core.staged) done.core in
+    let opened = c.history_len-opened.ensures ∙ ap (λ es. length (history ++ es)) unstaged ∙ ap length (append-nil history) in
+    let kept = opened_kept c.in-Ok.frames journal.place (seen c.args.disk) (seen journal.disk) history recovered c.in-Ok.ensures.crash holds c.in-Ok.ensures.later in
+    record {
+      unstaged = unstaged;
+      limited = ap (λ core. core.limits) done.core;
+      newest = two;
+      broken = c.in-Ok.ensures.whole;
+      follows = subst (CanFollow history) (sym done.run) (next_follows history (payloads_of c.in-Ok.frames) holds);
+      kept = subst (λ n. IsKept n history [] (seen c.of-before.result.value) (seen c.of-first.result.value.disk) (seen journal.disk)) (sym opened)
+          (subst (λ b. IsKept (length history) history [] (seen b) (seen c.of-first.result.value.disk) (seen journal.disk)) (sym c.of-before.ensures)
+          (subst (λ j. IsKept (length history) history [] (seen c.args.disk) (seen j.disk) (seen journal.disk)) (sym c.of-first.ensures) kept));
+      rose = λ none. cc;
+    }
+
+pub returns-in-Ok-load-clause-history : goal.returns-in-Ok-load-clause-history
+returns-in-Ok-load-clause-history g c log told =
+    let seen = g.D.Disk.seen in
+    let journal = c.in-Ok.journal in
+    let done = c.in-Ok-load.ensures in
+    let history = c.in-Ok-load.loaded.core.history in
+    let two = sym c.version.ensures ∙ done.version in
+    let recovered = subst (λ v. IsRecovered c.in-Ok.frames journal.place v (seen c.args.disk) (seen journal.disk)) two c.in-Ok.ensures.recovered in
+    let holds = subst (λ fs. IsHistory 2 [] (payloads_of fs) history) c.as_slice.ensures done.history in
+    ∣ was_reading c.in-Ok.frames journal.place (seen c.args.disk) (seen journal.disk) history recovered c.in-Ok.ensures.crash holds log told ∣₁
+
+pub returns-in-Ok-load-clause-crash : goal.returns-in-Ok-load-clause-crash
+returns-in-Ok-load-clause-crash g c = opening_of (g.D.Disk.seen c.args.disk) (g.D.Disk.seen c.in-Ok.journal.disk) c.in-Ok.ensures.crash
+
+pub returns-in-Err-load-clause-crash : goal.returns-in-Err-load-clause-crash
+returns-in-Err-load-clause-crash g c =
+    let seen = g.D.Disk.seen in
+    subst (λ d. IsOpening (seen c.args.disk) (seen d)) (sym c.close.ensures) (opening_of (seen c.args.disk) (seen c.in-Ok.journal.disk) c.in-Ok.ensures.crash)
+
+pub returns-in-Err-load-clause-fault : goal.returns-in-Err-load-clause-fault
+returns-in-Err-load-clause-fault g c log told =
+    let seen = g.D.Disk.seen in
+    let journal = c.in-Ok.journal in
+    let fault = c.in-Err-load.fault in
+    let why = subst (λ v. IsUnloaded v c.in-Ok.frames c.args.limits fault) c.version.ensures (subst (λ fs. IsUnloaded c.version.result fs c.args.limits fault) c.as_slice.ensures c.in-Err-load.ensures.fault) in
+    unloaded c.in-Ok.frames journal.place journal.version (seen c.args.disk) (seen journal.disk) c.args.limits fault c.in-Ok.ensures.recovered why log told
+
+pub returns-in-Err-clause-crash : goal.returns-in-Err-clause-crash
+returns-in-Err-clause-crash g c = opening_of (g.D.Disk.seen c.args.disk) (g.D.Disk.seen c.in-Err.failed.0) c.in-Err.ensures.crash
+
+pub returns-in-Err-clause-fault : goal.returns-in-Err-clause-fault
+returns-in-Err-clause-fault g c log told =
+    let seen = g.D.Disk.seen in
+    subst (λ f. IsUnopened c.args.limits log f) (sym c.open_fault.ensures)
+    (unopened (seen c.args.disk) (seen c.in-Err.failed.0) c.args.limits c.in-Err.failed.1 c.in-Err.ensures.fault log told)

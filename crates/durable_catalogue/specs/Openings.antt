@@ -1,0 +1,87 @@
+-- Why a log is not opened, and what an opening leaves. The rules are this project's own.
+use Rattle.std.specs.Prelude.{◌≡◌, ◌≢◌, ℕ, ◌≤◌, max, true, List, [], ◌∷◌, ◌++◌, length, Some, None, Ok, Err}
+use Rattle.marc_types.specs.declared.entry.Entry.{Entry}
+use Rattle.marc_types.specs.declared.entry.Limits.{Limits}
+use Rattle.outside.specs.Disk.{DiskView}
+use Rattle.commit_journal.specs.declared.frame.Frame.{Frame}
+use Rattle.commit_journal.specs.declared.fault.JournalFault.{JournalFault}
+use Rattle.commit_journal.specs.declared.fault.JournalFault.TheVariants as journal
+use Rattle.commit_journal.specs.declared.format.TheConstants.{BLANK_LENGTH}
+use Rattle.commit_journal.specs.Log.{frames_of, version_of}
+use Rattle.commit_journal.specs.Journal.{Continues}
+use Rattle.entry_record.specs.History.{entries_size}
+use Rattle.entry_history.specs.Payloads.{Holds, IsHistory}
+use Rattle.catalogue_core.specs.Catalogues.{Catalogued}
+use Rattle.durable_catalogue.specs.declared.fault.OpenFault.{OpenFault}
+use Rattle.durable_catalogue.specs.declared.fault.OpenFault.TheVariants.{DeviceFault, NotAJournal, OldVersion, Full, NoMemory}
+use Rattle.durable_catalogue.specs.Logs.{payloads_of, IsLogOf, HasHistory}
+
+-- the first frame whose payload isn't valid behind those before it has its gate at that place
+pub record IsBadFrame (version : ℕ) (frames : List Frame) (place : ℕ) : Type 0 where
+  pub front : List Frame
+  pub bad : Frame
+  pub behind : List Frame
+  pub entries : List Entry
+  pub split : frames ≡ front ++ bad ∷ behind
+  pub history : IsHistory version [] (payloads_of front) entries
+  pub invalid : (more : List Entry) → Holds version entries more bad.payload → ⊥
+  pub at : bad.gate ≡ place
+
+-- not more entries than the limits, and not more bytes
+pub record IsWithin (limits : Limits) (entries : List Entry) : Type 0 where
+  pub count : length entries ≤ limits.entries
+  pub size : entries_size entries ≤ limits.bytes
+
+-- why frames of a version are not loaded: a payload isn't valid, the version is another, or their history passes the limits
+abbrev pub IsUnloaded : ℕ → List Frame → Limits → OpenFault → Type 0
+IsUnloaded version frames limits (NotAJournal place) = IsBadFrame version frames place
+IsUnloaded version frames limits OldVersion = version ≢ 2
+IsUnloaded version frames limits Full = (entries : List Entry) × IsHistory version [] (payloads_of frames) entries × (IsWithin limits entries → ⊥)
+IsUnloaded version frames limits NoMemory = Unit {0}
+IsUnloaded version frames limits DeviceFault = ⊥
+
+-- nothing that is a journal stands at that place, or it is the gate of a payload that isn't valid
+pub data IsNoJournal (log : List ℕ) (place : ℕ) : Type 0 where
+  NoGate : frames_of log ≡ Err place → IsNoJournal log place
+  NoPayload : (frames : List Frame) → frames_of log ≡ Ok frames → IsBadFrame (version_of log) frames place → IsNoJournal log place
+
+-- what a log is that is not opened
+abbrev pub IsUnopened : Limits → List ℕ → OpenFault → Type 0
+IsUnopened limits log DeviceFault = Unit {0}
+IsUnopened limits log (NotAJournal place) = IsNoJournal log place
+IsUnopened limits log OldVersion = version_of log ≡ 1
+IsUnopened limits log Full = (entries : List Entry) × IsLogOf entries log × (IsWithin limits entries → ⊥)
+IsUnopened limits log NoMemory = Unit {0}
+
+-- the journal's faults in the catalogue's words
+abbrev pub open_fault : JournalFault → OpenFault
+open_fault journal.DeviceFault = DeviceFault
+open_fault (journal.NotAJournal place) = NotAJournal place
+open_fault journal.NoMemory = NoMemory
+
+-- an opening: each image since its first sync that succeeded has the history that the log had, in no more bytes than it or a blank
+-- log has; where no sync succeeded, the content is as it was
+pub record IsOpening (old new : DiskView) : Type 0 where
+  pub history : (s : ℕ) (log c : List ℕ) (entries : List Entry) → new.synced old.moment ≡ Some s → old.content ≡ Some log → new.left s c → HasHistory entries log → HasHistory entries c
+  pub no_longer : (s : ℕ) (log c : List ℕ) → new.synced old.moment ≡ Some s → old.content ≡ Some log → new.left s c → length c ≤ max BLANK_LENGTH (length log)
+  pub unsynced : old.dated ≡ true → new.synced old.moment ≡ None → new.content ≡ old.content
+
+-- a catalogue of this history, with nothing staged
+abbrev pub catalogue_of : Limits → List Entry → Catalogued
+catalogue_of limits entries = record { history = entries; staged = []; limits = limits }
+
+-- why frames are not read: a payload isn't valid
+abbrev pub IsUnread : ℕ → List Frame → OpenFault → Type 0
+IsUnread version frames (NotAJournal place) = IsBadFrame version frames place
+IsUnread version frames NoMemory = Unit {0}
+IsUnread version frames OldVersion = ⊥
+IsUnread version frames Full = ⊥
+IsUnread version frames DeviceFault = ⊥
+
+-- why a catalogue of these entries is not made: they pass the limits
+abbrev pub IsUnbuilt : Limits → List Entry → OpenFault → Type 0
+IsUnbuilt limits entries Full = IsWithin limits entries → ⊥
+IsUnbuilt limits entries NoMemory = Unit {0}
+IsUnbuilt limits entries (NotAJournal place) = ⊥
+IsUnbuilt limits entries OldVersion = ⊥
+IsUnbuilt limits entries DeviceFault = ⊥

@@ -1,0 +1,230 @@
+//! A catalogue over a journal.
+ghost use Rattle.std.specs.Prelude.{◌≡◌, ◌≢◌, ℕ, ◌++◌, List, [], true, false, Some, is_some, length, All, IfOk, IfErr, OnOk, OnErr, MatchResult, None, ◌≤◌};
+ghost use Rattle.marc_types.specs.declared.entry.Entry.{Entry};
+ghost use Rattle.marc_types.specs.declared.entry.CommitFault.TheVariants.{DeviceFault};
+ghost use Rattle.outside.specs.Disk.{LeavesOnly};
+ghost use Rattle.outside.specs.Fault.{Rose};
+ghost use Rattle.commit_journal.specs.Log.{version_of};
+ghost use Rattle.entry_record.specs.History.{with_run, next_run};
+ghost use Rattle.entry_record.specs.Receipts.{receipts_behind};
+ghost use Rattle.entry_history.specs.Commits.{fitting, frame_of, IsCommit};
+ghost use Rattle.entry_history.specs.Payloads.{CanFollow};
+ghost use Rattle.entry_history.specs.declared.event.Event.{Event};
+ghost use Rattle.durable_catalogue.specs.Logs.{HasHistory};
+ghost use Rattle.durable_catalogue.specs.declared.fault.OpenFault.{OpenFault};
+ghost use Rattle.durable_catalogue.specs.Openings.{IsWithin, IsUnopened, IsOpening, open_fault};
+ghost use Rattle.durable_catalogue.specs.Images.{HasFrameOrNot};
+ghost use Rattle.durable_catalogue.specs.Durables.{mark_of, marked, events, is_taken, opening, IsKept, IsLostBy, IsSameOpening};
+
+use crate::OpenFault;
+use crate::fitting::fitting_part;
+use crate::loading::{Loaded, load};
+use crate::staging::stage_all;
+use crate::written::each_can_stand_in_a_payload;
+use catalogue_core::Catalogue;
+use commit_journal::{Journal, JournalFault};
+use entry_history::{Batch, BatchReply, Receipts};
+use marc_types::{CommitFault, Limits};
+use outside::Disk;
+use std::alloc::Global;
+use std::marker::Brand;
+use std::snapshot::Snapshot;
+use std::sync::ledger::Blank;
+
+/// A catalogue whose entries outlast a crash: each commit is in the journal before it is acknowledged.
+#[derive(Drop)]
+pub struct Durable<D: Disk> {
+    core: Catalogue,
+    journal: Journal<D>,
+    limits: Limits,
+    // The run of all that is committed.
+    run: u64,
+    // How many entries there were at the opening.
+    opened: u64,
+    // The frame that a device failed to take.
+    mark: Option<Snapshot<Batch>>,
+    // The disk as it was handed over, and as the journal's opening left it.
+    before: Snapshot<D>,
+    first: Snapshot<Journal<D>>,
+    ghost unstaged: { core.staged ≡ [] },
+    ghost limited: { core.limits ≡ limits },
+    ghost newest: { journal.version ≡ 2 },
+    ghost broken: { journal.broken ≡ is_some mark },
+    ghost follows: { CanFollow core.history run },
+    ghost kept: { IsKept opened core.history (marked (mark_of mark)) (D.seen before.value) (D.seen first.value.disk) (D.seen journal.disk) },
+    ghost rose: { is_some mark ≡ true → Rose (D.seen before.value).faults (D.seen journal.disk).faults },
+}
+
+/// A commit that added nothing.
+fn nothing(alloc: Global, end: CommitFault) -> BatchReply
+    ensures receipts { result.receipts ≡ [] }
+    ensures end { result.end ≡ Some end }
+{
+    BatchReply {
+        receipts: Receipts::from_vec(Vec::new(alloc)),
+        end: Some(end),
+    }
+}
+
+/// The journal's faults in the catalogue's words.
+fn open_fault(fault: JournalFault) -> OpenFault
+    ensures { result ≡ open_fault fault }
+{
+    match fault {
+        JournalFault::DeviceFault => OpenFault::DeviceFault,
+        JournalFault::NotAJournal(place) => OpenFault::NotAJournal(place),
+        JournalFault::NoMemory => OpenFault::NoMemory,
+    }
+}
+
+impl<D: Disk> Durable<D> {
+    /// Opens a log that a crash may have left: its history is the catalogue's. A fault hands the disk back. A crash during an
+    /// opening that has synced leaves the same history.
+    pub fn open(alloc: Global, disk: D, limits: Limits) -> Result<Self, (D, OpenFault)>
+        // The catalogue has the log's history, within the limits, with no mark and nothing staged.
+        ensures history { IfOk result (λ d. (log : List ℕ) → (D.seen disk).content ≡ Some log → HasHistory d.core.history log) }
+        ensures version { IfOk result (λ d. (log : List ℕ) → (D.seen disk).content ≡ Some log → version_of log ≡ 2) }
+        ensures within { IfOk result (λ d. IsWithin limits d.core.history) }
+        ensures unmarked { IfOk result (λ d. mark_of d.mark ≡ None) }
+
+        // What the origin has: the limits, the run that comes next, the number of entries, and the disk as it was.
+        ensures limits { IfOk result (λ d. d.limits ≡ limits) }
+        ensures run { IfOk result (λ d. d.run ≡ next_run d.core.history) }
+        ensures opened { IfOk result (λ d. d.opened ≡ length d.core.history) }
+        ensures before { IfOk result (λ d. d.before.value ≡ disk) }
+        ensures first { IfOk result (λ d. d.first.value ≡ d.journal) }
+
+        // Each image since the first sync has the log's history; where that sync didn't succeed, the content is as it was.
+        ensures crash { MatchResult result (λ d. IsOpening (D.seen disk) (D.seen d.journal.disk)) (λ e. IsOpening (D.seen disk) (D.seen e.0)) }
+        ensures later { MatchResult result (λ d. (D.seen disk).faults ≤ (D.seen d.journal.disk).faults) (λ e. (D.seen disk).faults ≤ (D.seen e.0).faults) }
+
+        // Each fault comes only where the log is so; a device fault only where the count of faults rose.
+        ensures fault { IfErr result (λ e. (log : List ℕ) → (D.seen disk).content ≡ Some log → IsUnopened limits log e.1) }
+        ensures failed { IfErr result (λ e. e.1 ≡ OpenFault.DeviceFault → Rose (D.seen disk).faults (D.seen e.0).faults) }
+    {
+        let before = Snapshot::of(&disk);
+        match Journal::open(alloc, disk) {
+            Ok((journal, frames)) => {
+                let first = Snapshot::of(&journal);
+                match load(alloc, journal.version(), frames.as_slice(), limits) {
+                    Ok(loaded) => {
+                        let Loaded { core, run } = loaded;
+                        let opened = core.history_len();
+                        Ok(Durable {
+                            core,
+                            journal,
+                            limits,
+                            run,
+                            opened,
+                            mark: None,
+                            before,
+                            first,
+                        })
+                    }
+                    Err(fault) => Err((journal.close(), fault)),
+                }
+            }
+            Err(failed) => {
+                let (disk, fault) = failed;
+                Err((disk, open_fault(fault)))
+            }
+        }
+    }
+
+    /// The catalogue, with nothing staged.
+    pub fn core(&self) -> &Catalogue
+        ensures value { result.now ≡ self.now.core }
+        ensures unstaged { result.now.staged ≡ [] }
+    {
+        &self.core
+    }
+
+    /// Gives the disk back.
+    pub fn close(self) -> D
+        ensures { result ≡ self.journal.disk }
+    {
+        let Durable { journal, .. } = self;
+        journal.close()
+    }
+
+    /// Commits all entries of a frame, or none: they are staged, then in the journal, and then history.
+    fn commit_frame(&mut self, alloc: Global, frame: Batch) -> Result<Receipts, CommitFault>
+        requires whole { is_some self.old.mark ≡ false }
+        requires some { frame ≢ [] }
+        requires run { All (λ e. e.run ≡ self.old.run) frame }
+        ensures receipts { IfOk result (λ r. r ≡ receipts_behind self.old.core.history frame) }
+        ensures added { OnOk result (self.new.core.history ≡ self.old.core.history ++ frame) }
+        ensures unmarked { OnOk result (self.new.mark ≡ self.old.mark) }
+        ensures nothing { OnErr result (self.new.core.history ≡ self.old.core.history) }
+        ensures fault { IfErr result (λ fault. IsLostBy fault (mark_of self.new.mark) frame) }
+        ensures crash { (log : List ℕ) → (D.seen self.old.journal.disk).content ≡ Some log → LeavesOnly (D.seen self.old.journal.disk) (D.seen self.new.journal.disk)
+            (HasFrameOrNot self.old.core.history frame log) }
+        ensures cause { IfErr result (λ fault. fault ≡ DeviceFault → Rose (D.seen self.old.journal.disk).faults (D.seen self.new.journal.disk).faults) }
+        ensures stays { IsSameOpening self.old.limits self.old.run self.old.opened self.new.limits self.new.run self.new.opened }
+        ensures before { self.new.before ≡ self.old.before }
+        ensures first { self.new.first ≡ self.old.first }
+    {
+        let mark = Snapshot::of(&frame);
+        each_can_stand_in_a_payload(frame.items());
+        let (items, payload) = frame.into_parts();
+        let Ok(receipts) = stage_all::<Brand>(&mut self.core, alloc, items, Blank::new(1)) else {
+            return Err(CommitFault::NoMemory);
+        };
+        let appended = self.journal.append(payload.as_slice());
+        match appended {
+            Ok(()) => {
+                self.core.keep();
+                Ok(receipts)
+            }
+            Err(_) => {
+                self.core.undo();
+                self.mark = Some(mark);
+                Err(CommitFault::DeviceFault)
+            }
+        }
+    }
+
+    /// Commits a batch that isn't empty, in a frame of its own: all entries, or those before the first that would pass a limit.
+    /// A crash leaves the history before, or that and all of the frame; after an end that is none or Full it leaves that and
+    /// the frame. After DeviceFault nobody knows which until the next opening, and each further commit is Broken. Want of
+    /// memory changes nothing.
+    pub fn commit(&mut self, alloc: Global, batch: Batch) -> BatchReply
+        requires { batch ≢ [] }
+
+        // The reply, and what it adds to the history.
+        ensures reply { (added : List Event) × (events self.new.core.history (mark_of self.new.mark) ≡ events self.old.core.history (mark_of self.old.mark) ++ added)
+            × IsCommit (record { limits = self.old.limits; run = self.old.run }) (events self.old.core.history (mark_of self.old.mark)) batch result added }
+
+        // Each image at each moment of the call, and the images at its end where the frame is committed.
+        ensures crash { (log : List ℕ) → is_some self.old.mark ≡ false → (D.seen self.old.journal.disk).content ≡ Some log
+            → LeavesOnly (D.seen self.old.journal.disk) (D.seen self.new.journal.disk)
+            (HasFrameOrNot self.old.core.history (fitting self.old.limits self.old.core.history (with_run self.old.run batch)) log) }
+        ensures all { (log c : List ℕ) → is_taken result.end ≡ true → (D.seen self.new.journal.disk).content ≡ Some log
+            → (D.seen self.new.journal.disk).image c → HasHistory self.new.core.history c }
+
+        // A device fault comes only where the count of faults rose; what the opening left stays.
+        ensures cause { result.end ≡ Some DeviceFault → Rose (D.seen self.old.journal.disk).faults (D.seen self.new.journal.disk).faults }
+        ensures stays { IsSameOpening self.old.limits self.old.run self.old.opened self.new.limits self.new.run self.new.opened }
+        ensures before { self.new.before ≡ self.old.before }
+        ensures first { self.new.first ≡ self.old.first }
+    {
+        if self.journal.is_broken() {
+            return nothing(alloc, CommitFault::Broken);
+        }
+        let mut batch = batch;
+        batch.set_run(self.run);
+        let len = batch.len();
+        let Some(frame) = fitting_part(&self.core, &self.limits, batch) else {
+            return nothing(alloc, CommitFault::Full);
+        };
+        let end = if frame.len() < len {
+            Some(CommitFault::Full)
+        } else {
+            None
+        };
+        match self.commit_frame(alloc, frame) {
+            Ok(receipts) => BatchReply { receipts, end },
+            Err(fault) => nothing(alloc, fault),
+        }
+    }
+}

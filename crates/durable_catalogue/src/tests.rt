@@ -1,0 +1,49 @@
+use crate::Durable;
+use entry_history::Batch;
+use marc_types::{Limits, Text, can_be_code};
+use outside_mem::MemDisk;
+use reading::prepare;
+use std::alloc::Global;
+use std::test::Fail;
+
+/// Mark Twain's authority record.
+const TWAIN: &[u8] =
+    b"00158nz  a2200073n  4500001001000000003000400010100002800014400004200042\x1en79021164\x1eDLC\x1e1 \x1faTwain, Mark,\x1fd1835-1910\x1e1 \x1faClemens, Samuel Langhorne,\x1fd1835-1910\x1e\x1d";
+
+const LIMITS: Limits = Limits {
+    entries: 8,
+    bytes: 4096,
+};
+
+fn open(alloc: Global, bytes: &[u8], limits: Limits) -> Result<Durable<MemDisk>, Fail> {
+    let bytes = bytes[..bytes.len().min(4096)].to_vec(alloc)?;
+    match Durable::open(alloc, MemDisk::new(alloc, bytes, Vec::new(alloc)), limits) {
+        Ok(durable) => Ok(durable),
+        Err((_disk, fault)) => Err(fault)?,
+    }
+}
+
+/// A commit into a blank log, whose header is the journal's; the log is opened again, and not within limits of no entry.
+#[test]
+fn a_commit_outlasts_its_catalogue(rt: HostRuntime) -> Result<(), Fail> {
+    let alloc = rt.alloc();
+    let library = Text::from_str(alloc, "ULIB")?;
+    assert!(rt; can_be_code(library.as_bytes()));
+    let mut batch = Batch::new(alloc);
+    assert!(rt; batch.push(prepare(alloc, TWAIN, &library, 0, 1)?).is_ok());
+    let mut durable = open(alloc, b"", LIMITS)?;
+    let reply = durable.commit(alloc, batch);
+    assert!(rt; reply.end.is_none());
+    assert_eq!(rt; reply.receipts.len(), 1);
+    let disk = durable.close();
+    assert_eq!(rt; disk.bytes().len(), 210);
+    let again = open(alloc, disk.bytes(), LIMITS)?;
+    assert_eq!(rt; again.core().history_len(), 1);
+    let none = Limits {
+        entries: 0,
+        bytes: 4096,
+    };
+    let refused = open(alloc, disk.bytes(), none);
+    assert!(rt; refused.is_err());
+    Ok(())
+}
