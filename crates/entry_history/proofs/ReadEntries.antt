@@ -1,15 +1,13 @@
 -- Which entry bytes begin with.
-use Rattle.std.proofs.Common.{◌≡◌, ◌∙◌, ℕ, ◌+◌, ◌^◌, ◌<◌, ◌≤◌, Bool, true, false, List, [], ◌∷◌, ◌++◌, length, take, drop, Some, None, refl, sym, ap, subst, arith, append_assoc, length-append}
+use Rattle.std.proofs.Common.{◌≡◌, ◌∙◌, ℕ, ◌^◌, ◌<◌, ◌≤◌, true, false, List, [], ◌++◌, length, take, drop, Some, None, refl, sym, ap, subst, arith, length-append}
 use Rattle.std.proofs.Math.Seq.{take-append_seam}
 use Rattle.std.proofs.lemmas.List.{take-append-drop}
-use Rattle.std.proofs.lemmas.Bool.{both_ways}
 use Rattle.std.specs.Prelude.{nat_eq}
 use Rattle.std.specs.Int.{w32, w64, to_be_bytes}
 use Rattle.std.specs.Cmp.Lexicographic.{pointwise, same_text, other_text}
 use Rattle.marc_types.specs.Valid.{is_code}
 use Rattle.marc_types.specs.declared.field.Leader.{Leader}
 use Rattle.marc_types.specs.declared.field.Field.{Field}
-use Rattle.marc_types.specs.declared.record.Record.{Record}
 use Rattle.marc_types.specs.declared.entry.Entry.{Entry}
 use Rattle.marc_types.specs.declared.refusal.Refusal.{Refusal}
 use Rattle.iso2709_record.specs.Written.{record_length, record_bytes}
@@ -25,11 +23,11 @@ use Rattle.entry_record.specs.Payload.{entry_bytes}
 use Rattle.entry_record.specs.Prepared.{new_entry}
 use Rattle.entry_record.proofs.Admitted.{admitted_fits}
 use Rattle.entry_record.proofs.Written.{fitting_length}
-use Rattle.entry_history.specs.Payloads.{IsEntry, IsOf}
+use Rattle.entry_history.specs.Payloads.{IsEntry}
 use Rattle.entry_history.specs.Reading.{IsEntryHead, BeginWithNone, BeginWith, IsNotWritten, IsNoEntry}
 use Rattle.entry_history.specs.declared.fault.EntryFault.{EntryFault}
 use Rattle.entry_history.specs.declared.fault.EntryFault.TheVariants.{BadEntry, NoMemory}
-use Rattle.entry_history.proofs.Spelled.{long_once, short_once, entry_parts, fitting}
+use Rattle.entry_history.proofs.Spelled.{long_once, short_once, entry_parts}
 use Rattle.entry_history.proofs.Batches.{length-entry}
 
 pub head_made : (bytes behind more written rest : List ℕ) (ordinal n : ℕ) → bytes ≡ to_be_bytes w64 ordinal ++ behind → behind ≡ to_be_bytes w32 n ++ more

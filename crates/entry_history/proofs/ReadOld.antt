@@ -1,12 +1,11 @@
 -- Which entries a payload of version 1 holds.
-use Rattle.std.proofs.Common.{◌≡◌, ◌≢◌, ◌∙◌, ℕ, suc, ◌+◌, ◌^◌, ◌<◌, ◌≤◌, true, false, List, [], ◌∷◌, ◌++◌, length, get_or, drop, None, refl, sym, ap, subst, arith, append_assoc, length-append, length-drop, add-one}
-use Rattle.std.proofs.Math.Seq.{drop-cons, drop-length}
+use Rattle.std.proofs.Common.{◌≡◌, ◌∙◌, ℕ, suc, ◌+◌, ◌^◌, ◌<◌, ◌≤◌, true, List, [], ◌∷◌, ◌++◌, length, get_or, drop, None, refl, sym, ap, subst, arith, append_assoc, length-append, length-drop, add-one}
+use Rattle.std.proofs.Math.Seq.{drop-cons}
 use Rattle.std.proofs.lemmas.Grind.{flat_map-append}
-use Rattle.std.proofs.lemmas.List.{take-append-drop}
 use Rattle.std.proofs.lemmas.List.Elements.{All-push}
 use Rattle.std.proofs.lemmas.Bool.{both_ways}
 use Rattle.std.specs.Int.{w32, w64, to_be_bytes}
-use Rattle.std.specs.List.{All, flat_map}
+use Rattle.std.specs.List.{flat_map}
 use Rattle.marc_types.specs.Valid.{is_code}
 use Rattle.marc_types.specs.declared.key.Key.{Key}
 use Rattle.marc_types.specs.declared.entry.Entry.{Entry}
@@ -16,7 +15,6 @@ use Rattle.iso2709_record.proofs.Spelled.{parts_same}
 use Rattle.reading.specs.Reading.{IsReadAs}
 use Rattle.entry_record.specs.Admission.{admission_refusal}
 use Rattle.entry_record.specs.Identity.{key_of}
-use Rattle.entry_record.specs.History.{IsAdmitted}
 use Rattle.entry_record.specs.Prepared.{new_entry}
 use Rattle.entry_history.specs.Payloads.{IsEntry, IsOld, IsCount, HoldsOld, old_entry_bytes, old_payload_bytes}
 use Rattle.entry_history.specs.Reading.{IsNotCoded, IsNotSized, IsOldHead, BeginOld, BeginWithNoOld, IsNoOldEntry, IsOldItem, AreOld, AreNoOld, AreOldSoFar, HoldsNoneOld, IsNotWritten, IsNoCode}

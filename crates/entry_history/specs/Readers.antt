@@ -1,5 +1,5 @@
 -- What a reader of payloads has taken.
-use Rattle.std.specs.Prelude.{◌≡◌, ℕ, ◌≤◌, List, [], ◌++◌}
+use Rattle.std.specs.Prelude.{◌≡◌, ℕ, ◌≤◌, List, ◌++◌}
 use Rattle.marc_types.specs.declared.entry.Entry.{Entry}
 use Rattle.entry_history.specs.Payloads.{Holds}
 use Rattle.entry_history.specs.declared.fault.EntryFault.{EntryFault}

@@ -1,4 +1,3 @@
-use Rattle.std.proofs.Common.{rules}
 use Rattle.entry_history.proofs.ReadEntries.{head_made, no_ordinal, no_length, no_record}
 use Rattle.entry_history.proofs.entry.entry_head.Goals as goal
 

@@ -1,4 +1,3 @@
-use Rattle.std.proofs.Common.{rules}
 use Rattle.std.proofs.lemmas.Result.{err_from_is_err_and}
 use Rattle.entry_history.proofs.ReadOld.{one_more_old, none_more_old}
 use Rattle.entry_history.proofs.old.read_entries.Goals as goal

@@ -1,4 +1,3 @@
-use Rattle.std.proofs.Common.{rules}
 use Rattle.entry_history.proofs.ReadOld.{no_loader, no_old_ordinal, no_library, no_old_record}
 use Rattle.entry_history.proofs.old.read_head.Goals as goal
 

@@ -1,4 +1,4 @@
-use Rattle.std.proofs.Common.{◌≡◌, ◌≤◌, ◌∙◌, length, drop, ap, arith}
+use Rattle.std.proofs.Common.{◌∙◌, length, drop, ap, arith}
 use Rattle.entry_history.proofs.Batches.{length-entry, rest_of, record_behind}
 use Rattle.entry_history.proofs.part.record_part.Goals as goal
 

@@ -1,4 +1,4 @@
-use Rattle.std.proofs.Common.{rules, ◌∙◌, sym, ap}
+use Rattle.std.proofs.Common.{◌∙◌, sym, ap}
 use Rattle.marc_types.specs.declared.entry.Entry.{Entry}
 use Rattle.entry_history.proofs.ReadPayloads.{last_run_is}
 use Rattle.entry_history.proofs.payload.last_run.Goals as goal

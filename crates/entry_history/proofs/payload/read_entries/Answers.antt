@@ -1,4 +1,3 @@
-use Rattle.std.proofs.Common.{rules}
 use Rattle.std.proofs.lemmas.Result.{err_from_is_err_and}
 use Rattle.entry_history.proofs.ReadPayloads.{one_more, none_more}
 use Rattle.entry_history.proofs.payload.read_entries.Goals as goal

@@ -1,4 +1,3 @@
-use Rattle.std.proofs.Common.{◌≡◌}
 use Rattle.entry_history.specs.Reading.{AreReadSoFar}
 use Rattle.entry_history.proofs.payload.read_entries.Given as goal
 

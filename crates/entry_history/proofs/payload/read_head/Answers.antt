@@ -1,4 +1,4 @@
-use Rattle.std.proofs.Common.{rules, arith, ap, length}
+use Rattle.std.proofs.Common.{arith}
 use Rattle.entry_history.proofs.ReadPayloads.{short_run, short_loader, short_len, joined, short_library, head_here}
 use Rattle.entry_history.proofs.payload.read_head.Goals as goal
 

@@ -1,4 +1,4 @@
-use Rattle.std.proofs.Common.{rules, ◌≡◌, true, arith}
+use Rattle.std.proofs.Common.{rules, ◌≡◌, true}
 use Rattle.marc_types.specs.Valid.{is_code}
 use Rattle.entry_history.proofs.ReadPayloads.{code_is_text}
 use Rattle.entry_history.proofs.payload.read_library.Goals as goal
