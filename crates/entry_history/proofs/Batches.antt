@@ -274,3 +274,8 @@ held_by_payload (x ∷ xs) before e batch are first follows =
       shared = alike_first x xs batch.alike;
       entries_are = are;
     }
+
+-- the record stands behind the ordinal and its length
+pub record_behind : (e : Entry) → drop 12 (entry_bytes e) ≡ record_bytes e.rec.leader e.rec.fields
+unfolding entry_bytes
+record_behind e = refl

@@ -1,5 +1,5 @@
 -- Payloads hold one history.
-use Rattle.std.proofs.Common.{◌≡◌, ◌∙◌, ℕ, suc, ◌<◌, ◌≤◌, List, [], ◌∷◌, ◌++◌, length, refl, sym, ap, subst, arith, append_assoc}
+use Rattle.std.proofs.Common.{◌≡◌, ◌≢◌, ◌∙◌, ℕ, suc, ◌<◌, ◌≤◌, List, [], ◌∷◌, ◌++◌, length, refl, sym, ap, subst, arith, append_assoc}
 use Rattle.std.specs.Int.{w32, w64, to_be_bytes}
 use Rattle.std.specs.List.{All, flat_map}
 use Rattle.marc_types.specs.declared.entry.Entry.{Entry}
@@ -7,8 +7,8 @@ use Rattle.iso2709_record.specs.Written.{record_length, record_bytes}
 use Rattle.iso2709_record.proofs.Spelled.{parts_same}
 use Rattle.entry_record.specs.Payload.{payload_head, entry_bytes, payload_bytes}
 use Rattle.entry_history.specs.Payloads.{IsEntry, IsOf, IsOld, HoldsNow, HoldsOld, Holds, Newer, Older, old_entry_bytes, old_payload_bytes, IsHistory, NoMore, OneMore}
-use Rattle.entry_history.specs.Reading.{AreEntries, HasHead, HoldsNoneNow}
-use Rattle.entry_history.specs.Readers.{HoldsNone}
+use Rattle.entry_history.specs.Reading.{AreEntries, HasHead, HoldsNoneNow, HoldsNoneOld}
+use Rattle.entry_history.specs.Readers.{IsVersion, HoldsNone}
 use Rattle.entry_history.specs.declared.fault.EntryFault.{EntryFault}
 use Rattle.entry_history.specs.declared.fault.EntryFault.TheVariants.{BadEntry, NoMemory}
 use Rattle.entry_history.proofs.Spelled.{long_once, short_once, entry_is, entry_once, fitting, record_once}
@@ -99,13 +99,29 @@ history_more version _ _ entries _ payload (NoMore all) holds = OneMore all entr
 history_more version _ _ entries _ payload (OneMore before es all first payloads here more) holds =
     OneMore before es (all ++ entries) first (payloads ++ payload ∷ []) here (history_more version (before ++ es) all entries payloads payload more holds)
 
-pub newer : (version : ℕ) (before entries : List Entry) (payload : List ℕ) → version ≡ 2 → HoldsNow before entries payload → Holds version before entries payload
-newer version before entries payload is h = Newer is h
+pub newer : (version : ℕ) (before entries : List Entry) (payload : List ℕ) → IsVersion version → version ≢ 1 → HoldsNow before entries payload
+    → Holds version before entries payload
+newer version before entries payload of_two not_first h = Newer (omega (arith, of_two.first, of_two.last)) h
 
-none_held : (version : ℕ) (before entries : List Entry) (payload : List ℕ) → version ≡ 2 → ((es : List Entry) → HoldsNow before es payload → ⊥) → Holds version before entries payload → ⊥
-none_held version before entries payload is none (Newer also h) = none entries h
-none_held version before entries payload is none (Older also h) = omega arith
+none_held : (version : ℕ) (before entries : List Entry) (payload : List ℕ) → version ≢ 1 → ((es : List Entry) → HoldsNow before es payload → ⊥)
+    → Holds version before entries payload → ⊥
+none_held version before entries payload not_first none (Newer is h) = none entries h
+none_held version before entries payload not_first none (Older is h) = not_first is
 
-pub none_newer : (version : ℕ) (before : List Entry) (payload : List ℕ) (fault : EntryFault) → version ≡ 2 → HoldsNoneNow before payload fault → HoldsNone version before payload fault
-none_newer version before payload BadEntry is none = λ entries h. none_held version before entries payload is none h
-none_newer version before payload NoMemory is none = tt
+pub none_newer : (version : ℕ) (before : List Entry) (payload : List ℕ) (fault : EntryFault) → version ≢ 1 → HoldsNoneNow before payload fault
+    → HoldsNone version before payload fault
+none_newer version before payload BadEntry not_first none = λ entries h. none_held version before entries payload not_first none h
+none_newer version before payload NoMemory not_first none = tt
+
+pub older : (version : ℕ) (before entries : List Entry) (payload : List ℕ) → version ≡ 1 → HoldsOld entries payload → Holds version before entries payload
+older version before entries payload is h = Older is h
+
+none_was : (version : ℕ) (before entries : List Entry) (payload : List ℕ) → version ≡ 1 → ((es : List Entry) → HoldsOld es payload → ⊥)
+    → Holds version before entries payload → ⊥
+none_was version before entries payload is none (Newer also h) = omega arith
+none_was version before entries payload is none (Older also h) = none entries h
+
+pub none_older : (version : ℕ) (before : List Entry) (payload : List ℕ) (fault : EntryFault) → version ≡ 1 → HoldsNoneOld payload fault
+    → HoldsNone version before payload fault
+none_older version before payload BadEntry is none = λ entries h. none_was version before entries payload is none h
+none_older version before payload NoMemory is none = tt

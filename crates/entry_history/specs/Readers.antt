@@ -1,9 +1,14 @@
 -- What a reader of payloads has taken.
-use Rattle.std.specs.Prelude.{◌≡◌, ℕ, List, [], ◌++◌}
+use Rattle.std.specs.Prelude.{◌≡◌, ℕ, ◌≤◌, List, [], ◌++◌}
 use Rattle.marc_types.specs.declared.entry.Entry.{Entry}
 use Rattle.entry_history.specs.Payloads.{Holds}
 use Rattle.entry_history.specs.declared.fault.EntryFault.{EntryFault}
 use Rattle.entry_history.specs.declared.fault.EntryFault.TheVariants.{BadEntry, NoMemory}
+
+-- there are two versions
+pub record IsVersion (version : ℕ) : Type 0 where
+  pub first : 1 ≤ version
+  pub last : version ≤ 2
 
 -- the version of the payloads, and the entries of those that were taken
 pub record Taken : Type 0 where

@@ -1,12 +1,12 @@
 -- What the parts of a payload are read as.
-use Rattle.std.specs.Prelude.{◌≡◌, ℕ, ◌^◌, ◌<◌, false, List, ◌++◌, length, drop, All}
+use Rattle.std.specs.Prelude.{◌≡◌, ℕ, ◌^◌, ◌<◌, false, List, ◌∷◌, ◌++◌, length, drop, All}
 use Rattle.std.specs.Int.{w32, w64, to_be_bytes}
 use Rattle.std.specs.List.{flat_map}
 use Rattle.marc_types.specs.Valid.{is_code}
 use Rattle.marc_types.specs.declared.entry.Entry.{Entry}
 use Rattle.iso2709_record.specs.Written.{record_bytes}
 use Rattle.entry_record.specs.Payload.{payload_head, entry_bytes}
-use Rattle.entry_history.specs.Payloads.{IsEntry, IsOf, HoldsNow}
+use Rattle.entry_history.specs.Payloads.{IsEntry, IsOf, IsOld, HoldsNow, HoldsOld, old_entry_bytes}
 use Rattle.entry_history.specs.declared.fault.EntryFault.{EntryFault}
 use Rattle.entry_history.specs.declared.fault.EntryFault.TheVariants.{BadEntry, NoMemory}
 
@@ -75,3 +75,58 @@ HoldsNoneNow before payload NoMemory = Unit {0}
 abbrev pub IsNoCode : List ℕ → EntryFault → Type 0
 IsNoCode bytes BadEntry = is_code bytes ≡ false
 IsNoCode bytes NoMemory = Unit {0}
+
+-- bytes are no length of one byte, or of four, with so many bytes behind it
+abbrev pub IsNotCoded : List ℕ → Type 0
+IsNotCoded bytes = (part rest : List ℕ) → length part ∷ (part ++ rest) ≡ bytes → ⊥
+
+abbrev pub IsNotSized : List ℕ → Type 0
+IsNotSized bytes = (part rest : List ℕ) → length part < 2 ^ 32 → to_be_bytes w32 (length part) ++ (part ++ rest) ≡ bytes → ⊥
+
+-- bytes are a loader, an ordinal, a library code behind its length, so many bytes behind theirs, and others
+pub record IsOldHead (bytes : List ℕ) (loader ordinal : ℕ) (library written rest : List ℕ) : Type 0 where
+  pub loader_fits : loader < 2 ^ 32
+  pub ordinal_fits : ordinal < 2 ^ 64
+  pub length_fits : length written < 2 ^ 32
+  pub split : bytes ≡ to_be_bytes w32 loader ++ (to_be_bytes w64 ordinal ++ (length library ∷ (library
+      ++ (to_be_bytes w32 (length written) ++ (written ++ rest)))))
+
+-- bytes begin with this entry, as version 1 writes it
+pub record BeginOld (bytes : List ℕ) (e : Entry) (rest : List ℕ) : Type 0 where
+  pub written : old_entry_bytes e ++ rest ≡ bytes
+  pub old : IsOld e
+  pub entry_is : IsEntry e
+
+abbrev pub BeginWithNoOld : List ℕ → Type 0
+BeginWithNoOld bytes = (e : Entry) (rest : List ℕ) → BeginOld bytes e rest → ⊥
+
+abbrev pub IsNoOldEntry : List ℕ → EntryFault → Type 0
+IsNoOldEntry bytes BadEntry = BeginWithNoOld bytes
+IsNoOldEntry bytes NoMemory = Unit {0}
+
+-- an entry under its own code, and written so
+pub record IsOldItem (written : List ℕ) (e : Entry) : Type 0 where
+  pub code : e.key.code ≡ e.library
+  pub written_is : record_bytes e.rec.leader e.rec.fields ≡ written
+
+-- bytes are so many entries, as version 1 writes them
+pub record AreOld (count : ℕ) (bytes : List ℕ) (entries : List Entry) : Type 0 where
+  pub written : flat_map old_entry_bytes entries ≡ bytes
+  pub count_is : length entries ≡ count
+  pub old : All IsOld entries
+  pub entries_are : All IsEntry entries
+
+abbrev pub AreNoOld : ℕ → List ℕ → EntryFault → Type 0
+AreNoOld count bytes BadEntry = (entries : List Entry) → AreOld count bytes entries → ⊥
+AreNoOld count bytes NoMemory = Unit {0}
+
+pub record AreOldSoFar (count : ℕ) (bytes : List ℕ) (done : ℕ) (entries : List Entry) (rest : List ℕ) : Type 0 where
+  pub written : flat_map old_entry_bytes entries ++ rest ≡ bytes
+  pub count_is : length entries ≡ done
+  pub old : All IsOld entries
+  pub entries_are : All IsEntry entries
+  pub left : (all : List Entry) → AreOld count bytes all → flat_map old_entry_bytes (drop done all) ≡ rest
+
+abbrev pub HoldsNoneOld : List ℕ → EntryFault → Type 0
+HoldsNoneOld payload BadEntry = (entries : List Entry) → HoldsOld entries payload → ⊥
+HoldsNoneOld payload NoMemory = Unit {0}

@@ -26,7 +26,7 @@ fn entry_head(bytes: &[u8]) -> Option<(u64, &[u8])>
 }
 
 /// The entry of a record in its written form.
-fn prepare_written(
+pub(crate) fn prepare_written(
     alloc: Global,
     written: &[u8],
     library: &Text,

@@ -14,6 +14,7 @@ mod event;
 mod fault;
 pub mod laws;
 mod numbers;
+mod old;
 mod part;
 mod payload;
 mod reader;

@@ -1,5 +1,6 @@
 //! Where the parts of a payload stand.
 ghost use Rattle.std.specs.Prelude.{◌≡◌, ◌≤◌, ◌+◌, length};
+ghost use Rattle.iso2709_record.specs.Written.{record_bytes};
 ghost use Rattle.entry_record.specs.History.{IsAdmitted};
 ghost use Rattle.entry_record.specs.Payload.{entry_bytes};
 
@@ -23,4 +24,11 @@ pub(crate) fn entry_part(item: &Prepared) -> &[u8]
     ensures small { length result.now ≤ 100011 }
 {
     &item.payload()[count_place(item) + 1..]
+}
+
+/// An entry's record as it stands in a payload.
+pub(crate) fn record_part(item: &Prepared) -> &[u8]
+    ensures { result.now ≡ record_bytes item.now.rec.leader item.now.rec.fields }
+{
+    &entry_part(item)[12..]
 }

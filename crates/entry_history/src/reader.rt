@@ -1,10 +1,9 @@
 //! The reading of a journal's payloads, one behind the other.
 ghost use Rattle.std.specs.Prelude.{◌≡◌, [], IfOk, OnOk, IfErr, OnErr};
 ghost use Rattle.entry_history.specs.Payloads.{Holds};
-ghost use Rattle.entry_history.specs.Readers.{Takes, HoldsNone};
+ghost use Rattle.entry_history.specs.Readers.{IsVersion, Takes, HoldsNone};
 
-use crate::EntryFault;
-use crate::payload::read_payload;
+use crate::{EntryFault, old, payload};
 use entry_record::Prepared;
 use std::alloc::Global;
 use std::marker::Model;
@@ -18,35 +17,37 @@ pub struct HistoryReader {
 }
 
 impl Model for HistoryReader {
-    ghost use Rattle.std.specs.Prelude.{◌≡◌};
-    ghost use Rattle.entry_history.specs.Readers.{Taken};
+    ghost use Rattle.entry_history.specs.Readers.{Taken, IsVersion};
 
     ghost Value = { Taken };
 
     ghost view = { λ r. record { version = r.version; entries = r.items.items } };
 
-    ghost invariant = { λ r. r.version ≡ 2 };
+    ghost invariant = { λ r. IsVersion r.version };
 }
 
 /// The entries of a payload that follows these.
-#[tactic(auto, using(crate::proofs::Histories::newer, crate::proofs::Histories::none_newer))]
+#[tactic(auto, using(crate::proofs::Histories::newer, crate::proofs::Histories::none_newer, crate::proofs::Histories::older, crate::proofs::Histories::none_older))]
 fn read(
     alloc: Global,
     version: u8,
     before: &[Prepared],
-    payload: &[u8],
+    bytes: &[u8],
 ) -> Result<Vec<Prepared>, EntryFault>
-    requires { version ≡ 2 }
-    ensures holds { IfOk result (λ items. Holds version before.now items.items payload.now) }
-    ensures bad { IfErr result (HoldsNone version before.now payload.now) }
+    requires { IsVersion version }
+    ensures holds { IfOk result (λ items. Holds version before.now items.items bytes.now) }
+    ensures bad { IfErr result (HoldsNone version before.now bytes.now) }
 {
-    read_payload(alloc, before, payload)
+    if version == 1 {
+        return old::read_payload(alloc, bytes);
+    }
+    payload::read_payload(alloc, before, bytes)
 }
 
 impl HistoryReader {
     /// No payload is taken yet. The version is that of the journal.
     pub fn new(alloc: Global, version: u8) -> HistoryReader
-        requires { version ≡ 2 }
+        requires { IsVersion version }
         ensures { result ≡ record { version = version; entries = [] } }
     {
         HistoryReader {
