@@ -1,4 +1,4 @@
-use crate::Durable;
+use crate::{Durable, OpenFault};
 use entry_history::Batch;
 use marc_types::{Limits, Text, can_be_code};
 use outside_mem::MemDisk;
@@ -15,11 +15,13 @@ const LIMITS: Limits = Limits {
     bytes: 4096,
 };
 
-fn open(alloc: Global, bytes: &[u8], limits: Limits) -> Result<Durable<MemDisk>, Fail> {
-    let bytes = bytes[..bytes.len().min(4096)].to_vec(alloc)?;
+fn open(alloc: Global, bytes: &[u8], limits: Limits) -> Result<Durable<MemDisk>, OpenFault> {
+    let Ok(bytes) = bytes[..bytes.len().min(4096)].to_vec(alloc) else {
+        return Err(OpenFault::NoMemory);
+    };
     match Durable::open(alloc, MemDisk::new(alloc, bytes, Vec::new(alloc)), limits) {
         Ok(durable) => Ok(durable),
-        Err((_disk, fault)) => Err(fault)?,
+        Err((_disk, fault)) => Err(fault),
     }
 }
 
@@ -44,6 +46,6 @@ fn a_commit_outlasts_its_catalogue(rt: HostRuntime) -> Result<(), Fail> {
         bytes: 4096,
     };
     let refused = open(alloc, disk.bytes(), none);
-    assert!(rt; refused.is_err());
+    assert_eq!(rt; refused.err(), Some(OpenFault::Full));
     Ok(())
 }
