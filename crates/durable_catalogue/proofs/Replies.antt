@@ -43,19 +43,19 @@ broken_answer o entries marked batch = record {
 }
 
 pub lost_answer : (o : Origin) (entries batch frame : List Entry) (fault : CommitFault) (mark : Option (List Entry)) → frame_of o (events entries None) batch ≡ frame
-    → IsLostBy fault mark frame → Answers o (events entries None) (events entries mark) batch [] (Some fault)
-lost_answer o entries batch frame NoMemory mark is lost = record {
+    → frame ≢ [] → IsLostBy fault mark frame → Answers o (events entries None) (events entries mark) batch [] (Some fault)
+lost_answer o entries batch frame NoMemory mark is some lost = record {
   added = [];
   after_is = ap (events entries) lost ∙ sym (append-nil (events entries None));
   is = (unbroken entries, record { receipts_are = refl; added_are = refl });
 }
-lost_answer o entries batch frame DeviceFault mark is lost = record {
+lost_answer o entries batch frame DeviceFault mark is some lost = record {
   added = Broke frame ∷ [];
   after_is = ap (events entries) lost ∙ ap (λ es. es ++ Broke frame ∷ []) (sym (append-nil (committed entries)));
-  is = (unbroken entries, record { receipts_are = refl; added_are = ap (λ f. Broke f ∷ []) (sym is) });
+  is = (unbroken entries, (λ none. some (sym is ∙ none), record { receipts_are = refl; added_are = ap (λ f. Broke f ∷ []) (sym is) }));
 }
-lost_answer o entries batch frame Full mark is lost = absurd lost
-lost_answer o entries batch frame Broken mark is lost = absurd lost
+lost_answer o entries batch frame Full mark is some lost = absurd lost
+lost_answer o entries batch frame Broken mark is some lost = absurd lost
 
 -- the frame of a batch
 pub frame_is : (o : Origin) (entries all batch part : List Entry) → all ≡ entries → part ≡ fitting o.limits all (with_run o.run batch) → frame_of o (events entries None) batch ≡ part
@@ -136,10 +136,10 @@ module _ (o : Origin) (entries after batch frame : List Entry) (mark mark_now : 
 
 -- a frame was lost
 pub lost_reply : (o : Origin) (entries after batch frame : List Entry) (mark mark_now : Option (List Entry)) (fault : CommitFault) (reply : BatchReply) → mark ≡ None → after ≡ entries
-    → frame_of o (events entries None) batch ≡ frame → IsLostBy fault mark_now frame → reply.receipts ≡ [] → reply.end ≡ Some fault → ReplyAdds o (events entries mark) (events after mark_now) batch reply
-lost_reply o entries after batch frame mark mark_now fault reply none same is lost receipts end =
+    → frame_of o (events entries None) batch ≡ frame → frame ≢ [] → IsLostBy fault mark_now frame → reply.receipts ≡ [] → reply.end ≡ Some fault → ReplyAdds o (events entries mark) (events after mark_now) batch reply
+lost_reply o entries after batch frame mark mark_now fault reply none same is some lost receipts end =
     subst (λ es. ReplyAdds o (events entries mark) (events es mark_now) batch reply) (sym same)
-    (adds o entries (events entries mark_now) mark batch reply [] (Some fault) none receipts end (lost_answer o entries batch frame fault mark_now is lost))
+    (adds o entries (events entries mark_now) mark batch reply [] (Some fault) none receipts end (lost_answer o entries batch frame fault mark_now is some lost))
 
 -- a device failed before
 pub broken_reply : (o : Origin) (entries batch : List Entry) (mark : Option (Snapshot (List Entry))) (reply : BatchReply) → is_some mark ≡ true → reply.receipts ≡ [] → reply.end ≡ Some Broken

@@ -43,7 +43,7 @@ pub record CommitsNothing (receipts : List Receipt) (added marks : List Event) :
   pub added_are : added ≡ marks
 
 -- By the end: none, where the frame holds the whole batch; Full, where it doesn't; Broken, where a device failed before; want
--- of memory, which adds nothing; and a failing device, which adds a mark with the frame's entries.
+-- of memory, which adds nothing; and a failing device, where the frame has an entry, which adds a mark with the frame's entries.
 abbrev pub IsEnd : Origin → List Event → List Entry → List Receipt → List Event → Option CommitFault → Type 0
 IsEnd origin before batch receipts added None =
     (frame_of origin before batch ≡ with_run origin.run batch) × CommitsFrame before (frame_of origin before batch) receipts added
@@ -54,7 +54,8 @@ IsEnd origin before batch receipts added (Some Broken) =
 IsEnd origin before batch receipts added (Some NoMemory) =
     (is_broken before ≡ false) × CommitsNothing receipts added []
 IsEnd origin before batch receipts added (Some DeviceFault) =
-    (is_broken before ≡ false) × CommitsNothing receipts added (Broke (frame_of origin before batch) ∷ [])
+    (is_broken before ≡ false) × (frame_of origin before batch ≢ [])
+    × CommitsNothing receipts added (Broke (frame_of origin before batch) ∷ [])
 
 -- the commit of a batch behind a history answers so, and adds these
 abbrev pub IsCommit : Origin → List Event → List Entry → BatchReply → List Event → Type 0

@@ -5,7 +5,7 @@ use std::sync::Wait;
 /// The most entries that a loader keeps before it takes a turn.
 pub const LARGEST_BATCH: u32 = 32;
 
-/// Where loaders can be held back, so that a test can choose how they alternate. No clause speaks of it.
+/// Where loaders can be held back, so that a test can choose how they alternate. No clause speaks of `before`.
 pub trait Gate {
     /// A loader calls it once before each call for its next piece, with the ordinal that the piece would have (also
     /// where the answer is the end), and goes on when it returns.

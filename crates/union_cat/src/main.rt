@@ -4,6 +4,7 @@
 use command_words::Words;
 use marc_types::Text;
 use outside_real::{FileRoom, FileSink, OpenGate, Target};
+use std::io::ErrorKind;
 use std::process::ExitCode;
 use std::{env, io};
 use union_top::run;
@@ -18,13 +19,27 @@ fn main(rt: HostRuntime) -> ExitCode {
     }
 }
 
+/// The words of the command line. Where one is refused, as one that isn't UTF-8, there are none.
+fn words_of(rt: &HostRuntime) -> io::Result<Words> {
+    let mut words = Vec::new(rt.alloc());
+    match env::args(rt) {
+        Ok(args) => {
+            for word in args.skip(1) {
+                words.push(Text::from_string(word))?;
+            }
+        }
+        Err(error) => {
+            if error.kind() == ErrorKind::OutOfMemory {
+                return Err(error);
+            }
+        }
+    }
+    Ok(Words::from_vec(words))
+}
+
 fn command(rt: &HostRuntime) -> io::Result<u8> {
     let alloc = rt.alloc();
-    let mut words = Vec::new(alloc);
-    for word in env::args(rt)?.skip(1) {
-        words.push(Text::from_string(word))?;
-    }
-    let words = Words::from_vec(words);
+    let words = words_of(rt)?;
     let mut room = FileRoom::new(rt.clone()?, alloc);
     let mut console = FileSink::direct(alloc, Target::Console(rt.clone()?));
     Ok(run(rt, alloc, &words, &mut room, &mut console, &OpenGate))

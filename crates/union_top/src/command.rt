@@ -39,6 +39,7 @@ fn pass<R: Room>(
     ensures told { (fault : Fault) → result ≡ fault_status fault → IsFaultTold (R.Out.written console.old) (R.Out.written console.new)
         (R.Out.faults console.old) (R.Out.faults console.new) (fault_line fault) }
     ensures there { (result ≤ 1) ⊎ (result ≡ 4) → (R.seen room.old).tells ≡ true → IsSome ((R.seen room.old).file file.now) }
+    ensures there_full { result ≡ 7 → (R.seen room.old).tells ≡ true → IsSome ((R.seen room.old).file file.now) }
     ensures end { (bytes : List ℕ) → (R.seen room.old).tells ≡ true → (R.seen room.old).file file.now ≡ Some bytes →
         (result ≤ 1) ⊎ (result ≡ 4) →
         IsEndOfPass code.now file.now bytes ((R.seen room.old).file out.now) ((R.seen room.new).file out.now)
@@ -80,6 +81,8 @@ pub fn run<H, R: Room, G: Gate + Sync>(
     ensures told { (fault : Fault) → result ≡ fault_status fault → IsFaultTold (R.Out.written console.old) (R.Out.written console.new)
         (R.Out.faults console.old) (R.Out.faults console.new) (fault_line fault) }
     ensures there { (library : Library) → library_at words.now 0 ≡ Some library → (result ≤ 1) ⊎ (result ≡ 4) →
+        (R.seen room.old).tells ≡ true → IsSome ((R.seen room.old).file library.file) }
+    ensures there_full { (library : Library) → library_at words.now 0 ≡ Some library → result ≡ 7 →
         (R.seen room.old).tells ≡ true → IsSome ((R.seen room.old).file library.file) }
     ensures end { (library : Library) (out bytes : List ℕ) → library_at words.now 0 ≡ Some library →
         command_of words.now ≡ Some (Pass out) → (R.seen room.old).tells ≡ true → (R.seen room.old).file library.file ≡ Some bytes →

@@ -104,6 +104,7 @@ pub fn load_file<R: Room>(
     requires library { IsTrue (is_code library) }
     ensures stays { Stays (R.seen room.old) (R.seen room.new) }
     ensures there { OnOk result ((R.seen room.old).tells ≡ true → IsSome ((R.seen room.old).file name.now)) }
+    ensures there_full { IfErr result (λ fault. fault ≡ Fault.Full → (R.seen room.old).tells ≡ true → IsSome ((R.seen room.old).file name.now)) }
     ensures loaded { IfOk result (λ loaded. (bytes : List ℕ) → (R.seen room.old).tells ≡ true → (R.seen room.old).file name.now ≡ Some bytes →
         IsLoaded library (items bytes) loaded) }
     ensures full { IfErr result (λ fault. fault ≡ Fault.Full → (bytes : List ℕ) → (R.seen room.old).tells ≡ true →

@@ -43,6 +43,7 @@ pub fn prepare<R: Room>(alloc: Global, room: &mut R, code: &str, file: &str) -> 
     requires library { IsTrue (is_code code.now) }
     ensures stays { Stays (R.seen room.old) (R.seen room.new) }
     ensures there { OnOk result ((R.seen room.old).tells ≡ true → IsSome ((R.seen room.old).file file.now)) }
+    ensures there_full { IfErr result (λ fault. fault ≡ Fault.Full → (R.seen room.old).tells ≡ true → IsSome ((R.seen room.old).file file.now)) }
     ensures ready { IfOk result (λ ready. (bytes : List ℕ) → (R.seen room.old).tells ≡ true → (R.seen room.old).file file.now ≡ Some bytes →
         IsReady code.now file.now bytes ready) }
     ensures full { IfErr result (λ fault. fault ≡ Fault.Full → (bytes : List ℕ) → (R.seen room.old).tells ≡ true →

@@ -95,4 +95,4 @@ returns-in-Err-clause-reply g c =
     let o : Origin = record { limits = self.limits; run = self.run } in
     let frame = c.in-Some.frame in
     lost_reply o self.core.history now.core.history c.args.batch frame (mark_of self.mark) (mark_of now.mark) c.in-Err.fault c.nothing-in-Err.result (no_mark self.mark whole) c.in-Err.ensures.nothing
-    (part_is o self.core c.args.batch c.set_run.new.self frame self.unstaged c.set_run.ensures c.in-Some.ensures.part) c.in-Err.ensures.fault c.nothing-in-Err.ensures.receipts c.nothing-in-Err.ensures.end
+    (part_is o self.core c.args.batch c.set_run.new.self frame self.unstaged c.set_run.ensures c.in-Some.ensures.part) c.in-Some.ensures.some c.in-Err.ensures.fault c.nothing-in-Err.ensures.receipts c.nothing-in-Err.ensures.end
