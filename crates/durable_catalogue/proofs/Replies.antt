@@ -52,7 +52,7 @@ lost_answer o entries batch frame NoMemory mark is some lost = record {
 lost_answer o entries batch frame DeviceFault mark is some lost = record {
   added = Broke frame ∷ [];
   after_is = ap (events entries) lost ∙ ap (λ es. es ++ Broke frame ∷ []) (sym (append-nil (committed entries)));
-  is = (unbroken entries, (λ none. some (sym is ∙ none), record { receipts_are = refl; added_are = ap (λ f. Broke f ∷ []) (sym is) }));
+  is = (unbroken entries, (λ none. some (sym is ∙ none)), record { receipts_are = refl; added_are = ap (λ f. Broke f ∷ []) (sym is) });
 }
 lost_answer o entries batch frame Full mark is some lost = absurd lost
 lost_answer o entries batch frame Broken mark is some lost = absurd lost
