@@ -1,5 +1,5 @@
 //! A catalogue: its history, the entries that are staged behind it, and the state behind both.
-ghost use Rattle.std.specs.Prelude.{◌≡◌, ◌+◌, ◌<◌, [], true, false, length, map, All, IfOk, OnOk, IfErr, OnErr, slice_get};
+ghost use Rattle.std.specs.Prelude.{◌≡◌, ◌+◌, ◌^◌, ◌<◌, [], true, false, length, map, All, IfOk, OnOk, IfErr, OnErr, slice_get};
 ghost use Rattle.std.specs.Option.{option_map, option_and_then, option_copied};
 ghost use Rattle.record_store.specs.Store.{field_under, kept_record, shown_row};
 ghost use Rattle.entry_record.specs.State.{linkable_authorities, rows_of};
@@ -191,7 +191,8 @@ impl Catalogue {
 
     /// How many entries there are, with the staged ones.
     pub fn history_len(&self) -> u64
-        ensures { result ≡ length (all_entries self.now) }
+        ensures value { result ≡ length (all_entries self.now) }
+        ensures few { result < 2 ^ 63 }
     {
         self.entries.len() as u64
     }

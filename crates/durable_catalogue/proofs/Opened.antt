@@ -1,6 +1,6 @@
 -- What an opening leaves.
-use Rattle.std.proofs.Common.{◌≡◌, ◌⊎◌, inl, inr, ℕ, ◌+◌, ◌<◌, ◌≤◌, Bool, true, false, List, [], ◌∷◌, ◌++◌, length, Some, Ok, is_some, refl, sym, ap, subst, ◌∙◌, arith}
-use Rattle.std.specs.Prelude.{◌==◌, ◌≢◌, if◌then◌else◌, slice_index}
+use Rattle.std.proofs.Common.{◌≡◌, ◌⊎◌, inl, inr, ℕ, ◌<◌, ◌≤◌, Bool, true, false, List, [], length, Some, Ok, refl, sym, subst, ◌∙◌, arith}
+use Rattle.std.specs.Prelude.{◌==◌, ◌≢◌, slice_index}
 use Rattle.std.proofs.Math.Logic.{∥∥₁_map}
 use Rattle.marc_types.specs.declared.entry.Entry.{Entry}
 use Rattle.marc_types.specs.declared.entry.Limits.{Limits}
@@ -11,16 +11,16 @@ use Rattle.commit_journal.specs.declared.fault.JournalFault.{JournalFault}
 use Rattle.commit_journal.specs.declared.fault.JournalFault.TheVariants as journal
 use Rattle.commit_journal.specs.declared.format.TheConstants.{BLANK_LENGTH, VERSION_PLACE, DIGIT_1}
 use Rattle.commit_journal.specs.Log.{frames_of, version_of, version_of_header}
-use Rattle.commit_journal.specs.Journal.{IsRecovered, IsSettled, Opens, HasOpenCause}
+use Rattle.commit_journal.specs.Journal.{IsRecovered, Opens, HasOpenCause}
 use Rattle.commit_journal.proofs.Logs.{version_two, version_blank, version_long, short_or_long}
-use Rattle.entry_record.specs.History.{last_run, next_run}
+use Rattle.entry_record.specs.History.{next_run}
 use Rattle.entry_history.specs.Payloads.{IsHistory, CanFollow}
 use Rattle.durable_catalogue.specs.declared.fault.OpenFault.{OpenFault}
 use Rattle.durable_catalogue.specs.declared.fault.OpenFault.TheVariants.{DeviceFault, NotAJournal, OldVersion, Full, NoMemory}
-use Rattle.durable_catalogue.specs.Logs.{payloads_of, IsLogOf, HasHistory}
+use Rattle.durable_catalogue.specs.Logs.{payloads_of, IsLogOf}
 use Rattle.durable_catalogue.specs.Images.{Reaches}
 use Rattle.durable_catalogue.specs.Durables.{IsKept}
-use Rattle.durable_catalogue.specs.Openings.{IsBadFrame, IsWithin, IsUnloaded, IsNoJournal, NoGate, NoPayload, IsUnopened, IsOpening, open_fault}
+use Rattle.durable_catalogue.specs.Openings.{IsBadFrame, IsUnloaded, NoGate, NoPayload, IsUnopened, IsOpening, open_fault}
 use Rattle.durable_catalogue.proofs.Histories.{runs_bounded}
 use Rattle.durable_catalogue.proofs.Images.{front_reaches, whole_front}
 use Rattle.durable_catalogue.proofs.Keeping.{some_of}

@@ -1,5 +1,5 @@
 -- Histories of events, and what a commit answers and adds.
-use Rattle.std.proofs.Common.{◌≡◌, ◌≢◌, true, false, List, [], ◌∷◌, ◌++◌, Option, Some, None, is_some, refl, sym, ap, subst, ◌∙◌}
+use Rattle.std.proofs.Common.{length-append, arith, length, ◌+◌, suc, ◌≡◌, ◌≢◌, true, false, List, [], ◌∷◌, ◌++◌, Option, Some, None, is_some, refl, sym, ap, subst, ◌∙◌}
 use Rattle.std.proofs.lemmas.List.{append-nil, map-append}
 use Rattle.std.specs.declared.snapshot.Snapshot.{Snapshot}
 use Rattle.marc_types.specs.declared.entry.Entry.{Entry}
@@ -152,3 +152,21 @@ broken_reply o entries batch (Some frame) reply is receipts end =
       subst (λ (r : List Receipt). IsEnd o (events entries (Some frame.value)) batch r a.added reply.end) (sym receipts)
           (subst (λ (e : Option CommitFault). IsEnd o (events entries (Some frame.value)) batch [] a.added e) (sym end) a.is),
     )
+
+-- the entries of a history with or without a mark, and how many items it has
+pub entries_are : (entries : List Entry) (mark : Option (List Entry)) → entries_of (events entries mark) ≡ entries
+entries_are entries None = entries_back entries
+entries_are [] (Some frame) = refl
+entries_are (e ∷ es) (Some frame) = ap (λ xs. e ∷ xs) (entries_are es (Some frame))
+
+count_committed : (entries : List Entry) → length (committed entries) ≡ length entries
+count_committed [] = refl
+count_committed (e ∷ es) = ap suc (count_committed es)
+
+pub count_whole : (entries : List Entry) (mark : Option (Snapshot (List Entry))) → is_some mark ≡ false → length (events entries (mark_of mark)) ≡ length entries
+count_whole entries None whole = omega (arith, length-append (committed entries) [], count_committed entries)
+count_whole entries (Some frame) whole = cc
+
+pub count_marked : (entries : List Entry) (mark : Option (Snapshot (List Entry))) → is_some mark ≡ true → length (events entries (mark_of mark)) ≡ length entries + 1
+count_marked entries None marked = cc
+count_marked entries (Some frame) marked = omega (arith, length-append (committed entries) (Broke frame.value ∷ []), count_committed entries)

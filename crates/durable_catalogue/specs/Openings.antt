@@ -8,7 +8,6 @@ use Rattle.commit_journal.specs.declared.fault.JournalFault.{JournalFault}
 use Rattle.commit_journal.specs.declared.fault.JournalFault.TheVariants as journal
 use Rattle.commit_journal.specs.declared.format.TheConstants.{BLANK_LENGTH}
 use Rattle.commit_journal.specs.Log.{frames_of, version_of}
-use Rattle.commit_journal.specs.Journal.{Continues}
 use Rattle.entry_record.specs.History.{entries_size}
 use Rattle.entry_history.specs.Payloads.{Holds, IsHistory}
 use Rattle.catalogue_core.specs.Catalogues.{Catalogued}

@@ -19,12 +19,14 @@ ghost use Rattle.durable_catalogue.specs.Durables.{mark_of, marked, events, is_t
 use crate::OpenFault;
 use crate::fitting::fitting_part;
 use crate::loading::{Loaded, load};
+use crate::seen::{Seen, look_at};
 use crate::staging::stage_all;
 use crate::written::each_can_stand_in_a_payload;
 use catalogue_core::Catalogue;
+use catalogue_lock::Object;
 use commit_journal::{Journal, JournalFault};
-use entry_history::{Batch, BatchReply, Receipts};
-use marc_types::{CommitFault, Limits};
+use entry_history::{Batch, BatchReply, Event, Receipts};
+use marc_types::{CommitFault, Limits, NoMemory, Place};
 use outside::Disk;
 use std::alloc::Global;
 use std::marker::Brand;
@@ -34,6 +36,7 @@ use std::sync::ledger::Blank;
 /// A catalogue whose entries outlast a crash: each commit is in the journal before it is acknowledged.
 #[derive(Drop)]
 pub struct Durable<D: Disk> {
+    alloc: Global,
     core: Catalogue,
     journal: Journal<D>,
     limits: Limits,
@@ -111,6 +114,7 @@ impl<D: Disk> Durable<D> {
                         let Loaded { core, run } = loaded;
                         let opened = core.history_len();
                         Ok(Durable {
+                            alloc,
                             core,
                             journal,
                             limits,
@@ -225,6 +229,55 @@ impl<D: Disk> Durable<D> {
         match self.commit_frame(alloc, frame) {
             Ok(receipts) => BatchReply { receipts, end },
             Err(fault) => nothing(alloc, fault),
+        }
+    }
+}
+
+/// Its items are the committed entries, and the mark where a device failed; a call is a batch that isn't empty; a question
+/// is the place of a field.
+impl<D: Disk> Object for Durable<D> {
+    ghost use Rattle.std.specs.Prelude.{◌≢◌, []};
+    ghost use Rattle.entry_history.specs.Commits.{IsCommit};
+    ghost use Rattle.durable_catalogue.specs.Durables.{Opening, mark_of, events, opening};
+    ghost use Rattle.durable_catalogue.specs.Questions.{IsSeen};
+
+    type Item = Event;
+
+    type Call = Batch;
+
+    type Reply = BatchReply;
+
+    type Question = Place;
+
+    type Answer = Result<Seen, NoMemory>;
+
+    ghost Origin = { Opening };
+
+    ghost history = { λ d. events d.core.history (mark_of d.mark) };
+
+    ghost origin = { λ d. opening d.limits d.run d.opened (D.seen d.before.value) (D.seen d.first.value.disk) };
+
+    ghost takes = { λ batch. batch ≢ [] };
+
+    ghost replies = { λ o before batch reply added. IsCommit o.origin before batch reply added };
+
+    ghost answers = { λ o history place answer. IsSeen history place answer };
+
+    fn apply(&mut self, batch: Batch) -> BatchReply {
+        let alloc = self.alloc;
+        self.commit(alloc, batch)
+    }
+
+    fn look(&self, place: &Place) -> Result<Seen, NoMemory> {
+        look_at(self.alloc, &self.core, place)
+    }
+
+    fn count(&self) -> u64 {
+        let entries = self.core.history_len();
+        if self.journal.is_broken() {
+            entries + 1
+        } else {
+            entries
         }
     }
 }

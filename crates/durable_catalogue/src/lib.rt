@@ -3,11 +3,13 @@
 
 pub use durable::Durable;
 pub use fault::OpenFault;
+pub use seen::Seen;
 
 mod durable;
 mod fault;
 mod fitting;
 mod loading;
+mod seen;
 mod staging;
 #[cfg(test)]
 mod tests;

@@ -1,4 +1,4 @@
-use Rattle.std.proofs.Common.{◌≡◌, ◌≤◌, length, sym, subst, arith}
+use Rattle.std.proofs.Common.{◌≤◌, length, sym, subst, arith}
 use Rattle.entry_record.specs.History.{last_run}
 use Rattle.durable_catalogue.specs.Logs.{payloads_of}
 use Rattle.durable_catalogue.proofs.Histories.{bounded_behind_none}

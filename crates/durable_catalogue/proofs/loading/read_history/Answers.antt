@@ -1,5 +1,5 @@
 use Rattle.std.proofs.Common.{sym, subst}
-use Rattle.durable_catalogue.proofs.Loads.{AreRead, none_read, one_read, bad_frame, all_read}
+use Rattle.durable_catalogue.proofs.Loads.{AreRead, none_read, one_read, bad_frame}
 use Rattle.durable_catalogue.proofs.loading.read_history.Goals as goal
 
 pub loop-frame-init : goal.loop-frame-init

@@ -1,4 +1,4 @@
-use Rattle.std.proofs.Common.{◌≡◌, ◌+◌, ◌-◌, length, sym, ap, subst, ◌∙◌, arith}
+use Rattle.std.proofs.Common.{◌-◌, length, ap, arith}
 use Rattle.marc_types.specs.declared.entry.Entry.{Entry}
 use Rattle.durable_catalogue.proofs.Histories.{last_entry}
 use Rattle.durable_catalogue.proofs.loading.run_behind.Goals as goal

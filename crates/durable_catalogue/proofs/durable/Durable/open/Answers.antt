@@ -1,4 +1,4 @@
-use Rattle.std.proofs.Common.{◌≡◌, ◌++◌, [], length, sym, ap, subst, ◌∙◌}
+use Rattle.std.proofs.Common.{◌++◌, [], length, sym, ap, subst, ◌∙◌}
 use Rattle.std.proofs.lemmas.List.{append-nil}
 use Rattle.commit_journal.specs.Journal.{IsRecovered}
 use Rattle.entry_history.specs.Payloads.{IsHistory, CanFollow}
@@ -18,7 +18,7 @@ invariant_of-result g c =
     let recovered = subst (λ v. IsRecovered c.in-Ok.frames journal.place v (seen c.args.disk) (seen journal.disk)) two c.in-Ok.ensures.recovered in
     let holds = subst (λ fs. IsHistory 2 [] (payloads_of fs) history) c.as_slice.ensures done.history in
     let unstaged = ap (λ core. core.staged) done.core in
-    let opened = c.history_len-opened.ensures ∙ ap (λ es. length (history ++ es)) unstaged ∙ ap length (append-nil history) in
+    let opened = c.history_len-opened.ensures.value ∙ ap (λ es. length (history ++ es)) unstaged ∙ ap length (append-nil history) in
     let kept = opened_kept c.in-Ok.frames journal.place (seen c.args.disk) (seen journal.disk) history recovered c.in-Ok.ensures.crash holds c.in-Ok.ensures.later in
     record {
       unstaged = unstaged;
