@@ -1,7 +1,8 @@
 -- What an opening leaves.
 use Rattle.std.proofs.Common.{◌≡◌, ◌⊎◌, inl, inr, ℕ, ◌<◌, ◌≤◌, Bool, true, false, List, [], length, Some, Ok, refl, sym, subst, ◌∙◌, arith}
-use Rattle.std.specs.Prelude.{◌==◌, ◌≢◌, slice_index}
+use Rattle.std.specs.Prelude.{◌==◌, ◌≢◌, slice_index, nat_eq}
 use Rattle.std.proofs.Math.Logic.{∥∥₁_map}
+use Rattle.std.proofs.lemmas.Bool.Decides.{nat_tests}
 use Rattle.marc_types.specs.declared.entry.Entry.{Entry}
 use Rattle.marc_types.specs.declared.entry.Limits.{Limits}
 use Rattle.outside.specs.Disk.{DiskView}
@@ -14,19 +15,21 @@ use Rattle.commit_journal.specs.Log.{frames_of, version_of, version_of_header}
 use Rattle.commit_journal.specs.Journal.{IsRecovered, Opens, HasOpenCause}
 use Rattle.commit_journal.proofs.Logs.{version_two, version_blank, version_long, short_or_long}
 use Rattle.entry_record.specs.History.{next_run}
+use Rattle.entry_history.specs.Readers.{IsVersion}
 use Rattle.entry_history.specs.Payloads.{IsHistory, CanFollow}
 use Rattle.durable_catalogue.specs.declared.fault.OpenFault.{OpenFault}
 use Rattle.durable_catalogue.specs.declared.fault.OpenFault.TheVariants.{DeviceFault, NotAJournal, OldVersion, Full, NoMemory}
 use Rattle.durable_catalogue.specs.Logs.{payloads_of, IsLogOf}
 use Rattle.durable_catalogue.specs.Images.{Reaches}
 use Rattle.durable_catalogue.specs.Durables.{IsKept}
-use Rattle.durable_catalogue.specs.Openings.{IsBadFrame, IsUnloaded, NoGate, NoPayload, IsUnopened, IsOpening, open_fault}
+use Rattle.durable_catalogue.specs.Openings.{IsBadFrame, IsUnloaded, NoGate, NoPayload, IsUnopened, IsOpening}
+use Rattle.durable_catalogue.specs.Faults.{open_fault}
 use Rattle.durable_catalogue.proofs.Histories.{runs_bounded}
 use Rattle.durable_catalogue.proofs.Images.{front_reaches, whole_front}
 use Rattle.durable_catalogue.proofs.Keeping.{some_of}
 use Rattle.durable_catalogue.proofs.Readings.{same_log}
 
-reading : (log : List ℕ) (frames : List Frame) (version : ℕ) (entries : List Entry) → frames_of log ≡ Ok frames → version_of log ≡ version
+pub reading : (log : List ℕ) (frames : List Frame) (version : ℕ) (entries : List Entry) → frames_of log ≡ Ok frames → version_of log ≡ version
     → IsHistory version [] (payloads_of frames) entries → IsLogOf entries log
 reading log frames version entries found is holds = record {
   frames = frames;
@@ -86,13 +89,21 @@ old_version log other = decided (short_or_long (length log) BLANK_LENGTH)
     decided (inl short) = absurd (other (version_blank log short))
     decided (inr long) = version_long log long ∙ version_one log (λ two. other (version_long log long ∙ two))
 
+pub either_version : (log : List ℕ) → IsVersion (version_of log)
+either_version log = decided (nat_eq (version_of log) 2) refl
+  where
+    decided : (b : Bool) → nat_eq (version_of log) 2 ≡ b → IsVersion (version_of log)
+    decided true is = let two : version_of log ≡ 2 = grind (arith, nat_tests) in record { first = omega arith; last = omega arith }
+    decided false is = let one : version_of log ≡ 1 = old_version log (λ two. grind (arith, nat_tests)) in record { first = omega arith; last = omega arith }
+
 -- why a log is not opened, from its frames
 pub unloaded : (frames : List Frame) (place version : ℕ) (old new : DiskView) (limits : Limits) (fault : OpenFault) → IsRecovered frames place version old new
     → IsUnloaded version frames limits fault → (log : List ℕ) → old.content ≡ Some log → IsUnopened limits log fault
 unloaded frames place version old new limits DeviceFault r why log told = absurd why
 unloaded frames place version old new limits (NotAJournal at) r why log told =
     NoPayload frames (r.was log told) (subst (λ v. IsBadFrame v frames at) (sym (r.named log told)) why)
-unloaded frames place version old new limits OldVersion r why log told = old_version log (λ two. why (sym (r.named log told) ∙ two))
+unloaded frames place version old new limits OldVersion r why log told =
+    (old_version log (λ two. why.0 (sym (r.named log told) ∙ two)), (why.1.0, reading log frames version why.1.0 (r.was log told) (r.named log told) why.1.1))
 unloaded frames place version old new limits Full r why log told = (why.0, reading log frames version why.0 (r.was log told) (r.named log told) why.1, why.2)
 unloaded frames place version old new limits NoMemory r why log told = tt
 

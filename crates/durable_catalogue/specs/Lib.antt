@@ -1,4 +1,5 @@
 pub mod Durables
+pub mod Faults
 pub mod Images
 pub mod Logs
 pub mod Openings

@@ -4,8 +4,6 @@ use Rattle.marc_types.specs.declared.entry.Entry.{Entry}
 use Rattle.marc_types.specs.declared.entry.Limits.{Limits}
 use Rattle.outside.specs.Disk.{DiskView}
 use Rattle.commit_journal.specs.declared.frame.Frame.{Frame}
-use Rattle.commit_journal.specs.declared.fault.JournalFault.{JournalFault}
-use Rattle.commit_journal.specs.declared.fault.JournalFault.TheVariants as journal
 use Rattle.commit_journal.specs.declared.format.TheConstants.{BLANK_LENGTH}
 use Rattle.commit_journal.specs.Log.{frames_of, version_of}
 use Rattle.entry_record.specs.History.{entries_size}
@@ -34,7 +32,7 @@ pub record IsWithin (limits : Limits) (entries : List Entry) : Type 0 where
 -- why frames of a version are not loaded: a payload isn't valid, the version is another, or their history passes the limits
 abbrev pub IsUnloaded : ℕ → List Frame → Limits → OpenFault → Type 0
 IsUnloaded version frames limits (NotAJournal place) = IsBadFrame version frames place
-IsUnloaded version frames limits OldVersion = version ≢ 2
+IsUnloaded version frames limits OldVersion = (version ≢ 2) × ((entries : List Entry) × IsHistory version [] (payloads_of frames) entries)
 IsUnloaded version frames limits Full = (entries : List Entry) × IsHistory version [] (payloads_of frames) entries × (IsWithin limits entries → ⊥)
 IsUnloaded version frames limits NoMemory = Unit {0}
 IsUnloaded version frames limits DeviceFault = ⊥
@@ -48,15 +46,9 @@ pub data IsNoJournal (log : List ℕ) (place : ℕ) : Type 0 where
 abbrev pub IsUnopened : Limits → List ℕ → OpenFault → Type 0
 IsUnopened limits log DeviceFault = Unit {0}
 IsUnopened limits log (NotAJournal place) = IsNoJournal log place
-IsUnopened limits log OldVersion = version_of log ≡ 1
+IsUnopened limits log OldVersion = (version_of log ≡ 1) × ((entries : List Entry) × IsLogOf entries log)
 IsUnopened limits log Full = (entries : List Entry) × IsLogOf entries log × (IsWithin limits entries → ⊥)
 IsUnopened limits log NoMemory = Unit {0}
-
--- the journal's faults in the catalogue's words
-abbrev pub open_fault : JournalFault → OpenFault
-open_fault journal.DeviceFault = DeviceFault
-open_fault (journal.NotAJournal place) = NotAJournal place
-open_fault journal.NoMemory = NoMemory
 
 -- an opening: each image since its first sync that succeeded has the history that the log had, in no more bytes than it or a blank
 -- log has; where no sync succeeded, the content is as it was

@@ -12,11 +12,12 @@ ghost use Rattle.entry_history.specs.Payloads.{CanFollow};
 ghost use Rattle.entry_history.specs.declared.event.Event.{Event};
 ghost use Rattle.durable_catalogue.specs.Logs.{HasHistory};
 ghost use Rattle.durable_catalogue.specs.declared.fault.OpenFault.{OpenFault};
-ghost use Rattle.durable_catalogue.specs.Openings.{IsWithin, IsUnopened, IsOpening, open_fault};
+ghost use Rattle.durable_catalogue.specs.Openings.{IsWithin, IsUnopened, IsOpening};
 ghost use Rattle.durable_catalogue.specs.Images.{HasFrameOrNot};
 ghost use Rattle.durable_catalogue.specs.Durables.{mark_of, marked, events, is_taken, opening, IsKept, IsLostBy, IsSameOpening};
 
 use crate::OpenFault;
+use crate::fault::open_fault;
 use crate::fitting::fitting_part;
 use crate::loading::{Loaded, load};
 use crate::seen::{Seen, look_at};
@@ -24,7 +25,7 @@ use crate::staging::stage_all;
 use crate::written::each_can_stand_in_a_payload;
 use catalogue_core::Catalogue;
 use catalogue_lock::Object;
-use commit_journal::{Journal, JournalFault};
+use commit_journal::Journal;
 use entry_history::{Batch, BatchReply, Event, Receipts};
 use marc_types::{CommitFault, Limits, NoMemory, Place};
 use outside::Disk;
@@ -66,17 +67,6 @@ fn nothing(alloc: Global, end: CommitFault) -> BatchReply
     BatchReply {
         receipts: Receipts::from_vec(Vec::new(alloc)),
         end: Some(end),
-    }
-}
-
-/// The journal's faults in the catalogue's words.
-fn open_fault(fault: JournalFault) -> OpenFault
-    ensures { result ≡ open_fault fault }
-{
-    match fault {
-        JournalFault::DeviceFault => OpenFault::DeviceFault,
-        JournalFault::NotAJournal(place) => OpenFault::NotAJournal(place),
-        JournalFault::NoMemory => OpenFault::NoMemory,
     }
 }
 

@@ -1,3 +1,7 @@
+ghost use Rattle.std.specs.Prelude.{◌≡◌};
+ghost use Rattle.durable_catalogue.specs.Faults.{open_fault};
+
+use commit_journal::JournalFault;
 use std::error::Error;
 use std::fmt;
 
@@ -29,3 +33,14 @@ impl fmt::Display for OpenFault {
 }
 
 impl Error for OpenFault {}
+
+/// The journal's faults in the catalogue's words.
+pub fn open_fault(fault: JournalFault) -> OpenFault
+    ensures { result ≡ open_fault fault }
+{
+    match fault {
+        JournalFault::DeviceFault => OpenFault::DeviceFault,
+        JournalFault::NotAJournal(place) => OpenFault::NotAJournal(place),
+        JournalFault::NoMemory => OpenFault::NoMemory,
+    }
+}

@@ -1,10 +1,12 @@
 //! The catalogue and its journal together: what is committed outlasts a crash.
 #![tactic(auto)]
 
+pub use archive::Archive;
 pub use durable::Durable;
 pub use fault::OpenFault;
 pub use seen::Seen;
 
+mod archive;
 mod durable;
 mod fault;
 mod fitting;

@@ -2,6 +2,8 @@
 ghost use Rattle.std.specs.Prelude.{◌≡◌, ◌≢◌, ◌≤◌, ◌<◌, ◌^◌, [], length, IfOk, IfErr, OnOk};
 ghost use Rattle.entry_record.specs.History.{last_run, next_run};
 ghost use Rattle.entry_history.specs.Payloads.{IsHistory};
+ghost use Rattle.entry_history.specs.Readers.{IsVersion};
+ghost use Rattle.durable_catalogue.specs.declared.fault.OpenFault.TheVariants.{DeviceFault, OldVersion};
 ghost use Rattle.catalogue_core.specs.Catalogues.{Catalogued};
 ghost use Rattle.durable_catalogue.specs.Logs.{payloads_of};
 ghost use Rattle.durable_catalogue.specs.Openings.{IsUnloaded, IsUnread, IsUnbuilt, IsWithin, catalogue_of};
@@ -26,7 +28,7 @@ pub struct Loaded {
 
 /// The entries of a journal's frames, in their order.
 fn read_history(alloc: Global, version: u8, frames: &[Frame]) -> Result<Vec<Prepared>, OpenFault>
-    requires { version ≡ 2 }
+    requires { IsVersion version }
     ensures history { IfOk result (λ items. IsHistory version [] (payloads_of frames.now) items.items) }
     ensures fault { IfErr result (IsUnread version frames.now) }
 {
@@ -78,7 +80,17 @@ fn build<L: Ledger>(
     Ok(core)
 }
 
-/// The catalogue whose history the frames of a journal of that version hold.
+/// The entries of a journal's frames, whose version is 1 or 2.
+fn read_either(alloc: Global, version: u8, frames: &[Frame]) -> Result<Vec<Prepared>, OpenFault>
+    ensures history { IsVersion version → IfOk result (λ items. IsHistory version [] (payloads_of frames.now) items.items) }
+    ensures fault { IsVersion version → IfErr result (IsUnread version frames.now) }
+    ensures current { IfErr result (λ fault. fault ≢ OldVersion) }
+    ensures no_device { IfErr result (λ fault. fault ≢ DeviceFault) }
+{
+    read_history(alloc, version.max(1).min(2), frames)
+}
+
+/// The catalogue whose history the frames of a journal of version 2 hold.
 pub fn load(
     alloc: Global,
     version: u8,
@@ -90,13 +102,32 @@ pub fn load(
     ensures core { IfOk result (λ l. l.core ≡ catalogue_of limits l.core.history) }
     ensures within { IfOk result (λ l. IsWithin limits l.core.history) }
     ensures run { IfOk result (λ l. l.run ≡ next_run l.core.history) }
-    ensures fault { IfErr result (IsUnloaded version frames.now limits) }
+    ensures fault { IsVersion version → IfErr result (IsUnloaded version frames.now limits) }
+    ensures no_device { IfErr result (λ fault. fault ≢ DeviceFault) }
 {
+    let items = read_either(alloc, version, frames)?;
     if version != 2 {
         return Err(OpenFault::OldVersion);
     }
-    let items = read_history(alloc, version, frames)?;
     let run = run_behind(items.as_slice());
     let core = build::<Brand>(alloc, items, limits, Blank::new(1))?;
     Ok(Loaded { core, run })
+}
+
+/// The catalogue whose history the frames of a journal of either version hold.
+pub fn load_either(
+    alloc: Global,
+    version: u8,
+    frames: &[Frame],
+    limits: Limits,
+) -> Result<Catalogue, OpenFault>
+    ensures history { IsVersion version → IfOk result (λ core. IsHistory version [] (payloads_of frames.now) core.history) }
+    ensures core { IfOk result (λ core. core ≡ catalogue_of limits core.history) }
+    ensures within { IfOk result (λ core. IsWithin limits core.history) }
+    ensures fault { IsVersion version → IfErr result (IsUnloaded version frames.now limits) }
+    ensures no_device { IfErr result (λ fault. fault ≢ DeviceFault) }
+    ensures current { IfErr result (λ fault. fault ≢ OldVersion) }
+{
+    let items = read_either(alloc, version, frames)?;
+    build::<Brand>(alloc, items, limits, Blank::new(1))
 }

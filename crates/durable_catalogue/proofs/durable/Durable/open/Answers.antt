@@ -1,11 +1,12 @@
 use Rattle.std.proofs.Common.{◌++◌, [], length, sym, ap, subst, ◌∙◌}
 use Rattle.std.proofs.lemmas.List.{append-nil}
 use Rattle.commit_journal.specs.Journal.{IsRecovered}
+use Rattle.entry_history.specs.Readers.{IsVersion}
 use Rattle.entry_history.specs.Payloads.{IsHistory, CanFollow}
 use Rattle.durable_catalogue.specs.Logs.{payloads_of}
 use Rattle.durable_catalogue.specs.Durables.{IsKept}
 use Rattle.durable_catalogue.specs.Openings.{IsOpening, IsUnloaded, IsUnopened}
-use Rattle.durable_catalogue.proofs.Opened.{next_follows, was_reading, opened_kept, opening_of, unloaded, unopened}
+use Rattle.durable_catalogue.proofs.Opened.{next_follows, was_reading, opened_kept, opening_of, unloaded, unopened, either_version}
 use Rattle.durable_catalogue.proofs.durable.Durable.open.Goals as goal
 
 pub invariant_of-result : goal.invariant_of-result
@@ -56,7 +57,8 @@ returns-in-Err-load-clause-fault g c log told =
     let seen = g.D.Disk.seen in
     let journal = c.in-Ok.journal in
     let fault = c.in-Err-load.fault in
-    let why = subst (λ v. IsUnloaded v c.in-Ok.frames c.args.limits fault) c.version.ensures (subst (λ fs. IsUnloaded c.version.result fs c.args.limits fault) c.as_slice.ensures c.in-Err-load.ensures.fault) in
+    let version = subst IsVersion (c.in-Ok.ensures.recovered.named log told ∙ sym c.version.ensures) (either_version log) in
+    let why = subst (λ v. IsUnloaded v c.in-Ok.frames c.args.limits fault) c.version.ensures (subst (λ fs. IsUnloaded c.version.result fs c.args.limits fault) c.as_slice.ensures (c.in-Err-load.ensures.fault version)) in
     unloaded c.in-Ok.frames journal.place journal.version (seen c.args.disk) (seen journal.disk) c.args.limits fault c.in-Ok.ensures.recovered why log told
 
 pub returns-in-Err-clause-crash : goal.returns-in-Err-clause-crash
