@@ -1,8 +1,19 @@
 -- What a request of the program asks for.
+use Rattle.std.specs.Prelude.{◌≡◌, Option, Some, None, MatchOption}
+use Rattle.std.specs.Option.{option_copied}
 use Rattle.command_words.specs.Command.{Command}
 use Rattle.command_words.specs.Command as command
 use Rattle.command_words.specs.declared.asked.Request.{Request}
-use Rattle.command_words.specs.declared.asked.Request.TheVariants.{Pass}
+use Rattle.command_words.specs.declared.asked.Request.TheVariants.{Pass, Run, Load, Export, Report, Make}
 
 abbrev pub command_asked : Request → Command
 command_asked (Pass out) = command.Pass out.now
+command_asked (Run journal out report files) = command.Run journal.now out.now report.now files
+command_asked (Load journal files) = command.Load journal.now files
+command_asked (Export journal out code) = command.Export journal.now out.now (option_copied code)
+command_asked (Report journal out) = command.Report journal.now out.now
+command_asked (Make seed count out) = command.Make seed count out.now
+
+-- the request is that command; there is none where there is no command
+abbrev pub AsksFor : Option Request → Option Command → Type 0
+AsksFor answer asked = MatchOption answer (asked ≡ None) (λ request. asked ≡ Some (command_asked request))

@@ -1,13 +1,32 @@
--- The words of the command line, without the program's name, and what they ask for.
-use Rattle.std.specs.Prelude.{ℕ, ◌==◌, Bool, ◌&&◌, not, nat_lt, List, [], ◌∷◌, length, Option, Some, None, codes, drop, slice_get, if◌then◌else◌, option_and_then}
-use Rattle.std.specs.List.{before_first, after_first, position_or_len}
+-- The words of the command line, without the program's name, and what they ask for. The rules are this project's own.
+use Rattle.std.specs.Prelude.{◌≢◌, ◌≤◌, ℕ, ◌^◌, ◌-◌, Bool, ◌&&◌, ◌==◌, not, nat_le, nat_lt, List, [], ◌∷◌, length, Option, Some, None, is_some, codes, drop, slice_get, if◌then◌else◌, option_and_then}
+use Rattle.std.specs.List.{before_first, after_first, position_or_len, list_all}
 use Rattle.std.specs.Str.{bytes_eq}
-use Rattle.marc_types.specs.Valid.{is_code}
+use Rattle.std.specs.Str.Parse.{digits_value}
+use Rattle.marc_types.specs.Valid.{is_code, is_digit}
 
--- what a command asks for
+-- what a command asks for; the names are those of the words
 pub data Command : Type 0 where
   -- `pass OUT CODE=FILE`: the records of one file, through an empty catalogue, into the file OUT
   Pass : List ℕ → Command
+  -- `run JOURNAL OUT REPORT CODE=FILE ..`: so many files into the journal, then the export into OUT and the report into REPORT
+  Run : List ℕ → List ℕ → List ℕ → ℕ → Command
+  -- `load JOURNAL CODE=FILE ..`: so many files into the journal
+  Load : List ℕ → ℕ → Command
+  -- `export JOURNAL OUT`, or `export JOURNAL OUT CODE` for the keys with that code
+  Export : List ℕ → List ℕ → Option (List ℕ) → Command
+  -- `report JOURNAL OUT`: the report into the file OUT
+  Report : List ℕ → List ℕ → Command
+  -- `make SEED COUNT OUT`: a workload of COUNT records into the file OUT
+  Make : ℕ → ℕ → List ℕ → Command
+
+-- the name of a file isn't empty
+abbrev pub is_name : List ℕ → Bool
+is_name name = nat_lt 0 (length name)
+
+-- two names differ, compared as text
+abbrev pub differ : List ℕ → List ℕ → Bool
+differ name other = not (bytes_eq name other)
 
 abbrev pub is_equals_sign : ℕ → Bool
 is_equals_sign b = b == 61
@@ -26,27 +45,135 @@ unfoldable pub library_of : List ℕ → Option Library
 library_of word =
     if nat_lt (position_or_len is_equals_sign word) (length word)
     && is_code (split_at_equals word).code
-    && nat_lt 0 (length (split_at_equals word).file)
+    && is_name (split_at_equals word).file
     then Some (split_at_equals word) else None
 
--- a name that is written isn't empty, and no file that is read
-abbrev pub is_apart : List ℕ → Library → Bool
-is_apart name library = nat_lt 0 (length name) && not (bytes_eq name library.file)
+-- 1 to 64 words `CODE=FILE`
+unfoldable pub are_libraries : List (List ℕ) → Bool
+are_libraries words =
+    nat_le 1 (length words) && nat_le (length words) 64 && list_all (λ word. is_some (library_of word)) words
 
-abbrev pub pass_of : List ℕ → Library → Option Command
-pass_of out library = if is_apart out library then Some (Pass out) else None
+-- the name of a log or an output isn't empty, and differs from every FILE
+unfoldable pub is_free : List (List ℕ) → List ℕ → Bool
+is_free files name = is_name name && list_all (λ word. differ name (split_at_equals word).file) files
+
+-- the number of 1 to 20 decimal digits, if it isn't above a limit
+unfoldable pub number_upto : ℕ → List ℕ → Option ℕ
+number_upto limit word =
+    if nat_le 1 (length word) && nat_le (length word) 20 && list_all is_digit word && nat_le (digits_value 10 word) limit
+    then Some (digits_value 10 word) else None
+
+abbrev pub greatest_seed : ℕ
+greatest_seed = 2 ^ 64 - 1
+
+abbrev pub greatest_count : ℕ
+greatest_count = 1048576
+
+-- the command, if its words are good ones
+abbrev pub command_if : Bool → Command → Option Command
+command_if good command = if good then Some command else None
+
+abbrev pub pass_of : List (List ℕ) → Option Command
+pass_of (out ∷ file ∷ []) =
+    command_if (are_libraries (file ∷ []) && is_free (file ∷ []) out) (Pass out)
+pass_of words = None
+
+abbrev pub run_of : List (List ℕ) → Option Command
+run_of (journal ∷ out ∷ report ∷ files) =
+    command_if (are_libraries files && is_free files journal && is_free files out && is_free files report
+    && differ journal out && differ journal report && differ out report)
+    (Run journal out report (length files))
+run_of words = None
+
+abbrev pub load_of : List (List ℕ) → Option Command
+load_of (journal ∷ files) = command_if (are_libraries files && is_free files journal) (Load journal (length files))
+load_of words = None
+
+-- the names of a log and an output that come without files
+abbrev pub are_two_names : List ℕ → List ℕ → Bool
+are_two_names journal out = is_name journal && is_name out && differ journal out
+
+abbrev pub export_of : List (List ℕ) → Option Command
+export_of (journal ∷ out ∷ []) = command_if (are_two_names journal out) (Export journal out None)
+export_of (journal ∷ out ∷ code ∷ []) = command_if (are_two_names journal out && is_code code) (Export journal out (Some code))
+export_of words = None
+
+abbrev pub report_of : List (List ℕ) → Option Command
+report_of (journal ∷ out ∷ []) = command_if (are_two_names journal out) (Report journal out)
+report_of words = None
+
+infixl 10 ◌>>=◌
+abbrev ◌>>=◌ : {A B : Type 0} → Option A → (A → Option B) → Option B
+o >>= f = option_and_then f o
+
+abbrev pub make_of : List (List ℕ) → Option Command
+make_of (seed ∷ count ∷ out ∷ []) = do
+  s ← number_upto greatest_seed seed
+  n ← number_upto greatest_count count
+  command_if (is_name out) (Make s n out)
+make_of words = None
 
 -- the command of some words, if they are one
 unfoldable pub command_of : List (List ℕ) → Option Command
-command_of (verb ∷ out ∷ library ∷ []) =
-    if bytes_eq verb (codes "pass") then option_and_then (pass_of out) (library_of library) else None
-command_of words = None
+command_of [] = None
+command_of (verb ∷ words) =
+    if bytes_eq verb (codes "pass") then pass_of words
+    else if bytes_eq verb (codes "run") then run_of words
+    else if bytes_eq verb (codes "load") then load_of words
+    else if bytes_eq verb (codes "export") then export_of words
+    else if bytes_eq verb (codes "report") then report_of words
+    else if bytes_eq verb (codes "make") then make_of words
+    else None
 
 -- the words `CODE=FILE` of a command, which stand behind its other words
 abbrev pub words_of_files : List (List ℕ) → Command → List (List ℕ)
 words_of_files words (Pass out) = drop 2 words
+words_of_files words (Run journal out report files) = drop 4 words
+words_of_files words (Load journal files) = drop 2 words
+words_of_files words (Export journal out code) = []
+words_of_files words (Report journal out) = []
+words_of_files words (Make seed count out) = []
 
--- the library code and the name of the file with that number, from 0, of a command
+-- the library of a command's file with that number, from 0
+abbrev pub file_at : List (List ℕ) → ℕ → Command → Option Library
+file_at words index command = option_and_then library_of (slice_get (words_of_files words command) index)
+
+-- the library code and the name of the file with that number, from 0, of the words' command
 unfoldable pub library_at : List (List ℕ) → ℕ → Option Library
-library_at words index =
-    option_and_then (λ command. option_and_then library_of (slice_get (words_of_files words command) index)) (command_of words)
+library_at words index = option_and_then (file_at words index) (command_of words)
+
+-- how many files a command reads
+abbrev pub file_count : Command → ℕ
+file_count (Pass out) = 1
+file_count (Run journal out report files) = files
+file_count (Load journal files) = files
+file_count (Export journal out code) = 0
+file_count (Report journal out) = 0
+file_count (Make seed count out) = 0
+
+-- the names of a command's log and outputs
+abbrev pub names_of : Command → List (List ℕ)
+names_of (Pass out) = out ∷ []
+names_of (Run journal out report files) = journal ∷ out ∷ report ∷ []
+names_of (Load journal files) = journal ∷ []
+names_of (Export journal out code) = journal ∷ out ∷ []
+names_of (Report journal out) = journal ∷ out ∷ []
+names_of (Make seed count out) = out ∷ []
+
+abbrev pub IsNoneOf : List ℕ → List (List ℕ) → Type 0
+IsNoneOf name [] = Unit {0}
+IsNoneOf name (other ∷ others) = (name ≢ other) × IsNoneOf name others
+
+-- names that aren't empty, and differ from one another
+abbrev pub AreNames : List (List ℕ) → Type 0
+AreNames [] = Unit {0}
+AreNames (name ∷ names) = (name ≢ []) × IsNoneOf name names × AreNames names
+
+-- the bounds of a command's numbers: 1 to 64 files, and at most so many records of a workload
+abbrev pub IsBounded : Command → Type 0
+IsBounded (Pass out) = Unit {0}
+IsBounded (Run journal out report files) = (1 ≤ files) × (files ≤ 64)
+IsBounded (Load journal files) = (1 ≤ files) × (files ≤ 64)
+IsBounded (Export journal out code) = Unit {0}
+IsBounded (Report journal out) = Unit {0}
+IsBounded (Make seed count out) = count ≤ greatest_count

@@ -5,6 +5,7 @@ pub use asked::Request;
 pub use words::{Words, library, request};
 
 mod asked;
+pub mod laws;
 #[cfg(test)]
 mod tests;
 mod words;

@@ -3,41 +3,158 @@ use marc_types::{NoMemory, Text};
 use std::alloc::Global;
 use std::test::Fail;
 
-fn words_of(alloc: Global, list: &[&str]) -> Result<Words, NoMemory> {
+fn words_of(alloc: Global, line: &str) -> Result<Words, NoMemory> {
     let mut words = Vec::new(alloc);
-    for word in list {
+    for word in line.split(' ') {
         words.push(Text::from_str(alloc, word)?)?;
     }
     Ok(Words::from_vec(words))
 }
 
 #[test]
-fn requests(rt: HostRuntime) -> Result<(), Fail> {
-    let table: [(&[&str], Option<Request<'static>>); 12] = [
-        (&["pass", "o", "ULIB=f"], Some(Request::Pass { out: "o" })),
-        (&["pass", "o", "A=b=c"], Some(Request::Pass { out: "o" })),
-        (&["pass", "./f", "A=f"], Some(Request::Pass { out: "./f" })),
-        (&["pass", "f", "A=f"], None),
-        (&["pass", "", "A=f"], None),
-        (&["pass", "o", "A="], None),
-        (&["pass", "o", "=f"], None),
-        (&["pass", "o", "A(=f"], None),
-        (&["pass", "o", "12345678901234567=f"], None),
-        (&["pass", "o"], None),
-        (&["pass", "o", "A=f", "B=g"], None),
-        (&["Pass", "o", "B=f"], None),
+fn good_lines(rt: HostRuntime) -> Result<(), Fail> {
+    let table = [
+        ("pass ./f A=f", Request::Pass { out: "./f" }),
+        (
+            "run j o r ULIB=f0 ULIB=f1",
+            Request::Run {
+                journal: "j",
+                out: "o",
+                report: "r",
+                files: 2,
+            },
+        ),
+        (
+            "load j A=f B=f",
+            Request::Load {
+                journal: "j",
+                files: 2,
+            },
+        ),
+        (
+            "export j o",
+            Request::Export {
+                journal: "j",
+                out: "o",
+                code: None,
+            },
+        ),
+        (
+            "export j o DLC",
+            Request::Export {
+                journal: "j",
+                out: "o",
+                code: Some("DLC"),
+            },
+        ),
+        (
+            "report j o",
+            Request::Report {
+                journal: "j",
+                out: "o",
+            },
+        ),
+        (
+            "make 18446744073709551615 1048576 o",
+            Request::Make {
+                seed: u64::MAX,
+                count: 1_048_576,
+                out: "o",
+            },
+        ),
+        (
+            "make 007 00000000000000000000 o",
+            Request::Make {
+                seed: 7,
+                count: 0,
+                out: "o",
+            },
+        ),
     ];
-    for (words, asked) in table {
-        let words = words_of(rt.alloc(), words)?;
-        assert_eq!(rt; request(&words), asked);
+    for (line, asked) in table {
+        let words = words_of(rt.alloc(), line)?;
+        assert_eq!(rt; request(&words), Some(asked), "{line}");
     }
     Ok(())
 }
 
 #[test]
+fn faulty_lines(rt: HostRuntime) -> Result<(), Fail> {
+    let table = [
+        "",
+        "pass",
+        "Pass o A=f",
+        "pass o",
+        "pass o A",
+        "pass f A=f",
+        "pass  A=f",
+        "pass o A=",
+        "pass o =f",
+        "pass o A(=f",
+        "pass o 12345678901234567=f",
+        "pass o A=f B=g",
+        "pass out ULIB",
+        "pass out U(B=f",
+        "run j out",
+        "run j out rep",
+        "run j j rep ULIB=f0",
+        "run j o j A=f",
+        "run j o o A=f",
+        "run j o r A=f B=o",
+        "load j",
+        "load j A=f B=j",
+        "export j",
+        "export j j",
+        "export j o D(",
+        "export j o D D",
+        "report j",
+        "report j o D",
+        "make 1 1048577 out",
+        "make 18446744073709551616 1 o",
+        "make 000000000000000000001 1 o",
+        "make +1 1 o",
+        "make 1  o",
+        "make 1 1 ",
+        "make 1 1",
+        "migrate a b",
+    ];
+    for line in table {
+        let words = words_of(rt.alloc(), line)?;
+        assert_eq!(rt; request(&words), None, "{line}");
+    }
+    assert_eq!(rt; request(&Words::from_vec(Vec::new(rt.alloc()))), None);
+    Ok(())
+}
+
+/// A line that loads so many files.
+fn load_line(alloc: Global, files: u32) -> Result<Words, NoMemory> {
+    let mut line = String::from_str(alloc, "load j")?;
+    for _ in 0..files {
+        line.push_str(" A=f")?;
+    }
+    words_of(alloc, line.as_str())
+}
+
+#[test]
+fn most_files(rt: HostRuntime) -> Result<(), Fail> {
+    assert_eq!(rt;
+        request(&load_line(rt.alloc(), 64)?),
+        Some(Request::Load {
+            journal: "j",
+            files: 64
+        })
+    );
+    assert_eq!(rt; request(&load_line(rt.alloc(), 65)?), None);
+    Ok(())
+}
+
+#[test]
 fn libraries(rt: HostRuntime) -> Result<(), Fail> {
-    let words = words_of(rt.alloc(), &["pass", "o", "A=b=c"])?;
+    let words = words_of(rt.alloc(), "run j o r A=b=c D=e")?;
     assert_eq!(rt; library(&words, 0), Some(("A", "b=c")));
-    assert_eq!(rt; library(&words, 1), None);
+    assert_eq!(rt; library(&words, 1), Some(("D", "e")));
+    assert_eq!(rt; library(&words, 2), None);
+    let words = words_of(rt.alloc(), "export j o D")?;
+    assert_eq!(rt; library(&words, 0), None);
     Ok(())
 }

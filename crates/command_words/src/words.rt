@@ -1,14 +1,21 @@
-ghost use Rattle.std.specs.Prelude.{◌≡◌, ℕ, ◌+◌, true, List, Option, Some, None, IfSome, MatchOption, drop, slice_get, option_and_then};
-ghost use Rattle.marc_types.specs.Valid.{is_code};
+ghost use Rattle.std.specs.Prelude.{◌≡◌, ℕ, true, false, length, List, Option, Some, None, IfSome, MatchOption, drop, slice_get, is_some};
+ghost use Rattle.std.specs.List.{list_all};
 ghost use Rattle.std.specs.Option.{option_copied};
-ghost use Rattle.command_words.specs.Command.{Library, library_of, command_of, pass_of, library_at};
-ghost use Rattle.command_words.specs.Asked.{command_asked};
+ghost use Rattle.marc_types.specs.Valid.{is_code, is_digit};
+ghost use Rattle.command_words.specs.Command.{Library, library_of, are_libraries, is_free, differ, split_at_equals, number_upto, pass_of, run_of, load_of, export_of, report_of, make_of, are_two_names, command_of, library_at};
+ghost use Rattle.command_words.specs.Asked.{AsksFor};
 
 use crate::asked::Request;
 use marc_types::{Sequence, Text, can_be_code};
 
 /// The words of the command line, without the program's name.
 pub type Words = Sequence<Text>;
+
+/// The most files of one command.
+const MOST_FILES: usize = 64;
+
+/// The most records of a workload.
+const MOST_COUNT: u64 = 1_048_576;
 
 /// The library code and the file of a word `CODE=FILE`.
 #[tactic(auto, unfolding(crate::specs::Command::library_of))]
@@ -25,25 +32,183 @@ fn split_library(word: &str) -> Option<(&str, &str)>
     }
 }
 
-fn pass<'a>(out: &'a str, library: &'a str) -> Option<Request<'a>>
-    ensures { MatchOption result
-        (option_and_then (pass_of out.now) (library_of library.now) ≡ None)
-        (λ r. option_and_then (pass_of out.now) (library_of library.now) ≡ Some (command_asked r)) }
+fn is_library(word: &Text) -> bool
+    ensures { result ≡ is_some (library_of word.now) }
 {
-    let (_code, file) = split_library(library)?;
-    if out.is_empty() || out == file {
+    split_library(word.as_str()).is_some()
+}
+
+fn all_libraries(words: &[Text]) -> bool
+    ensures { result ≡ list_all (λ word. is_some (library_of word)) words.now }
+{
+    words.iter().all(is_library)
+}
+
+/// The number of these words, if they are 1 to 64 words `CODE=FILE`.
+#[tactic(auto, unfolding(crate::specs::Command::are_libraries))]
+fn library_count(words: &[Text]) -> Option<u32>
+    ensures { MatchOption result (are_libraries words.now ≡ false)
+        (λ count. (are_libraries words.now ≡ true) × (count ≡ length words.now)) }
+{
+    if words.is_empty() || words.len() > MOST_FILES || !all_libraries(words) {
         return None;
     }
-    Some(Request::Pass { out })
+    Some(words.len() as u32)
+}
+
+/// What stands behind the first `=`.
+fn file_of(word: &Text) -> &str
+    ensures { result.now ≡ (split_at_equals word.now).file }
+{
+    match word.as_str().split_once('=') {
+        Some((_code, file)) => file,
+        None => "",
+    }
+}
+
+fn is_no_file(name: &str, files: &[Text]) -> bool
+    ensures { result ≡ list_all (λ word. differ name.now (split_at_equals word).file) files.now }
+{
+    files.iter().all(|word| name != file_of(word))
+}
+
+/// Whether the name of a log or an output isn't empty, and no file's.
+#[tactic(auto, unfolding(crate::specs::Command::is_free))]
+fn is_free(name: &str, files: &[Text]) -> bool
+    ensures { result ≡ is_free files.now name.now }
+{
+    !name.is_empty() && is_no_file(name, files)
+}
+
+/// Whether all are decimal digits.
+fn are_digits(bytes: &[u8]) -> bool
+    ensures { result ≡ list_all is_digit bytes.now }
+{
+    bytes.iter().all(|byte| (b'0'..=b'9').contains(byte))
+}
+
+/// The number of 1 to 20 decimal digits, if it isn't above the limit.
+#[tactic(auto, using(crate::proofs::Digits::parsed_digits), unfolding(crate::specs::Command::number_upto))]
+fn number_upto(limit: u64, word: &str) -> Option<u64>
+    ensures { result ≡ number_upto limit word.now }
+{
+    if word.len() > 20 || !are_digits(word.as_bytes()) {
+        return None;
+    }
+    match word.parse::<u64>() {
+        Ok(number) if number <= limit => Some(number),
+        _ => None,
+    }
+}
+
+fn pass(words: &[Text]) -> Option<Request<'_>>
+    ensures { AsksFor result (pass_of words.now) }
+{
+    let [out, files @ ..] = words else {
+        return None;
+    };
+    let out = out.as_str();
+    let free = library_count(files)? == 1 && is_free(out, files);
+    free.then_some(Request::Pass { out })
+}
+
+fn run(words: &[Text]) -> Option<Request<'_>>
+    ensures { AsksFor result (run_of words.now) }
+{
+    let [journal, out, report, words @ ..] = words else {
+        return None;
+    };
+    let (journal, out, report) = (journal.as_str(), out.as_str(), report.as_str());
+    let files = library_count(words)?;
+    let free = is_free(journal, words)
+        && is_free(out, words)
+        && is_free(report, words)
+        && journal != out
+        && journal != report
+        && out != report;
+    free.then_some(Request::Run {
+        journal,
+        out,
+        report,
+        files,
+    })
+}
+
+fn load(words: &[Text]) -> Option<Request<'_>>
+    ensures { AsksFor result (load_of words.now) }
+{
+    let [journal, words @ ..] = words else {
+        return None;
+    };
+    let journal = journal.as_str();
+    let files = library_count(words)?;
+    is_free(journal, words).then_some(Request::Load { journal, files })
+}
+
+/// Whether a log and an output may have these names, where the command reads no file.
+fn are_two_names(journal: &str, out: &str) -> bool
+    ensures { result ≡ are_two_names journal.now out.now }
+{
+    !journal.is_empty() && !out.is_empty() && journal != out
+}
+
+fn export(words: &[Text]) -> Option<Request<'_>>
+    ensures { AsksFor result (export_of words.now) }
+{
+    let (journal, out, code) = match words {
+        [journal, out] => (journal, out, None),
+        [journal, out, code] if can_be_code(code.as_bytes()) => (journal, out, Some(code.as_str())),
+        _ => return None,
+    };
+    let (journal, out) = (journal.as_str(), out.as_str());
+    are_two_names(journal, out).then_some(Request::Export { journal, out, code })
+}
+
+fn report(words: &[Text]) -> Option<Request<'_>>
+    ensures { AsksFor result (report_of words.now) }
+{
+    match words {
+        [journal, out] if are_two_names(journal.as_str(), out.as_str()) => Some(Request::Report {
+            journal: journal.as_str(),
+            out: out.as_str(),
+        }),
+        _ => None,
+    }
+}
+
+fn make(words: &[Text]) -> Option<Request<'_>>
+    ensures { AsksFor result (make_of words.now) }
+{
+    let [seed, count, out] = words else {
+        return None;
+    };
+    let seed = number_upto(u64::MAX, seed.as_str())?;
+    let count = number_upto(MOST_COUNT, count.as_str())?;
+    if out.is_empty() {
+        return None;
+    }
+    Some(Request::Make {
+        seed,
+        count,
+        out: out.as_str(),
+    })
 }
 
 /// What the words ask for; `None` exactly where they are no command.
 #[tactic(auto, unfolding(crate::specs::Command::command_of))]
 pub fn request(words: &Words) -> Option<Request<'_>>
-    ensures { MatchOption result (command_of words.now ≡ None) (λ r. command_of words.now ≡ Some (command_asked r)) }
+    ensures { AsksFor result (command_of words.now) }
 {
-    match words.as_slice() {
-        [verb, out, library] if verb.as_str() == "pass" => pass(out.as_str(), library.as_str()),
+    let [verb, rest @ ..] = words.as_slice() else {
+        return None;
+    };
+    match verb.as_str() {
+        "pass" => pass(rest),
+        "run" => run(rest),
+        "load" => load(rest),
+        "export" => export(rest),
+        "report" => report(rest),
+        "make" => make(rest),
         _ => None,
     }
 }
@@ -58,15 +223,18 @@ fn word_at(words: &[Text], first: usize, index: u32) -> Option<&Text>
     words[first..].get(index as usize)
 }
 
-/// The library code and the name of the file with that number, from 0, among the words `CODE=FILE` of a request. The code
-/// obeys the rule of codes.
+/// The library code and the name of the file with that number, from 0, among the words `CODE=FILE` of a request; `None`
+/// from the number of files on. The code obeys the rule of codes.
 #[tactic(auto, unfolding(crate::specs::Command::library_at))]
 pub fn library(words: &Words, index: u32) -> Option<(&str, &str)>
     ensures found { MatchOption result (library_at words.now index ≡ None)
         (λ found. library_at words.now index ≡ Some (record { code = found.0.now; file = found.1.now })) }
     ensures proper { IfSome result (λ found. is_code found.0.now ≡ true) }
 {
-    match request(words)? {
-        Request::Pass { .. } => split_library(word_at(words.as_slice(), 2, index)?.as_str()),
-    }
+    let first = match request(words)? {
+        Request::Pass { .. } | Request::Load { .. } => 2,
+        Request::Run { .. } => 4,
+        Request::Export { .. } | Request::Report { .. } | Request::Make { .. } => return None,
+    };
+    split_library(word_at(words.as_slice(), first, index)?.as_str())
 }

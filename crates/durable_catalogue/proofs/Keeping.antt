@@ -2,6 +2,7 @@
 use Rattle.std.proofs.Common.{◌≡◌, ◌⊎◌, inl, inr, ℕ, ◌+◌, ◌≤◌, true, List, [], ◌++◌, length, Option, Some, None, is_some, refl, sym, ap, subst, ◌∙◌, arith, length-append}
 use Rattle.std.proofs.Math.Logic.{∥∥₁_map}
 use Rattle.marc_types.specs.declared.entry.Entry.{Entry}
+use Rattle.marc_types.specs.declared.entry.Limits.{Limits}
 use Rattle.outside.specs.Disk.{DiskView, OnlyContent, LeavesOnly}
 use Rattle.commit_journal.specs.declared.frame.Frame.{Frame}
 use Rattle.commit_journal.specs.declared.format.TheConstants.{LENGTH_BYTES}
@@ -13,7 +14,7 @@ use Rattle.entry_history.specs.Batches.{batch_payload}
 use Rattle.entry_history.specs.Payloads.{Holds}
 use Rattle.durable_catalogue.specs.Logs.{IsLogOf, HasHistory}
 use Rattle.durable_catalogue.specs.Images.{Reaches, HasFrameOrNot}
-use Rattle.durable_catalogue.specs.Durables.{IsKept}
+use Rattle.durable_catalogue.specs.Durables.{IsKept, IsLeft, opening}
 use Rattle.durable_catalogue.proofs.Readings.{either_reading, longer_reading}
 use Rattle.durable_catalogue.proofs.Images.{front_of, front_reaches, front_longer, whole_front, whole_is, either_reaches, either_front}
 
@@ -51,6 +52,9 @@ module _ (opened : ℕ) (entries : List Entry) (before first old : DiskView) (ke
       tells_still : is_some new.content ≡ is_some before.content
       tells_still = continues.tells ∙ kept.tells
 
+      syncs_still : (s : ℕ) → first.synced before.moment ≡ Some s → new.synced before.moment ≡ Some s
+      syncs_still s synced = continues.syncs before.moment s (omega (arith, kept.began, kept.later)) (kept.syncs s synced)
+
       since_then : (s : ℕ) → first.synced before.moment ≡ Some s → s ≤ old.moment
       since_then s synced = omega (arith, bounded s synced, kept.later)
 
@@ -63,8 +67,11 @@ module _ (opened : ℕ) (entries : List Entry) (before first old : DiskView) (ke
         since = λ s c told synced left.
             let now = told_now told in
             since_left c (left_either now.0 c now.1) (kept.since s c told synced) ((leaves now.0 now.1).since s c (since_then s synced) left);
+        syncs = syncs_still;
         tells = tells_still;
+        dated = continues.dated ∙ kept.dated;
         faults = omega (arith, kept.faults, later);
+        began = kept.began;
         later = omega (arith, kept.later, continues.later);
         opened_is = kept.opened_is;
       }
@@ -91,8 +98,11 @@ module _ (opened : ℕ) (entries : List Entry) (before first old : DiskView) (ke
         since = λ s c told synced left.
             let now = told_now told in
             since_left c (left_either now.0 c now.1) (kept.since s c told synced) ((leaves now.0 now.1).since s c (since_then s synced) left);
+        syncs = syncs_still;
         tells = tells_still;
+        dated = continues.dated ∙ kept.dated;
         faults = omega (arith, kept.faults, later);
+        began = kept.began;
         later = omega (arith, kept.later, continues.later);
         opened_is = omega (arith, kept.opened_is, length-append entries more);
       }
@@ -140,3 +150,16 @@ pub each_image : (opened : ℕ) (entries more : List Entry) (before first now : 
 each_image opened entries more before first now none kept log c told image =
     let unmarked : IsKept opened entries [] before first now = subst (λ es. IsKept opened entries es before first now) none kept in
     ∥∥₁_map (unmarked.images c (sym unmarked.tells ∙ ap is_some told) image) (λ r. whole_is entries c (front_of (length entries) entries c r))
+
+-- what is kept of a disk, in the words of its opening
+pub left_of : (limits : Limits) (run opened : ℕ) (entries more : List Entry) (before first now : DiskView) → IsKept opened entries more before first now
+    → IsLeft (opening limits run opened before first) entries more now
+left_of limits run opened entries more before first now kept = record {
+  images = λ c told image. kept.images c told image;
+  since = λ s c told synced left. kept.since s c told synced left;
+  syncs = kept.syncs;
+  tells = kept.tells;
+  dated = kept.dated;
+  faults = kept.faults;
+  opened_is = kept.opened_is;
+}

@@ -59,8 +59,11 @@ module _ (frames : List Frame) (place : ℕ) (old new : DiskView) (entries : Lis
         let now = some_of new.content (opens.continues.tells ∙ told) in
         ∣ whole c (subst (IsLogOf entries) (sym (recovered.settled.only now.0 c now.1 image)) (now_reading now.0 now.1)) ∣₁;
     since = λ s c told synced left. let was = some_of old.content told in ∣ whole c (same_log entries was.0 c (opens.crash s was.0 c synced was.1 left) (was_reading was.0 was.1)) ∣₁;
+    syncs = λ s synced. synced;
     tells = opens.continues.tells;
+    dated = opens.continues.dated;
     faults = later;
+    began = opens.continues.later;
     later = omega arith;
     opened_is = omega arith;
   }
@@ -71,6 +74,8 @@ opening_of old new opens = record {
   history = λ s log c entries synced told left has. ∥∥₁_map has (λ is. same_log entries log c (opens.crash s log c synced told left) is);
   no_longer = λ s log c synced told left. (opens.crash s log c synced told left).no_longer;
   unsynced = opens.unsynced;
+  dated = opens.continues.dated;
+  tells = opens.continues.tells;
 }
 
 -- a log's version is 1 or 2

@@ -38,11 +38,15 @@ is_taken (Some NoMemory) = false
 is_taken (Some DeviceFault) = false
 is_taken (Some Broken) = false
 
--- what an opening leaves and no commit changes: the limits and the run; how many entries there were; how many faults the disk had
--- had; and the moment of the first sync, where the disk tells its moments
+-- what an opening leaves and no commit changes: the limits and the run; how many entries there were; whether the disk told its
+-- content and its moments, when it was handed over, and how many faults it had had; and the moment of the first sync since then,
+-- where the disk tells its moments
 pub record Opening : Type 0 where
   pub origin : Origin
   pub opened : ℕ
+  pub tells : Bool
+  pub dated : Bool
+  pub moment : ℕ
   pub faults : ℕ
   pub synced : Option ℕ
 
@@ -50,19 +54,36 @@ abbrev pub opening : Limits → ℕ → ℕ → DiskView → DiskView → Openin
 opening limits run opened before first = record {
   origin = record { limits = limits; run = run };
   opened = opened;
+  tells = is_some before.content;
+  dated = before.dated;
+  moment = before.moment;
   faults = before.faults;
   synced = first.synced before.moment;
 }
 
 -- Where the disk told its content when it was handed over: each image has all entries, and each since the opening's first sync has
--- those of the opening. Before is that disk, first the one that the opening left.
+-- those of the opening. The opening's first sync stays the first. Before is that disk, first the one that the opening left.
 pub record IsKept (opened : ℕ) (entries more : List Entry) (before first now : DiskView) : Type 0 where
   pub images : (c : List ℕ) → is_some before.content ≡ true → now.image c → Holds (length entries) entries more c
   pub since : (s : ℕ) (c : List ℕ) → is_some before.content ≡ true → first.synced before.moment ≡ Some s → now.left s c → Holds opened entries more c
+  pub syncs : (s : ℕ) → first.synced before.moment ≡ Some s → now.synced before.moment ≡ Some s
   pub tells : is_some now.content ≡ is_some before.content
+  pub dated : now.dated ≡ before.dated
   pub faults : before.faults ≤ now.faults
+  pub began : before.moment ≤ first.moment
   pub later : first.moment ≤ now.moment
   pub opened_is : opened ≤ length entries
+
+-- Of a disk that a catalogue of these entries gives back, with those of a frame that it failed to take: where it told its content
+-- at the opening, each image has all entries, and each since the opening's first sync has those of the opening.
+pub record IsLeft (o : Opening) (entries more : List Entry) (disk : DiskView) : Type 0 where
+  pub images : (c : List ℕ) → o.tells ≡ true → disk.image c → Holds (length entries) entries more c
+  pub since : (s : ℕ) (c : List ℕ) → o.tells ≡ true → o.synced ≡ Some s → disk.left s c → Holds o.opened entries more c
+  pub syncs : (s : ℕ) → o.synced ≡ Some s → disk.synced o.moment ≡ Some s
+  pub tells : is_some disk.content ≡ o.tells
+  pub dated : disk.dated ≡ o.dated
+  pub faults : o.faults ≤ disk.faults
+  pub opened_is : o.opened ≤ length entries
 
 -- why a frame was not committed: there was no memory, or a device failed, and the frame is marked
 abbrev pub IsLostBy : CommitFault → Option (List Entry) → List Entry → Type 0

@@ -1,5 +1,5 @@
 -- Why a log is not opened, and what an opening leaves. The rules are this project's own.
-use Rattle.std.specs.Prelude.{◌≡◌, ◌≢◌, ℕ, ◌≤◌, max, true, List, [], ◌∷◌, ◌++◌, length, Some, None, Ok, Err}
+use Rattle.std.specs.Prelude.{◌≡◌, ◌≢◌, ℕ, ◌≤◌, max, true, List, [], ◌∷◌, ◌++◌, length, Some, None, is_some, Ok, Err}
 use Rattle.marc_types.specs.declared.entry.Entry.{Entry}
 use Rattle.marc_types.specs.declared.entry.Limits.{Limits}
 use Rattle.outside.specs.Disk.{DiskView}
@@ -51,11 +51,13 @@ IsUnopened limits log Full = (entries : List Entry) × IsLogOf entries log × (I
 IsUnopened limits log NoMemory = Unit {0}
 
 -- an opening: each image since its first sync that succeeded has the history that the log had, in no more bytes than it or a blank
--- log has; where no sync succeeded, the content is as it was
+-- log has; where no sync succeeded, the content is as it was; whether the disk tells stays
 pub record IsOpening (old new : DiskView) : Type 0 where
   pub history : (s : ℕ) (log c : List ℕ) (entries : List Entry) → new.synced old.moment ≡ Some s → old.content ≡ Some log → new.left s c → HasHistory entries log → HasHistory entries c
   pub no_longer : (s : ℕ) (log c : List ℕ) → new.synced old.moment ≡ Some s → old.content ≡ Some log → new.left s c → length c ≤ max BLANK_LENGTH (length log)
   pub unsynced : old.dated ≡ true → new.synced old.moment ≡ None → new.content ≡ old.content
+  pub dated : new.dated ≡ old.dated
+  pub tells : is_some new.content ≡ is_some old.content
 
 -- a catalogue of this history, with nothing staged
 abbrev pub catalogue_of : Limits → List Entry → Catalogued

@@ -14,7 +14,7 @@ ghost use Rattle.durable_catalogue.specs.Logs.{HasHistory};
 ghost use Rattle.durable_catalogue.specs.declared.fault.OpenFault.{OpenFault};
 ghost use Rattle.durable_catalogue.specs.Openings.{IsWithin, IsUnopened, IsOpening};
 ghost use Rattle.durable_catalogue.specs.Images.{HasFrameOrNot};
-ghost use Rattle.durable_catalogue.specs.Durables.{mark_of, marked, events, is_taken, opening, IsKept, IsLostBy, IsSameOpening};
+ghost use Rattle.durable_catalogue.specs.Durables.{mark_of, marked, events, is_taken, opening, IsKept, IsLeft, IsLostBy, IsSameOpening};
 
 use crate::OpenFault;
 use crate::fault::open_fault;
@@ -86,6 +86,7 @@ impl<D: Disk> Durable<D> {
         ensures opened { IfOk result (λ d. d.opened ≡ length d.core.history) }
         ensures before { IfOk result (λ d. d.before.value ≡ disk) }
         ensures first { IfOk result (λ d. d.first.value ≡ d.journal) }
+        ensures synced { IfOk result (λ d. (D.seen disk).dated ≡ true → is_some ((D.seen d.first.value.disk).synced (D.seen disk).moment) ≡ true) }
 
         // Each image since the first sync has the log's history; where that sync didn't succeed, the content is as it was.
         ensures crash { MatchResult result (λ d. IsOpening (D.seen disk) (D.seen d.journal.disk)) (λ e. IsOpening (D.seen disk) (D.seen e.0)) }
@@ -133,9 +134,14 @@ impl<D: Disk> Durable<D> {
         &self.core
     }
 
-    /// Gives the disk back.
+    /// Gives the disk back, with all that was committed.
+    #[tactic(auto, using(crate::proofs::Keeping::left_of))]
     pub fn close(self) -> D
-        ensures { result ≡ self.journal.disk }
+        ensures disk { result ≡ self.journal.disk }
+        ensures left { IsLeft (opening self.limits self.run self.opened (D.seen self.before.value) (D.seen self.first.value.disk))
+            self.core.history (marked (mark_of self.mark)) (D.seen result) }
+        ensures whole { self.mark ≡ None → (log c : List ℕ) → (D.seen result).content ≡ Some log → (D.seen result).image c → HasHistory self.core.history c }
+        ensures cause { is_some self.mark ≡ true → Rose (D.seen self.before.value).faults (D.seen result).faults }
     {
         let Durable { journal, .. } = self;
         journal.close()

@@ -50,8 +50,9 @@ pub trait Room {
         ensures failed { OnErr result (Stays (seen self.old) (seen self.new)) }
         ensures cause { HasCause ((seen self.old).log_faults name.now) ((seen self.new).log_faults name.now) result }
 
-        // The object has no fault yet, and has the file's bytes.
+        // The object has no fault yet, its time begins, and it has the file's bytes.
         ensures fresh { IfOk result (λ object. (Self.Log.seen object).faults ≡ 0) }
+        ensures beginning { IfOk result (λ object. (Self.Log.seen object).moment ≡ 0) }
         ensures bytes { IfOk result (λ object. (seen self.old).tells ≡ true →
             (Self.Log.seen object).content ≡ Some (bytes_or_none ((seen self.old).file name.now))) };
 

@@ -4,25 +4,40 @@ ghost use Rattle.outside_mem.specs.Room.{room_view};
 use outside_mem::{MemRoom, NoMemory};
 use std::alloc::Global;
 
+/// Puts a file of these bytes into a room.
 #[tactic(auto, using(crate::proofs::Closed::still_closed))]
-fn room_with(alloc: Global, bytes: &[u8]) -> Result<MemRoom, NoMemory>
+pub fn with_file(
+    alloc: Global,
+    room: MemRoom,
+    name: &str,
+    bytes: &[u8],
+) -> Result<MemRoom, NoMemory>
+    requires { (name : List ℕ) → (room_view room).open_as name ≡ None }
     ensures { IfOk result (λ room. (name : List ℕ) → (room_view room).open_as name ≡ None) }
 {
-    let mut room = MemRoom::new(alloc);
+    let mut room = room;
     let bytes = match Vec::from_slice(alloc, bytes) {
         Ok(bytes) => bytes,
         Err(_) => return Err(NoMemory),
     };
-    room.put("in.mrc", bytes)?;
+    room.put(name, bytes)?;
     Ok(room)
 }
 
-/// A room with the file `in.mrc` of these bytes, where the first call on the objects of one name fails.
+/// A room with these files, where the call with that number fails on each object that is opened by the name `failing`.
 #[tactic(auto, using(crate::proofs::Closed::still_closed))]
-pub fn room_of(alloc: Global, bytes: &[u8], failing: &str) -> Result<MemRoom, NoMemory>
+pub fn room_of(
+    alloc: Global,
+    files: &[(&str, &[u8])],
+    failing: &str,
+    call: u64,
+) -> Result<MemRoom, NoMemory>
     ensures { IfOk result (λ room. (name : List ℕ) → (room_view room).open_as name ≡ None) }
 {
-    let mut room = room_with(alloc, bytes)?;
-    room.fail(failing, 0)?;
+    let mut room = MemRoom::new(alloc);
+    for (name, bytes) in files {
+        room = with_file(alloc, room, name, bytes)?;
+    }
+    room.fail(failing, call)?;
     Ok(room)
 }

@@ -6,6 +6,8 @@ use marc_types::Text;
 use outside_real::{FileRoom, FileSink, OpenGate, Target};
 use std::io::ErrorKind;
 use std::process::ExitCode;
+use std::sync::Wait;
+use std::thread::Threads;
 use std::{env, io};
 use union_top::run;
 
@@ -13,7 +15,7 @@ use union_top::run;
 const NO_MEMORY: u8 = 8;
 
 fn main(rt: HostRuntime) -> ExitCode {
-    match command(&rt) {
+    match command(&rt, &rt) {
         Ok(status) => ExitCode::from(status),
         Err(_) => ExitCode::from(NO_MEMORY),
     }
@@ -37,10 +39,11 @@ fn words_of(rt: &HostRuntime) -> io::Result<Words> {
     Ok(Words::from_vec(words))
 }
 
-fn command(rt: &HostRuntime) -> io::Result<u8> {
+/// Carries out the command of the words. `threads` starts the loaders.
+fn command<H: Threads + Wait + Sync>(rt: &HostRuntime, threads: &H) -> io::Result<u8> {
     let alloc = rt.alloc();
     let words = words_of(rt)?;
     let mut room = FileRoom::new(rt.clone()?, alloc);
     let mut console = FileSink::direct(alloc, Target::Console(rt.clone()?));
-    Ok(run(rt, alloc, &words, &mut room, &mut console, &OpenGate))
+    Ok(run(threads, alloc, &words, &mut room, &mut console, &OpenGate))
 }

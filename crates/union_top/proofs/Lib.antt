@@ -1,7 +1,4 @@
-pub mod FewRows
-pub mod Summed
-pub mod Loads
-pub mod Parts
-pub mod Passes
-pub mod Ends
-pub mod Asked
+mod Merging
+mod OneHistory
+mod Textual
+mod Ended

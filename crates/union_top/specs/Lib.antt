@@ -1,6 +1,5 @@
-pub mod Totals
-pub mod Lines
-pub mod Files
-pub mod Loading
-pub mod Faults
-pub mod Passing
+pub mod Console
+pub mod Merged
+pub mod Texts
+pub mod Runs
+pub mod Commands

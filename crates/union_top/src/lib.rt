@@ -2,15 +2,8 @@
 #![tactic(auto)]
 
 pub use command::run;
-pub use totals::{Sums, Totals};
 
 mod command;
-mod exporting;
-mod fault;
-mod lines;
-mod loaded;
 mod loading;
-mod output;
-mod passing;
-mod results;
-mod totals;
+mod outputs;
+mod texts;

@@ -1,123 +1,143 @@
-ghost use Rattle.std.specs.Prelude.{◌≡◌, ◌≢◌, ◌<◌, ◌≤◌, ℕ, List, true, false, Some, None, IsSome, IsTrue, OnOk, IfOk, IfErr};
-ghost use Rattle.marc_types.specs.Valid.{is_code};
+//! The commands that load files into a journal.
+ghost use Rattle.std.specs.Prelude.{◌≡◌, ◌≢◌, ◌⊎◌, ◌==◌, ℕ, ◌<◌, ◌≤◌, List, [], ◌∷◌, true, Some, None, is_some, IsTrue, if◌then◌else◌};
+ghost use Rattle.std.specs.List.{list_any};
+ghost use Rattle.std.specs.Io.KnownBytes.{Appends};
 ghost use Rattle.outside.specs.Fault.{Rose};
-ghost use Rattle.outside.specs.Room.{Stays};
-ghost use Rattle.marc_stream.specs.Pieces.{items};
-ghost use Rattle.union_top.specs.Loading.{IsLoaded, IsFullAt};
+ghost use Rattle.outside.specs.Sink.{WritesFront};
+ghost use Rattle.command_words.specs.Command.{Library, library_at};
+ghost use Rattle.room_files.specs.Rooms.{ApartFrom};
+ghost use Rattle.union_top.specs.Commands.{Loads, Runs};
 
-use crate::fault::Fault;
-use crate::loaded::Loaded;
-use catalogue_core::CoreFault;
-use file_entries::{FileEntries, NextEntry};
-use marc_types::{NoMemory, Text};
-use outside::{Room, Source};
-use record_store::Steps;
+use crate::outputs::write_outputs;
+use crate::texts::{files_text, has_refused};
+use command_words::Words;
+use console_lines::{Fault, tell};
+use journal_loading::{LoadedJournal, load_journal};
+use marc_types::NoMemory;
+use outside::{Gate, Room, Sink, WriteFault};
+use room_files::close_journal;
 use std::alloc::Global;
-use std::marker::Brand;
-use std::sync::ledger::{Blank, Ledger};
+use std::sync::Wait;
+use std::thread::Threads;
 
-/// The loader of the only file of a pass.
-const LOADER: u32 = 0;
+/// The exit statuses where files were loaded whole: nothing was refused, something was, or an output failed.
+const ACCEPTED: u8 = 0;
 
-fn load_entries<S: Source, L: Ledger>(
-    alloc: Global,
-    entries: &mut FileEntries<S>,
-    steps: &mut Steps<L>,
-) -> Result<Loaded, Fault>
-    requires going { entries.old.over ≡ false }
-    requires loader { entries.old.loader ≡ 0 }
-    ensures loaded { IfOk result (λ loaded. entries.old.stream.tells ≡ true → IsLoaded entries.old.library entries.old.stream.coming loaded) }
-    ensures full { IfErr result (λ fault. fault ≡ Fault.Full → entries.old.stream.tells ≡ true →
-        IsFullAt entries.old.library entries.old.stream.coming) }
-    ensures faults { entries.old.stream.faults ≤ entries.new.stream.faults }
-    ensures cause { IfErr result (λ fault. fault ≡ Fault.Input → Rose entries.old.stream.faults entries.new.stream.faults) }
-    ensures usage { IfErr result (λ fault. fault ≢ Fault.Usage) }
+const REFUSED: u8 = 1;
+
+const OUTPUT_FAULT: u8 = 4;
+
+/// Tells the lines of files that were loaded whole, and answers the exit status.
+fn tell_lines<K: Sink>(console: &mut K, text: &str, refused: bool) -> u8
+    ensures statuses { (result ≤ 1) ⊎ (result ≡ 4) }
+    ensures status { result ≢ 4 → result ≡ (if refused then 1 else 0) }
+    ensures whole { result ≢ 4 → Appends (K.written console.old) (K.written console.new) text.now }
+    ensures front { WritesFront (K.written console.old) (K.written console.new) text.now }
+    ensures cause { result ≡ 4 → Rose (K.faults console.old) (K.faults console.new) }
 {
-    let mut loaded = Loaded::new(alloc);
-    'items: loop {
-        match entries.next(alloc) {
-            NextEntry::Entry(item) => match loaded.commit(alloc, item, steps) {
-                Ok(()) => {}
-                Err(CoreFault::Full) => return Err(Fault::Full),
-                Err(CoreFault::NoMemory) => return Err(Fault::Memory),
-            },
-            NextEntry::Refused(item) => match loaded.refuse(item) {
-                Ok(()) => {}
-                Err(NoMemory) => return Err(Fault::Memory),
-            },
-            NextEntry::End => {
-                loaded.is_within_limits();
-                return Ok(loaded);
-            }
-            NextEntry::ReadFault => return Err(Fault::Input),
-            NextEntry::NoMemory => return Err(Fault::Memory),
-        }
+    match console.write_all(text.as_bytes()) {
+        Ok(()) if refused => REFUSED,
+        Ok(()) => ACCEPTED,
+        Err(_) => OUTPUT_FAULT,
     }
 }
 
-/// Loads a source whose steps nobody asks for.
-fn load_counted<S: Source, L: Ledger>(
+/// Loads files into the journal of that name.
+pub fn load<H: Threads + Wait + Sync, R: Room, G: Gate + Sync>(
+    rt: &H,
     alloc: Global,
-    source: S,
-    library: Text,
-    blank: Blank,
-) -> (Result<Loaded, Fault>, S)
-    requires library { IsTrue (is_code library) }
-    requires name { blank.name ≡ L.name }
-    requires parts { blank.parts ≡ L.parts }
-    requires shared { 0 < blank.parts }
-    ensures loaded { IfOk result.0 (λ loaded. (bytes : List ℕ) → S.left source ≡ Some bytes → IsLoaded library (items bytes) loaded) }
-    ensures full { IfErr result.0 (λ fault. fault ≡ Fault.Full → (bytes : List ℕ) → S.left source ≡ Some bytes → IsFullAt library (items bytes)) }
-    ensures later { S.faults source ≤ S.faults result.1 }
-    ensures cause { IfErr result.0 (λ fault. fault ≡ Fault.Input → Rose (S.faults source) (S.faults result.1)) }
-    ensures usage { IfErr result.0 (λ fault. fault ≢ Fault.Usage) }
-{
-    let mut steps = Steps::<L>::new(blank);
-    match FileEntries::new(alloc, source, library, LOADER) {
-        Ok(mut entries) => {
-            let loaded = load_entries(alloc, &mut entries, &mut steps);
-            (loaded, entries.finish())
-        }
-        Err((source, NoMemory)) => (Err(Fault::Memory), source),
-    }
-}
-
-fn load_source<S: Source>(alloc: Global, source: S, library: Text) -> (Result<Loaded, Fault>, S)
-    requires library { IsTrue (is_code library) }
-    ensures loaded { IfOk result.0 (λ loaded. (bytes : List ℕ) → S.left source ≡ Some bytes → IsLoaded library (items bytes) loaded) }
-    ensures full { IfErr result.0 (λ fault. fault ≡ Fault.Full → (bytes : List ℕ) → S.left source ≡ Some bytes → IsFullAt library (items bytes)) }
-    ensures later { S.faults source ≤ S.faults result.1 }
-    ensures cause { IfErr result.0 (λ fault. fault ≡ Fault.Input → Rose (S.faults source) (S.faults result.1)) }
-    ensures usage { IfErr result.0 (λ fault. fault ≢ Fault.Usage) }
-{
-    load_counted::<S, Brand>(alloc, source, library, Blank::new(1))
-}
-
-/// Loads the file of that name into an empty catalogue. It is closed again on every path.
-pub fn load_file<R: Room>(
-    alloc: Global,
+    words: &Words,
     room: &mut R,
-    name: &str,
-    library: Text,
-) -> Result<Loaded, Fault>
-    requires free { (R.seen room.old).open_as name.now ≡ None }
-    requires library { IsTrue (is_code library) }
-    ensures stays { Stays (R.seen room.old) (R.seen room.new) }
-    ensures there { OnOk result ((R.seen room.old).tells ≡ true → IsSome ((R.seen room.old).file name.now)) }
-    ensures there_full { IfErr result (λ fault. fault ≡ Fault.Full → (R.seen room.old).tells ≡ true → IsSome ((R.seen room.old).file name.now)) }
-    ensures loaded { IfOk result (λ loaded. (bytes : List ℕ) → (R.seen room.old).tells ≡ true → (R.seen room.old).file name.now ≡ Some bytes →
-        IsLoaded library (items bytes) loaded) }
-    ensures full { IfErr result (λ fault. fault ≡ Fault.Full → (bytes : List ℕ) → (R.seen room.old).tells ≡ true →
-        (R.seen room.old).file name.now ≡ Some bytes → IsFullAt library (items bytes)) }
-    ensures cause { IfErr result (λ fault. fault ≡ Fault.Input →
-        Rose ((R.seen room.old).in_faults name.now) ((R.seen room.new).in_faults name.now)) }
-    ensures usage { IfErr result (λ fault. fault ≢ Fault.Usage) }
+    console: &mut R::Out,
+    journal: &str,
+    files: u32,
+    gate: &G,
+) -> u8
+    requires free { (name : List ℕ) → (R.seen room.old).open_as name ≡ None }
+    requires some { 0 < files }
+    requires few { files ≤ 64 }
+    requires there { (index : ℕ) → index < files → is_some (library_at words.now index) ≡ true }
+    requires apart { (index : ℕ) (library : Library) → library_at words.now index ≡ Some library → library.file ≢ journal.now }
+    ensures statuses { IsTrue (list_any (λ s. s == result) (0 ∷ 1 ∷ 3 ∷ 4 ∷ 5 ∷ 6 ∷ 7 ∷ 8 ∷ 9 ∷ [])) }
+    ensures closed { (name : List ℕ) → (R.seen room.new).open_as name ≡ None }
+    ensures apart { ApartFrom (R.seen room.old) (R.seen room.new) (journal.now ∷ []) }
+    ensures ends { Loads words.now journal.now files (record {
+      old = R.seen room.old;
+      new = R.seen room.new;
+      told = R.Out.written console.old;
+      now = R.Out.written console.new;
+      faults = R.Out.faults console.old;
+      faults_now = R.Out.faults console.new;
+      status = result;
+    }) }
 {
-    let source = match room.open_in(name) {
-        Ok(source) => source,
-        Err(_) => return Err(Fault::Input),
+    let LoadedJournal { durable, results } = match load_journal(
+        rt, alloc, room, words, journal, files, gate,
+    ) {
+        Ok(loaded) => loaded,
+        Err(fault) => return tell(console, fault),
     };
-    let (loaded, source) = load_source(alloc, source, library);
-    room.close_in(name, source);
-    loaded
+    let text = files_text(alloc, words, results.as_slice());
+    close_journal(room, journal, durable);
+    match text {
+        Ok(text) => tell_lines(console, text.as_str(), has_refused(results.as_slice())),
+        Err(NoMemory) => tell(console, Fault::Memory),
+    }
+}
+
+/// Loads files into the journal of that name, and then writes the export of the journal's history into the file `out` and its
+/// report into the file `report`.
+pub fn run_files<H: Threads + Wait + Sync, R: Room, G: Gate + Sync>(
+    rt: &H,
+    alloc: Global,
+    words: &Words,
+    room: &mut R,
+    console: &mut R::Out,
+    journal: &str,
+    out: &str,
+    report: &str,
+    files: u32,
+    gate: &G,
+) -> u8
+    requires free { (name : List ℕ) → (R.seen room.old).open_as name ≡ None }
+    requires some { 0 < files }
+    requires few { files ≤ 64 }
+    requires there { (index : ℕ) → index < files → is_some (library_at words.now index) ≡ true }
+    requires apart { (index : ℕ) (library : Library) → library_at words.now index ≡ Some library → library.file ≢ journal.now }
+    requires out_apart { out.now ≢ journal.now }
+    requires report_apart { report.now ≢ journal.now }
+    requires differ { report.now ≢ out.now }
+    ensures statuses { IsTrue (list_any (λ s. s == result) (0 ∷ 1 ∷ 3 ∷ 4 ∷ 5 ∷ 6 ∷ 7 ∷ 8 ∷ 9 ∷ [])) }
+    ensures closed { (name : List ℕ) → (R.seen room.new).open_as name ≡ None }
+    ensures apart { ApartFrom (R.seen room.old) (R.seen room.new) (journal.now ∷ out.now ∷ report.now ∷ []) }
+    ensures ends { Runs words.now journal.now out.now report.now files (record {
+      old = R.seen room.old;
+      new = R.seen room.new;
+      told = R.Out.written console.old;
+      now = R.Out.written console.new;
+      faults = R.Out.faults console.old;
+      faults_now = R.Out.faults console.new;
+      status = result;
+    }) }
+{
+    let LoadedJournal { durable, results } = match load_journal(
+        rt, alloc, room, words, journal, files, gate,
+    ) {
+        Ok(loaded) => loaded,
+        Err(fault) => return tell(console, fault),
+    };
+    let text = match files_text(alloc, words, results.as_slice()) {
+        Ok(text) => text,
+        Err(NoMemory) => {
+            close_journal(room, journal, durable);
+            return tell(console, Fault::Memory);
+        }
+    };
+    let written = write_outputs(alloc, room, out, report, durable.core());
+    close_journal(room, journal, durable);
+    match written {
+        Ok(()) => tell_lines(console, text.as_str(), has_refused(results.as_slice())),
+        Err(WriteFault::OutputFault) => OUTPUT_FAULT,
+        Err(WriteFault::NoMemory) => tell(console, Fault::Memory),
+    }
 }

@@ -7,6 +7,8 @@ use marc_types::{NoMemory, Text};
 use outside_real::{FileRoom, FileSink, OpenGate, Target};
 use records::report_of;
 use std::process::ExitCode;
+use std::sync::Wait;
+use std::thread::Threads;
 use std::{env, fs, io};
 use union_top::run;
 
@@ -19,26 +21,26 @@ const ROWS: &str = "rows.txt";
 const OUT: &str = "out.mrc";
 
 fn main(rt: HostRuntime) -> ExitCode {
-    match each_row(&rt) {
+    match each_row(&rt, &rt) {
         Ok(()) => ExitCode::SUCCESS,
         Err(_) => ExitCode::FAILURE,
     }
 }
 
-fn each_row(rt: &HostRuntime) -> io::Result<()> {
+fn each_row<H: Threads + Wait + Sync>(rt: &HostRuntime, threads: &H) -> io::Result<()> {
     let names = fs::read_to_string(rt, ROWS)?;
     for name in names.lines() {
-        row(rt, name)?;
+        row(rt, threads, name)?;
     }
     Ok(())
 }
 
-fn row(rt: &HostRuntime, name: &str) -> io::Result<()> {
+fn row<H: Threads + Wait + Sync>(rt: &HostRuntime, threads: &H, name: &str) -> io::Result<()> {
     let alloc = rt.alloc();
     let file = format!(in alloc; "{name}.mrc")?;
     let due = fs::read(rt, format!(in alloc; "{name}.out")?)?;
     println!(rt; "== {name}")?;
-    let status = pass(rt, file.as_str())?;
+    let status = pass(rt, threads, file.as_str())?;
     let exported = fs::read(rt, OUT)?;
     let verdict = if exported == due {
         "as it has to be"
@@ -53,7 +55,7 @@ fn row(rt: &HostRuntime, name: &str) -> io::Result<()> {
 }
 
 /// Carries out `pass` on a file of library ULIB, and answers its status.
-fn pass(rt: &HostRuntime, file: &str) -> io::Result<u8> {
+fn pass<H: Threads + Wait + Sync>(rt: &HostRuntime, threads: &H, file: &str) -> io::Result<u8> {
     let alloc = rt.alloc();
     let library = format!(in alloc; "ULIB={file}")?;
     let mut words = Vec::new(alloc);
@@ -63,7 +65,7 @@ fn pass(rt: &HostRuntime, file: &str) -> io::Result<u8> {
     let words = Words::from_vec(words);
     let mut room = FileRoom::new(rt.clone()?, alloc);
     let mut console = FileSink::direct(alloc, Target::Console(rt.clone()?));
-    Ok(run(rt, alloc, &words, &mut room, &mut console, &OpenGate))
+    Ok(run(threads, alloc, &words, &mut room, &mut console, &OpenGate))
 }
 
 /// Prints the report of a file's records.

@@ -57,7 +57,7 @@ small_organisation : IsSmall organisation_field
 unfolding is_field field_size is_text
 small_organisation = record { good = refl; small = omega arith }
 
-plain_name : (name variant : ℕ) → name < 2 ^ 64 → variant < 2 ^ 64 → IsPlain 47 (name_text name variant)
+pub plain_name : (name variant : ℕ) → name < 2 ^ 64 → variant < 2 ^ 64 → IsPlain 47 (name_text name variant)
 unfolding is_text
 plain_name name variant first second =
     plain_append 27 20 (codes "Name" ++ decimal name ++ codes ", V") (decimal variant)
@@ -66,7 +66,7 @@ plain_name name variant first second =
     (record { good = refl; short = omega arith }))
     (plain_decimal variant second)
 
-plain_alias : (alias : ℕ) → alias < 2 ^ 64 → IsPlain 47 (alias_text alias)
+pub plain_alias : (alias : ℕ) → alias < 2 ^ 64 → IsPlain 47 (alias_text alias)
 unfolding is_text
 plain_alias alias range =
     let text = plain_append 25 3 (codes "Alias" ++ decimal alias) (codes ", X")

@@ -10,7 +10,7 @@ use std::alloc::Global;
 use std::marker::Model;
 
 /// A maker of a workload's records, one after the other. Contracts see it as the list of those still to come.
-#[derive(Drop)]
+#[derive(Clone, Drop)]
 pub struct Maker {
     draws: Draws,
     names: u64,

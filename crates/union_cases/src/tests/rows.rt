@@ -4,7 +4,9 @@ use crate::room_of;
 use outside_mem::MemSink;
 use outside_real::OpenGate;
 use std::alloc::{AllocError, Global};
+use std::sync::Wait;
 use std::test::Fail;
+use std::thread::Threads;
 use union_top::run;
 
 /// The authority of which most rows change some bytes.
@@ -31,8 +33,8 @@ struct Passed {
     out: Option<Vec<u8>>,
 }
 
-fn pass(rt: &HostRuntime, alloc: Global, bytes: &[u8]) -> Result<Passed, Fail> {
-    let mut room = room_of(alloc, bytes, "none.mrc")?;
+fn pass<H: Threads + Wait + Sync>(rt: &H, alloc: Global, bytes: &[u8]) -> Result<Passed, Fail> {
+    let mut room = room_of(alloc, &[("in.mrc", bytes)], "none.mrc", 0)?;
     let mut console = MemSink::new(alloc, Vec::new(alloc));
     let words = words_of(alloc, PASS)?;
     let status = run(rt, alloc, &words, &mut room, &mut console, &OpenGate);

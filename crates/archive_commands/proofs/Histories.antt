@@ -1,0 +1,38 @@
+-- The one history of a log.
+use Rattle.std.proofs.Common.{◌≡◌, ◌∙◌, ℕ, List, [], Option, Some, sym, ap, subst}
+use Rattle.std.proofs.Math.Logic.{∥∥₁_map, ∥∥₁_elim}
+use Rattle.std.specs.Coded.{Coded-set, coded_ℕ, coded_list}
+use Rattle.marc_types.specs.declared.entry.Entry.{Entry}
+use Rattle.commit_journal.specs.Log.{version_of}
+use Rattle.entry_history.specs.Payloads.{IsHistory}
+use Rattle.entry_history.proofs.Histories.{history_once}
+use Rattle.durable_catalogue.specs.Logs.{payloads_of, IsLogOf, HasHistory}
+use Rattle.durable_catalogue.specs.Openings.{IsWithin}
+use Rattle.room_files.specs.Journals.{journal_limits}
+use Rattle.room_files.specs.Rooms.{IsPartWritten}
+use Rattle.archive_commands.specs.Archives.{HasFittingHistory}
+
+reading_once : (entries others : List Entry) (log : List ℕ) → IsLogOf entries log → IsLogOf others log → entries ≡ others
+reading_once entries others log is also =
+    let same : also.frames ≡ is.frames = cc (is.found, also.found) in
+    history_once (version_of log) [] entries others (payloads_of is.frames) is.holds
+    (subst (λ frames. IsHistory (version_of log) [] (payloads_of frames) others) same also.holds)
+
+-- what is due of one history of a log is due of any other
+pub due_once : (due : List Entry → List ℕ) (entries others : List Entry) (log : List ℕ) → HasHistory entries log → HasHistory others log
+    → due entries ≡ due others
+due_once due entries others log has also =
+    ∥∥₁_elim has (Coded-set (coded_list coded_ℕ) _ _) (λ is.
+    ∥∥₁_elim also (Coded-set (coded_list coded_ℕ) _ _) (λ too. ap due (reading_once entries others log is too)))
+
+-- a file that has what is due of the catalogue's history
+pub whole_of_any : (due : List Entry → List ℕ) (entries others : List Entry) (log : List ℕ) (file : Option (List ℕ)) → HasHistory entries log
+    → HasHistory others log → file ≡ Some (due others) → file ≡ Some (due entries)
+whole_of_any due entries others log file has also whole = whole ∙ ap (λ bytes. Some bytes) (sym (due_once due entries others log has also))
+
+pub part_of_any : (due : List Entry → List ℕ) (entries others : List Entry) (log : List ℕ) (old new : Option (List ℕ)) → HasHistory entries log
+    → HasHistory others log → IsPartWritten old new (due others) → IsPartWritten old new (due entries)
+part_of_any due entries others log old new has also part = subst (IsPartWritten old new) (sym (due_once due entries others log has also)) part
+
+pub fitting_history : (entries : List Entry) (log : List ℕ) → HasHistory entries log → IsWithin journal_limits entries → HasFittingHistory log
+fitting_history entries log has within = ∥∥₁_map has (λ is. (entries, is, within))

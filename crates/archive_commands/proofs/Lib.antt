@@ -1,0 +1,3 @@
+pub mod Rooms
+pub mod Histories
+pub mod Ends

@@ -1,0 +1,36 @@
+-- What commands on a journal that is only read tell and write. The rules are this project's own.
+use Rattle.std.specs.Prelude.{◌≡◌, ℕ, Bool, true, List, bytes_eq, Option, Some, None}
+use Rattle.marc_types.specs.declared.entry.Entry.{Entry}
+use Rattle.marc_types.specs.declared.key.Key.{Key}
+use Rattle.outside.specs.Room.{RoomView}
+use Rattle.entry_record.specs.Output.{all_keys}
+use Rattle.durable_catalogue.specs.declared.fault.OpenFault.{OpenFault}
+use Rattle.durable_catalogue.specs.declared.fault.OpenFault.TheVariants as opening
+use Rattle.durable_catalogue.specs.Logs.{IsLogOf}
+use Rattle.durable_catalogue.specs.Openings.{IsWithin, IsUnopened}
+use Rattle.console_lines.specs.declared.fault.Fault.{Fault}
+use Rattle.console_lines.specs.declared.fault.Fault.TheVariants as fault
+use Rattle.room_files.specs.Journals.{journal_limits, log_bytes}
+
+-- an opening's fault, as the console tells it
+abbrev pub opening_fault : OpenFault → Fault
+opening_fault opening.DeviceFault = fault.Device
+opening_fault (opening.NotAJournal place) = fault.NotAJournal place
+opening_fault opening.OldVersion = fault.OldVersion
+opening_fault opening.Full = fault.Full
+opening_fault opening.NoMemory = fault.Memory
+
+-- the fault is why the log of that name was not opened; where the room tells its bytes, they are so
+pub record WhyUnopened (room : RoomView) (name : List ℕ) (fault : Fault) : Type 0 where
+  pub reason : OpenFault
+  pub is : fault ≡ opening_fault reason
+  pub so : room.tells ≡ true → IsUnopened journal_limits (log_bytes room name) reason
+
+-- the keys that an export keeps: all, or those with a code
+abbrev pub kept_keys : Option (List ℕ) → Key → Bool
+kept_keys None = all_keys
+kept_keys (Some code) = λ key. bytes_eq key.code code
+
+-- the log has a history, and it is within the limits
+abbrev pub HasFittingHistory : List ℕ → Type 0
+HasFittingHistory log = ∥ ((entries : List Entry) × IsLogOf entries log × IsWithin journal_limits entries) ∥₁

@@ -1,0 +1,93 @@
+ghost use Rattle.std.specs.Prelude.{◌≡◌, ◌≢◌, ◌≤◌, ◌⊎◌, ◌==◌, ℕ, List, [], ◌∷◌, true, Some, None, IsTrue, OnOk};
+ghost use Rattle.std.specs.List.{list_any};
+ghost use Rattle.marc_types.specs.declared.entry.Entry.{Entry};
+ghost use Rattle.outside.specs.Disk.{SameDisk};
+ghost use Rattle.outside.specs.Fault.{HasWriteCause, Rose};
+ghost use Rattle.outside.specs.Room.{AsLog};
+ghost use Rattle.entry_record.specs.History.{state_of};
+ghost use Rattle.entry_record.specs.Output.{report_of};
+ghost use Rattle.durable_catalogue.specs.Logs.{HasHistory};
+ghost use Rattle.console_lines.specs.Faults.{TellsFault};
+ghost use Rattle.room_files.specs.Journals.{log_bytes, KeepsHistory};
+ghost use Rattle.room_files.specs.Rooms.{ApartFrom, IsPartWritten};
+ghost use Rattle.archive_commands.specs.Archives.{WhyUnopened, HasFittingHistory};
+
+use crate::fault::{OUTPUT_FAULT, WRITTEN, opening_fault};
+use console_lines::{Fault, tell};
+use durable_catalogue::Archive;
+use outside::{Room, WriteFault};
+use room_files::{close_archive, open_archive, write_report_file};
+use std::alloc::Global;
+
+/// Writes an archive's report into the file `out`, and closes its log.
+fn report_archive<R: Room>(
+    alloc: Global,
+    room: &mut R,
+    journal: &str,
+    out: &str,
+    archive: Archive<R::Log>,
+) -> Result<(), WriteFault>
+    requires opened { (R.seen room.old).open_as journal.now ≡ Some AsLog }
+    requires free { (R.seen room.old).open_as out.now ≡ None }
+    ensures apart { ApartFrom (R.seen room.old) (R.seen room.new) (journal.now ∷ out.now ∷ []) }
+    ensures closed { (R.seen room.new).open_as journal.now ≡ None }
+    ensures out_closed { (R.seen room.new).open_as out.now ≡ None }
+    ensures cause { HasWriteCause ((R.seen room.old).out_faults out.now) ((R.seen room.new).out_faults out.now) result }
+    ensures bytes { OnOk result ((R.seen room.old).tells ≡ true →
+        (R.seen room.new).file out.now ≡ Some (report_of (state_of archive.core.history))) }
+    ensures part { (R.seen room.old).tells ≡ true →
+        IsPartWritten ((R.seen room.old).file out.now) ((R.seen room.new).file out.now) (report_of (state_of archive.core.history)) }
+    ensures file { (R.seen room.old).tells ≡ true → (R.seen room.new).file journal.now ≡ (R.Log.seen archive.journal.disk).content }
+    ensures log { (R.seen room.old).tells ≡ true → SameDisk (R.Log.seen archive.journal.disk) ((R.seen room.new).log journal.now) }
+{
+    let written = write_report_file(alloc, room, out, archive.core());
+    close_archive(room, journal, archive);
+    written
+}
+
+/// Writes the report of a journal's history into the file `out`. Answers the exit status: 0, 4 where `out` could not be
+/// written, of which nothing is told, and else the status of the fault that the console is told: 5 where the log failed, 6
+/// where it is no journal, 7 where its history passes the limits, 8 where memory ran out, of which `out` may have a part.
+pub fn report<R: Room>(
+    alloc: Global,
+    room: &mut R,
+    console: &mut R::Out,
+    journal: &str,
+    out: &str,
+) -> u8
+    requires closed { (name : List ℕ) → (R.seen room.old).open_as name ≡ None }
+    requires differ { journal.now ≢ out.now }
+    ensures statuses { IsTrue (list_any (λ s. s == result) (0 ∷ 4 ∷ 5 ∷ 6 ∷ 7 ∷ 8 ∷ [])) }
+    ensures closed { (name : List ℕ) → (R.seen room.new).open_as name ≡ None }
+
+    // Nothing but the log and the output changes, and the output only where it is due.
+    ensures apart { ApartFrom (R.seen room.old) (R.seen room.new) (journal.now ∷ out.now ∷ []) }
+    ensures untouched { result ≢ 0 → result ≢ 4 → result ≢ 8 → ApartFrom (R.seen room.old) (R.seen room.new) (journal.now ∷ []) }
+    ensures keeps { (R.seen room.old).tells ≡ true → KeepsHistory (R.seen room.old) (R.seen room.new) journal.now }
+
+    // Each fault has its cause.
+    ensures device { result ≡ 5 → Rose ((R.seen room.old).log_faults journal.now) ((R.seen room.new).log_faults journal.now) }
+    ensures output { result ≡ 4 → Rose ((R.seen room.old).out_faults out.now) ((R.seen room.new).out_faults out.now) }
+    ensures told { 2 ≤ result → result ≢ 4 → TellsFault (WhyUnopened (R.seen room.old) journal.now)
+        (R.Out.written console.old) (R.Out.written console.new) (R.Out.faults console.old) (R.Out.faults console.new) result }
+
+    // The log has a history within the limits, and the output is the report of it, or a front of that.
+    ensures history { (result ≡ 0) ⊎ (result ≡ 4) → (R.seen room.old).tells ≡ true →
+        HasFittingHistory (log_bytes (R.seen room.old) journal.now) }
+    ensures end { (entries : List Entry) → result ≡ 0 → (R.seen room.old).tells ≡ true →
+        HasHistory entries (log_bytes (R.seen room.old) journal.now) →
+        (R.seen room.new).file out.now ≡ Some (report_of (state_of entries)) }
+    ensures part { (entries : List Entry) → (result ≡ 4) ⊎ (result ≡ 8) → (R.seen room.old).tells ≡ true →
+        HasHistory entries (log_bytes (R.seen room.old) journal.now) →
+        IsPartWritten ((R.seen room.old).file out.now) ((R.seen room.new).file out.now) (report_of (state_of entries)) }
+{
+    let archive = match open_archive(alloc, room, journal) {
+        Ok(archive) => archive,
+        Err(fault) => return tell(console, opening_fault(fault)),
+    };
+    match report_archive(alloc, room, journal, out, archive) {
+        Ok(()) => WRITTEN,
+        Err(WriteFault::OutputFault) => OUTPUT_FAULT,
+        Err(WriteFault::NoMemory) => tell(console, Fault::Memory),
+    }
+}

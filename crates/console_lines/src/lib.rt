@@ -1,0 +1,13 @@
+//! What the console is told: the lines of results, and of faults.
+#![tactic(auto)]
+
+pub use fault::{Fault, tell};
+pub use results::{made_text, refused_text, results_text, totals_text};
+pub use totals::{Sums, Totals};
+
+mod fault;
+mod lines;
+mod results;
+#[cfg(test)]
+mod tests;
+mod totals;

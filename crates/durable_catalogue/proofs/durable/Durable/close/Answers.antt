@@ -1,0 +1,11 @@
+use Rattle.std.proofs.Common.{◌≡◌, Some, ap, subst}
+use Rattle.durable_catalogue.specs.Durables.{mark_of, marked}
+use Rattle.durable_catalogue.proofs.Keeping.{each_image}
+use Rattle.durable_catalogue.proofs.durable.Durable.close.Goals as goal
+
+pub returns-clause-whole : goal.returns-clause-whole
+returns-clause-whole g c unmarked log image told is =
+    let self = c.args.self in
+    let seen = g.D.Disk.seen in
+    each_image self.opened self.core.history (marked (mark_of self.mark)) (seen self.before.value) (seen self.first.value.disk) (seen self.journal.disk)
+    (ap (λ m. marked (mark_of m)) unmarked) self.kept log image (subst (λ d. (seen d).content ≡ Some log) c.close.ensures told) (subst (λ d. (seen d).image image) c.close.ensures is)

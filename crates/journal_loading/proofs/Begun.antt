@@ -1,0 +1,175 @@
+-- Why loading didn't begin, or ended in part; and that it ended whole.
+use Rattle.std.proofs.Common.{◌≡◌, ◌≢◌, ◌⊎◌, inl, inr, ℕ, ◌<◌, List, ◌++◌, length, Option, Some, None, Bool, true, false, Result, Ok, Err, IfOk, IfErr, OnErr, refl, sym, ap, subst, ◌∙◌}
+use Rattle.std.specs.Prelude.{is_some, All, if◌then◌else◌}
+use Rattle.marc_types.specs.declared.entry.Entry.{Entry}
+use Rattle.marc_types.specs.declared.entry.Limits.{Limits}
+use Rattle.marc_types.specs.declared.copying.NoMemory.{NoMemory}
+use Rattle.outside.specs.Room.{RoomView}
+use Rattle.command_words.specs.Command.{Library}
+use Rattle.console_lines.specs.declared.fault.Fault.{Fault}
+use Rattle.console_lines.specs.declared.fault.Fault.TheVariants as fault
+use Rattle.durable_catalogue.specs.Durables.{Opening, marked}
+use Rattle.loader_workers.specs.declared.file_end.FileEnd.TheVariants as end
+use Rattle.loader_workers.specs.declared.result.FileResult.{FileResult}
+use Rattle.parallel_loading.specs.declared.input.InputFile.{InputFile}
+use Rattle.parallel_loading.specs.Files.{EachLoaded, AreLoaded}
+use Rattle.room_files.specs.Journals.{journal_limits, IsOpenedFrom, IsClosedTo}
+use Rattle.journal_loading.specs.Inputs.{AreInputs, IsFresh}
+use Rattle.journal_loading.specs.Outcomes.{any_ends, loading_fault, AreLoadedBehind, IsLoadedWhole, IsUnbegun, Unbegun, IsLoadingFault, NotBegun, InPart, IsFinished, IsStopped, Unloaded, Faulty}
+use Rattle.journal_loading.proofs.Loaded.{inputs_count, libraries_loaded, none_failed, results_count, after_count, has_mark, had_fault, HadFault}
+
+-- a fault of opening an input is its own or want of memory
+either_fault : (why : Fault) → (why ≢ fault.Input → why ≡ fault.Memory) → (why ≡ fault.Input) ⊎ (why ≡ fault.Memory)
+either_fault fault.Input other = inl refl
+either_fault fault.Usage other = inr (other (λ is. cc))
+either_fault fault.Device other = inr (other (λ is. cc))
+either_fault (fault.NotAJournal place) other = inr (other (λ is. cc))
+either_fault fault.Full other = inr (other (λ is. cc))
+either_fault fault.Memory other = inr refl
+either_fault fault.OldVersion other = inr (other (λ is. cc))
+
+-- a journal that was opened, and closed again with the same entries
+pub unbegun : (old new : RoomView) (journal : List ℕ) (why : Fault) (before entries : List Entry) (mark was : Option (List Entry)) (o : Opening)
+    → old.tells ≡ true → (why ≢ fault.Input → why ≡ fault.Memory) → IsOpenedFrom old journal before was o → entries ≡ before → mark ≡ None
+    → (o.tells ≡ true → IsClosedTo new journal entries mark o) → IsUnbegun old new journal why
+unbegun old new journal why before entries mark was o tells other opened same none closed =
+    Unbegun before o (either_fault why other) (subst (λ m. IsOpenedFrom old journal before m o) opened.unmarked opened)
+    (subst (λ m. IsClosedTo new journal before m o) none (subst (λ es. IsClosedTo new journal es mark o) same (closed (opened.tells tells))))
+
+module _ (a b c d : Bool) where
+  -- no fault: no device failed
+  pub no_device : (if a then Some fault.Device else if b then Some fault.Full else if c then Some fault.Input else if d then Some fault.Memory else None) ≡ None → a ≡ false
+  no_device is = decided a refl
+    where
+      decided : (x : Bool) → a ≡ x → a ≡ false
+      decided true at = let no = sym (ap (λ x. if x then Some fault.Device else if b then Some fault.Full else if c then Some fault.Input else if d then Some fault.Memory else None) at) ∙ is in cc
+      decided false at = at
+
+device_only : (a b c d : Bool) → (if a then Some fault.Device else if b then Some fault.Full else if c then Some fault.Input else if d then Some fault.Memory else None) ≡ Some fault.Device → a ≡ true
+device_only true b c d is = refl
+device_only false true c d is = cc
+device_only false false true d is = cc
+device_only false false false true is = cc
+device_only false false false false is = cc
+
+input_only : (a b c d : Bool) → (if a then Some fault.Device else if b then Some fault.Full else if c then Some fault.Input else if d then Some fault.Memory else None) ≡ Some fault.Input → c ≡ true
+input_only true b c d is = cc
+input_only false true c d is = cc
+input_only false false true d is = refl
+input_only false false false true is = cc
+input_only false false false false is = cc
+
+usage_never : (a b c d : Bool) → (if a then Some fault.Device else if b then Some fault.Full else if c then Some fault.Input else if d then Some fault.Memory else None) ≡ Some fault.Usage → ⊥
+usage_never true b c d is = cc
+usage_never false true c d is = cc
+usage_never false false true d is = cc
+usage_never false false false true is = cc
+usage_never false false false false is = cc
+
+module _ (results : List FileResult) where
+  pub device_failed : loading_fault results ≡ Some fault.Device → any_ends end.DeviceFault results ≡ true
+  unfolding loading_fault
+  device_failed is = device_only (any_ends end.DeviceFault results) (any_ends end.Full results) (any_ends end.ReadFault results) (any_ends end.NoMemory results) is
+
+  pub source_failed : loading_fault results ≡ Some fault.Input → any_ends end.ReadFault results ≡ true
+  unfolding loading_fault
+  source_failed is = input_only (any_ends end.DeviceFault results) (any_ends end.Full results) (any_ends end.ReadFault results) (any_ends end.NoMemory results) is
+
+  pub no_usage : loading_fault results ≡ Some fault.Usage → ⊥
+  unfolding loading_fault
+  no_usage is = usage_never (any_ends end.DeviceFault results) (any_ends end.Full results) (any_ends end.ReadFault results) (any_ends end.NoMemory results) is
+
+  pub none_device : loading_fault results ≡ None → any_ends end.DeviceFault results ≡ false
+  unfolding loading_fault
+  none_device is = no_device (any_ends end.DeviceFault results) (any_ends end.Full results) (any_ends end.ReadFault results) (any_ends end.NoMemory results) is
+
+module _ {S : Type 0} (left : S → Option (List ℕ)) (faults : S → ℕ) (room : RoomView) (journal : List ℕ) (libraries : List Library) (files after : List (InputFile S))
+    (limits : Limits) (before entries : List Entry) (was mark : Option (List Entry)) (o : Opening)
+    (tells : room.tells ≡ true) (inputs : AreInputs left room libraries files) (same : limits ≡ journal_limits) (opened : IsOpenedFrom room journal before was o) where
+  opened_none : IsOpenedFrom room journal before None o
+  opened_none = subst (λ m. IsOpenedFrom room journal before m o) opened.unmarked opened
+
+  loaded_behind : (results : List FileResult) (l : AreLoaded left faults limits before files after results entries mark) → AreLoadedBehind room libraries before l.added mark results
+  loaded_behind results l = record {
+    files = libraries_loaded left faults room before l.added mark 0 libraries files after results tells inputs (subst (λ most. EachLoaded left faults most before l.added mark 0 files after results) same l.each);
+    loaders = subst (λ n. All (λ (e : Entry). e.loader < n) (l.added ++ marked mark)) (inputs_count left faults room libraries files inputs) l.loaders;
+  }
+
+  pub loaded_whole : (results : Result (List FileResult) NoMemory) (are : List FileResult)
+      → IfOk results (λ rs. AreLoaded left faults limits before files after rs entries mark) → IsFinished results are → IsLoadedWhole room journal libraries entries mark o are
+  loaded_whole results are loaded finished =
+      let l : AreLoaded left faults limits before files after are entries mark = subst (λ r. IfOk r (λ rs. AreLoaded left faults limits before files after rs entries mark)) finished.ok loaded in
+      let none : mark ≡ None = l.unmarked (none_failed are (none_device are finished.faultless)) in
+      record {
+        before = before;
+        added = l.added;
+        opened = opened_none;
+        entries_are = l.after_is;
+        unmarked = none;
+        loaded = subst (λ m. AreLoadedBehind room libraries before l.added m are) none (loaded_behind are l);
+        faultless = finished.faultless;
+      }
+
+  pub loaded_part : (new : RoomView) (why : Fault) (results : Result (List FileResult) NoMemory)
+      → IfOk results (λ rs. AreLoaded left faults limits before files after rs entries mark) → OnErr results (entries ≡ before) → OnErr results (mark ≡ None)
+      → IsStopped why results → (o.tells ≡ true → IsClosedTo new journal entries mark o) → IsLoadingFault room new journal libraries why
+  loaded_part new why (Err e) loaded kept unmarked (Unloaded e' is) closed =
+      NotBegun (unbegun room new journal why before entries mark was o tells (λ other. is) opened kept unmarked closed)
+  loaded_part new why (Ok results) loaded kept unmarked (Faulty rs is) closed = InPart (record {
+    before = before;
+    added = loaded.added;
+    mark = mark;
+    results = results;
+    o = o;
+    opened = opened_none;
+    loaded = loaded_behind results loaded;
+    faulty = is;
+    closed = subst (λ es. IsClosedTo new journal es mark o) loaded.after_is (closed (opened.tells tells));
+  })
+
+module _ {S : Type 0} (left : S → Option (List ℕ)) (faults : S → ℕ) (room : RoomView) (files after : List (InputFile S)) (limits : Limits) (before entries : List Entry) (mark : Option (List Entry)) where
+  -- as many inputs come back, whether loading began or not
+  pub same_count : (results : Result (List FileResult) NoMemory) → IfOk results (λ rs. AreLoaded left faults limits before files after rs entries mark)
+      → OnErr results (after ≡ files) → length after ≡ length files
+  same_count (Ok results) loaded kept = after_count left faults room limits before loaded.added mark 0 files after results loaded.each
+  same_count (Err e) loaded kept = ap length kept
+
+  pub result_count : (results : Result (List FileResult) NoMemory) (are : List FileResult) → IfOk results (λ rs. AreLoaded left faults limits before files after rs entries mark)
+      → IsFinished results are → length are ≡ length files
+  result_count results are loaded finished =
+      let l : AreLoaded left faults limits before files after are entries mark = subst (λ r. IfOk r (λ rs. AreLoaded left faults limits before files after rs entries mark)) finished.ok loaded in
+      results_count left faults room limits before l.added mark 0 files after are l.each
+
+  -- a device's fault has its mark
+  pub stopped_device : (why : Fault) (results : Result (List FileResult) NoMemory) → IfOk results (λ rs. AreLoaded left faults limits before files after rs entries mark)
+      → IsStopped why results → why ≡ fault.Device → is_some mark ≡ true
+  stopped_device why (Err e) loaded (Unloaded e' is) at = let no = sym is ∙ at in cc
+  stopped_device why (Ok results) loaded (Faulty rs is) at =
+      has_mark left faults room limits before loaded.added mark 0 files after results loaded.each (device_failed results (is ∙ ap Some at))
+
+  -- a source's fault is that of some input
+  pub stopped_input : (why : Fault) (results : Result (List FileResult) NoMemory) → IfOk results (λ rs. AreLoaded left faults limits before files after rs entries mark)
+      → All (IsFresh faults) files → IsStopped why results → why ≡ fault.Input → HadFault faults after
+  stopped_input why (Err e) loaded fresh (Unloaded e' is) at = let no = sym is ∙ at in cc
+  stopped_input why (Ok results) loaded fresh (Faulty rs is) at =
+      had_fault left faults room limits before loaded.added mark 0 files after results fresh loaded.each (source_failed results (is ∙ ap Some at))
+
+pub stopped_usage : (why : Fault) (results : Result (List FileResult) NoMemory) → IsStopped why results → why ≢ fault.Usage
+stopped_usage why (Err e) (Unloaded e' is) at = let no = sym is ∙ at in cc
+stopped_usage why (Ok results) (Faulty rs is) at = no_usage results (is ∙ ap Some at)
+
+-- from facts of an answer to more
+pub if_ok_more : {T E : Type 0} {P Q : T → Type 0} (r : Result T E) → ((x : T) → r ≡ Ok x → P x → Q x) → IfOk r P → IfOk r Q
+if_ok_more (Ok x) more is = more x refl is
+if_ok_more (Err e) more is = tt
+
+pub if_err_more : {T E : Type 0} {P Q : E → Type 0} (r : Result T E) → ((e : E) → r ≡ Err e → P e → Q e) → IfErr r P → IfErr r Q
+if_err_more (Ok x) more is = tt
+if_err_more (Err e) more is = more e refl is
+
+pub err_at : {T E P : Type 0} (r : Result T E) (e : E) → r ≡ Err e → OnErr r P → P
+err_at (Ok x) e at is = cc
+err_at (Err x) e at is = is
+
+pub ok_at : {T E : Type 0} (P : T → Type 0) (r : Result T E) (x : T) → r ≡ Ok x → IfOk r P → P x
+ok_at P r x at is = subst (λ r. IfOk r P) at is

@@ -1,0 +1,31 @@
+use Rattle.std.proofs.Common.{rules, ◌≡◌, ◌∷◌, [], ◌+◌, length, Some, slice_get, sym, ap, subst, ◌∙◌, arith, length-append}
+use Rattle.command_words.specs.Command.{library_at}
+use Rattle.outside.proofs.Rooms.{stays_then}
+use Rattle.journal_loading.proofs.Opened.{at_end, at_before, closed_more}
+use Rattle.journal_loading.proofs.inputs.close_inputs.Goals as goal
+
+pub loop-input-preserved : goal.loop-input-preserved
+loop-input-preserved g c =
+    let (stays, few, same, rises) = c.loop-input.invariant in
+    let all = c.into_vec-inputs.result.items in
+    let left = c.pop.new.self.items in
+    let last = c.in-Some.input in
+    let popped = c.in-Some.ensures.items in
+    let len : length c.loop-input.inputs.items ≡ length left + 1 = ap length popped ∙ length-append left (last ∷ []) in
+    let still = c.close_input.ensures.stays in
+    let at : slice_get all (length left) ≡ Some last = sym (same (length left) (omega (arith, len))) ∙ ap (λ items. slice_get items (length left)) popped ∙ at_end left last in
+    let counted : c.len.result ≡ length left = search rules in (
+      stays_then _ _ _ stays still,
+      omega (arith, len, few),
+      λ index less. sym (at_before left last index less) ∙ ap (λ items. slice_get items index) (sym popped) ∙ same index (omega (arith, len, less)),
+      closed_more g.R.In.Source.faults c.args.words.now all left last (g.R.Room.seen c.args.room.now) (g.R.Room.seen c.loop-input.room) (g.R.Room.seen c.close_input.new.room)
+          (λ index library input from named is had. rises index library input (omega (arith, len, from)) named is had) stays still
+          (λ library named. c.close_input.ensures.rose library (subst (λ n. library_at c.args.words.now n ≡ Some library) (sym counted) named)) at,
+    )
+
+pub returns-clause-rose : goal.returns-clause-rose
+returns-clause-rose g c index library input from named is had =
+    let (stays, few, same, rises) = c.loop-input.invariant in
+    let none = c.in_default.ensures.items in
+    let empty : length c.loop-input.inputs.items ≡ 0 = search rules in
+    rises index library input (omega (arith, empty)) named (ap (λ items. slice_get items index) c.into_vec-inputs.ensures ∙ is) had

@@ -1,0 +1,112 @@
+-- What loading a command's files into a journal comes to. The rules are this project's own.
+use Rattle.std.specs.Prelude.{◌≡◌, ◌⊎◌, ℕ, ◌+◌, ◌<◌, Bool, true, false, List, [], ◌∷◌, ◌++◌, length, All, Option, Some, None, Result, Ok, Err, if◌then◌else◌}
+use Rattle.std.specs.List.{list_any}
+use Rattle.marc_types.specs.declared.entry.Entry.{Entry}
+use Rattle.marc_types.specs.declared.copying.NoMemory.{NoMemory}
+use Rattle.outside.specs.Room.{RoomView}
+use Rattle.command_words.specs.Command.{Library}
+use Rattle.console_lines.specs.declared.fault.Fault.{Fault}
+use Rattle.console_lines.specs.declared.fault.Fault.TheVariants as fault
+use Rattle.durable_catalogue.specs.Durables.{Opening, marked}
+use Rattle.durable_catalogue.specs.Openings.{IsUnopened}
+use Rattle.durable_catalogue.specs.declared.fault.OpenFault.{OpenFault}
+use Rattle.durable_catalogue.specs.declared.fault.OpenFault.TheVariants as opening
+use Rattle.loader_workers.specs.declared.file_end.FileEnd.{FileEnd}
+use Rattle.loader_workers.specs.declared.file_end.FileEnd.TheVariants as end
+use Rattle.loader_workers.specs.declared.result.FileResult.{FileResult}
+use Rattle.parallel_loading.specs.Files.{IsFileLoaded}
+use Rattle.room_files.specs.Journals.{journal_limits, log_bytes, IsOpenedFrom, IsClosedTo, KeepsHistory}
+
+-- the file of a library was loaded by the loader with that number
+pub record IsLibraryLoaded (room : RoomView) (before added : List Entry) (mark : Option (List Entry)) (library : Library) (loader : ℕ) (result : FileResult) : Type 0 where
+  pub bytes : List ℕ
+  pub there : room.file library.file ≡ Some bytes
+  pub loaded : IsFileLoaded journal_limits before added mark library.code bytes loader result
+
+-- each was, by the loader with its number, the first of these by `loader`
+pub data AreLibrariesLoaded (room : RoomView) (before added : List Entry) (mark : Option (List Entry)) : (loader : ℕ) → List Library → List FileResult → Type 0 where
+  NoLibrary : (loader : ℕ) → AreLibrariesLoaded room before added mark loader [] []
+  OneLibrary : (loader : ℕ) (libraries : List Library) (results : List FileResult) (library : Library) (result : FileResult)
+      → IsLibraryLoaded room before added mark library loader result → AreLibrariesLoaded room before added mark (loader + 1) libraries results
+      → AreLibrariesLoaded room before added mark loader (library ∷ libraries) (result ∷ results)
+
+-- Files were loaded behind these entries: `added` are entries of their loaders, and so are those of a frame that a device failed
+-- to take.
+pub record AreLoadedBehind (room : RoomView) (libraries : List Library) (before added : List Entry) (mark : Option (List Entry)) (results : List FileResult) : Type 0 where
+  pub files : AreLibrariesLoaded room before added mark 0 libraries results
+  pub loaders : All (λ e. e.loader < length libraries) (added ++ marked mark)
+
+abbrev pub ends_so : FileEnd → FileEnd → Bool
+ends_so end.Done end.Done = true
+ends_so end.ReadFault end.ReadFault = true
+ends_so end.Full end.Full = true
+ends_so end.DeviceFault end.DeviceFault = true
+ends_so end.NoMemory end.NoMemory = true
+ends_so a b = false
+
+abbrev pub any_ends : FileEnd → List FileResult → Bool
+any_ends e results = list_any (λ r. ends_so e r.end) results
+
+-- the fault of loading: a device's before a full catalogue, that before a source's, and want of memory last
+unfoldable pub loading_fault : List FileResult → Option Fault
+loading_fault results =
+    if any_ends end.DeviceFault results then Some fault.Device
+    else if any_ends end.Full results then Some fault.Full
+    else if any_ends end.ReadFault results then Some fault.Input
+    else if any_ends end.NoMemory results then Some fault.Memory
+    else None
+
+-- an opening's fault, as the console tells it
+abbrev pub fault_of_opening : OpenFault → Fault
+fault_of_opening opening.DeviceFault = fault.Device
+fault_of_opening (opening.NotAJournal place) = fault.NotAJournal place
+fault_of_opening opening.OldVersion = fault.OldVersion
+fault_of_opening opening.Full = fault.Full
+fault_of_opening opening.NoMemory = fault.Memory
+
+-- Files were loaded whole into the journal of that name, over which the catalogue is still open: it had `before`, and has `added`
+-- behind that.
+pub record IsLoadedWhole (room : RoomView) (journal : List ℕ) (libraries : List Library) (entries : List Entry) (mark : Option (List Entry)) (o : Opening) (results : List FileResult) : Type 0 where
+  pub before : List Entry
+  pub added : List Entry
+  pub opened : IsOpenedFrom room journal before None o
+  pub entries_are : entries ≡ before ++ added
+  pub unmarked : mark ≡ None
+  pub loaded : AreLoadedBehind room libraries before added None results
+  pub faultless : loading_fault results ≡ None
+
+-- Loading ended by a fault, and the journal of that name is closed. It had `before`, and has behind that what was committed; or
+-- nothing, where loading didn't begin.
+pub record IsLoadedInPart (old new : RoomView) (journal : List ℕ) (libraries : List Library) (why : Fault) : Type 0 where
+  pub before : List Entry
+  pub added : List Entry
+  pub mark : Option (List Entry)
+  pub results : List FileResult
+  pub o : Opening
+  pub opened : IsOpenedFrom old journal before None o
+  pub loaded : AreLoadedBehind old libraries before added mark results
+  pub faulty : loading_fault results ≡ Some why
+  pub closed : IsClosedTo new journal (before ++ added) mark o
+
+-- Why loading didn't begin: the journal isn't opened, and has the history that it had; or an input isn't opened, or there is no
+-- memory to begin, and the journal was opened and closed again with nothing added.
+pub data IsUnbegun (old new : RoomView) (journal : List ℕ) (why : Fault) : Type 0 where
+  Unopened : (of : OpenFault) → why ≡ fault_of_opening of → IsUnopened journal_limits (log_bytes old journal) of → KeepsHistory old new journal
+      → IsUnbegun old new journal why
+  Unbegun : (before : List Entry) (o : Opening) → (why ≡ fault.Input) ⊎ (why ≡ fault.Memory) → IsOpenedFrom old journal before None o → IsClosedTo new journal before None o
+      → IsUnbegun old new journal why
+
+-- why files are not loaded whole: loading didn't begin, or it ended in part
+pub data IsLoadingFault (old new : RoomView) (journal : List ℕ) (libraries : List Library) (why : Fault) : Type 0 where
+  NotBegun : IsUnbegun old new journal why → IsLoadingFault old new journal libraries why
+  InPart : IsLoadedInPart old new journal libraries why → IsLoadingFault old new journal libraries why
+
+-- the results of loading, none of which is a fault
+pub record IsFinished (results : Result (List FileResult) NoMemory) (are : List FileResult) : Type 0 where
+  pub ok : results ≡ Ok are
+  pub faultless : loading_fault are ≡ None
+
+-- there was no memory to begin, or the results have this fault
+pub data IsStopped (why : Fault) : Result (List FileResult) NoMemory → Type 0 where
+  Unloaded : (e : NoMemory) → why ≡ fault.Memory → IsStopped why (Err e)
+  Faulty : (results : List FileResult) → loading_fault results ≡ Some why → IsStopped why (Ok results)

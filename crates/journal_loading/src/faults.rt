@@ -1,0 +1,57 @@
+//! The faults of an opening and of loading, as the console tells them.
+ghost use Rattle.std.specs.Prelude.{◌≡◌, ◌↔◌, IsTrue};
+ghost use Rattle.journal_loading.specs.Outcomes.{ends_so, any_ends, loading_fault, fault_of_opening};
+
+use console_lines::Fault;
+use durable_catalogue::OpenFault;
+use loader_workers::{FileEnd, FileResult};
+
+pub fn fault_of_opening(fault: OpenFault) -> Fault
+    ensures { result ≡ fault_of_opening fault }
+{
+    match fault {
+        OpenFault::DeviceFault => Fault::Device,
+        OpenFault::NotAJournal(place) => Fault::NotAJournal(place),
+        OpenFault::OldVersion => Fault::OldVersion,
+        OpenFault::Full => Fault::Full,
+        OpenFault::NoMemory => Fault::Memory,
+    }
+}
+
+fn ends_so(end: FileEnd, is: FileEnd) -> bool
+    ensures { result ≡ ends_so end is }
+{
+    matches!(
+        (end, is),
+        (FileEnd::Done, FileEnd::Done)
+            | (FileEnd::ReadFault, FileEnd::ReadFault)
+            | (FileEnd::Full, FileEnd::Full)
+            | (FileEnd::DeviceFault, FileEnd::DeviceFault)
+            | (FileEnd::NoMemory, FileEnd::NoMemory)
+    )
+}
+
+fn any_ends(results: &[FileResult], end: FileEnd) -> bool
+    ensures { result ≡ any_ends end results.now }
+{
+    results.iter().any(|file| ends_so(end, file.end))
+}
+
+/// The fault of loading, where a file's end is one: a device's before a full catalogue, that before a source's, and want of
+/// memory last.
+#[tactic(auto, unfolding(crate::specs::Outcomes::loading_fault))]
+pub fn loading_fault(results: &[FileResult]) -> Option<Fault>
+    ensures { result ≡ loading_fault results.now }
+{
+    if any_ends(results, FileEnd::DeviceFault) {
+        Some(Fault::Device)
+    } else if any_ends(results, FileEnd::Full) {
+        Some(Fault::Full)
+    } else if any_ends(results, FileEnd::ReadFault) {
+        Some(Fault::Input)
+    } else if any_ends(results, FileEnd::NoMemory) {
+        Some(Fault::Memory)
+    } else {
+        None
+    }
+}

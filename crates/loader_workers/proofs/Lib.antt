@@ -1,0 +1,9 @@
+pub mod Fewer
+pub mod FewRows
+pub mod Frames
+pub mod Joining
+pub mod Loaded
+pub mod Receipts
+pub mod Taking
+pub mod Turned
+pub mod Slots

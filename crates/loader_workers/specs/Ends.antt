@@ -1,0 +1,17 @@
+-- Why the loading of a file ended. The rules are this project's own.
+use Rattle.std.specs.Prelude.{Option, Some, None}
+use Rattle.marc_types.specs.declared.entry.CommitFault.{CommitFault}
+use Rattle.marc_types.specs.declared.entry.CommitFault.TheVariants as fault
+use Rattle.loader_workers.specs.declared.file_end.FileEnd.{FileEnd}
+use Rattle.loader_workers.specs.declared.file_end.FileEnd.TheVariants.{Full, DeviceFault, NoMemory}
+
+-- the end of a file of which a commit answers this
+abbrev pub end_of : CommitFault → FileEnd
+end_of fault.Full = Full
+end_of fault.NoMemory = NoMemory
+end_of fault.DeviceFault = DeviceFault
+end_of fault.Broken = DeviceFault
+
+abbrev pub end_of_commit : Option CommitFault → Option FileEnd
+end_of_commit None = None
+end_of_commit (Some fault) = Some (end_of fault)

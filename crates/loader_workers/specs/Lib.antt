@@ -1,0 +1,6 @@
+pub mod Counts
+pub mod Ends
+pub mod Gathering
+pub mod Turns
+pub mod Loading
+pub mod SideBySide

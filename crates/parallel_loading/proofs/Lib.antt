@@ -1,0 +1,11 @@
+pub mod Owned
+pub mod Loaders
+pub mod Receipts
+pub mod Marks
+pub mod Jobs
+pub mod OneHistory
+pub mod Ended
+pub mod FileDone
+pub mod AllDone
+pub mod Under
+pub mod Crosses

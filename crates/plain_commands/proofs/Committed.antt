@@ -1,0 +1,39 @@
+-- The entries of a workload are committed one after the other.
+use Rattle.std.proofs.Common.{◌≡◌, ◌∙◌, ◌+◌, ◌≤◌, Bool, false, List, [], ◌∷◌, ◌++◌, length, length-append, append_assoc, append-nil, sym, ap, arith}
+use Rattle.std.specs.Prelude.{◌||◌}
+use Rattle.std.proofs.lemmas.Bool.{le-ltb}
+use Rattle.std.proofs.lemmas.List.Sums.{sum_by-append, sum_by-cons}
+use Rattle.marc_types.specs.declared.entry.Entry.{Entry}
+use Rattle.entry_record.specs.History.{entry_size, entries_size}
+use Rattle.catalogue_core.specs.Catalogues.{is_full}
+use Rattle.plain_commands.specs.Totals.{holding, most_entries, most_bytes}
+
+neither : (a b : Bool) → a ≡ false → b ≡ false → (a || b) ≡ false
+neither a b first second = ap (λ x. x || b) first ∙ second
+
+-- there is room for the next of entries that are all within the limits
+pub room_for_next : (accepted before after all : List Entry) (e : Entry) → accepted ++ before ≡ all → before ≡ e ∷ after
+    → length all ≤ most_entries → entries_size all ≤ most_bytes → is_full (holding accepted) e ≡ false
+room_for_next accepted before after all e split next few small =
+    let none = append-nil accepted in
+    let number = ap (length {A = Entry}) split in
+    let parts = length-append accepted before in
+    let left = ap (length {A = Entry}) next in
+    let before_it = ap (length {A = Entry}) none in
+    let size = ap entries_size split in
+    let sizes = sum_by-append entry_size accepted before in
+    let size_left = ap entries_size next in
+    let first = sum_by-cons entry_size e after in
+    let size_before = ap entries_size none in
+    neither _ _ (le-ltb most_entries (length (accepted ++ []) + 1) (omega arith))
+    (le-ltb most_bytes (entries_size (accepted ++ []) + entry_size e) (omega arith))
+
+-- it was committed
+pub committed_next : (accepted now before after all : List Entry) (e : Entry) → accepted ++ before ≡ all → before ≡ e ∷ after
+    → now ≡ accepted ++ e ∷ [] → now ++ after ≡ all
+committed_next accepted now before after all e split next more =
+    ap (λ l. l ++ after) more ∙ append_assoc accepted (e ∷ []) after ∙ ap (λ l. accepted ++ l) (sym next) ∙ split
+
+-- no entry is left
+pub committed_all : (accepted before all : List Entry) → accepted ++ before ≡ all → before ≡ [] → accepted ≡ all
+committed_all accepted before all split none = sym (append-nil accepted) ∙ ap (λ l. accepted ++ l) (sym none) ∙ split

@@ -1,0 +1,23 @@
+-- How a command ended.
+use Rattle.std.proofs.Common.{◌≡◌, ◌≢◌, ◌∙◌, ◌⊎◌, inl, inr, ℕ, ◌<◌, ◌≤◌, Bool, true, false, true≢false, List, refl, sym, subst, arith, None}
+use Rattle.std.specs.Str.{bytes_eq}
+use Rattle.marc_types.specs.Order.{text_Decides}
+use Rattle.outside.specs.Room.{RoomView, Apart}
+
+closed_at : (b : Bool) (old new : RoomView) (out name : List ℕ) → (b ≡ true → name ≡ out) → (name ≡ out → b ≡ true) → Apart old new out
+    → new.open_as out ≡ None → old.open_as name ≡ None → new.open_as name ≡ None
+closed_at true old new out name same back apart closed free = subst (λ n. new.open_as n ≡ None) (sym (same refl)) closed
+closed_at false old new out name same back apart closed free =
+    apart.open_names name (λ e. absurd (true≢false (sym (back e)))) ∙ free
+
+-- where no name was open, and one name alone was used and closed again, no name is open
+pub closed_everywhere : (old new : RoomView) (out : List ℕ) → Apart old new out → new.open_as out ≡ None
+    → ((name : List ℕ) → old.open_as name ≡ None) → (name : List ℕ) → new.open_as name ≡ None
+closed_everywhere old new out apart closed free name =
+    let same = text_Decides name out in
+    closed_at (bytes_eq name out) old new out name same.0 same.1 apart closed (free name)
+
+-- no fault has the status of a command that wrote something
+pub no_fault : {P : Type 0} (status : ℕ) → (status ≤ 1) ⊎ (status ≡ 4) → 1 < status → status ≢ 4 → P
+no_fault status (inl few) more other = absurd (omega (arith, few, more))
+no_fault status (inr four) more other = absurd (other four)

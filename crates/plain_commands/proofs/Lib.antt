@@ -1,0 +1,8 @@
+pub mod FewRows
+pub mod Summed
+pub mod Loads
+pub mod Parts
+pub mod Passes
+pub mod Ends
+pub mod Committed
+pub mod Made

@@ -1,0 +1,123 @@
+-- One more entry is committed, and its receipt summed.
+use Rattle.std.proofs.Common.{◌≡◌, ◌∙◌, ◌+◌, ◌^◌, ◌≤◌, false, List, [], ◌∷◌, ◌++◌, length, length-append, append_assoc, append-nil, refl, sym, ap, arith, subst}
+use Rattle.std.specs.Prelude.{nat_lt}
+use Rattle.std.proofs.lemmas.Bool.{or_parts, ltb-false}
+use Rattle.std.proofs.lemmas.List.Sums.{sum_by_push}
+use Rattle.marc_types.specs.declared.entry.Entry.{Entry}
+use Rattle.marc_types.specs.declared.entry.Receipt.{Receipt}
+use Rattle.entry_record.specs.History.{entry_size, entries_size}
+use Rattle.entry_record.specs.Receipts.{receipt_behind, receipts_behind}
+use Rattle.catalogue_core.specs.Catalogues.{Catalogued, is_full, with_entry}
+use Rattle.console_lines.specs.Totals.{sums_of, with_receipt, HasRoom}
+use Rattle.plain_commands.specs.Totals.{holding, IsWithinLimits, IsSummed, most_entries, most_bytes}
+use Rattle.plain_commands.specs.Loading.{IsCommitted}
+use Rattle.console_lines.specs.declared.totals.Sums.{Sums}
+use Rattle.plain_commands.proofs.FewRows.{few_changed}
+
+receipts_last : (history entries : List Entry) (e : Entry)
+    → receipts_behind history (entries ++ e ∷ []) ≡ receipts_behind history entries ++ receipt_behind (history ++ entries) e ∷ []
+unfolding receipts_behind
+receipts_last history [] e = ap (λ h. receipt_behind h e ∷ []) (sym (append-nil history))
+receipts_last history (first ∷ entries) e =
+    ap (λ l. receipt_behind history first ∷ l)
+    (receipts_last (history ++ first ∷ []) entries e
+    ∙ ap (λ h. receipts_behind (history ++ first ∷ []) entries ++ receipt_behind h e ∷ []) (append_assoc history (first ∷ []) entries))
+
+sums_last : (receipts : List Receipt) (r : Receipt) → sums_of (receipts ++ r ∷ []) ≡ with_receipt (sums_of receipts) r
+sums_last receipts r =
+    let linked = sum_by_push (λ (r : Receipt). r.linked) receipts r in
+    let ambiguous = sum_by_push (λ (r : Receipt). r.ambiguous) receipts r in
+    let unlinked = sum_by_push (λ (r : Receipt). r.unlinked) receipts r in
+    let changed = sum_by_push (λ (r : Receipt). r.changed_records) receipts r in
+    λ i. record { linked = linked i; ambiguous = ambiguous i; unlinked = unlinked i; changed = changed i }
+
+sums_more : (accepted : List Entry) (e : Entry) (sums : Sums) → sums ≡ sums_of (receipts_behind [] accepted)
+    → with_receipt sums (receipt_behind accepted e) ≡ sums_of (receipts_behind [] (accepted ++ e ∷ []))
+sums_more accepted e sums are =
+    ap (λ (s : Sums). with_receipt s (receipt_behind accepted e)) are
+    ∙ sym (ap sums_of (receipts_last [] accepted e) ∙ sums_last (receipts_behind [] accepted) (receipt_behind accepted e))
+
+within_more : (accepted : List Entry) (e : Entry) → is_full (holding accepted) e ≡ false → IsWithinLimits (accepted ++ e ∷ [])
+within_more accepted e h =
+    let parts = or_parts (nat_lt most_entries (length (accepted ++ []) + 1)) (nat_lt most_bytes (entries_size (accepted ++ []) + entry_size e)) h in
+    let count = ltb-false most_entries (length (accepted ++ []) + 1) parts.0 in
+    let size = ltb-false most_bytes (entries_size (accepted ++ []) + entry_size e) parts.1 in
+    let same_count = ap (length {A = Entry}) (append-nil accepted) in
+    let same_size = ap entries_size (append-nil accepted) in
+    let longer = length-append accepted (e ∷ []) in
+    let larger = sum_by_push entry_size accepted e in
+    record { entries = omega arith; bytes = omega arith }
+
+room_for_receipt : (accepted : List Entry) (e : Entry) (sums : Sums) → IsSummed accepted sums → IsWithinLimits (accepted ++ e ∷ [])
+    → HasRoom sums (receipt_behind accepted e).changed_records
+room_for_receipt accepted e sums summed within =
+    let few = few_changed accepted e in
+    let longer = length-append accepted (e ∷ []) in
+    let entries = within.entries in
+    let linked = summed.linked in
+    let ambiguous = summed.ambiguous in
+    let unlinked = summed.unlinked in
+    let changed = summed.changed in
+    record { linked = omega arith; ambiguous = omega arith; unlinked = omega arith; changed_fits = omega arith }
+
+summed_none : IsSummed [] (sums_of [])
+unfolding receipts_behind
+summed_none = record { are = refl; linked = omega arith; ambiguous = omega arith; unlinked = omega arith; changed = omega arith }
+
+within_none : IsWithinLimits []
+within_none = record { entries = omega arith; bytes = omega arith }
+
+summed_more : (accepted : List Entry) (e : Entry) (sums now : Sums) → IsSummed accepted sums → IsWithinLimits (accepted ++ e ∷ [])
+    → now ≡ with_receipt sums (receipt_behind accepted e)
+    → now.linked ≤ sums.linked + 2 ^ 32 → now.ambiguous ≤ sums.ambiguous + 2 ^ 32 → now.unlinked ≤ sums.unlinked + 2 ^ 32
+    → IsSummed (accepted ++ e ∷ []) now
+summed_more accepted e sums now summed within is linked ambiguous unlinked =
+    let few = few_changed accepted e in
+    let longer = length-append accepted (e ∷ []) in
+    let entries = within.entries in
+    let linked_before = summed.linked in
+    let ambiguous_before = summed.ambiguous in
+    let unlinked_before = summed.unlinked in
+    let changed_before = summed.changed in
+    let changed = ap (λ (s : Sums). s.changed) is in
+    record {
+      are = is ∙ sums_more accepted e sums summed.are;
+      linked = omega arith;
+      ambiguous = omega arith;
+      unlinked = omega arith;
+      changed = omega arith;
+    }
+
+pub committed_none : (core : Catalogued) (sums : Sums) → core ≡ holding [] → sums ≡ sums_of [] → IsCommitted core sums
+committed_none core sums empty none =
+    let history = ap (λ (c : Catalogued). c.history) empty in
+    record {
+      holds = empty ∙ sym (ap holding history);
+      within = subst IsWithinLimits (sym history) within_none;
+      summed = subst (λ (h : List Entry). IsSummed h sums) (sym history) (subst (IsSummed []) (sym none) summed_none);
+    }
+
+within_one : (core : Catalogued) (sums : Sums) (e : Entry) → IsCommitted core sums → is_full core e ≡ false → IsWithinLimits (core.history ++ e ∷ [])
+within_one core sums e is room = within_more core.history e (subst (λ (c : Catalogued). is_full c e ≡ false) is.holds room)
+
+-- there is room for the receipt of one more entry
+pub room_to_add : (core : Catalogued) (sums : Sums) (e : Entry) (r : Receipt) → IsCommitted core sums → is_full core e ≡ false
+    → r ≡ receipt_behind core.history e → HasRoom sums r.changed_records
+room_to_add core sums e r is room receipt =
+    subst (λ (r : Receipt). HasRoom sums r.changed_records) (sym receipt)
+    (room_for_receipt core.history e sums is.summed (within_one core sums e is room))
+
+pub committed_more : (core now : Catalogued) (sums added : Sums) (e : Entry) (r : Receipt) → IsCommitted core sums → is_full core e ≡ false
+    → r ≡ receipt_behind core.history e → now ≡ with_entry core e → added ≡ with_receipt sums r
+    → added.linked ≤ sums.linked + 2 ^ 32 → added.ambiguous ≤ sums.ambiguous + 2 ^ 32 → added.unlinked ≤ sums.unlinked + 2 ^ 32
+    → IsCommitted now added
+committed_more core now sums added e r is room receipt behind sum linked ambiguous unlinked =
+    let held : now ≡ holding (core.history ++ e ∷ []) = behind ∙ ap (λ (c : Catalogued). with_entry c e) is.holds in
+    let history : now.history ≡ core.history ++ e ∷ [] = ap (λ (c : Catalogued). c.history) held in
+    let within = within_one core sums e is room in
+    record {
+      holds = held ∙ sym (ap holding history);
+      within = subst IsWithinLimits (sym history) within;
+      summed = subst (λ (h : List Entry). IsSummed h added) (sym history)
+          (summed_more core.history e sums added is.summed within (sum ∙ ap (with_receipt sums) receipt) linked ambiguous unlinked);
+    }

@@ -1,0 +1,13 @@
+use Rattle.std.proofs.Common.{◌∙◌}
+use Rattle.plain_commands.proofs.Parts.{part_of_closed}
+use Rattle.plain_commands.proofs.output.write_out.Goals as goal
+
+pub returns-in_err-written-clause-part : goal.returns-in_err-written-clause-part
+returns-in_err-written-clause-part g c = λ tells.
+    part_of_closed _ _ _ _ _ (c.in_ok-out.ensures.empty tells) c.write_all_records-written.ensures.front
+    (c.close_out-closed.ensures.bytes (c.in_ok-out.ensures.apart.tells ∙ tells))
+
+pub returns-clause-part : goal.returns-clause-part
+returns-clause-part g c = λ tells.
+    part_of_closed _ _ _ _ _ (c.in_ok-out.ensures.empty tells) c.write_all_records-written.ensures.front
+    (c.close_out-closed.ensures.bytes (c.in_ok-out.ensures.apart.tells ∙ tells))

@@ -1,0 +1,5 @@
+pub mod Totals
+pub mod Files
+pub mod Loading
+pub mod Passing
+pub mod Making

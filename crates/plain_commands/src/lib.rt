@@ -1,0 +1,14 @@
+//! The commands without a journal: a file through an empty catalogue, and a workload.
+#![tactic(auto)]
+
+pub use making::make;
+pub use passing::pass;
+
+mod exporting;
+mod loaded;
+mod loading;
+mod making;
+mod output;
+mod passing;
+mod ready;
+mod summing;

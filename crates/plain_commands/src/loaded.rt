@@ -1,0 +1,112 @@
+ghost use Rattle.std.specs.Prelude.{◌≡◌, OnOk, OnErr, IfErr};
+ghost use Rattle.catalogue_core.specs.Catalogues.{is_full, IsDue};
+ghost use Rattle.plain_commands.specs.Totals.{holding, totals_of, IsWithinLimits};
+ghost use Rattle.plain_commands.specs.Loading.{nothing_loaded, with_accepted, with_refused};
+
+use catalogue_core::{Catalogue, CoreFault};
+use console_lines::{Sums, Totals};
+use entry_record::Prepared;
+use file_entries::RefusedItem;
+use marc_types::{Limits, NoMemory};
+use record_store::Steps;
+use std::alloc::Global;
+use std::marker::Model;
+use std::sync::ledger::Ledger;
+
+/// The most entries of a catalogue, and the most bytes of all of them.
+const MOST_ENTRIES: u64 = 1_048_576;
+
+const MOST_BYTES: u64 = 536_870_912;
+
+/// What became of a file's items: a catalogue of the accepted entries, the sums over their receipts, and the refused items.
+#[derive(Drop)]
+pub struct Loaded {
+    core: Catalogue,
+    sums: Sums,
+    refused: Vec<RefusedItem>,
+}
+
+impl Model for Loaded {
+    ghost use Rattle.plain_commands.specs.Loading.{LoadedView, IsCommitted};
+
+    ghost Value = { LoadedView };
+
+    ghost view = { λ l. record { accepted = l.core.history; refused = l.refused.items } };
+
+    ghost invariant = { λ l. IsCommitted l.core l.sums };
+}
+
+impl Loaded {
+    /// No item yet.
+    #[tactic(auto, using(crate::proofs::Summed::committed_none))]
+    pub fn new(alloc: Global) -> Loaded
+        ensures { result ≡ nothing_loaded }
+    {
+        let limits = Limits {
+            entries: MOST_ENTRIES,
+            bytes: MOST_BYTES,
+        };
+        Loaded {
+            core: Catalogue::empty(alloc, limits),
+            sums: Sums::none(),
+            refused: Vec::new(alloc),
+        }
+    }
+
+    /// Commits an entry. Full comes before all else, where with this entry the limits would be passed. After either fault
+    /// nothing is changed.
+    pub fn commit<L: Ledger>(
+        &mut self,
+        alloc: Global,
+        item: Prepared,
+        steps: &mut Steps<L>,
+    ) -> Result<(), CoreFault>
+        ensures accepted { OnOk result (self.new ≡ with_accepted self.old item) }
+        ensures fault { IfErr result (IsDue (is_full (holding self.old.accepted) item)) }
+        ensures err { OnErr result (self.new ≡ self.old) }
+    {
+        let receipt = self.core.commit(alloc, item, steps)?;
+        self.sums.add(receipt);
+        Ok(())
+    }
+
+    /// Lists a refused item.
+    pub fn refuse(&mut self, item: RefusedItem) -> Result<(), NoMemory>
+        ensures refused { OnOk result (self.new ≡ with_refused self.old item) }
+        ensures err { OnErr result (self.new ≡ self.old) }
+    {
+        self.refused.push(item)?;
+        Ok(())
+    }
+
+    /// The catalogue of the accepted entries.
+    pub fn core(&self) -> &Catalogue
+        ensures { result.now ≡ holding self.now.accepted }
+    {
+        &self.core
+    }
+
+    pub fn refused(&self) -> &[RefusedItem]
+        ensures { result.now ≡ self.now.refused }
+    {
+        self.refused.as_slice()
+    }
+
+    /// What is counted of the file.
+    pub fn totals(&self) -> Totals
+        ensures { result ≡ totals_of self.now.accepted self.now.refused }
+    {
+        Totals {
+            accepted: self.core.history_len(),
+            refused: self.refused.len() as u64,
+            sums: self.sums,
+        }
+    }
+
+    /// The accepted entries are within the limits.
+    pub fn is_within_limits(&self)
+        ensures { IsWithinLimits self.now.accepted }
+    {
+        let _core = &self.core;
+    }
+}

@@ -1,0 +1,123 @@
+ghost use Rattle.std.specs.Prelude.{◌≡◌, ◌<◌, ◌≤◌, ℕ, List, true, false, Some, None, IsSome, IsTrue, OnOk, IfOk, IfErr};
+ghost use Rattle.marc_types.specs.Valid.{is_code};
+ghost use Rattle.outside.specs.Fault.{Rose};
+ghost use Rattle.outside.specs.Room.{Stays};
+ghost use Rattle.marc_stream.specs.Pieces.{items};
+ghost use Rattle.plain_commands.specs.Loading.{EndsLoading, IsLoaded, IsFullAt};
+
+use crate::loaded::Loaded;
+use catalogue_core::CoreFault;
+use console_lines::Fault;
+use file_entries::{FileEntries, NextEntry};
+use marc_types::{NoMemory, Text};
+use outside::{Room, Source};
+use record_store::Steps;
+use std::alloc::Global;
+use std::marker::Brand;
+use std::sync::ledger::{Blank, Ledger};
+
+/// The loader of the only file of a pass.
+const LOADER: u32 = 0;
+
+fn load_entries<S: Source, L: Ledger>(
+    alloc: Global,
+    entries: &mut FileEntries<S>,
+    steps: &mut Steps<L>,
+) -> Result<Loaded, Fault>
+    requires going { entries.old.over ≡ false }
+    requires loader { entries.old.loader ≡ 0 }
+    ensures loaded { IfOk result (λ loaded. entries.old.stream.tells ≡ true → IsLoaded entries.old.library entries.old.stream.coming loaded) }
+    ensures full { IfErr result (λ fault. fault ≡ Fault.Full → entries.old.stream.tells ≡ true →
+        IsFullAt entries.old.library entries.old.stream.coming) }
+    ensures faults { entries.old.stream.faults ≤ entries.new.stream.faults }
+    ensures cause { IfErr result (λ fault. fault ≡ Fault.Input → Rose entries.old.stream.faults entries.new.stream.faults) }
+    ensures kind { IfErr result EndsLoading }
+{
+    let mut loaded = Loaded::new(alloc);
+    'items: loop {
+        match entries.next(alloc) {
+            NextEntry::Entry(item) => match loaded.commit(alloc, item, steps) {
+                Ok(()) => {}
+                Err(CoreFault::Full) => return Err(Fault::Full),
+                Err(CoreFault::NoMemory) => return Err(Fault::Memory),
+            },
+            NextEntry::Refused(item) => match loaded.refuse(item) {
+                Ok(()) => {}
+                Err(NoMemory) => return Err(Fault::Memory),
+            },
+            NextEntry::End => {
+                loaded.is_within_limits();
+                return Ok(loaded);
+            }
+            NextEntry::ReadFault => return Err(Fault::Input),
+            NextEntry::NoMemory => return Err(Fault::Memory),
+        }
+    }
+}
+
+/// Loads a source whose steps nobody asks for.
+fn load_counted<S: Source, L: Ledger>(
+    alloc: Global,
+    source: S,
+    library: Text,
+    blank: Blank,
+) -> (Result<Loaded, Fault>, S)
+    requires library { IsTrue (is_code library) }
+    requires name { blank.name ≡ L.name }
+    requires parts { blank.parts ≡ L.parts }
+    requires shared { 0 < blank.parts }
+    ensures loaded { IfOk result.0 (λ loaded. (bytes : List ℕ) → S.left source ≡ Some bytes → IsLoaded library (items bytes) loaded) }
+    ensures full { IfErr result.0 (λ fault. fault ≡ Fault.Full → (bytes : List ℕ) → S.left source ≡ Some bytes → IsFullAt library (items bytes)) }
+    ensures later { S.faults source ≤ S.faults result.1 }
+    ensures cause { IfErr result.0 (λ fault. fault ≡ Fault.Input → Rose (S.faults source) (S.faults result.1)) }
+    ensures kind { IfErr result.0 EndsLoading }
+{
+    let mut steps = Steps::<L>::new(blank);
+    match FileEntries::new(alloc, source, library, LOADER) {
+        Ok(mut entries) => {
+            let loaded = load_entries(alloc, &mut entries, &mut steps);
+            (loaded, entries.finish())
+        }
+        Err((source, NoMemory)) => (Err(Fault::Memory), source),
+    }
+}
+
+fn load_source<S: Source>(alloc: Global, source: S, library: Text) -> (Result<Loaded, Fault>, S)
+    requires library { IsTrue (is_code library) }
+    ensures loaded { IfOk result.0 (λ loaded. (bytes : List ℕ) → S.left source ≡ Some bytes → IsLoaded library (items bytes) loaded) }
+    ensures full { IfErr result.0 (λ fault. fault ≡ Fault.Full → (bytes : List ℕ) → S.left source ≡ Some bytes → IsFullAt library (items bytes)) }
+    ensures later { S.faults source ≤ S.faults result.1 }
+    ensures cause { IfErr result.0 (λ fault. fault ≡ Fault.Input → Rose (S.faults source) (S.faults result.1)) }
+    ensures kind { IfErr result.0 EndsLoading }
+{
+    load_counted::<S, Brand>(alloc, source, library, Blank::new(1))
+}
+
+/// Loads the file of that name into an empty catalogue. It is closed again on every path.
+pub fn load_file<R: Room>(
+    alloc: Global,
+    room: &mut R,
+    name: &str,
+    library: Text,
+) -> Result<Loaded, Fault>
+    requires free { (R.seen room.old).open_as name.now ≡ None }
+    requires library { IsTrue (is_code library) }
+    ensures stays { Stays (R.seen room.old) (R.seen room.new) }
+    ensures there { OnOk result ((R.seen room.old).tells ≡ true → IsSome ((R.seen room.old).file name.now)) }
+    ensures there_full { IfErr result (λ fault. fault ≡ Fault.Full → (R.seen room.old).tells ≡ true → IsSome ((R.seen room.old).file name.now)) }
+    ensures loaded { IfOk result (λ loaded. (bytes : List ℕ) → (R.seen room.old).tells ≡ true → (R.seen room.old).file name.now ≡ Some bytes →
+        IsLoaded library (items bytes) loaded) }
+    ensures full { IfErr result (λ fault. fault ≡ Fault.Full → (bytes : List ℕ) → (R.seen room.old).tells ≡ true →
+        (R.seen room.old).file name.now ≡ Some bytes → IsFullAt library (items bytes)) }
+    ensures cause { IfErr result (λ fault. fault ≡ Fault.Input →
+        Rose ((R.seen room.old).in_faults name.now) ((R.seen room.new).in_faults name.now)) }
+    ensures kind { IfErr result EndsLoading }
+{
+    let source = match room.open_in(name) {
+        Ok(source) => source,
+        Err(_) => return Err(Fault::Input),
+    };
+    let (loaded, source) = load_source(alloc, source, library);
+    room.close_in(name, source);
+    loaded
+}

@@ -1,0 +1,75 @@
+ghost use Rattle.std.specs.Prelude.{◌≡◌, ◌<◌, ◌≤◌, false, OnOk, IfOk, string_bytes};
+ghost use Rattle.catalogue_core.specs.Catalogues.{is_full};
+ghost use Rattle.plain_commands.specs.Totals.{holding};
+ghost use Rattle.plain_commands.specs.Loading.{with_accepted};
+ghost use Rattle.plain_commands.specs.Making.{workload_sums, workload_line};
+
+use crate::loaded::Loaded;
+use catalogue_core::CoreFault;
+use console_lines::{Sums, made_text};
+use entry_record::Prepared;
+use marc_types::NoMemory;
+use record_store::Steps;
+use std::alloc::Global;
+use std::marker::Brand;
+use std::sync::ledger::{Blank, Ledger};
+use workload_entries::Entries;
+use workload_entries::laws::workloads_are_within_limits;
+
+/// Commits an entry that there is room for.
+fn commit<L: Ledger>(
+    alloc: Global,
+    loaded: &mut Loaded,
+    entry: Prepared,
+    steps: &mut Steps<L>,
+) -> Result<(), NoMemory>
+    requires { is_full (holding loaded.old.accepted) entry ≡ false }
+    ensures { OnOk result (loaded.new ≡ with_accepted loaded.old entry) }
+{
+    match loaded.commit(alloc, entry, steps) {
+        Ok(()) => Ok(()),
+        Err(CoreFault::NoMemory) => Err(NoMemory),
+        // full only where there is no room
+        Err(CoreFault::Full) => unreachable!(),
+    }
+}
+
+/// The sums over a workload's receipts, where nobody asks for the steps of its commits.
+#[tactic(auto, using(crate::proofs::Committed::room_for_next, crate::proofs::Committed::committed_next, crate::proofs::Committed::committed_all))]
+fn sum_counted<L: Ledger>(
+    alloc: Global,
+    seed: u64,
+    count: u64,
+    blank: Blank,
+) -> Result<Sums, NoMemory>
+    requires few { count ≤ 1048576 }
+    requires name { blank.name ≡ L.name }
+    requires parts { blank.parts ≡ L.parts }
+    requires shared { 0 < blank.parts }
+    ensures { IfOk result (λ sums. sums ≡ workload_sums seed count) }
+{
+    workloads_are_within_limits(seed, count);
+    let mut steps = Steps::<L>::new(blank);
+    let mut entries = Entries::new(alloc, seed, count)?;
+    let mut loaded = Loaded::new(alloc);
+    'entries: while let Some(entry) = entries.next(alloc)? {
+        commit(alloc, &mut loaded, entry, &mut steps)?;
+    }
+    Ok(loaded.totals().sums)
+}
+
+/// Commits the records of a workload to an empty catalogue, and sums their receipts.
+fn sum_workload(alloc: Global, seed: u64, count: u64) -> Result<Sums, NoMemory>
+    requires { count ≤ 1048576 }
+    ensures { IfOk result (λ sums. sums ≡ workload_sums seed count) }
+{
+    sum_counted::<Brand>(alloc, seed, count, Blank::new(1))
+}
+
+/// What the console is told of a workload.
+pub fn workload_text(alloc: Global, seed: u64, count: u64) -> Result<String, NoMemory>
+    requires { count ≤ 1048576 }
+    ensures { IfOk result (λ text. string_bytes text ≡ workload_line seed count) }
+{
+    made_text(alloc, count, &sum_workload(alloc, seed, count)?)
+}

@@ -1,0 +1,61 @@
+-- A journal in a room: as it is opened, and as it is closed again. The rules are this project's own.
+use Rattle.std.specs.Prelude.{◌≡◌, ℕ, true, List, length, Option, Some, None, is_some}
+use Rattle.marc_types.specs.declared.entry.Entry.{Entry}
+use Rattle.marc_types.specs.declared.entry.Limits.{Limits}
+use Rattle.outside.specs.Disk.{DiskView}
+use Rattle.outside.specs.Room.{RoomView, bytes_or_none}
+use Rattle.commit_journal.specs.Log.{version_of}
+use Rattle.entry_record.specs.History.{next_run}
+use Rattle.durable_catalogue.specs.Logs.{HasHistory}
+use Rattle.durable_catalogue.specs.Images.{Holds}
+use Rattle.durable_catalogue.specs.Openings.{IsWithin}
+use Rattle.durable_catalogue.specs.Durables.{Opening, IsLeft, marked}
+
+-- the most that a history has: entries, and bytes
+abbrev pub journal_limits : Limits
+journal_limits = record { entries = 1048576; bytes = 536870912 }
+
+-- the bytes of the log of that name, none where there is no such file
+abbrev pub log_bytes : RoomView → List ℕ → List ℕ
+log_bytes room name = bytes_or_none (room.file name)
+
+-- A catalogue of these entries was opened over the log of that name in a room. Its opening's time begins with the log's, and the
+-- opening synced, where the log tells its moments.
+pub record IsOpenedFrom (room : RoomView) (name : List ℕ) (entries : List Entry) (mark : Option (List Entry)) (o : Opening) : Type 0 where
+  pub history : room.tells ≡ true → HasHistory entries (log_bytes room name)
+  pub version : room.tells ≡ true → version_of (log_bytes room name) ≡ 2
+  pub within : IsWithin journal_limits entries
+  pub unmarked : mark ≡ None
+  pub limits : o.origin.limits ≡ journal_limits
+  pub run : o.origin.run ≡ next_run entries
+  pub opened : o.opened ≡ length entries
+  pub tells : room.tells ≡ true → o.tells ≡ true
+  pub moment : o.moment ≡ 0
+  pub faults : o.faults ≡ 0
+  pub synced : o.dated ≡ true → is_some o.synced ≡ true
+
+-- A catalogue of these entries, with those of a frame that a device failed to take, was closed as the log of that name: what a
+-- crash may leave of it, and the file.
+pub record IsClosedTo (room : RoomView) (name : List ℕ) (entries : List Entry) (mark : Option (List Entry)) (o : Opening) : Type 0 where
+  pub closed : room.has_log name ≡ true
+  pub left : IsLeft o entries (marked mark) (room.log name)
+  pub bytes : List ℕ
+  pub file : room.file name ≡ Some bytes
+  pub content : (room.log name).content ≡ Some bytes
+  pub holds : Holds (length entries) entries (marked mark) bytes
+
+-- The log of that name has the history that it had: it was not opened, and its file is as it was; or it was, and where it tells
+-- its moments its file has that history, and so has each image since the first sync.
+pub data KeepsHistory (old new : RoomView) (name : List ℕ) : Type 0 where
+  Unopened : new.file name ≡ old.file name → KeepsHistory old new name
+  Opened : ((entries : List Entry) → HasHistory entries (log_bytes old name) → (new.log name).dated ≡ true → HasHistory entries (log_bytes new name))
+      → ((entries : List Entry) (s : ℕ) (c : List ℕ) → HasHistory entries (log_bytes old name) → (new.log name).synced 0 ≡ Some s → (new.log name).left s c
+      → HasHistory entries c)
+      → KeepsHistory old new name
+
+-- a log that was opened keeps the history that its bytes had: its content has it, where it tells its moments, and so has each image
+-- since the first sync
+pub record KeepsLog (log : List ℕ) (disk : DiskView) : Type 0 where
+  pub content : (entries : List Entry) → HasHistory entries log → disk.dated ≡ true → HasHistory entries (bytes_or_none disk.content)
+  pub images : (entries : List Entry) (s : ℕ) (c : List ℕ) → HasHistory entries log → disk.synced 0 ≡ Some s → disk.left s c
+      → HasHistory entries c

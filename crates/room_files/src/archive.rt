@@ -1,0 +1,65 @@
+//! Journals that are only read.
+ghost use Rattle.std.specs.Prelude.{◌≡◌, ◌≢◌, true, Some, None, IfOk, IfErr, OnOk, OnErr};
+ghost use Rattle.outside.specs.Disk.{SameDisk};
+ghost use Rattle.outside.specs.Fault.{Rose};
+ghost use Rattle.outside.specs.Room.{AsLog, Apart};
+ghost use Rattle.durable_catalogue.specs.declared.fault.OpenFault.TheVariants.{DeviceFault, OldVersion};
+ghost use Rattle.durable_catalogue.specs.Logs.{HasHistory};
+ghost use Rattle.durable_catalogue.specs.Openings.{IsWithin, IsUnopened};
+ghost use Rattle.room_files.specs.Journals.{journal_limits, log_bytes, KeepsHistory, KeepsLog};
+
+use crate::JOURNAL_LIMITS;
+use durable_catalogue::{Archive, OpenFault};
+use outside::Room;
+use std::alloc::Global;
+
+/// Opens the file of that name to read its history, of either version. A fault closes it again.
+pub fn open_archive<R: Room>(
+    alloc: Global,
+    room: &mut R,
+    name: &str,
+) -> Result<Archive<R::Log>, OpenFault>
+    requires { (R.seen room.old).open_as name.now ≡ None }
+    ensures apart { Apart (R.seen room.old) (R.seen room.new) name.now }
+    ensures opened { OnOk result ((R.seen room.new).open_as name.now ≡ Some AsLog) }
+    ensures closed { OnErr result ((R.seen room.new).open_as name.now ≡ None) }
+
+    // The catalogue has the log's history, within the limits, and the log keeps it.
+    ensures history { IfOk result (λ a. (R.seen room.old).tells ≡ true → HasHistory a.core.history (log_bytes (R.seen room.old) name.now)) }
+    ensures within { IfOk result (λ a. IsWithin journal_limits a.core.history) }
+    ensures kept { IfOk result (λ a. (R.seen room.old).tells ≡ true →
+        KeepsLog (log_bytes (R.seen room.old) name.now) (R.Log.seen a.journal.disk)) }
+
+    // Each fault comes only where the log is so; a device fault only where the count of faults rose.
+    ensures fault { IfErr result (λ fault. (R.seen room.old).tells ≡ true →
+        IsUnopened journal_limits (log_bytes (R.seen room.old) name.now) fault) }
+    ensures current { IfErr result (λ fault. fault ≢ OldVersion) }
+    ensures cause { IfErr result (λ fault. fault ≡ DeviceFault →
+        Rose ((R.seen room.old).log_faults name.now) ((R.seen room.new).log_faults name.now)) }
+    ensures keeps { OnErr result ((R.seen room.old).tells ≡ true → KeepsHistory (R.seen room.old) (R.seen room.new) name.now) }
+{
+    let Ok(log) = room.open_log(name) else {
+        return Err(OpenFault::DeviceFault);
+    };
+    match Archive::open(alloc, log, JOURNAL_LIMITS) {
+        Ok(archive) => Ok(archive),
+        Err(failed) => {
+            let (log, fault) = failed;
+            room.close_log(name, log);
+            Err(fault)
+        }
+    }
+}
+
+/// Closes an archive's log as the file of that name.
+pub fn close_archive<R: Room>(room: &mut R, name: &str, archive: Archive<R::Log>)
+    requires { (R.seen room.old).open_as name.now ≡ Some AsLog }
+    ensures apart { Apart (R.seen room.old) (R.seen room.new) name.now }
+    ensures closed { (R.seen room.new).open_as name.now ≡ None }
+
+    // The log and its file are what the archive left.
+    ensures file { (R.seen room.old).tells ≡ true → (R.seen room.new).file name.now ≡ (R.Log.seen archive.journal.disk).content }
+    ensures log { (R.seen room.old).tells ≡ true → SameDisk (R.Log.seen archive.journal.disk) ((R.seen room.new).log name.now) }
+{
+    room.close_log(name, archive.close());
+}

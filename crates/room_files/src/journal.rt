@@ -1,0 +1,70 @@
+//! Journals that are appended to.
+ghost use Rattle.std.specs.Prelude.{◌≡◌, true, Some, None, is_some, IfOk, IfErr, OnOk, OnErr};
+ghost use Rattle.outside.specs.Fault.{Rose};
+ghost use Rattle.outside.specs.Room.{AsLog, Apart};
+ghost use Rattle.durable_catalogue.specs.declared.fault.OpenFault.TheVariants.{DeviceFault};
+ghost use Rattle.durable_catalogue.specs.Durables.{mark_of, opening};
+ghost use Rattle.durable_catalogue.specs.Openings.{IsUnopened};
+ghost use Rattle.room_files.specs.Journals.{journal_limits, log_bytes, IsOpenedFrom, IsClosedTo, KeepsHistory};
+
+use durable_catalogue::{Durable, OpenFault};
+use marc_types::Limits;
+use outside::Room;
+use std::alloc::Global;
+
+/// The most that a history has: entries, and bytes.
+pub const JOURNAL_LIMITS: Limits = Limits {
+    entries: 1_048_576,
+    bytes: 536_870_912,
+};
+
+/// Opens the file of that name as a catalogue's log. A fault closes it again.
+pub fn open_journal<R: Room>(
+    alloc: Global,
+    room: &mut R,
+    name: &str,
+) -> Result<Durable<R::Log>, OpenFault>
+    requires { (R.seen room.old).open_as name.now ≡ None }
+    ensures apart { Apart (R.seen room.old) (R.seen room.new) name.now }
+    ensures opened { OnOk result ((R.seen room.new).open_as name.now ≡ Some AsLog) }
+    ensures closed { OnErr result ((R.seen room.new).open_as name.now ≡ None) }
+    ensures catalogue { IfOk result (λ d. IsOpenedFrom (R.seen room.old) name.now d.core.history (mark_of d.mark)
+        (opening d.limits d.run d.opened (R.Log.seen d.before.value) (R.Log.seen d.first.value.disk))) }
+
+    // Each fault comes only where the log is so; a device fault only where the count of faults rose.
+    ensures fault { IfErr result (λ fault. (R.seen room.old).tells ≡ true →
+        IsUnopened journal_limits (log_bytes (R.seen room.old) name.now) fault) }
+    ensures cause { IfErr result (λ fault. fault ≡ DeviceFault →
+        Rose ((R.seen room.old).log_faults name.now) ((R.seen room.new).log_faults name.now)) }
+    ensures keeps { OnErr result ((R.seen room.old).tells ≡ true → KeepsHistory (R.seen room.old) (R.seen room.new) name.now) }
+{
+    let Ok(log) = room.open_log(name) else {
+        return Err(OpenFault::DeviceFault);
+    };
+    match Durable::open(alloc, log, JOURNAL_LIMITS) {
+        Ok(durable) => Ok(durable),
+        Err(failed) => {
+            let (log, fault) = failed;
+            room.close_log(name, log);
+            Err(fault)
+        }
+    }
+}
+
+/// Closes a catalogue's log as the file of that name, with all that was committed.
+pub fn close_journal<R: Room>(room: &mut R, name: &str, durable: Durable<R::Log>)
+    requires { (R.seen room.old).open_as name.now ≡ Some AsLog }
+    ensures apart { Apart (R.seen room.old) (R.seen room.new) name.now }
+    ensures closed { (R.seen room.new).open_as name.now ≡ None }
+
+    // The file and the closed log, where the room tells and the log told when it was opened.
+    ensures log { (R.seen room.old).tells ≡ true → is_some (R.Log.seen durable.before.value).content ≡ true →
+        IsClosedTo (R.seen room.new) name.now durable.core.history (mark_of durable.mark)
+        (opening durable.limits durable.run durable.opened (R.Log.seen durable.before.value) (R.Log.seen durable.first.value.disk)) }
+
+    // A mark has its cause in the count of faults.
+    ensures cause { is_some (mark_of durable.mark) ≡ true → (R.Log.seen durable.before.value).faults ≡ 0 →
+        Rose ((R.seen room.old).log_faults name.now) ((R.seen room.new).log_faults name.now) }
+{
+    room.close_log(name, durable.close());
+}

@@ -1,0 +1,120 @@
+//! As many files as a command takes, and a file of more entries than a turn takes.
+ghost use Rattle.std.specs.Prelude.{◌≡◌, ℕ, List, None, IfOk};
+ghost use Rattle.outside_mem.specs.Room.{room_view};
+
+use super::{ZOOLOGY, carried_out};
+use crate::room_of;
+use crate::rooms::with_file;
+use command_words::Words;
+use marc_types::{NoMemory, Text};
+use outside_mem::{MemRoom, MemSink};
+use outside_real::OpenGate;
+use std::alloc::Global;
+use std::test::Fail;
+use union_top::run;
+
+/// The most files of one command.
+const MOST: u32 = 64;
+
+/// A room with so many files of one record each.
+fn with_files(alloc: Global, count: u32) -> Result<MemRoom, Fail>
+    ensures { IfOk result (λ room. (name : List ℕ) → (room_view room).open_as name ≡ None) }
+{
+    let mut room = room_of(alloc, &[], "none", 0)?;
+    for index in 0..count {
+        let name = format!(in alloc; "f{index}")?;
+        room = with_file(alloc, room, name.as_str(), ZOOLOGY)?;
+    }
+    Ok(room)
+}
+
+/// The words of a load of so many files, each of a library of its own.
+fn load_of(alloc: Global, count: u32) -> Result<Words, NoMemory> {
+    let mut words = Vec::new(alloc);
+    for word in ["load", "j"] {
+        words.push(Text::from_str(alloc, word)?)?;
+    }
+    for index in 0..count {
+        words.push(Text::from_string(format!(in alloc; "L{index}=f{index}")?))?;
+    }
+    Ok(Words::from_vec(words))
+}
+
+/// What the console is told of so many files of one record each.
+fn totals_of(alloc: Global, count: u32) -> Result<String, NoMemory> {
+    let mut text = String::new(alloc);
+    for index in 0..count {
+        let line = format!(in alloc;
+            "f{index}: accepted 1, refused 0, linked 0, ambiguous 0, unlinked 0, changed 0\n"
+        )?;
+        text.push_str(line.as_str())?;
+    }
+    Ok(text)
+}
+
+/// So many copies of a record.
+fn copies(alloc: Global, count: u32) -> Result<Vec<u8>, NoMemory> {
+    let mut bytes = Vec::new(alloc);
+    for _ in 0..count {
+        bytes.extend_from_slice(ZOOLOGY)?;
+    }
+    Ok(bytes)
+}
+
+#[test]
+fn as_many_files_as_a_command_takes(rt: HostRuntime) -> Result<(), Fail> {
+    let alloc = rt.alloc();
+    let mut room = with_files(alloc, MOST)?;
+    let mut console = MemSink::new(alloc, Vec::new(alloc));
+    let more = load_of(alloc, MOST + 1)?;
+    let status = run(&rt, alloc, &more, &mut room, &mut console, &OpenGate);
+    assert_eq!(rt; status, 2);
+    assert_eq!(rt; console.bytes(), b"union_cat: usage\n".as_slice());
+    let mut console = MemSink::new(alloc, Vec::new(alloc));
+    let most = load_of(alloc, MOST)?;
+    let status = run(&rt, alloc, &most, &mut room, &mut console, &OpenGate);
+    let totals = totals_of(alloc, MOST)?;
+    assert_eq!(rt; console.bytes(), totals.as_bytes());
+    assert_eq!(rt; status, 0);
+
+    // Each library's record has a key of its own.
+    let due = copies(alloc, MOST)?;
+    carried_out(
+        &rt,
+        alloc,
+        room,
+        &OpenGate,
+        &["export", "j", "out"],
+        0,
+        "",
+        &[("out", Some(due.as_slice()))],
+    )?;
+    Ok(())
+}
+
+/// 33 entries take a frame of 32 and one of 1.
+#[test]
+fn a_turn_takes_thirty_two_entries(rt: HostRuntime) -> Result<(), Fail> {
+    let alloc = rt.alloc();
+    let file = copies(alloc, 33)?;
+    let room = room_of(alloc, &[("f", file.as_slice())], "none", 0)?;
+    let room = carried_out(
+        &rt,
+        alloc,
+        room,
+        &OpenGate,
+        &["load", "j", "ULIB=f"],
+        0,
+        "f: accepted 33, refused 0, linked 0, ambiguous 0, unlinked 0, changed 0\n",
+        &[],
+    )?;
+    let Some(log) = room.file("j") else {
+        panic!(rt; "no log")
+    };
+    assert_eq!(rt; log.len(), 2604);
+    assert_eq!(rt;
+        log.get(16..39),
+        Some(b"O\0\0\x09\xb2\0\0\0\0\0\0\0\x01\0\0\0\0\x04ULIB ".as_slice())
+    );
+    Ok(())
+}

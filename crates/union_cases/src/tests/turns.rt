@@ -1,0 +1,124 @@
+//! Two loaders that take turns in an order that a gate chooses.
+use super::carried_out;
+use crate::room_of;
+use outside::Gate;
+use outside_real::OpenGate;
+use std::sync::Wait;
+use std::sync::atomic::{AtomicU32, Ordering};
+use std::test::Fail;
+use std::thread;
+
+/// The first call of the second loader waits for the second call of the first, that one for the second call of the second
+/// loader, and that one for the third call of the first.
+#[derive(Drop)]
+struct Alternating {
+    called: AtomicU32,
+}
+
+const FIRST_AT_2: u32 = 1;
+
+const SECOND_AT_2: u32 = 2;
+
+const FIRST_AT_3: u32 = 4;
+
+/// The yields after which a call waits no longer.
+const YIELDS: u32 = 10_000_000;
+
+impl Gate for Alternating {
+    fn before(&self, _rt: &impl Wait, loader: u32, ordinal: u64) {
+        let (own, awaited) = match (loader, ordinal) {
+            (1, 1) => (0, FIRST_AT_2),
+            (0, 2) => (FIRST_AT_2, SECOND_AT_2),
+            (1, 2) => (SECOND_AT_2, FIRST_AT_3),
+            (0, 3) => (FIRST_AT_3, 0),
+            _ => (0, 0),
+        };
+        self.called.fetch_or(own, Ordering::SeqCst);
+        for _ in 0..YIELDS {
+            if self.called.load(Ordering::SeqCst) & awaited == awaited {
+                return;
+            }
+            thread::yield_now();
+        }
+    }
+
+    fn batch(&self) -> u32 {
+        1
+    }
+}
+
+/// Two books.
+const BOOKS: &[u8] =
+    b"00134nam a2200061 a 4500001000300000100005200003245001700055\x1eb1\x1e1 \x1faClemens, Samuel Langhorne,\x1fd1835-1910,\x1feauthor.\x1e10\x1faRoughing it.\x1e\x1d00081nam a2200049 a 4500001000300000100002800003\x1eb2\x1e1 \x1faTwain, Mark,\x1fd1835-1910\x1e\x1d";
+
+/// The authority of their headings, and then its deletion.
+const AUTHORITY_AND_ITS_END: &[u8] =
+    b"00158nz  a2200073n  4500001001000000003000400010100002800014400004200042\x1en79021164\x1eDLC\x1e1 \x1faTwain, Mark,\x1fd1835-1910\x1e1 \x1faClemens, Samuel Langhorne,\x1fd1835-1910\x1e\x1d00064dz  a2200049n  4500001001000000003000400010\x1en79021164\x1eDLC\x1e\x1d";
+
+/// The entries stand in the order of the turns: a book, the authority, the other book, the deletion.
+const LOG: &[u8] =
+    b"UNIONCAT JNL 02\nO\0\0\0\xa4\0\0\0\0\0\0\0\x01\0\0\0\0\x04ULIB\x01\0\0\0\0\0\0\0\x01\0\0\0\x8600134nam a2200061 a 4500001000300000100005200003245001700055\x1eb1\x1e1 \x1faClemens, Samuel Langhorne,\x1fd1835-1910,\x1feauthor.\x1e10\x1faRoughing it.\x1e\x1dO\0\0\0\xbc\0\0\0\0\0\0\0\x01\0\0\0\x01\x04ULIB\x01\0\0\0\0\0\0\0\x01\0\0\0\x9e00158nz  a2200073n  4500001001000000003000400010100002800014400004200042\x1en79021164\x1eDLC\x1e1 \x1faTwain, Mark,\x1fd1835-1910\x1e1 \x1faClemens, Samuel Langhorne,\x1fd1835-1910\x1e\x1dO\0\0\0o\0\0\0\0\0\0\0\x01\0\0\0\0\x04ULIB\x01\0\0\0\0\0\0\0\x02\0\0\0Q00081nam a2200049 a 4500001000300000100002800003\x1eb2\x1e1 \x1faTwain, Mark,\x1fd1835-1910\x1e\x1dO\0\0\0^\0\0\0\0\0\0\0\x01\0\0\0\x01\x04ULIB\x01\0\0\0\0\0\0\0\x02\0\0\0@00064dz  a2200049n  4500001001000000003000400010\x1en79021164\x1eDLC\x1e\x1dC";
+
+/// Both books. The first keeps the heading that the authority gave it, without the authority's number.
+const KEPT: &[u8] =
+    b"00119nam a2200061 a 4500001000300000100003700003245001700040\x1eb1\x1e1 \x1faTwain, Mark,\x1fd1835-1910\x1feauthor.\x1e10\x1faRoughing it.\x1e\x1d00081nam a2200049 a 4500001000300000100002800003\x1eb2\x1e1 \x1faTwain, Mark,\x1fd1835-1910\x1e\x1d";
+
+const TOTALS: &str =
+    "f0: accepted 2, refused 0, linked 1, ambiguous 0, unlinked 1, changed 0\nf1: accepted 2, refused 0, linked 0, ambiguous 0, unlinked 0, changed 3\n";
+
+const REPORT: &[u8] = b"TOTAL authorities=0 bibliographic=2 linked=0 ambiguous=0 unlinked=2\n";
+
+#[test]
+fn two_loaders_alternate(rt: HostRuntime) -> Result<(), Fail> {
+    let alloc = rt.alloc();
+    let gate = Alternating {
+        called: AtomicU32::new(0),
+    };
+    let room = room_of(
+        alloc,
+        &[("f0", BOOKS), ("f1", AUTHORITY_AND_ITS_END)],
+        "none",
+        0,
+    )?;
+    let room = carried_out(
+        &rt,
+        alloc,
+        room,
+        &gate,
+        &["run", "j", "out", "rep", "ULIB=f0", "ULIB=f1"],
+        0,
+        TOTALS,
+        &[("j", Some(LOG)), ("out", Some(KEPT)), ("rep", Some(REPORT))],
+    )?;
+    let room = carried_out(
+        &rt,
+        alloc,
+        room,
+        &OpenGate,
+        &["export", "j", "o2", "ULIB"],
+        0,
+        "",
+        &[("o2", Some(KEPT))],
+    )?;
+    let room = carried_out(
+        &rt,
+        alloc,
+        room,
+        &OpenGate,
+        &["export", "j", "o2", "DLC"],
+        0,
+        "",
+        &[("o2", Some(b""))],
+    )?;
+    carried_out(
+        &rt,
+        alloc,
+        room,
+        &OpenGate,
+        &["report", "j", "r2"],
+        0,
+        "",
+        &[("r2", Some(REPORT)), ("j", Some(LOG))],
+    )?;
+    Ok(())
+}

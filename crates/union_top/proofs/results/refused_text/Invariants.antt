@@ -1,6 +1,0 @@
-use Rattle.std.proofs.Common.{◌≡◌, string_bytes, take}
-use Rattle.union_top.specs.Lines.{refused_lines}
-use Rattle.union_top.proofs.results.refused_text.Given as goal
-
-abbrev pub invariant-loop-item : goal.invariant-loop-item
-invariant-loop-item l = string_bytes l.text ≡ refused_lines l.file (take l.item-index l.refused)

@@ -1,0 +1,47 @@
+//! The outputs of a run.
+ghost use Rattle.std.specs.Prelude.{◌≡◌, ◌≢◌, ◌⊎◌, ℕ, List, [], ◌∷◌, true, Some, None, OnOk, IfErr};
+ghost use Rattle.outside.specs.Fault.{Rose};
+ghost use Rattle.outside.specs.declared.fault.WriteFault.TheVariants.{OutputFault};
+ghost use Rattle.entry_record.specs.History.{state_of};
+ghost use Rattle.entry_record.specs.Output.{export_of, all_keys, report_of};
+ghost use Rattle.room_files.specs.Rooms.{ApartFrom, IsPartWritten};
+
+use catalogue_core::Catalogue;
+use marc_types::Key;
+use outside::{Room, WriteFault};
+use room_files::{write_export, write_report_file};
+use selection::Selection;
+use std::alloc::Global;
+
+/// Writes the export of a catalogue into the file `out`, and then its report into the file `report`.
+pub fn write_outputs<R: Room>(
+    alloc: Global,
+    room: &mut R,
+    out: &str,
+    report: &str,
+    core: &Catalogue,
+) -> Result<(), WriteFault>
+    requires free { (R.seen room.old).open_as out.now ≡ None }
+    requires report_free { (R.seen room.old).open_as report.now ≡ None }
+    requires differ { report.now ≢ out.now }
+    requires staged { core.now.staged ≡ [] }
+    ensures apart { ApartFrom (R.seen room.old) (R.seen room.new) (out.now ∷ report.now ∷ []) }
+    ensures closed { (R.seen room.new).open_as out.now ≡ None }
+    ensures report_closed { (R.seen room.new).open_as report.now ≡ None }
+    ensures cause { IfErr result (λ fault. fault ≡ OutputFault →
+        Rose ((R.seen room.old).out_faults out.now) ((R.seen room.new).out_faults out.now)
+        ⊎ Rose ((R.seen room.old).out_faults report.now) ((R.seen room.new).out_faults report.now)) }
+    ensures export { OnOk result ((R.seen room.old).tells ≡ true →
+        (R.seen room.new).file out.now ≡ Some (export_of all_keys (state_of core.now.history))) }
+    ensures report { OnOk result ((R.seen room.old).tells ≡ true → (R.seen room.new).file report.now ≡ Some (report_of (state_of core.now.history))) }
+    ensures export_part { (R.seen room.old).tells ≡ true →
+        IsPartWritten ((R.seen room.old).file out.now) ((R.seen room.new).file out.now) (export_of all_keys (state_of core.now.history)) }
+    ensures report_part { (R.seen room.old).tells ≡ true →
+        IsPartWritten ((R.seen room.old).file report.now) ((R.seen room.new).file report.now) (report_of (state_of core.now.history)) }
+{
+    let everything = Selection::new(|_key: &Key| true);
+    match write_export(room, out, core, &everything) {
+        Ok(()) => write_report_file(alloc, room, report, core),
+        Err(_) => Err(WriteFault::OutputFault),
+    }
+}

@@ -1,0 +1,5 @@
+pub mod Drafts
+pub mod Given
+pub mod Lengths
+pub mod Limits
+pub mod Taken
