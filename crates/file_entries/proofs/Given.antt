@@ -19,7 +19,7 @@ given_entry old pieces next library loader over ordinal offset bytes e is going 
     subst (λ (old : FileView). GivesEntry old (view_of next library loader over) e) is (record {
       item = record { ordinal = ordinal; offset = offset; bytes = bytes; refusal = None };
       answers = piece.answers;
-      is = record { piece = refl; read = read; taken = taken; entry = entry };
+      is = record { piece = refl; makes = record { read = read; taken = taken; is_new = entry } };
       over = ap (λ (old : FileView). old.over) is ∙ going;
     })
 

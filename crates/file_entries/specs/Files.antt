@@ -4,18 +4,13 @@ use Rattle.std.specs.Prelude.{◌≡◌, ℕ, List, [], ◌∷◌, ◌++◌, Som
 use Rattle.marc_types.specs.declared.entry.Entry.{Entry}
 use Rattle.marc_types.specs.declared.refusal.Refusal.{Refusal}
 use Rattle.marc_stream.specs.Pieces.{Item}
-use Rattle.reading.specs.Reading.{IsReadAs}
-use Rattle.reading.specs.Preparing.{IsRefusedInFile}
-use Rattle.entry_record.specs.Admission.{admission_refusal}
-use Rattle.entry_record.specs.Prepared.{new_entry}
+use Rattle.reading.specs.Preparing.{MakesEntry, IsRefusedInFile}
 use Rattle.file_entries.specs.declared.refused.RefusedItem.{RefusedItem}
 
--- the entry that the loader makes of an item: a piece that is read as the entry's record, which nothing refuses
+-- the entry that the loader makes of an item: it is a piece, and makes this entry in a file of this library
 pub record IsEntryOf (library : List ℕ) (loader : ℕ) (item : Item) (e : Entry) : Type 0 where
   pub piece : item.refusal ≡ None
-  pub read : IsReadAs item.bytes e.rec.leader e.rec.fields
-  pub taken : admission_refusal library e.rec.leader e.rec.fields ≡ None
-  pub entry : e ≡ new_entry library loader item.ordinal e.rec
+  pub makes : MakesEntry library item.bytes loader item.ordinal e
 
 -- why an item makes no entry: it is no piece, or it is refused in a file of this library
 pub data IsRefusedItem (library : List ℕ) (item : Item) (refusal : Refusal) : Type 0 where

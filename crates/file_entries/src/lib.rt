@@ -4,6 +4,8 @@
 pub use entries::{FileEntries, NextEntry};
 pub use refused::{Refused, RefusedItem};
 
+pub mod laws;
+
 mod entries;
 mod refused;
 #[cfg(test)]

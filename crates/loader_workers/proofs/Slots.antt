@@ -4,6 +4,7 @@ use Rattle.std.specs.Prelude.{All, slice_index_or, take, drop}
 use Rattle.std.proofs.lemmas.List.Elements.{All-push}
 use Rattle.std.proofs.lemmas.List.{get_or_append_left, drop_all, take_all}
 use Rattle.std.proofs.Math.Seq.{get_or-append_seam}
+use Rattle.file_entries.proofs.Lasts.{last_same}
 use Rattle.loader_workers.specs.SideBySide.{IsWaiting, IsDone, IsThere, Each, NoJob, OneMore, Backwards, NoSlot, OneSlot}
 use Rattle.loader_workers.specs.declared.job.Job.{Job}
 use Rattle.loader_workers.specs.declared.result.FileResult.{FileResult}
@@ -19,15 +20,6 @@ ends_with : {X : Type 0} (xs : List X) → 1 ≤ length xs → EndsWith xs
 ends_with [] some = absurd (omega arith)
 ends_with (x ∷ []) some = record { front = []; last = x; is = refl }
 ends_with (x ∷ y ∷ ys) some = let rest = ends_with (y ∷ ys) (omega arith) in record { front = x ∷ rest.front; last = rest.last; is = ap (λ l. x ∷ l) rest.is }
-
-last_same : {X : Type 0} (xs ys : List X) (x y : X) → xs ++ x ∷ [] ≡ ys ++ y ∷ [] → (xs ≡ ys) × (x ≡ y)
-last_same [] [] x y e = (refl, cc e)
-last_same [] (b ∷ ys) x y e = absurd (omega (arith, ap length e, length-append ys (y ∷ [])))
-last_same (a ∷ xs) [] x y e = absurd (omega (arith, ap length e, length-append xs (x ∷ [])))
-last_same (a ∷ xs) (b ∷ ys) x y e =
-    let first : a ≡ b = cc e in
-    let rest = last_same xs ys x y (cc e) in
-    (λ i. first i ∷ rest.0 i, rest.1)
 
 module _ {J B : Type 0} (In : J → B → Type 0) where
   -- a front of what has its slots, and its last

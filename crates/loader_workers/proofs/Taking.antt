@@ -49,9 +49,9 @@ record IsOf (library : List ℕ) (loader : ℕ) (e : Entry) : Type 0 where
 
 brought : (library : List ℕ) (loader : ℕ) (item : Item) (e : Entry) → IsEntryOf library loader item e → IsOf library loader e
 brought library loader item e is = record {
-  run = ap (λ (e : Entry). e.run) is.entry;
-  loader_is = ap (λ (e : Entry). e.loader) is.entry;
-  library_is = ap (λ (e : Entry). e.library) is.entry;
+  run = ap (λ (e : Entry). e.run) is.makes.is_new;
+  loader_is = ap (λ (e : Entry). e.loader) is.makes.is_new;
+  library_is = ap (λ (e : Entry). e.library) is.makes.is_new;
 }
 
 all_brought : (library : List ℕ) (loader : ℕ) (items : List Item) (accepted : List Entry) (refused : List RefusedItem)

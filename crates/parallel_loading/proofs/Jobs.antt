@@ -14,15 +14,6 @@ use Rattle.loader_workers.specs.declared.result.FileResult.{FileResult}
 use Rattle.parallel_loading.specs.declared.input.InputFile.{InputFile}
 use Rattle.parallel_loading.specs.Jobs.{AreJobs, NoFile, OneFile, job_of, file_in}
 
-pub last_same : {X : Type 0} (xs ys : List X) (x y : X) → xs ++ x ∷ [] ≡ ys ++ y ∷ [] → (xs ≡ ys) × (x ≡ y)
-last_same [] [] x y e = (refl, cc e)
-last_same [] (b ∷ ys) x y e = absurd (omega (arith, ap length e, length-append ys (y ∷ [])))
-last_same (a ∷ xs) [] x y e = absurd (omega (arith, ap length e, length-append xs (x ∷ [])))
-last_same (a ∷ xs) (b ∷ ys) x y e =
-    let first : a ≡ b = cc e in
-    let rest = last_same xs ys x y (cc e) in
-    (λ i. first i ∷ rest.0 i, rest.1)
-
 module _ {X : Type 0} (P : X → Type 0) where
   pub all_push : (xs : List X) (x : X) → AllByRecursion P xs → P x → AllByRecursion P (xs ++ x ∷ [])
   all_push [] x all p = (p, tt)
