@@ -4,9 +4,8 @@
 pub use entries::{FileEntries, NextEntry};
 pub use refused::{Refused, RefusedItem};
 
-pub mod laws;
-
 mod entries;
+pub mod laws;
 mod refused;
 #[cfg(test)]
 mod tests;
