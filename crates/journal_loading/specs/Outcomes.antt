@@ -1,5 +1,5 @@
 -- What loading a command's files into a journal comes to. The rules are this project's own.
-use Rattle.std.specs.Prelude.{◌≡◌, ◌⊎◌, ℕ, ◌+◌, ◌<◌, Bool, true, false, List, [], ◌∷◌, ◌++◌, length, All, Option, Some, None, Result, Ok, Err, if◌then◌else◌}
+use Rattle.std.specs.Prelude.{◌≡◌, ◌≢◌, ◌⊎◌, ℕ, ◌+◌, ◌<◌, Bool, true, false, List, [], ◌∷◌, ◌++◌, length, All, Option, Some, None, Result, Ok, Err, if◌then◌else◌}
 use Rattle.std.specs.List.{list_any}
 use Rattle.marc_types.specs.declared.entry.Entry.{Entry}
 use Rattle.marc_types.specs.declared.copying.NoMemory.{NoMemory}
@@ -75,8 +75,8 @@ pub record IsLoadedWhole (room : RoomView) (journal : List ℕ) (libraries : Lis
   pub loaded : AreLoadedBehind room libraries before added None results
   pub faultless : loading_fault results ≡ None
 
--- Loading ended by a fault, and the journal of that name is closed. It had `before`, and has behind that what was committed; or
--- nothing, where loading didn't begin.
+-- Loading ended by a fault, and the journal of that name is closed. It had `before`, and has behind that what was committed; of a
+-- frame that a device failed to take it may have all entries too, and there is none after another fault.
 pub record IsLoadedInPart (old new : RoomView) (journal : List ℕ) (libraries : List Library) (why : Fault) : Type 0 where
   pub before : List Entry
   pub added : List Entry
@@ -86,6 +86,7 @@ pub record IsLoadedInPart (old new : RoomView) (journal : List ℕ) (libraries :
   pub opened : IsOpenedFrom old journal before None o
   pub loaded : AreLoadedBehind old libraries before added mark results
   pub faulty : loading_fault results ≡ Some why
+  pub unmarked : why ≢ fault.Device → mark ≡ None
   pub closed : IsClosedTo new journal (before ++ added) mark o
 
 -- Why loading didn't begin: the journal isn't opened, and has the history that it had; or an input isn't opened, or there is no
