@@ -12,7 +12,7 @@ use Rattle.durable_catalogue.specs.Durables.{Opening, marked}
 use Rattle.loader_workers.specs.declared.file_end.FileEnd.TheVariants as end
 use Rattle.loader_workers.specs.declared.result.FileResult.{FileResult}
 use Rattle.parallel_loading.specs.declared.input.InputFile.{InputFile}
-use Rattle.parallel_loading.specs.Files.{EachLoaded, AreLoaded}
+use Rattle.parallel_loading.specs.Files.{EachLoaded, AreOfOneFile, AreLoaded}
 use Rattle.room_files.specs.Journals.{journal_limits, IsOpenedFrom, IsClosedTo}
 use Rattle.journal_loading.specs.Inputs.{AreInputs, IsFresh}
 use Rattle.journal_loading.specs.Outcomes.{any_ends, loading_fault, AreLoadedBehind, IsLoadedWhole, IsUnbegun, Unbegun, IsLoadingFault, NotBegun, InPart, IsFinished, IsStopped, Unloaded, Faulty}
@@ -104,6 +104,7 @@ module _ {S : Type 0} (left : S → Option (List ℕ)) (faults : S → ℕ) (roo
   loaded_behind results l = record {
     files = libraries_loaded left faults room before l.added mark 0 libraries files after results tells inputs (subst (λ most. EachLoaded left faults most before l.added mark 0 files after results) same l.each);
     loaders = subst (λ n. All (λ (e : Entry). e.loader < n) (l.added ++ marked mark)) (inputs_count left faults room libraries files inputs) l.loaders;
+    frame = subst (λ n. AreOfOneFile n (marked mark)) (inputs_count left faults room libraries files inputs) l.frame;
   }
 
   pub loaded_whole : (results : Result (List FileResult) NoMemory) (are : List FileResult)

@@ -14,7 +14,7 @@ use Rattle.durable_catalogue.specs.declared.fault.OpenFault.TheVariants as openi
 use Rattle.loader_workers.specs.declared.file_end.FileEnd.{FileEnd}
 use Rattle.loader_workers.specs.declared.file_end.FileEnd.TheVariants as end
 use Rattle.loader_workers.specs.declared.result.FileResult.{FileResult}
-use Rattle.parallel_loading.specs.Files.{IsFileLoaded}
+use Rattle.parallel_loading.specs.Files.{IsFileLoaded, AreOfOneFile}
 use Rattle.room_files.specs.Journals.{journal_limits, log_bytes, IsOpenedFrom, IsClosedTo, KeepsHistory}
 
 -- the file of a library was loaded by the loader with that number
@@ -30,11 +30,12 @@ pub data AreLibrariesLoaded (room : RoomView) (before added : List Entry) (mark 
       → IsLibraryLoaded room before added mark library loader result → AreLibrariesLoaded room before added mark (loader + 1) libraries results
       → AreLibrariesLoaded room before added mark loader (library ∷ libraries) (result ∷ results)
 
--- Files were loaded behind these entries: `added` are entries of their loaders, and so are those of a frame that a device failed
--- to take.
+-- Files were loaded behind these entries: `added` are entries of their loaders, and those of a frame that a device failed to take
+-- are all of one of them.
 pub record AreLoadedBehind (room : RoomView) (libraries : List Library) (before added : List Entry) (mark : Option (List Entry)) (results : List FileResult) : Type 0 where
   pub files : AreLibrariesLoaded room before added mark 0 libraries results
   pub loaders : All (λ e. e.loader < length libraries) (added ++ marked mark)
+  pub frame : AreOfOneFile (length libraries) (marked mark)
 
 abbrev pub ends_so : FileEnd → FileEnd → Bool
 ends_so end.Done end.Done = true
