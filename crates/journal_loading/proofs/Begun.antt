@@ -12,7 +12,7 @@ use Rattle.durable_catalogue.specs.Durables.{Opening, marked}
 use Rattle.loader_workers.specs.declared.file_end.FileEnd.TheVariants as end
 use Rattle.loader_workers.specs.declared.result.FileResult.{FileResult}
 use Rattle.parallel_loading.specs.declared.input.InputFile.{InputFile}
-use Rattle.parallel_loading.specs.Files.{EachLoaded, AreLoaded}
+use Rattle.parallel_loading.specs.Files.{EachLoaded, AreOfOneFile, AreLoaded}
 use Rattle.room_files.specs.Journals.{journal_limits, IsOpenedFrom, IsClosedTo}
 use Rattle.journal_loading.specs.Inputs.{AreInputs, IsFresh}
 use Rattle.journal_loading.specs.Outcomes.{any_ends, loading_fault, AreLoadedBehind, IsLoadedWhole, IsUnbegun, Unbegun, IsLoadingFault, NotBegun, InPart, IsFinished, IsStopped, Unloaded, Faulty}
@@ -59,6 +59,12 @@ input_only false false true d is = refl
 input_only false false false true is = cc
 input_only false false false false is = cc
 
+-- another fault than a device's
+not_first : (a b c d : Bool) (why : Fault)
+    → (if a then Some fault.Device else if b then Some fault.Full else if c then Some fault.Input else if d then Some fault.Memory else None) ≡ Some why → why ≢ fault.Device → a ≡ false
+not_first false b c d why is other = refl
+not_first true b c d why is other = let same : fault.Device ≡ why = cc in absurd (other (sym same))
+
 usage_never : (a b c d : Bool) → (if a then Some fault.Device else if b then Some fault.Full else if c then Some fault.Input else if d then Some fault.Memory else None) ≡ Some fault.Usage → ⊥
 usage_never true b c d is = cc
 usage_never false true c d is = cc
@@ -70,6 +76,11 @@ module _ (results : List FileResult) where
   pub device_failed : loading_fault results ≡ Some fault.Device → any_ends end.DeviceFault results ≡ true
   unfolding loading_fault
   device_failed is = device_only (any_ends end.DeviceFault results) (any_ends end.Full results) (any_ends end.ReadFault results) (any_ends end.NoMemory results) is
+
+  pub none_by_a_device : (why : Fault) → loading_fault results ≡ Some why → why ≢ fault.Device → any_ends end.DeviceFault results ≡ false
+  unfolding loading_fault
+  none_by_a_device why is other =
+      not_first (any_ends end.DeviceFault results) (any_ends end.Full results) (any_ends end.ReadFault results) (any_ends end.NoMemory results) why is other
 
   pub source_failed : loading_fault results ≡ Some fault.Input → any_ends end.ReadFault results ≡ true
   unfolding loading_fault
@@ -93,6 +104,7 @@ module _ {S : Type 0} (left : S → Option (List ℕ)) (faults : S → ℕ) (roo
   loaded_behind results l = record {
     files = libraries_loaded left faults room before l.added mark 0 libraries files after results tells inputs (subst (λ most. EachLoaded left faults most before l.added mark 0 files after results) same l.each);
     loaders = subst (λ n. All (λ (e : Entry). e.loader < n) (l.added ++ marked mark)) (inputs_count left faults room libraries files inputs) l.loaders;
+    frame = subst (λ n. AreOfOneFile n (marked mark)) (inputs_count left faults room libraries files inputs) l.frame;
   }
 
   pub loaded_whole : (results : Result (List FileResult) NoMemory) (are : List FileResult)
@@ -124,6 +136,7 @@ module _ {S : Type 0} (left : S → Option (List ℕ)) (faults : S → ℕ) (roo
     opened = opened_none;
     loaded = loaded_behind results loaded;
     faulty = is;
+    unmarked = λ other. loaded.unmarked (none_failed results (none_by_a_device results why is other));
     closed = subst (λ es. IsClosedTo new journal es mark o) loaded.after_is (closed (opened.tells tells));
   })
 

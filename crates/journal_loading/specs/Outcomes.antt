@@ -1,5 +1,5 @@
 -- What loading a command's files into a journal comes to. The rules are this project's own.
-use Rattle.std.specs.Prelude.{◌≡◌, ◌⊎◌, ℕ, ◌+◌, ◌<◌, Bool, true, false, List, [], ◌∷◌, ◌++◌, length, All, Option, Some, None, Result, Ok, Err, if◌then◌else◌}
+use Rattle.std.specs.Prelude.{◌≡◌, ◌≢◌, ◌⊎◌, ℕ, ◌+◌, ◌<◌, Bool, true, false, List, [], ◌∷◌, ◌++◌, length, All, Option, Some, None, Result, Ok, Err, if◌then◌else◌}
 use Rattle.std.specs.List.{list_any}
 use Rattle.marc_types.specs.declared.entry.Entry.{Entry}
 use Rattle.marc_types.specs.declared.copying.NoMemory.{NoMemory}
@@ -14,7 +14,7 @@ use Rattle.durable_catalogue.specs.declared.fault.OpenFault.TheVariants as openi
 use Rattle.loader_workers.specs.declared.file_end.FileEnd.{FileEnd}
 use Rattle.loader_workers.specs.declared.file_end.FileEnd.TheVariants as end
 use Rattle.loader_workers.specs.declared.result.FileResult.{FileResult}
-use Rattle.parallel_loading.specs.Files.{IsFileLoaded}
+use Rattle.parallel_loading.specs.Files.{IsFileLoaded, AreOfOneFile}
 use Rattle.room_files.specs.Journals.{journal_limits, log_bytes, IsOpenedFrom, IsClosedTo, KeepsHistory}
 
 -- the file of a library was loaded by the loader with that number
@@ -30,11 +30,12 @@ pub data AreLibrariesLoaded (room : RoomView) (before added : List Entry) (mark 
       → IsLibraryLoaded room before added mark library loader result → AreLibrariesLoaded room before added mark (loader + 1) libraries results
       → AreLibrariesLoaded room before added mark loader (library ∷ libraries) (result ∷ results)
 
--- Files were loaded behind these entries: `added` are entries of their loaders, and so are those of a frame that a device failed
--- to take.
+-- Files were loaded behind these entries: `added` are entries of their loaders, and those of a frame that a device failed to take
+-- are all of one of them.
 pub record AreLoadedBehind (room : RoomView) (libraries : List Library) (before added : List Entry) (mark : Option (List Entry)) (results : List FileResult) : Type 0 where
   pub files : AreLibrariesLoaded room before added mark 0 libraries results
   pub loaders : All (λ e. e.loader < length libraries) (added ++ marked mark)
+  pub frame : AreOfOneFile (length libraries) (marked mark)
 
 abbrev pub ends_so : FileEnd → FileEnd → Bool
 ends_so end.Done end.Done = true
@@ -75,8 +76,8 @@ pub record IsLoadedWhole (room : RoomView) (journal : List ℕ) (libraries : Lis
   pub loaded : AreLoadedBehind room libraries before added None results
   pub faultless : loading_fault results ≡ None
 
--- Loading ended by a fault, and the journal of that name is closed. It had `before`, and has behind that what was committed; or
--- nothing, where loading didn't begin.
+-- Loading ended by a fault, and the journal of that name is closed. It had `before`, and has behind that what was committed; of a
+-- frame that a device failed to take it may have all entries too, and there is none after another fault.
 pub record IsLoadedInPart (old new : RoomView) (journal : List ℕ) (libraries : List Library) (why : Fault) : Type 0 where
   pub before : List Entry
   pub added : List Entry
@@ -86,6 +87,7 @@ pub record IsLoadedInPart (old new : RoomView) (journal : List ℕ) (libraries :
   pub opened : IsOpenedFrom old journal before None o
   pub loaded : AreLoadedBehind old libraries before added mark results
   pub faulty : loading_fault results ≡ Some why
+  pub unmarked : why ≢ fault.Device → mark ≡ None
   pub closed : IsClosedTo new journal (before ++ added) mark o
 
 -- Why loading didn't begin: the journal isn't opened, and has the history that it had; or an input isn't opened, or there is no

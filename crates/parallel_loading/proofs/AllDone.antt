@@ -15,10 +15,11 @@ use Rattle.durable_catalogue.specs.Durables.{marked, events}
 use Rattle.loader_workers.specs.declared.file_end.FileEnd.TheVariants.{DeviceFault}
 use Rattle.loader_workers.specs.declared.result.FileResult.{FileResult}
 use Rattle.parallel_loading.specs.declared.input.InputFile.{InputFile}
-use Rattle.parallel_loading.specs.Files.{LoadsFile, EachLoaded, NoFile, OneMore, AreLoaded}
+use Rattle.parallel_loading.specs.Files.{LoadsFile, EachLoaded, NoFile, OneMore, AreOfOneFile, AreLoaded}
 use Rattle.parallel_loading.proofs.Owned.{no_item}
 use Rattle.parallel_loading.proofs.Loaders.{frames_of, entries_below, frames_below}
 use Rattle.parallel_loading.proofs.Marks.{no_mark, no_mark_told}
+use Rattle.parallel_loading.proofs.Frame.{of_one_file}
 use Rattle.parallel_loading.proofs.Jobs.{all_push, all_front, all_last, all_at, all_of, AllDid, NoneDid, OneDid}
 use Rattle.parallel_loading.proofs.OneHistory.{IsOneHistory, IsFair, begins, one_history}
 use Rattle.parallel_loading.proofs.FileDone.{start_of, Did, loads_file, did_fair, did_unmarked}
@@ -97,6 +98,7 @@ module _ {O S : Type 0} (limits : Limits) (lock : Lock O) (before : List Entry) 
           after_is = h.after_is;
           loaders = subst (λ n. All (λ (e : Entry). e.loader < n) (added ++ marked mark)) same
               (All-append (λ (e : Entry). e.loader < callers) added (marked mark) entries (subst (All (λ (e : Entry). e.loader < callers)) h.frames frames));
+          frame = subst (λ n. AreOfOneFile n (marked mark)) same (of_one_file callers some mark later h.owned_is added h.mark_last);
           each = each_so DidSo left faults limits before added mark IsClosed
               (λ k f p a r did is. loads_file callers limits lock before after mark closed.history later h left bound faults k f p a r did is.0 is.1)
               files passes back results all all_closed;

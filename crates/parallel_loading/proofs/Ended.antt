@@ -36,7 +36,7 @@ module _ (loader : ℕ) where
       → AllByRecursion (IsOfLoader loader) accepted
   judged_by library _ _ _ NoItem = tt
   judged_by library _ _ _ (Accepts is accepted refused item e judged entry) =
-      all_push (IsOfLoader loader) accepted e (judged_by library is accepted refused judged) (ap (λ (e : Entry). e.loader) entry.entry)
+      all_push (IsOfLoader loader) accepted e (judged_by library is accepted refused judged) (ap (λ (e : Entry). e.loader) entry.makes.is_new)
   judged_by library _ _ _ (Refuses is accepted refused item refusal judged why) = judged_by library is accepted refused judged
 
   run_by : (run : ℕ) (es : List Entry) → AllByRecursion (IsOfLoader loader) es → AllByRecursion (IsOfLoader loader) (with_run run es)

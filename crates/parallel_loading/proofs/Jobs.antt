@@ -8,6 +8,7 @@ use mathlib.Core.List.{reverse-cons, map-append}
 use Rattle.marc_types.specs.Valid.{is_code}
 use Rattle.entry_history.specs.declared.event.Event.{Event}
 use Rattle.catalogue_lock.specs.Passes.{Lock, Pass}
+use Rattle.file_entries.proofs.Lasts.{last_same}
 use Rattle.loader_workers.specs.SideBySide.{CanLoad, Each, NoJob, OneMore}
 use Rattle.loader_workers.specs.declared.job.Job.{Job}
 use Rattle.loader_workers.specs.declared.result.FileResult.{FileResult}

@@ -4,6 +4,7 @@ pub mod Receipts
 pub mod Marks
 pub mod Jobs
 pub mod OneHistory
+pub mod Frame
 pub mod Ended
 pub mod FileDone
 pub mod AllDone

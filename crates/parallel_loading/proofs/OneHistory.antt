@@ -1,5 +1,5 @@
 -- The one history of a lock at its end, behind what the catalogue brought.
-use Rattle.std.proofs.Common.{◌≡◌, ◌∙◌, ℕ, ◌<◌, ◌||◌, List, [], ◌++◌, Option, Some, None, append-nil, refl, sym, ap, subst}
+use Rattle.std.proofs.Common.{◌≡◌, ◌∙◌, ℕ, ◌<◌, ◌||◌, List, [], ◌∷◌, ◌++◌, Option, Some, None, append-nil, refl, sym, ap, subst}
 use Rattle.std.specs.Prelude.{is_some}
 use Rattle.std.specs.List.{AllByRecursion}
 use Rattle.std.proofs.lemmas.Grind.{flat_map-append}
@@ -7,14 +7,15 @@ use Rattle.std.proofs.lemmas.List.{append_cancel_left}
 use Rattle.std.proofs.lemmas.List.Folds.{list_any-append}
 use mathlib.Core.List.{IsPrefix}
 use Rattle.marc_types.specs.declared.entry.Entry.{Entry}
-use Rattle.entry_history.specs.Events.{entries_of, is_broken, is_mark, committed_entries}
+use Rattle.entry_history.specs.Events.{entries_of, is_broken, is_mark, committed, committed_entries}
 use Rattle.entry_history.specs.declared.event.Event.{Event}
+use Rattle.entry_history.specs.declared.event.Event.TheVariants.{Committed}
 use Rattle.catalogue_lock.specs.declared.view.Numbered.{Numbered}
 use Rattle.catalogue_lock.specs.History.{items, numbered, items_by}
 use Rattle.catalogue_lock.specs.Passes.{Pass, Closed}
 use Rattle.catalogue_lock.proofs.Numbers.{items_by-append, items_by-own, items_by-other, items-append, items-numbered}
 use Rattle.catalogue_lock.proofs.Prefixes.{prefix_trans}
-use Rattle.durable_catalogue.specs.Durables.{marked, events}
+use Rattle.durable_catalogue.specs.Durables.{marked, marks, events}
 use Rattle.parallel_loading.proofs.Owned.{IsBy, Owned, owned}
 use Rattle.parallel_loading.proofs.Loaders.{frame_entries, frames_of}
 use Rattle.parallel_loading.proofs.Marks.{entries_in, frames_in, broken_in}
@@ -34,6 +35,12 @@ pub record IsOneHistory (callers : ℕ) (before after : List Entry) (mark : Opti
   pub broken_later : is_broken (items later) ≡ is_some mark
   pub own : (n : ℕ) → items_by (Some n) history ≡ items_by (Some n) later
   pub owned_is : Owned callers later
+  pub mark_last : items later ≡ committed (entries_of (items later)) ++ marks mark
+
+-- the events of entries behind others
+events_behind : (before more : List Entry) (mark : Option (List Entry)) → events (before ++ more) mark ≡ events before None ++ (committed more ++ marks mark)
+events_behind [] more mark = refl
+events_behind (e ∷ before) more mark = ap (λ l. Committed e ∷ l) (events_behind before more mark)
 
 module _ (before : List Entry) (history later : List (Numbered Event)) (split : history ≡ brought before ++ later) where
   all_items : items history ≡ events before None ++ items later
@@ -58,6 +65,12 @@ module _ (before : List Entry) (history later : List (Numbered Event)) (split : 
   all_own n =
       ap (items_by (Some n)) split
       ∙ (items_by-append (Some n) (brought before) later ∙ ap (λ l. l ++ items_by (Some n) later) (items_by-other (Some n) None (events before None) refl))
+
+  last_mark : (after : List Entry) (mark : Option (List Entry)) → items history ≡ events after mark → after ≡ before ++ entries_of (items later)
+      → items later ≡ committed (entries_of (items later)) ++ marks mark
+  last_mark after mark whole after_is =
+      append_cancel_left (events before None) (items later) (committed (entries_of (items later)) ++ marks mark)
+      (sym all_items ∙ (whole ∙ (ap (λ es. events es mark) after_is ∙ events_behind before (entries_of (items later)) mark)))
 
   none_else : items_by None history ≡ events before None → items_by None later ≡ []
   none_else is =
@@ -92,9 +105,10 @@ module _ {O : Type 0} where
         let whole = closed.whole in
         let entries = ap entries_of whole ∙ entries_in after mark in
         let broken = ap is_broken whole ∙ broken_in after mark in
+        let after_is = sym entries ∙ all_entries before closed.history later split in
         record {
           split = split;
-          after_is = sym entries ∙ all_entries before closed.history later split;
+          after_is = after_is;
           entries = entries;
           frames = sym (all_frames before closed.history later split) ∙ (ap frames_of whole ∙ frames_in after mark);
           broken = broken;
@@ -103,4 +117,5 @@ module _ {O : Type 0} where
           owned_is = owned callers later (none_else before closed.history later split closed.unnumbered)
               (λ n le. sym (all_own before closed.history later split n) ∙ closed.nobody n le)
               (λ n lt. subst (AllByRecursion (IsBy n)) (all_own before closed.history later split n) (owned_by n lt));
+          mark_last = last_mark before closed.history later split after mark whole after_is;
         }

@@ -47,6 +47,12 @@ pub record IsFileLoaded (limits : Limits) (before added : List Entry) (mark : Op
   pub counts : counts_in result ≡ with_receipts no_counts (receipts_of_loader loader before added)
   pub ends : IsEndOfFile limits (before ++ added) (next_run before) mark result.end (next ++ more) coming
 
+-- these entries are of the loader of one of so many files
+pub record AreOfOneFile (files : ℕ) (entries : List Entry) : Type 0 where
+  pub loader : ℕ
+  pub below : loader < files
+  pub all : All (λ e. e.loader ≡ loader) entries
+
 module _ {S : Type 0} (left : S → Option (List ℕ)) (faults : S → ℕ) where
   -- one file was loaded, and its source comes back
   pub record LoadsFile (limits : Limits) (before added : List Entry) (mark : Option (List Entry)) (loader : ℕ) (old new : InputFile S) (result : FileResult) : Type 0 where
@@ -69,5 +75,6 @@ module _ {S : Type 0} (left : S → Option (List ℕ)) (faults : S → ℕ) wher
     pub added : List Entry
     pub after_is : after ≡ before ++ added
     pub loaders : All (λ e. e.loader < length old) (added ++ marked mark)
+    pub frame : AreOfOneFile (length old) (marked mark)
     pub each : EachLoaded limits before added mark 0 old new results
     pub unmarked : All (λ r. r.end ≢ DeviceFault) results → mark ≡ None

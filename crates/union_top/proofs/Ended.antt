@@ -104,6 +104,7 @@ module _ (words : List (List ℕ)) (journal : List ℕ) (files : ℕ) (old new :
     device = λ five. device (is_device why (sym is ∙ five));
     input = λ three. input (is_input why (sym is ∙ three));
     output = λ four. absurd (no_four why (sym is ∙ four));
+    fault_told = λ more other. record { fault = why; is = is; told = tells; because = tt };
     told = λ libraries are count room more other. record { fault = why; is = is; told = tells; because = because libraries are count room };
     whole = λ libraries are count room few. let two = two_or_more why in absurd (omega (arith, is, few, two));
     untold = λ libraries are count room four. absurd (no_four why (sym is ∙ four));
@@ -117,6 +118,7 @@ module _ (words : List (List ℕ)) (journal : List ℕ) (files : ℕ) (old new :
     device = λ five. absurd (told_status status 5 statuses five (omega arith) (λ is. cc));
     input = λ three. absurd (told_status status 3 statuses three (omega arith) (λ is. cc));
     output = cause;
+    fault_told = λ more other. absurd (told_status status status statuses refl more other);
     told = λ libraries are count room more other. absurd (told_status status status statuses refl more other);
     whole = λ libraries are count room few.
         let (m, is) = merged libraries are count room in
@@ -141,6 +143,7 @@ module _ (words : List (List ℕ)) (journal : List ℕ) (files : ℕ) (old new :
       device = λ five. device (is_device why (sym is ∙ five));
       input = λ three. input (is_input why (sym is ∙ three));
       output = λ four. absurd (no_four why (sym is ∙ four));
+      fault_told = λ more other. record { fault = why; is = is; told = tells; because = tt };
       told = λ libraries are count room more other. record { fault = why; is = is; told = tells; because = because libraries are count room };
       whole = λ libraries are count room few. let two = two_or_more why in absurd (omega (arith, is, few, two));
       untold = λ libraries are count room four. absurd (no_four why (sym is ∙ four));
@@ -163,6 +166,7 @@ module _ (words : List (List ℕ)) (journal : List ℕ) (files : ℕ) (old new :
       device = λ five. absurd (told_status status 5 statuses five (omega arith) (λ is. cc));
       input = λ three. absurd (told_status status 3 statuses three (omega arith) (λ is. cc));
       output = cause;
+      fault_told = λ more other. absurd (told_status status status statuses refl more other);
       told = λ libraries are count room more other. absurd (told_status status status statuses refl more other);
       whole = λ libraries are count room few.
           let (m, is) = merged libraries are count room in

@@ -48,6 +48,7 @@ module _ (old new : RoomView) (journal : List ℕ) (libraries : List Library) (b
   pub one_history : IsOneHistory old new journal libraries before added made.accepted made.refused
   one_history = record {
     was = opened.history tells;
+    version = opened.version tells;
     judged = made.judged;
     merged = merged;
     closed = closed.closed;

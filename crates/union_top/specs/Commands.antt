@@ -75,6 +75,7 @@ pub record Loads (words : List (List ℕ)) (journal : List ℕ) (files : ℕ) (o
   pub device : o.status ≡ 5 → Rose (o.old.log_faults journal) (o.new.log_faults journal)
   pub input : o.status ≡ 3 → IsInputFault words o.old o.new
   pub output : o.status ≡ 4 → Rose o.faults o.faults_now
+  pub fault_told : 1 < o.status → o.status ≢ 4 → TellsFault (λ why. Unit {0}) o.told o.now o.faults o.faults_now o.status
   pub told : (libraries : List Library) → AreLibraries words libraries → length libraries ≡ files → o.old.tells ≡ true → 1 < o.status → o.status ≢ 4
       → TellsFault (WhyNotLoad o.old o.new journal libraries) o.told o.now o.faults o.faults_now o.status
   pub whole : (libraries : List Library) → AreLibraries words libraries → length libraries ≡ files → o.old.tells ≡ true → o.status ≤ 1
@@ -88,6 +89,7 @@ pub record Runs (words : List (List ℕ)) (journal out report : List ℕ) (files
   pub device : o.status ≡ 5 → Rose (o.old.log_faults journal) (o.new.log_faults journal)
   pub input : o.status ≡ 3 → IsInputFault words o.old o.new
   pub output : o.status ≡ 4 → Rose (o.old.out_faults out) (o.new.out_faults out) ⊎ Rose (o.old.out_faults report) (o.new.out_faults report) ⊎ Rose o.faults o.faults_now
+  pub fault_told : 1 < o.status → o.status ≢ 4 → TellsFault (λ why. Unit {0}) o.told o.now o.faults o.faults_now o.status
   pub told : (libraries : List Library) → AreLibraries words libraries → length libraries ≡ files → o.old.tells ≡ true → 1 < o.status → o.status ≢ 4
       → TellsFault (WhyNotRun o.old o.new journal out report libraries) o.told o.now o.faults o.faults_now o.status
   -- the headline

@@ -4,6 +4,7 @@ use Rattle.marc_types.specs.declared.entry.Entry.{Entry}
 use Rattle.outside.specs.Room.{RoomView}
 use Rattle.command_words.specs.Command.{Library}
 use Rattle.marc_stream.specs.Pieces.{items}
+use Rattle.commit_journal.specs.Log.{version_of}
 use Rattle.file_entries.specs.Files.{IsJudged}
 use Rattle.file_entries.specs.declared.refused.RefusedItem.{RefusedItem}
 use Rattle.entry_record.specs.History.{IsMerged}
@@ -26,6 +27,7 @@ pub record IsOneHistory (old new : RoomView) (journal : List ℕ) (libraries : L
     (accepted : List (List Entry)) (refused : List (List RefusedItem)) : Type 0 where
   -- what it was, each file's items, and that they are merged behind it
   pub was : HasHistory before (log_bytes old journal)
+  pub version : version_of (log_bytes old journal) ≡ 2
   pub judged : AreJudged old 0 libraries accepted refused
   pub merged : IsMerged before accepted added
   -- what it is, in the file and in each image that a crash now may leave
