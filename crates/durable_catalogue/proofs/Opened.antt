@@ -118,6 +118,12 @@ unopened old new limits journal.DeviceFault cause log told = tt
 unopened old new limits (journal.NotAJournal place) cause log told = NoGate (cause.lost place log refl told)
 unopened old new limits journal.NoMemory cause log told = tt
 
+-- a journal's fault is never that the history passes the limits
+pub never_full : (fault : JournalFault) → open_fault fault ≡ Full → ⊥
+never_full journal.DeviceFault is = cc
+never_full (journal.NotAJournal place) is = cc
+never_full journal.NoMemory is = cc
+
 -- a device fault has its cause in the journal's
 pub device_fault : (old new : DiskView) (fault : JournalFault) → HasOpenCause old new fault → open_fault fault ≡ DeviceFault → Rose old.faults new.faults
 device_fault old new journal.DeviceFault cause is = cause.failed refl

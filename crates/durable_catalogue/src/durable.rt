@@ -92,8 +92,10 @@ impl<D: Disk> Durable<D> {
         ensures crash { MatchResult result (λ d. IsOpening (D.seen disk) (D.seen d.journal.disk)) (λ e. IsOpening (D.seen disk) (D.seen e.0)) }
         ensures later { MatchResult result (λ d. (D.seen disk).faults ≤ (D.seen d.journal.disk).faults) (λ e. (D.seen disk).faults ≤ (D.seen e.0).faults) }
 
-        // Each fault comes only where the log is so; a device fault only where the count of faults rose.
+        // Each fault comes only where the log is so, and Full only where it is of version 2; a device fault only where the count
+        // of faults rose.
         ensures fault { IfErr result (λ e. (log : List ℕ) → (D.seen disk).content ≡ Some log → IsUnopened limits log e.1) }
+        ensures old_first { IfErr result (λ e. e.1 ≡ OpenFault.Full → (log : List ℕ) → (D.seen disk).content ≡ Some log → version_of log ≡ 2) }
         ensures failed { IfErr result (λ e. e.1 ≡ OpenFault.DeviceFault → Rose (D.seen disk).faults (D.seen e.0).faults) }
     {
         let before = Snapshot::of(&disk);

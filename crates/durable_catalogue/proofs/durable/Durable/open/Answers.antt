@@ -6,7 +6,7 @@ use Rattle.entry_history.specs.Payloads.{IsHistory, CanFollow}
 use Rattle.durable_catalogue.specs.Logs.{payloads_of}
 use Rattle.durable_catalogue.specs.Durables.{IsKept}
 use Rattle.durable_catalogue.specs.Openings.{IsOpening, IsUnloaded, IsUnopened}
-use Rattle.durable_catalogue.proofs.Opened.{next_follows, was_reading, opened_kept, opening_of, unloaded, unopened, either_version}
+use Rattle.durable_catalogue.proofs.Opened.{next_follows, was_reading, opened_kept, opening_of, unloaded, unopened, never_full, either_version}
 use Rattle.durable_catalogue.proofs.durable.Durable.open.Goals as goal
 
 pub invariant_of-result : goal.invariant_of-result
@@ -60,6 +60,13 @@ returns-in-Err-load-clause-fault g c log told =
     let version = subst IsVersion (c.in-Ok.ensures.recovered.named log told ∙ sym c.version.ensures) (either_version log) in
     let why = subst (λ v. IsUnloaded v c.in-Ok.frames c.args.limits fault) c.version.ensures (subst (λ fs. IsUnloaded c.version.result fs c.args.limits fault) c.as_slice.ensures (c.in-Err-load.ensures.fault version)) in
     unloaded c.in-Ok.frames journal.place journal.version (seen c.args.disk) (seen journal.disk) c.args.limits fault c.in-Ok.ensures.recovered why log told
+
+pub returns-in-Err-load-clause-old_first : goal.returns-in-Err-load-clause-old_first
+returns-in-Err-load-clause-old_first g c full log told =
+    c.in-Ok.ensures.recovered.named log told ∙ (sym c.version.ensures ∙ c.in-Err-load.ensures.old_first full)
+
+pub returns-in-Err-clause-old_first : goal.returns-in-Err-clause-old_first
+returns-in-Err-clause-old_first g c full log told = absurd (never_full c.in-Err.failed.1 (sym c.open_fault.ensures ∙ full))
 
 pub returns-in-Err-clause-crash : goal.returns-in-Err-clause-crash
 returns-in-Err-clause-crash g c = opening_of (g.D.Disk.seen c.args.disk) (g.D.Disk.seen c.in-Err.failed.0) c.in-Err.ensures.crash
