@@ -3,6 +3,10 @@ use Rattle.room_files.specs.Journals.{log_bytes}
 use Rattle.room_files.proofs.Journals.{IsLogDisk, opening_keeps, closed_keeps}
 use Rattle.room_files.proofs.journal.open_journal.Goals as goal
 
+pub returns-in-Err-clause-old_first : goal.returns-in-Err-clause-old_first
+returns-in-Err-clause-old_first g c full told =
+    c.in-Err.ensures.old_first full (log_bytes (g.R.Room.seen c.args.room.now) c.args.name.now) (c.in-Ok.ensures.bytes told)
+
 pub returns-in-Err-clause-keeps : goal.returns-in-Err-clause-keeps
 returns-in-Err-clause-keeps g c told =
     let seen = g.R.Log.Disk.seen in
