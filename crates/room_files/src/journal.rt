@@ -20,6 +20,7 @@ pub const JOURNAL_LIMITS: Limits = Limits {
 };
 
 /// Opens the file of that name as a catalogue's log. A fault closes it again.
+#[tactic(auto, using(crate::proofs::Journals::unopened_keeps))]
 pub fn open_journal<R: Room>(
     alloc: Global,
     room: &mut R,
@@ -40,7 +41,8 @@ pub fn open_journal<R: Room>(
         version_of (log_bytes (R.seen room.old) name.now) ≡ 2) }
     ensures cause { IfErr result (λ fault. fault ≡ DeviceFault →
         Rose ((R.seen room.old).log_faults name.now) ((R.seen room.new).log_faults name.now)) }
-    ensures keeps { OnErr result ((R.seen room.old).tells ≡ true → KeepsHistory (R.seen room.old) (R.seen room.new) name.now) }
+    ensures keeps { IfErr result (λ fault. (R.seen room.old).tells ≡ true →
+        KeepsHistory (fault ≡ DeviceFault) (R.seen room.old) (R.seen room.new) name.now) }
 {
     let Ok(log) = room.open_log(name) else {
         return Err(OpenFault::DeviceFault);
