@@ -1,10 +1,12 @@
 -- How a command ends that tells a fault.
-use Rattle.std.proofs.Common.{◌≡◌, ℕ, true, List, refl, Option}
+use Rattle.std.proofs.Common.{◌≡◌, ◌∙◌, ℕ, true, List, refl, ap, Option}
 use Rattle.outside.specs.Room.{RoomView}
 use Rattle.durable_catalogue.specs.declared.fault.OpenFault.{OpenFault}
+use Rattle.durable_catalogue.specs.declared.fault.OpenFault.TheVariants.{DeviceFault}
 use Rattle.durable_catalogue.specs.Openings.{IsUnopened}
 use Rattle.console_lines.specs.Faults.{fault_status, fault_line, IsFaultTold, TellsFault}
-use Rattle.room_files.specs.Journals.{journal_limits, log_bytes}
+use Rattle.room_files.specs.Journals.{journal_limits, log_bytes, KeepsHistory}
+use Rattle.room_files.proofs.Journals.{keeps_where}
 use Rattle.archive_commands.specs.Archives.{opening_fault, WhyUnopened}
 
 -- the fault that is told is why
@@ -17,3 +19,9 @@ told_why room name old new before now status reason so is told = record {
   told = told;
   because = record { reason = reason; is = refl; so = so };
 }
+
+-- a log that isn't opened keeps its history, a device's fault being told by its status
+pub refused_keeps : (old new : RoomView) (name : List ℕ) (status : ℕ) (reason : OpenFault) → status ≡ fault_status (opening_fault reason)
+    → KeepsHistory (reason ≡ DeviceFault) old new name → KeepsHistory (status ≡ 5) old new name
+refused_keeps old new name status reason is keeps =
+    keeps_where (reason ≡ DeviceFault) (status ≡ 5) old new name (λ device. is ∙ ap (λ r. fault_status (opening_fault r)) device) keeps

@@ -63,7 +63,7 @@ pub fn report<R: Room>(
     // Nothing but the log and the output changes, and the output only where it is due.
     ensures apart { ApartFrom (R.seen room.old) (R.seen room.new) (journal.now ∷ out.now ∷ []) }
     ensures untouched { result ≢ 0 → result ≢ 4 → result ≢ 8 → ApartFrom (R.seen room.old) (R.seen room.new) (journal.now ∷ []) }
-    ensures keeps { (R.seen room.old).tells ≡ true → KeepsHistory (R.seen room.old) (R.seen room.new) journal.now }
+    ensures keeps { (R.seen room.old).tells ≡ true → KeepsHistory (result ≡ 5) (R.seen room.old) (R.seen room.new) journal.now }
 
     // Each fault has its cause.
     ensures device { result ≡ 5 → Rose ((R.seen room.old).log_faults journal.now) ((R.seen room.new).log_faults journal.now) }

@@ -1,5 +1,5 @@
 -- What an opening leaves.
-use Rattle.std.proofs.Common.{◌≡◌, ◌⊎◌, inl, inr, ℕ, ◌<◌, ◌≤◌, Bool, true, false, List, [], length, Some, Ok, refl, sym, subst, ◌∙◌, arith}
+use Rattle.std.proofs.Common.{◌≡◌, ◌⊎◌, inl, inr, ℕ, ◌<◌, ◌≤◌, Bool, true, false, List, [], length, Some, Ok, refl, sym, ap, subst, ◌∙◌, arith}
 use Rattle.std.specs.Prelude.{◌==◌, ◌≢◌, slice_index, nat_eq}
 use Rattle.std.proofs.Math.Logic.{∥∥₁_map}
 use Rattle.std.proofs.lemmas.Bool.Decides.{nat_tests}
@@ -19,15 +19,15 @@ use Rattle.entry_history.specs.Readers.{IsVersion}
 use Rattle.entry_history.specs.Payloads.{IsHistory, CanFollow}
 use Rattle.durable_catalogue.specs.declared.fault.OpenFault.{OpenFault}
 use Rattle.durable_catalogue.specs.declared.fault.OpenFault.TheVariants.{DeviceFault, NotAJournal, OldVersion, Full, NoMemory}
-use Rattle.durable_catalogue.specs.Logs.{payloads_of, IsLogOf}
+use Rattle.durable_catalogue.specs.Logs.{payloads_of, IsLogOf, HasHistory}
 use Rattle.durable_catalogue.specs.Images.{Reaches}
 use Rattle.durable_catalogue.specs.Durables.{IsKept}
-use Rattle.durable_catalogue.specs.Openings.{IsBadFrame, IsUnloaded, NoGate, NoPayload, IsUnopened, IsOpening}
+use Rattle.durable_catalogue.specs.Openings.{IsBadFrame, IsUnloaded, NoGate, NoPayload, IsUnopened, IsOpening, KeepsContent}
 use Rattle.durable_catalogue.specs.Faults.{open_fault}
 use Rattle.durable_catalogue.proofs.Histories.{runs_bounded}
 use Rattle.durable_catalogue.proofs.Images.{front_reaches, whole_front}
 use Rattle.durable_catalogue.proofs.Keeping.{some_of}
-use Rattle.durable_catalogue.proofs.Readings.{same_log}
+use Rattle.durable_catalogue.proofs.Readings.{like_reading, same_log}
 
 pub reading : (log : List ℕ) (frames : List Frame) (version : ℕ) (entries : List Entry) → frames_of log ≡ Ok frames → version_of log ≡ version
     → IsHistory version [] (payloads_of frames) entries → IsLogOf entries log
@@ -78,6 +78,17 @@ opening_of old new opens = record {
   tells = opens.continues.tells;
 }
 
+-- a log that is recovered has the same frames, and is blank or of the same version
+pub recovered_content : (frames : List Frame) (place version : ℕ) (old new : DiskView) → IsRecovered frames place version old new → KeepsContent old new
+recovered_content frames place version old new r log c entries was is has =
+    ∥∥₁_map has (λ of. like_reading entries log c (r.is c is ∙ sym (r.was log was)) (λ long. version_long c long ∙ (r.settled.header c is ∙ sym (r.named log was))) of)
+
+-- a fault that isn't a device's wrote nothing
+pub unopened_content : (old new : DiskView) (fault : JournalFault) → HasOpenCause old new fault → open_fault fault ≢ DeviceFault → KeepsContent old new
+unopened_content old new fault cause other log c entries was is has =
+    let same = (cause.unwritten (λ device. other (ap open_fault device))).content in
+    subst (HasHistory entries) (cc (was, is, same)) has
+
 -- a log's version is 1 or 2
 version_one : (log : List ℕ) → version_of_header log ≢ 2 → version_of_header log ≡ 1
 unfolding version_of_header
@@ -117,6 +128,12 @@ pub unopened : (old new : DiskView) (limits : Limits) (fault : JournalFault) →
 unopened old new limits journal.DeviceFault cause log told = tt
 unopened old new limits (journal.NotAJournal place) cause log told = NoGate (cause.lost place log refl told)
 unopened old new limits journal.NoMemory cause log told = tt
+
+-- a journal's fault is never that the history passes the limits
+pub never_full : (fault : JournalFault) → open_fault fault ≡ Full → ⊥
+never_full journal.DeviceFault is = cc
+never_full (journal.NotAJournal place) is = cc
+never_full journal.NoMemory is = cc
 
 -- a device fault has its cause in the journal's
 pub device_fault : (old new : DiskView) (fault : JournalFault) → HasOpenCause old new fault → open_fault fault ≡ DeviceFault → Rose old.faults new.faults

@@ -30,12 +30,17 @@ blank_reading entries log c blank frames is =
       holds = subst (λ es. IsHistory (version_of c) [] [] es) (sym no_entry) (NoMore []);
     }
 
-pub same_log : (entries : List Entry) (log c : List ℕ) → SameLog log c → IsLogOf entries log → IsLogOf entries c
-same_log entries log c same is = decided (short_or_long (length c) BLANK_LENGTH)
+-- a log of the same frames is blank, or of the same version
+pub like_reading : (entries : List Entry) (log c : List ℕ) → frames_of c ≡ frames_of log → (BLANK_LENGTH < length c → version_of c ≡ version_of log)
+    → IsLogOf entries log → IsLogOf entries c
+like_reading entries log c frames version is = decided (short_or_long (length c) BLANK_LENGTH)
   where
     decided : (length c ≤ BLANK_LENGTH) ⊎ (BLANK_LENGTH < length c) → IsLogOf entries c
-    decided (inl short) = blank_reading entries log c (frames_blank c short) same.frames is
-    decided (inr long) = same_reading entries log c same.frames (same.version long) is
+    decided (inl short) = blank_reading entries log c (frames_blank c short) frames is
+    decided (inr long) = same_reading entries log c frames (version long) is
+
+pub same_log : (entries : List Entry) (log c : List ℕ) → SameLog log c → IsLogOf entries log → IsLogOf entries c
+same_log entries log c same is = like_reading entries log c same.frames same.version is
 
 -- a log with one frame more
 pub longer_reading : (before more : List Entry) (log c : List ℕ) (frame : Frame) → frames_of c ≡ and_frame (frames_of log) frame → version_of c ≡ version_of log

@@ -59,6 +59,10 @@ pub record IsOpening (old new : DiskView) : Type 0 where
   pub dated : new.dated ≡ old.dated
   pub tells : is_some new.content ≡ is_some old.content
 
+-- where a disk tells its content, that has the history that it had
+abbrev pub KeepsContent : DiskView → DiskView → Type 0
+KeepsContent old new = (log c : List ℕ) (entries : List Entry) → old.content ≡ Some log → new.content ≡ Some c → HasHistory entries log → HasHistory entries c
+
 -- a catalogue of this history, with nothing staged
 abbrev pub catalogue_of : Limits → List Entry → Catalogued
 catalogue_of limits entries = record { history = entries; staged = []; limits = limits }

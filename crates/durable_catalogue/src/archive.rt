@@ -4,7 +4,7 @@ ghost use Rattle.outside.specs.Fault.{Rose};
 ghost use Rattle.commit_journal.specs.Log.{version_of};
 ghost use Rattle.durable_catalogue.specs.declared.fault.OpenFault.TheVariants.{DeviceFault, OldVersion};
 ghost use Rattle.durable_catalogue.specs.Logs.{HasHistory};
-ghost use Rattle.durable_catalogue.specs.Openings.{IsWithin, IsUnopened, IsOpening};
+ghost use Rattle.durable_catalogue.specs.Openings.{IsWithin, IsUnopened, IsOpening, KeepsContent};
 
 use crate::OpenFault;
 use crate::fault::open_fault;
@@ -31,6 +31,8 @@ impl<D: Disk> Archive<D> {
         ensures version { IfOk result (λ a. (log : List ℕ) → (D.seen disk).content ≡ Some log → version_of log ≡ a.journal.version) }
         ensures within { IfOk result (λ a. IsWithin limits a.core.history) }
         ensures crash { MatchResult result (λ a. IsOpening (D.seen disk) (D.seen a.journal.disk)) (λ e. IsOpening (D.seen disk) (D.seen e.0)) }
+        ensures content { MatchResult result (λ a. KeepsContent (D.seen disk) (D.seen a.journal.disk))
+            (λ e. e.1 ≢ DeviceFault → KeepsContent (D.seen disk) (D.seen e.0)) }
         ensures later { MatchResult result (λ a. (D.seen disk).faults ≤ (D.seen a.journal.disk).faults) (λ e. (D.seen disk).faults ≤ (D.seen e.0).faults) }
         ensures fault { IfErr result (λ e. (log : List ℕ) → (D.seen disk).content ≡ Some log → IsUnopened limits log e.1) }
         ensures current { IfErr result (λ e. e.1 ≢ OldVersion) }

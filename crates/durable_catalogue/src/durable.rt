@@ -12,7 +12,7 @@ ghost use Rattle.entry_history.specs.Payloads.{CanFollow};
 ghost use Rattle.entry_history.specs.declared.event.Event.{Event};
 ghost use Rattle.durable_catalogue.specs.Logs.{HasHistory};
 ghost use Rattle.durable_catalogue.specs.declared.fault.OpenFault.{OpenFault};
-ghost use Rattle.durable_catalogue.specs.Openings.{IsWithin, IsUnopened, IsOpening};
+ghost use Rattle.durable_catalogue.specs.Openings.{IsWithin, IsUnopened, IsOpening, KeepsContent};
 ghost use Rattle.durable_catalogue.specs.Images.{HasFrameOrNot};
 ghost use Rattle.durable_catalogue.specs.Durables.{mark_of, marked, events, is_taken, opening, IsKept, IsLeft, IsLostBy, IsSameOpening};
 
@@ -88,12 +88,17 @@ impl<D: Disk> Durable<D> {
         ensures first { IfOk result (λ d. d.first.value ≡ d.journal) }
         ensures synced { IfOk result (λ d. (D.seen disk).dated ≡ true → is_some ((D.seen d.first.value.disk).synced (D.seen disk).moment) ≡ true) }
 
-        // Each image since the first sync has the log's history; where that sync didn't succeed, the content is as it was.
+        // Each image since the first sync has the log's history; where that sync didn't succeed, the content is as it was. So
+        // has the content, whatever the opening answers but a device fault.
         ensures crash { MatchResult result (λ d. IsOpening (D.seen disk) (D.seen d.journal.disk)) (λ e. IsOpening (D.seen disk) (D.seen e.0)) }
+        ensures content { MatchResult result (λ d. KeepsContent (D.seen disk) (D.seen d.journal.disk))
+            (λ e. e.1 ≢ OpenFault.DeviceFault → KeepsContent (D.seen disk) (D.seen e.0)) }
         ensures later { MatchResult result (λ d. (D.seen disk).faults ≤ (D.seen d.journal.disk).faults) (λ e. (D.seen disk).faults ≤ (D.seen e.0).faults) }
 
-        // Each fault comes only where the log is so; a device fault only where the count of faults rose.
+        // Each fault comes only where the log is so, and Full only where it is of version 2; a device fault only where the count
+        // of faults rose.
         ensures fault { IfErr result (λ e. (log : List ℕ) → (D.seen disk).content ≡ Some log → IsUnopened limits log e.1) }
+        ensures old_first { IfErr result (λ e. e.1 ≡ OpenFault.Full → (log : List ℕ) → (D.seen disk).content ≡ Some log → version_of log ≡ 2) }
         ensures failed { IfErr result (λ e. e.1 ≡ OpenFault.DeviceFault → Rose (D.seen disk).faults (D.seen e.0).faults) }
     {
         let before = Snapshot::of(&disk);

@@ -3,7 +3,7 @@ ghost use Rattle.std.specs.Prelude.{◌≡◌, ◌≢◌, ◌≤◌, ◌<◌, �
 ghost use Rattle.entry_record.specs.History.{last_run, next_run};
 ghost use Rattle.entry_history.specs.Payloads.{IsHistory};
 ghost use Rattle.entry_history.specs.Readers.{IsVersion};
-ghost use Rattle.durable_catalogue.specs.declared.fault.OpenFault.TheVariants.{DeviceFault, OldVersion};
+ghost use Rattle.durable_catalogue.specs.declared.fault.OpenFault.TheVariants.{DeviceFault, OldVersion, Full};
 ghost use Rattle.catalogue_core.specs.Catalogues.{Catalogued};
 ghost use Rattle.durable_catalogue.specs.Logs.{payloads_of};
 ghost use Rattle.durable_catalogue.specs.Openings.{IsUnloaded, IsUnread, IsUnbuilt, IsWithin, catalogue_of};
@@ -85,12 +85,13 @@ fn read_either(alloc: Global, version: u8, frames: &[Frame]) -> Result<Vec<Prepa
     ensures history { IsVersion version → IfOk result (λ items. IsHistory version [] (payloads_of frames.now) items.items) }
     ensures fault { IsVersion version → IfErr result (IsUnread version frames.now) }
     ensures current { IfErr result (λ fault. fault ≢ OldVersion) }
+    ensures unbuilt { IfErr result (λ fault. fault ≢ Full) }
     ensures no_device { IfErr result (λ fault. fault ≢ DeviceFault) }
 {
     read_history(alloc, version.max(1).min(2), frames)
 }
 
-/// The catalogue whose history the frames of a journal of version 2 hold.
+/// The catalogue whose history the frames of a journal of version 2 hold. An old version is answered before a full one.
 pub fn load(
     alloc: Global,
     version: u8,
@@ -103,6 +104,7 @@ pub fn load(
     ensures within { IfOk result (λ l. IsWithin limits l.core.history) }
     ensures run { IfOk result (λ l. l.run ≡ next_run l.core.history) }
     ensures fault { IsVersion version → IfErr result (IsUnloaded version frames.now limits) }
+    ensures old_first { IfErr result (λ fault. fault ≡ Full → version ≡ 2) }
     ensures no_device { IfErr result (λ fault. fault ≢ DeviceFault) }
 {
     let items = read_either(alloc, version, frames)?;

@@ -4,6 +4,7 @@ use Rattle.std.specs.List.{list_any}
 use Rattle.marc_types.specs.declared.entry.Entry.{Entry}
 use Rattle.marc_types.specs.declared.copying.NoMemory.{NoMemory}
 use Rattle.outside.specs.Room.{RoomView}
+use Rattle.commit_journal.specs.Log.{version_of}
 use Rattle.command_words.specs.Command.{Library}
 use Rattle.console_lines.specs.declared.fault.Fault.{Fault}
 use Rattle.console_lines.specs.declared.fault.Fault.TheVariants as fault
@@ -90,10 +91,11 @@ pub record IsLoadedInPart (old new : RoomView) (journal : List ℕ) (libraries :
   pub unmarked : why ≢ fault.Device → mark ≡ None
   pub closed : IsClosedTo new journal (before ++ added) mark o
 
--- Why loading didn't begin: the journal isn't opened, and has the history that it had; or an input isn't opened, or there is no
--- memory to begin, and the journal was opened and closed again with nothing added.
+-- Why loading didn't begin: the journal isn't opened, and has the history that it had, and is full only where its version is 2; or
+-- an input isn't opened, or there is no memory to begin, and the journal was opened and closed again with nothing added.
 pub data IsUnbegun (old new : RoomView) (journal : List ℕ) (why : Fault) : Type 0 where
-  Unopened : (of : OpenFault) → why ≡ fault_of_opening of → IsUnopened journal_limits (log_bytes old journal) of → KeepsHistory old new journal
+  Unopened : (of : OpenFault) → why ≡ fault_of_opening of → IsUnopened journal_limits (log_bytes old journal) of
+      → (of ≡ opening.Full → version_of (log_bytes old journal) ≡ 2) → KeepsHistory (of ≡ opening.DeviceFault) old new journal
       → IsUnbegun old new journal why
   Unbegun : (before : List Entry) (o : Opening) → (why ≡ fault.Input) ⊎ (why ≡ fault.Memory) → IsOpenedFrom old journal before None o → IsClosedTo new journal before None o
       → IsUnbegun old new journal why

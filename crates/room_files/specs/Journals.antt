@@ -2,7 +2,7 @@
 use Rattle.std.specs.Prelude.{◌≡◌, ℕ, true, List, length, Option, Some, None, is_some}
 use Rattle.marc_types.specs.declared.entry.Entry.{Entry}
 use Rattle.marc_types.specs.declared.entry.Limits.{Limits}
-use Rattle.outside.specs.Disk.{DiskView}
+use Rattle.outside.specs.Disk.{DiskView, SameDisk}
 use Rattle.outside.specs.Room.{RoomView, bytes_or_none}
 use Rattle.commit_journal.specs.Log.{version_of}
 use Rattle.entry_record.specs.History.{next_run}
@@ -44,18 +44,23 @@ pub record IsClosedTo (room : RoomView) (name : List ℕ) (entries : List Entry)
   pub content : (room.log name).content ≡ Some bytes
   pub holds : Holds (length entries) entries (marked mark) bytes
 
--- The log of that name has the history that it had: it was not opened, and its file is as it was; or it was, and where it tells
--- its moments its file has that history, and so has each image since the first sync.
-pub data KeepsHistory (old new : RoomView) (name : List ℕ) : Type 0 where
-  Unopened : new.file name ≡ old.file name → KeepsHistory old new name
-  Opened : ((entries : List Entry) → HasHistory entries (log_bytes old name) → (new.log name).dated ≡ true → HasHistory entries (log_bytes new name))
+-- the file of that name, and the log that was closed as it, are as they were
+pub record IsUntouched (old new : RoomView) (name : List ℕ) : Type 0 where
+  pub file : new.file name ≡ old.file name
+  pub is_log : new.has_log name ≡ old.has_log name
+  pub log : old.has_log name ≡ true → SameDisk (old.log name) (new.log name)
+
+-- The log of that name has the history that it had: it was not opened, and is as it was; or it was, and its file has that history,
+-- and so has each image since the first sync. Where a device failed, its file has it if the log tells its moments.
+pub data KeepsHistory (failed : Type 0) (old new : RoomView) (name : List ℕ) : Type 0 where
+  Unopened : IsUntouched old new name → KeepsHistory failed old new name
+  Opened : ((entries : List Entry) → HasHistory entries (log_bytes old name) → (failed → (new.log name).dated ≡ true) → HasHistory entries (log_bytes new name))
       → ((entries : List Entry) (s : ℕ) (c : List ℕ) → HasHistory entries (log_bytes old name) → (new.log name).synced 0 ≡ Some s → (new.log name).left s c
       → HasHistory entries c)
-      → KeepsHistory old new name
+      → KeepsHistory failed old new name
 
--- a log that was opened keeps the history that its bytes had: its content has it, where it tells its moments, and so has each image
--- since the first sync
+-- a log that was opened keeps the history that its bytes had: its content has it, and so has each image since the first sync
 pub record KeepsLog (log : List ℕ) (disk : DiskView) : Type 0 where
-  pub content : (entries : List Entry) → HasHistory entries log → disk.dated ≡ true → HasHistory entries (bytes_or_none disk.content)
+  pub content : (entries : List Entry) → HasHistory entries log → HasHistory entries (bytes_or_none disk.content)
   pub images : (entries : List Entry) (s : ℕ) (c : List ℕ) → HasHistory entries log → disk.synced 0 ≡ Some s → disk.left s c
       → HasHistory entries c

@@ -14,6 +14,7 @@ use outside::Room;
 use std::alloc::Global;
 
 /// Opens the file of that name to read its history, of either version. A fault closes it again.
+#[tactic(auto, using(crate::proofs::Journals::unopened_keeps))]
 pub fn open_archive<R: Room>(
     alloc: Global,
     room: &mut R,
@@ -36,7 +37,8 @@ pub fn open_archive<R: Room>(
     ensures current { IfErr result (λ fault. fault ≢ OldVersion) }
     ensures cause { IfErr result (λ fault. fault ≡ DeviceFault →
         Rose ((R.seen room.old).log_faults name.now) ((R.seen room.new).log_faults name.now)) }
-    ensures keeps { OnErr result ((R.seen room.old).tells ≡ true → KeepsHistory (R.seen room.old) (R.seen room.new) name.now) }
+    ensures keeps { IfErr result (λ fault. (R.seen room.old).tells ≡ true →
+        KeepsHistory (fault ≡ DeviceFault) (R.seen room.old) (R.seen room.new) name.now) }
 {
     let Ok(log) = room.open_log(name) else {
         return Err(OpenFault::DeviceFault);

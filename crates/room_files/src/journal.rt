@@ -2,7 +2,8 @@
 ghost use Rattle.std.specs.Prelude.{◌≡◌, true, Some, None, is_some, IfOk, IfErr, OnOk, OnErr};
 ghost use Rattle.outside.specs.Fault.{Rose};
 ghost use Rattle.outside.specs.Room.{AsLog, Apart};
-ghost use Rattle.durable_catalogue.specs.declared.fault.OpenFault.TheVariants.{DeviceFault};
+ghost use Rattle.durable_catalogue.specs.declared.fault.OpenFault.TheVariants.{DeviceFault, Full};
+ghost use Rattle.commit_journal.specs.Log.{version_of};
 ghost use Rattle.durable_catalogue.specs.Durables.{mark_of, opening};
 ghost use Rattle.durable_catalogue.specs.Openings.{IsUnopened};
 ghost use Rattle.room_files.specs.Journals.{journal_limits, log_bytes, IsOpenedFrom, IsClosedTo, KeepsHistory};
@@ -19,6 +20,7 @@ pub const JOURNAL_LIMITS: Limits = Limits {
 };
 
 /// Opens the file of that name as a catalogue's log. A fault closes it again.
+#[tactic(auto, using(crate::proofs::Journals::unopened_keeps))]
 pub fn open_journal<R: Room>(
     alloc: Global,
     room: &mut R,
@@ -31,12 +33,16 @@ pub fn open_journal<R: Room>(
     ensures catalogue { IfOk result (λ d. IsOpenedFrom (R.seen room.old) name.now d.core.history (mark_of d.mark)
         (opening d.limits d.run d.opened (R.Log.seen d.before.value) (R.Log.seen d.first.value.disk))) }
 
-    // Each fault comes only where the log is so; a device fault only where the count of faults rose.
+    // Each fault comes only where the log is so, and Full only where it is of version 2; a device fault only where the count of
+    // faults rose.
     ensures fault { IfErr result (λ fault. (R.seen room.old).tells ≡ true →
         IsUnopened journal_limits (log_bytes (R.seen room.old) name.now) fault) }
+    ensures old_first { IfErr result (λ fault. fault ≡ Full → (R.seen room.old).tells ≡ true →
+        version_of (log_bytes (R.seen room.old) name.now) ≡ 2) }
     ensures cause { IfErr result (λ fault. fault ≡ DeviceFault →
         Rose ((R.seen room.old).log_faults name.now) ((R.seen room.new).log_faults name.now)) }
-    ensures keeps { OnErr result ((R.seen room.old).tells ≡ true → KeepsHistory (R.seen room.old) (R.seen room.new) name.now) }
+    ensures keeps { IfErr result (λ fault. (R.seen room.old).tells ≡ true →
+        KeepsHistory (fault ≡ DeviceFault) (R.seen room.old) (R.seen room.new) name.now) }
 {
     let Ok(log) = room.open_log(name) else {
         return Err(OpenFault::DeviceFault);

@@ -1,12 +1,15 @@
-use Rattle.std.proofs.Common.{◌∙◌, ℕ, List}
+use Rattle.std.proofs.Common.{◌∙◌, ap, ℕ, List}
 use Rattle.std.specs.Option.{option_copied}
 use Rattle.marc_types.specs.declared.entry.Entry.{Entry}
 use Rattle.entry_record.specs.History.{state_of}
 use Rattle.entry_record.specs.Output.{export_of}
 use Rattle.room_files.specs.Journals.{log_bytes}
+use Rattle.room_files.proofs.Journals.{closed_keeps}
+use Rattle.console_lines.specs.Faults.{fault_status}
 use Rattle.archive_commands.specs.Archives.{kept_keys}
 use Rattle.archive_commands.proofs.Rooms.{closed_everywhere, apart_opened, part_opened}
 use Rattle.archive_commands.proofs.Histories.{whole_of_any, part_of_any, fitting_history}
+use Rattle.archive_commands.proofs.Ends.{refused_keeps}
 use Rattle.archive_commands.proofs.exporting.export.Goals as goal
 
 pub returns-in-Ok-export_archive-clause-closed : goal.returns-in-Ok-export_archive-clause-closed
@@ -54,3 +57,23 @@ returns-in-Err-export_archive-clause-part g c entries status told has =
     part_of_any due entries history (log_bytes old c.args.journal.now) (old.file out) (new.file out) has (c.in-Ok.ensures.history told)
     (part_opened old (seen c.open_archive.new.room) new c.args.journal.now out (due history) c.requires.differ c.open_archive.ensures.apart
     (c.export_archive.ensures.part (c.open_archive.ensures.apart.tells ∙ told)))
+
+pub returns-in-Ok-export_archive-clause-keeps : goal.returns-in-Ok-export_archive-clause-keeps
+returns-in-Ok-export_archive-clause-keeps g c told =
+    let seen = g.R.Room.seen in
+    let told_open = c.open_archive.ensures.apart.tells ∙ told in
+    closed_keeps (seen c.args.room.now) (seen c.export_archive.new.room) c.args.journal.now (g.R.Log.Disk.seen c.in-Ok.archive.journal.disk)
+    (c.export_archive.ensures.file told_open) (c.export_archive.ensures.log told_open) _ (c.in-Ok.ensures.kept told)
+
+pub returns-in-Err-export_archive-clause-keeps : goal.returns-in-Err-export_archive-clause-keeps
+returns-in-Err-export_archive-clause-keeps g c told =
+    let seen = g.R.Room.seen in
+    let told_open = c.open_archive.ensures.apart.tells ∙ told in
+    closed_keeps (seen c.args.room.now) (seen c.export_archive.new.room) c.args.journal.now (g.R.Log.Disk.seen c.in-Ok.archive.journal.disk)
+    (c.export_archive.ensures.file told_open) (c.export_archive.ensures.log told_open) _ (c.in-Ok.ensures.kept told)
+
+pub returns-in-Err-clause-keeps : goal.returns-in-Err-clause-keeps
+returns-in-Err-clause-keeps g c told =
+    let seen = g.R.Room.seen in
+    refused_keeps (seen c.args.room.now) (seen c.open_archive.new.room) c.args.journal.now c.tell.result c.in-Err.fault
+    (c.tell.ensures.status ∙ ap fault_status c.opening_fault.ensures) (c.in-Err.ensures.keeps told)

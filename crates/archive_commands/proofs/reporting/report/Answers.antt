@@ -1,12 +1,14 @@
-use Rattle.std.proofs.Common.{◌∙◌, ℕ, List}
+use Rattle.std.proofs.Common.{◌∙◌, ap, ℕ, List}
 use Rattle.marc_types.specs.declared.entry.Entry.{Entry}
 use Rattle.entry_record.specs.History.{state_of}
 use Rattle.entry_record.specs.Output.{report_of}
 use Rattle.durable_catalogue.specs.declared.fault.OpenFault.TheVariants.{NoMemory}
 use Rattle.room_files.specs.Journals.{log_bytes}
+use Rattle.room_files.proofs.Journals.{closed_keeps}
+use Rattle.console_lines.specs.Faults.{fault_status}
 use Rattle.archive_commands.proofs.Rooms.{closed_everywhere, apart_opened, part_opened}
 use Rattle.archive_commands.proofs.Histories.{whole_of_any, part_of_any, fitting_history}
-use Rattle.archive_commands.proofs.Ends.{told_why}
+use Rattle.archive_commands.proofs.Ends.{told_why, refused_keeps}
 use Rattle.archive_commands.proofs.reporting.report.Goals as goal
 
 pub returns-in-Ok-report_archive-clause-closed : goal.returns-in-Ok-report_archive-clause-closed
@@ -75,3 +77,30 @@ returns-in-Err-NoMemory-clause-part g c entries status told has =
     part_of_any due entries history (log_bytes old c.args.journal.now) (old.file out) (new.file out) has (c.in-Ok.ensures.history told)
     (part_opened old (seen c.open_archive.new.room) new c.args.journal.now out (due history) c.requires.differ c.open_archive.ensures.apart
     (c.report_archive.ensures.part (c.open_archive.ensures.apart.tells ∙ told)))
+
+pub returns-in-Ok-report_archive-clause-keeps : goal.returns-in-Ok-report_archive-clause-keeps
+returns-in-Ok-report_archive-clause-keeps g c told =
+    let seen = g.R.Room.seen in
+    let told_open = c.open_archive.ensures.apart.tells ∙ told in
+    closed_keeps (seen c.args.room.now) (seen c.report_archive.new.room) c.args.journal.now (g.R.Log.Disk.seen c.in-Ok.archive.journal.disk)
+    (c.report_archive.ensures.file told_open) (c.report_archive.ensures.log told_open) _ (c.in-Ok.ensures.kept told)
+
+pub returns-in-Err-OutputFault-clause-keeps : goal.returns-in-Err-OutputFault-clause-keeps
+returns-in-Err-OutputFault-clause-keeps g c told =
+    let seen = g.R.Room.seen in
+    let told_open = c.open_archive.ensures.apart.tells ∙ told in
+    closed_keeps (seen c.args.room.now) (seen c.report_archive.new.room) c.args.journal.now (g.R.Log.Disk.seen c.in-Ok.archive.journal.disk)
+    (c.report_archive.ensures.file told_open) (c.report_archive.ensures.log told_open) _ (c.in-Ok.ensures.kept told)
+
+pub returns-in-Err-NoMemory-clause-keeps : goal.returns-in-Err-NoMemory-clause-keeps
+returns-in-Err-NoMemory-clause-keeps g c told =
+    let seen = g.R.Room.seen in
+    let told_open = c.open_archive.ensures.apart.tells ∙ told in
+    closed_keeps (seen c.args.room.now) (seen c.report_archive.new.room) c.args.journal.now (g.R.Log.Disk.seen c.in-Ok.archive.journal.disk)
+    (c.report_archive.ensures.file told_open) (c.report_archive.ensures.log told_open) _ (c.in-Ok.ensures.kept told)
+
+pub returns-in-Err-clause-keeps : goal.returns-in-Err-clause-keeps
+returns-in-Err-clause-keeps g c told =
+    let seen = g.R.Room.seen in
+    refused_keeps (seen c.args.room.now) (seen c.open_archive.new.room) c.args.journal.now c.tell.result c.in-Err.fault
+    (c.tell.ensures.status ∙ ap fault_status c.opening_fault.ensures) (c.in-Err.ensures.keeps told)

@@ -9,7 +9,8 @@ use Rattle.journal_loading.proofs.Begun.{unbegun}
 use Rattle.journal_loading.proofs.loading.begin.Goals as goal
 
 pub returns-in-Err-clause-fault : goal.returns-in-Err-clause-fault
-returns-in-Err-clause-fault g c tells = Unopened c.in-Err.fault c.fault_of_opening.ensures (c.in-Err.ensures.fault tells) (c.in-Err.ensures.keeps tells)
+returns-in-Err-clause-fault g c tells =
+    Unopened c.in-Err.fault c.fault_of_opening.ensures (c.in-Err.ensures.fault tells) (λ full. c.in-Err.ensures.old_first full tells) (c.in-Err.ensures.keeps tells)
 
 pub open_inputs-inputs-requires-clause-free : goal.open_inputs-inputs-requires-clause-free
 open_inputs-inputs-requires-clause-free g c κs within index library named =

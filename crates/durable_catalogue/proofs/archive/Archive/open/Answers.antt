@@ -2,8 +2,8 @@ use Rattle.std.proofs.Common.{[], sym, subst, ◌∙◌}
 use Rattle.entry_history.specs.Readers.{IsVersion}
 use Rattle.entry_history.specs.Payloads.{IsHistory}
 use Rattle.durable_catalogue.specs.Logs.{payloads_of}
-use Rattle.durable_catalogue.specs.Openings.{IsOpening, IsUnloaded, IsUnopened}
-use Rattle.durable_catalogue.proofs.Opened.{reading, opening_of, either_version, unloaded, unopened}
+use Rattle.durable_catalogue.specs.Openings.{IsOpening, IsUnloaded, IsUnopened, KeepsContent}
+use Rattle.durable_catalogue.proofs.Opened.{reading, opening_of, recovered_content, unopened_content, either_version, unloaded, unopened}
 use Rattle.durable_catalogue.proofs.archive.Archive.open.Goals as goal
 
 pub returns-in-Ok-load_either-clause-history : goal.returns-in-Ok-load_either-clause-history
@@ -17,6 +17,19 @@ returns-in-Ok-load_either-clause-history g c log told =
 
 pub returns-in-Ok-load_either-clause-crash : goal.returns-in-Ok-load_either-clause-crash
 returns-in-Ok-load_either-clause-crash g c = opening_of (g.D.Disk.seen c.args.disk) (g.D.Disk.seen c.in-Ok.journal.disk) c.in-Ok.ensures.crash
+
+pub returns-in-Ok-load_either-clause-content : goal.returns-in-Ok-load_either-clause-content
+returns-in-Ok-load_either-clause-content g c =
+    let seen = g.D.Disk.seen in
+    let journal = c.in-Ok.journal in
+    recovered_content c.in-Ok.frames journal.place journal.version (seen c.args.disk) (seen journal.disk) c.in-Ok.ensures.recovered
+
+pub returns-in-Ok-clause-content : goal.returns-in-Ok-clause-content
+returns-in-Ok-clause-content g c other =
+    let seen = g.D.Disk.seen in
+    let journal = c.in-Ok.journal in
+    subst (λ d. KeepsContent (seen c.args.disk) (seen d)) (sym c.close.ensures)
+    (recovered_content c.in-Ok.frames journal.place journal.version (seen c.args.disk) (seen journal.disk) c.in-Ok.ensures.recovered)
 
 pub returns-in-Ok-clause-crash : goal.returns-in-Ok-clause-crash
 returns-in-Ok-clause-crash g c =
@@ -32,6 +45,11 @@ returns-in-Ok-clause-fault g c log told =
     let version = subst IsVersion (recovered.named log told ∙ sym c.version.ensures) (either_version log) in
     let why = subst (λ v. IsUnloaded v c.in-Ok.frames c.args.limits fault) c.version.ensures (subst (λ fs. IsUnloaded c.version.result fs c.args.limits fault) c.as_slice.ensures (c.in-Err-load_either.ensures.fault version)) in
     unloaded c.in-Ok.frames journal.place journal.version (seen c.args.disk) (seen journal.disk) c.args.limits fault recovered why log told
+
+pub returns-clause-content : goal.returns-clause-content
+returns-clause-content g c other =
+    let seen = g.D.Disk.seen in
+    unopened_content (seen c.args.disk) (seen c.in-Err.failed.0) c.in-Err.failed.1 c.in-Err.ensures.fault (λ device. other (c.open_fault.ensures ∙ device))
 
 pub returns-clause-crash : goal.returns-clause-crash
 returns-clause-crash g c = opening_of (g.D.Disk.seen c.args.disk) (g.D.Disk.seen c.in-Err.failed.0) c.in-Err.ensures.crash

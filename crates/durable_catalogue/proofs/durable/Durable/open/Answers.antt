@@ -5,8 +5,8 @@ use Rattle.entry_history.specs.Readers.{IsVersion}
 use Rattle.entry_history.specs.Payloads.{IsHistory, CanFollow}
 use Rattle.durable_catalogue.specs.Logs.{payloads_of}
 use Rattle.durable_catalogue.specs.Durables.{IsKept}
-use Rattle.durable_catalogue.specs.Openings.{IsOpening, IsUnloaded, IsUnopened}
-use Rattle.durable_catalogue.proofs.Opened.{next_follows, was_reading, opened_kept, opening_of, unloaded, unopened, either_version}
+use Rattle.durable_catalogue.specs.Openings.{IsOpening, IsUnloaded, IsUnopened, KeepsContent}
+use Rattle.durable_catalogue.proofs.Opened.{next_follows, was_reading, opened_kept, opening_of, recovered_content, unopened_content, unloaded, unopened, never_full, either_version}
 use Rattle.durable_catalogue.proofs.durable.Durable.open.Goals as goal
 
 pub invariant_of-result : goal.invariant_of-result
@@ -47,6 +47,19 @@ returns-in-Ok-load-clause-history g c log told =
 pub returns-in-Ok-load-clause-crash : goal.returns-in-Ok-load-clause-crash
 returns-in-Ok-load-clause-crash g c = opening_of (g.D.Disk.seen c.args.disk) (g.D.Disk.seen c.in-Ok.journal.disk) c.in-Ok.ensures.crash
 
+pub returns-in-Ok-load-clause-content : goal.returns-in-Ok-load-clause-content
+returns-in-Ok-load-clause-content g c =
+    let seen = g.D.Disk.seen in
+    let journal = c.in-Ok.journal in
+    recovered_content c.in-Ok.frames journal.place journal.version (seen c.args.disk) (seen journal.disk) c.in-Ok.ensures.recovered
+
+pub returns-in-Err-load-clause-content : goal.returns-in-Err-load-clause-content
+returns-in-Err-load-clause-content g c other =
+    let seen = g.D.Disk.seen in
+    let journal = c.in-Ok.journal in
+    subst (λ d. KeepsContent (seen c.args.disk) (seen d)) (sym c.close.ensures)
+    (recovered_content c.in-Ok.frames journal.place journal.version (seen c.args.disk) (seen journal.disk) c.in-Ok.ensures.recovered)
+
 pub returns-in-Err-load-clause-crash : goal.returns-in-Err-load-clause-crash
 returns-in-Err-load-clause-crash g c =
     let seen = g.D.Disk.seen in
@@ -60,6 +73,18 @@ returns-in-Err-load-clause-fault g c log told =
     let version = subst IsVersion (c.in-Ok.ensures.recovered.named log told ∙ sym c.version.ensures) (either_version log) in
     let why = subst (λ v. IsUnloaded v c.in-Ok.frames c.args.limits fault) c.version.ensures (subst (λ fs. IsUnloaded c.version.result fs c.args.limits fault) c.as_slice.ensures (c.in-Err-load.ensures.fault version)) in
     unloaded c.in-Ok.frames journal.place journal.version (seen c.args.disk) (seen journal.disk) c.args.limits fault c.in-Ok.ensures.recovered why log told
+
+pub returns-in-Err-load-clause-old_first : goal.returns-in-Err-load-clause-old_first
+returns-in-Err-load-clause-old_first g c full log told =
+    c.in-Ok.ensures.recovered.named log told ∙ (sym c.version.ensures ∙ c.in-Err-load.ensures.old_first full)
+
+pub returns-in-Err-clause-old_first : goal.returns-in-Err-clause-old_first
+returns-in-Err-clause-old_first g c full log told = absurd (never_full c.in-Err.failed.1 (sym c.open_fault.ensures ∙ full))
+
+pub returns-in-Err-clause-content : goal.returns-in-Err-clause-content
+returns-in-Err-clause-content g c other =
+    let seen = g.D.Disk.seen in
+    unopened_content (seen c.args.disk) (seen c.in-Err.failed.0) c.in-Err.failed.1 c.in-Err.ensures.fault (λ device. other (c.open_fault.ensures ∙ device))
 
 pub returns-in-Err-clause-crash : goal.returns-in-Err-clause-crash
 returns-in-Err-clause-crash g c = opening_of (g.D.Disk.seen c.args.disk) (g.D.Disk.seen c.in-Err.failed.0) c.in-Err.ensures.crash
