@@ -2,7 +2,8 @@
 ghost use Rattle.std.specs.Prelude.{◌≡◌, ℕ, List, None, IfOk};
 ghost use Rattle.outside_mem.specs.Room.{room_view};
 
-use super::{ZOOLOGY, carried_out};
+use super::turns::one_by_one;
+use super::{MADE, ZOOLOGY, carried_out};
 use crate::room_of;
 use crate::rooms::with_file;
 use command_words::Words;
@@ -53,10 +54,10 @@ fn totals_of(alloc: Global, count: u32) -> Result<String, NoMemory> {
 }
 
 /// So many copies of a record.
-fn copies(alloc: Global, count: u32) -> Result<Vec<u8>, NoMemory> {
+fn copies(alloc: Global, record: &[u8], count: u32) -> Result<Vec<u8>, NoMemory> {
     let mut bytes = Vec::new(alloc);
     for _ in 0..count {
-        bytes.extend_from_slice(ZOOLOGY)?;
+        bytes.extend_from_slice(record)?;
     }
     Ok(bytes)
 }
@@ -78,7 +79,7 @@ fn as_many_files_as_a_command_takes(rt: HostRuntime) -> Result<(), Fail> {
     assert_eq!(rt; status, 0);
 
     // Each library's record has a key of its own.
-    let due = copies(alloc, MOST)?;
+    let due = copies(alloc, ZOOLOGY, MOST)?;
     carried_out(
         &rt,
         alloc,
@@ -92,11 +93,12 @@ fn as_many_files_as_a_command_takes(rt: HostRuntime) -> Result<(), Fail> {
     Ok(())
 }
 
-/// 33 entries take a frame of 32 and one of 1.
+/// 33 entries take a frame of 32 and one of 1, or 33 frames of 1.
 #[test]
-fn a_turn_takes_thirty_two_entries(rt: HostRuntime) -> Result<(), Fail> {
+fn a_turn_takes_as_many_entries_as_the_gate_says(rt: HostRuntime) -> Result<(), Fail> {
     let alloc = rt.alloc();
-    let file = copies(alloc, 33)?;
+    let totals = "f: accepted 33, refused 0, linked 0, ambiguous 0, unlinked 33, changed 0\n";
+    let file = copies(alloc, MADE, 33)?;
     let room = room_of(alloc, &[("f", file.as_slice())], "none", 0)?;
     let room = carried_out(
         &rt,
@@ -105,16 +107,37 @@ fn a_turn_takes_thirty_two_entries(rt: HostRuntime) -> Result<(), Fail> {
         &OpenGate,
         &["load", "j", "ULIB=f"],
         0,
-        "f: accepted 33, refused 0, linked 0, ambiguous 0, unlinked 0, changed 0\n",
+        totals,
         &[],
     )?;
-    let Some(log) = room.file("j") else {
-        panic!(rt; "no log")
-    };
-    assert_eq!(rt; log.len(), 2604);
-    assert_eq!(rt;
-        log.get(16..39),
-        Some(b"O\0\0\x09\xb2\0\0\0\0\0\0\0\x01\0\0\0\0\x04ULIB ".as_slice())
-    );
+    let room = carried_out(
+        &rt,
+        alloc,
+        room,
+        &one_by_one(),
+        &["load", "k", "ULIB=f"],
+        0,
+        totals,
+        &[],
+    )?;
+    let table: [(&str, usize, &[u8]); 2] = [
+        (
+            "j",
+            4287,
+            b"O\0\0\x10\x12\0\0\0\0\0\0\0\x01\0\0\0\0\x04ULIB ",
+        ),
+        (
+            "k",
+            5000,
+            b"O\0\0\0\x92\0\0\0\0\0\0\0\x01\0\0\0\0\x04ULIB\x01",
+        ),
+    ];
+    for (name, len, frame) in table {
+        let Some(log) = room.file(name) else {
+            panic!(rt; "no log")
+        };
+        assert_eq!(rt; log.len(), len);
+        assert_eq!(rt; log.get(16..39), Some(frame));
+    }
     Ok(())
 }

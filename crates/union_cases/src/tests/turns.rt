@@ -11,7 +11,7 @@ use std::thread;
 /// The first call of the second loader waits for the second call of the first, that one for the second call of the second
 /// loader, and that one for the third call of the first.
 #[derive(Drop)]
-struct Alternating {
+pub struct Alternating {
     called: AtomicU32,
 }
 
@@ -44,6 +44,13 @@ impl Gate for Alternating {
 
     fn batch(&self) -> u32 {
         1
+    }
+}
+
+/// A gate that holds nobody, and lets a loader keep one entry.
+pub fn one_by_one() -> Alternating {
+    Alternating {
+        called: AtomicU32::new(FIRST_AT_2 | SECOND_AT_2 | FIRST_AT_3),
     }
 }
 
