@@ -1,7 +1,11 @@
 //! Two loaders that take turns in an order that a gate chooses.
 use super::carried_out;
 use crate::room_of;
+use catalogue_lock::Object;
+use durable_catalogue::{Durable, Seen};
+use marc_types::{Class, Key, Limits, Place, Text};
 use outside::Gate;
+use outside_mem::MemDisk;
 use outside_real::OpenGate;
 use std::sync::Wait;
 use std::sync::atomic::{AtomicU32, Ordering};
@@ -135,6 +139,30 @@ fn two_loaders_alternate(rt: HostRuntime) -> Result<(), Fail> {
         "",
         &[("r2", Some(REPORT)), ("j", Some(LOG))],
     )?;
+    Ok(())
+}
+
+/// How a heading field of the first book stands after the turns.
+#[test]
+fn a_field_is_unlinked_in_the_end(rt: HostRuntime) -> Result<(), Fail> {
+    let alloc = rt.alloc();
+    let log = Vec::from_slice(alloc, &LOG[..LOG.len().min(4096)])?;
+    let limits = Limits {
+        entries: 4,
+        bytes: 4096,
+    };
+    let Ok(durable) = Durable::open(alloc, MemDisk::new(alloc, log, Vec::new(alloc)), limits) else {
+        panic!(rt; "no journal")
+    };
+    let place = Place {
+        class: Class::Bibliographic,
+        key: Key {
+            code: Text::from_str(alloc, "ULIB")?,
+            number: Text::from_str(alloc, "b1")?,
+        },
+        field: 1,
+    };
+    assert!(rt; matches!(durable.look(&place), Ok(Seen::Unlinked)));
     Ok(())
 }
 
