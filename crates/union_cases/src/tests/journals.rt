@@ -302,40 +302,46 @@ fn inputs_and_outputs_that_fail(rt: HostRuntime) -> Result<(), Fail> {
     Ok(())
 }
 
-/// The calls on a blank log that a load of one entry makes: its opening's four, and its commit's four.
+/// The calls on a blank log that a load of one entry makes, and a run: its opening's four, and its commit's four.
 #[test]
 fn a_call_on_the_log_fails(rt: HostRuntime) -> Result<(), Fail> {
     let alloc = rt.alloc();
-    for call in 0..8 {
-        let room = room_of(alloc, FILES, "j", call)?;
-        let room = carried_out(
-            &rt,
-            alloc,
-            room,
-            &OpenGate,
-            &["load", "j", "ULIB=f0"],
-            5,
-            "union_cat: device fault\n",
-            &[],
-        )?;
-        let log = match room.file("j") {
-            Some(bytes) => Vec::from_slice(alloc, bytes)?,
-            None => Vec::new(alloc),
-        };
+    let commands: [&[&str]; 2] = [
+        &["load", "j", "ULIB=f0"],
+        &["run", "j", "out", "rep", "ULIB=f0"],
+    ];
+    for words in commands {
+        for call in 0..8 {
+            let room = room_of(alloc, FILES, "j", call)?;
+            let room = carried_out(
+                &rt,
+                alloc,
+                room,
+                &OpenGate,
+                words,
+                5,
+                "union_cat: device fault\n",
+                &[("out", None), ("rep", None)],
+            )?;
+            let log = match room.file("j") {
+                Some(bytes) => Vec::from_slice(alloc, bytes)?,
+                None => Vec::new(alloc),
+            };
 
-        // The entry is read again where its gate was written: then only the sync behind it failed.
-        let kept: &[u8] = if call == 7 { AUTHORITY } else { b"" };
-        let room = room_of(alloc, &[("j", log.as_slice())], "none", 0)?;
-        carried_out(
-            &rt,
-            alloc,
-            room,
-            &OpenGate,
-            &["export", "j", "out"],
-            0,
-            "",
-            &[("out", Some(kept))],
-        )?;
+            // The entry is read again where its gate was written: then only the sync behind it failed.
+            let kept: &[u8] = if call == 7 { AUTHORITY } else { b"" };
+            let room = room_of(alloc, &[("j", log.as_slice())], "none", 0)?;
+            carried_out(
+                &rt,
+                alloc,
+                room,
+                &OpenGate,
+                &["export", "j", "out"],
+                0,
+                "",
+                &[("out", Some(kept))],
+            )?;
+        }
     }
     Ok(())
 }

@@ -1,13 +1,13 @@
 //! As many files as a command takes, and a file of more entries than a turn takes.
 ghost use Rattle.std.specs.Prelude.{◌≡◌, ℕ, List, None, IfOk};
-ghost use Rattle.outside_mem.specs.Room.{room_view};
+ghost use Rattle.outside_mem.specs.SureRoom.{sure_room_view};
 
-use super::{ZOOLOGY, carried_out};
+use super::turns::one_by_one;
+use super::{BOTH, MADE, ORDERED, carried_out, words_of};
 use crate::room_of;
-use crate::rooms::with_file;
 use command_words::Words;
 use marc_types::{NoMemory, Text};
-use outside_mem::{MemRoom, MemSink};
+use outside_mem::{SureRoom, SureSink};
 use outside_real::OpenGate;
 use std::alloc::Global;
 use std::test::Fail;
@@ -16,14 +16,18 @@ use union_top::run;
 /// The most files of one command.
 const MOST: u32 = 64;
 
-/// A room with so many files of one record each.
-fn with_files(alloc: Global, count: u32) -> Result<MemRoom, Fail>
-    ensures { IfOk result (λ room. (name : List ℕ) → (room_view room).open_as name ≡ None) }
+/// The bytes that each file of the sure room has room for.
+const ROOM: usize = 16384;
+
+/// A sure room with so many files of two records each, of which each is opened once, and places for a log and an output.
+#[tactic(auto, using(crate::proofs::Closed::sure_empty, crate::proofs::Closed::sure_closed))]
+fn with_files(alloc: Global, count: u32) -> Result<SureRoom, Fail>
+    ensures { IfOk result (λ room. (name : List ℕ) → (sure_room_view room).open_as name ≡ None) }
 {
-    let mut room = room_of(alloc, &[], "none", 0)?;
+    let mut room = SureRoom::new(alloc, 2, ROOM)?;
     for index in 0..count {
         let name = format!(in alloc; "f{index}")?;
-        room = with_file(alloc, room, name.as_str(), ZOOLOGY)?;
+        room.put(name.as_str(), Vec::from_slice(alloc, BOTH)?, 1)?;
     }
     Ok(room)
 }
@@ -40,12 +44,12 @@ fn load_of(alloc: Global, count: u32) -> Result<Words, NoMemory> {
     Ok(Words::from_vec(words))
 }
 
-/// What the console is told of so many files of one record each.
+/// What the console is told of so many files of two records each.
 fn totals_of(alloc: Global, count: u32) -> Result<String, NoMemory> {
     let mut text = String::new(alloc);
     for index in 0..count {
         let line = format!(in alloc;
-            "f{index}: accepted 1, refused 0, linked 0, ambiguous 0, unlinked 0, changed 0\n"
+            "f{index}: accepted 2, refused 0, linked 0, ambiguous 0, unlinked 0, changed 0\n"
         )?;
         text.push_str(line.as_str())?;
     }
@@ -53,50 +57,46 @@ fn totals_of(alloc: Global, count: u32) -> Result<String, NoMemory> {
 }
 
 /// So many copies of a record.
-fn copies(alloc: Global, count: u32) -> Result<Vec<u8>, NoMemory> {
+fn copies(alloc: Global, record: &[u8], count: u32) -> Result<Vec<u8>, NoMemory> {
     let mut bytes = Vec::new(alloc);
     for _ in 0..count {
-        bytes.extend_from_slice(ZOOLOGY)?;
+        bytes.extend_from_slice(record)?;
     }
     Ok(bytes)
 }
 
+/// Over a sure room no input, output or log is at fault, so 64 files are all loaded; 65 are no command.
 #[test]
 fn as_many_files_as_a_command_takes(rt: HostRuntime) -> Result<(), Fail> {
     let alloc = rt.alloc();
-    let mut room = with_files(alloc, MOST)?;
-    let mut console = MemSink::new(alloc, Vec::new(alloc));
-    let more = load_of(alloc, MOST + 1)?;
-    let status = run(&rt, alloc, &more, &mut room, &mut console, &OpenGate);
-    assert_eq!(rt; status, 2);
-    assert_eq!(rt; console.bytes(), b"union_cat: usage\n".as_slice());
-    let mut console = MemSink::new(alloc, Vec::new(alloc));
-    let most = load_of(alloc, MOST)?;
-    let status = run(&rt, alloc, &most, &mut room, &mut console, &OpenGate);
     let totals = totals_of(alloc, MOST)?;
-    assert_eq!(rt; console.bytes(), totals.as_bytes());
-    assert_eq!(rt; status, 0);
 
-    // Each library's record has a key of its own.
-    let due = copies(alloc, MOST)?;
-    carried_out(
-        &rt,
-        alloc,
-        room,
-        &OpenGate,
-        &["export", "j", "out"],
-        0,
-        "",
-        &[("out", Some(due.as_slice()))],
-    )?;
+    // Each library's records have keys of their own.
+    let due = copies(alloc, ORDERED, MOST)?;
+    let export = words_of(alloc, &["export", "j", "out"])?;
+    let table = [
+        (load_of(alloc, MOST + 1)?, 2, "union_cat: usage\n"),
+        (load_of(alloc, MOST)?, 0, totals.as_str()),
+        (export, 0, ""),
+    ];
+    let mut room = with_files(alloc, MOST)?;
+    for (words, status, told) in &table {
+        let mut console = SureSink::new(alloc, ROOM)?;
+        let answer = run(&rt, alloc, words, &mut room, &mut console, &OpenGate);
+        assert_eq!(rt; console.bytes(), told.as_bytes());
+        assert_eq!(rt; answer, *status);
+    }
+    assert_eq!(rt; room.file("j").unwrap_or_default().len(), 11271);
+    assert_eq!(rt; room.file("out"), Some(due.as_slice()));
     Ok(())
 }
 
-/// 33 entries take a frame of 32 and one of 1.
+/// 33 entries take a frame of 32 and one of 1, or 33 frames of 1.
 #[test]
-fn a_turn_takes_thirty_two_entries(rt: HostRuntime) -> Result<(), Fail> {
+fn a_turn_takes_as_many_entries_as_the_gate_says(rt: HostRuntime) -> Result<(), Fail> {
     let alloc = rt.alloc();
-    let file = copies(alloc, 33)?;
+    let totals = "f: accepted 33, refused 0, linked 0, ambiguous 0, unlinked 33, changed 0\n";
+    let file = copies(alloc, MADE, 33)?;
     let room = room_of(alloc, &[("f", file.as_slice())], "none", 0)?;
     let room = carried_out(
         &rt,
@@ -105,16 +105,37 @@ fn a_turn_takes_thirty_two_entries(rt: HostRuntime) -> Result<(), Fail> {
         &OpenGate,
         &["load", "j", "ULIB=f"],
         0,
-        "f: accepted 33, refused 0, linked 0, ambiguous 0, unlinked 0, changed 0\n",
+        totals,
         &[],
     )?;
-    let Some(log) = room.file("j") else {
-        panic!(rt; "no log")
-    };
-    assert_eq!(rt; log.len(), 2604);
-    assert_eq!(rt;
-        log.get(16..39),
-        Some(b"O\0\0\x09\xb2\0\0\0\0\0\0\0\x01\0\0\0\0\x04ULIB ".as_slice())
-    );
+    let room = carried_out(
+        &rt,
+        alloc,
+        room,
+        &one_by_one(),
+        &["load", "k", "ULIB=f"],
+        0,
+        totals,
+        &[],
+    )?;
+    let table: [(&str, usize, &[u8]); 2] = [
+        (
+            "j",
+            4287,
+            b"O\0\0\x10\x12\0\0\0\0\0\0\0\x01\0\0\0\0\x04ULIB ",
+        ),
+        (
+            "k",
+            5000,
+            b"O\0\0\0\x92\0\0\0\0\0\0\0\x01\0\0\0\0\x04ULIB\x01",
+        ),
+    ];
+    for (name, len, frame) in table {
+        let Some(log) = room.file(name) else {
+            panic!(rt; "no log")
+        };
+        assert_eq!(rt; log.len(), len);
+        assert_eq!(rt; log.get(16..39), Some(frame));
+    }
     Ok(())
 }
