@@ -106,6 +106,10 @@ pub fn export<R: Room>(
     ensures told { 2 ≤ result → result ≢ 4 → TellsFault (WhyUnopened (R.seen room.old) journal.now)
         (R.Out.written console.old) (R.Out.written console.new) (R.Out.faults console.old) (R.Out.faults console.new) result }
 
+    // Without a fault to tell the console is as it was.
+    ensures silent { (result ≡ 0) ⊎ (result ≡ 4) →
+        (R.Out.written console.new ≡ R.Out.written console.old) × (R.Out.faults console.new ≡ R.Out.faults console.old) }
+
     // The log has a history within the limits, and the output is the export of it, or a front of that.
     ensures history { (result ≡ 0) ⊎ (result ≡ 4) → (R.seen room.old).tells ≡ true →
         HasFittingHistory (log_bytes (R.seen room.old) journal.now) }

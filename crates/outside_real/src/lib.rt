@@ -4,6 +4,7 @@
 
 mod count;
 mod disk;
+mod folder;
 mod gate;
 mod names;
 mod room;

@@ -5,6 +5,7 @@ ghost use Rattle.outside_real.specs.View.{file_room_view, HasCounts};
 
 use crate::count::{added, raised};
 use crate::disk::FileDisk;
+use crate::folder::folder_of;
 use crate::names::Names;
 use crate::sink::FileSink;
 use crate::source::FileSource;
@@ -49,8 +50,24 @@ impl<R: Files<File = File> + Print + Clone + Drop> FileRoom<R> {
         let mut how = OpenOptions::new();
         how.read(true).write(true).create(true);
         match how.open(&self.rt, name) {
-            Ok(file) => FileDisk::new(file),
+            Ok(file) => {
+                let disk = FileDisk::new(file)?;
+
+                // A new file is empty, and so is one that an opening made which then failed to sync the folder.
+                if disk.len() == 0 {
+                    self.sync_folder(name)?;
+                }
+                Ok(disk)
+            }
             Err(_) => Err(Failed),
+        }
+    }
+
+    // Without this a crash of the machine may lose the name of a new file.
+    fn sync_folder(&self, name: &str) -> Result<(), Failed> {
+        match File::open(&self.rt, folder_of(name)) {
+            Ok(folder) if folder.sync_all().is_ok() => Ok(()),
+            _ => Err(Failed),
         }
     }
 

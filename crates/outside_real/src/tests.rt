@@ -87,6 +87,8 @@ fn a_room_opens_and_closes_files(rt: HostRuntime) -> Result<(), Fail> {
     let path = path_of(&rt, "room")?;
     let mut room = FileRoom::new(rt.clone()?, rt.alloc());
     assert!(rt; room.open_in(&path).is_err());
+    let log = room.open_log(&path)?;
+    room.close_log(&path, log);
     let mut output = room.open_out(&path)?;
     output.write_all(b"more")?;
     room.close_out(&path, output)?;
