@@ -53,7 +53,7 @@ pub record Makes (seed count : ℕ) (out : List ℕ) (o : Outcome) : Type 0 wher
 -- an output that is made of the history of a journal, which stays
 pub record Reads (journal out : List ℕ) (due : List Entry → List ℕ) (o : Outcome) : Type 0 where
   pub statuses : IsTrue (list_any (λ s. s == o.status) (0 ∷ 4 ∷ 5 ∷ 6 ∷ 7 ∷ 8 ∷ []))
-  pub keeps : o.old.tells ≡ true → KeepsHistory o.old o.new journal
+  pub keeps : o.old.tells ≡ true → KeepsHistory (o.status ≡ 5) o.old o.new journal
   pub untouched : o.status ≢ 0 → o.status ≢ 4 → o.status ≢ 8 → ApartFrom o.old o.new (journal ∷ [])
   pub device : o.status ≡ 5 → Rose (o.old.log_faults journal) (o.new.log_faults journal)
   pub output : o.status ≡ 4 → Rose (o.old.out_faults out) (o.new.out_faults out)
