@@ -2,3 +2,9 @@ mod Merging
 mod OneHistory
 mod Textual
 mod Ended
+mod Weights
+mod Made
+mod Crowded
+mod Unopened
+mod Remaining
+mod Complete
