@@ -8,3 +8,4 @@ mod Crowded
 mod Unopened
 mod Remaining
 mod Complete
+mod Libraries
