@@ -1,5 +1,6 @@
 mod Merging
 mod OneHistory
+mod Within
 mod Textual
 mod Ended
 mod Weights
