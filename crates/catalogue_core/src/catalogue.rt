@@ -1,5 +1,5 @@
 //! A catalogue: its history, the entries that are staged behind it, and the state behind both.
-ghost use Rattle.std.specs.Prelude.{◌≡◌, ◌+◌, ◌^◌, ◌<◌, [], true, false, length, map, All, IfOk, OnOk, IfErr, OnErr, slice_get};
+ghost use Rattle.std.specs.Prelude.{◌≡◌, ◌+◌, ◌^◌, ◌<◌, ◌≤◌, [], true, false, length, map, All, IfOk, OnOk, IfErr, OnErr, slice_get};
 ghost use Rattle.std.specs.Option.{option_map, option_and_then, option_copied};
 ghost use Rattle.record_store.specs.Store.{field_under, kept_record, shown_row};
 ghost use Rattle.entry_record.specs.State.{linkable_authorities, rows_of};
@@ -214,6 +214,14 @@ impl Catalogue {
     /// Each entry was admitted.
     pub fn each_was_admitted(&self)
         ensures { All IsAdmitted (all_entries self.now) }
+    {
+        let _entries = &self.entries;
+    }
+
+    /// All entries together are within the limits.
+    pub fn is_within_limits(&self)
+        ensures count { length (all_entries self.now) ≤ self.now.limits.entries }
+        ensures size { entries_size (all_entries self.now) ≤ self.now.limits.bytes }
     {
         let _entries = &self.entries;
     }

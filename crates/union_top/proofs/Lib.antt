@@ -1,4 +1,12 @@
 mod Merging
 mod OneHistory
+mod Within
 mod Textual
 mod Ended
+mod Weights
+mod Made
+mod Crowded
+mod Unopened
+mod Remaining
+mod Complete
+mod Libraries

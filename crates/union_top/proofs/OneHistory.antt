@@ -9,9 +9,10 @@ use Rattle.entry_record.specs.History.{IsMerged, brought_by, with_run, next_run}
 use Rattle.durable_catalogue.specs.Logs.{HasHistory}
 use Rattle.durable_catalogue.specs.Images.{Holds}
 use Rattle.durable_catalogue.specs.Durables.{Opening}
+use Rattle.durable_catalogue.specs.Openings.{IsWithin}
 use Rattle.durable_catalogue.proofs.Images.{front_of, whole_is}
 use Rattle.loader_workers.specs.declared.result.FileResult.{FileResult}
-use Rattle.room_files.specs.Journals.{IsOpenedFrom, IsClosedTo}
+use Rattle.room_files.specs.Journals.{journal_limits, IsOpenedFrom, IsClosedTo}
 use Rattle.journal_loading.specs.Outcomes.{IsLoadedWhole}
 use Rattle.union_top.specs.Merged.{IsOneHistory}
 use Rattle.union_top.specs.Console.{any_refused, refused_part}
@@ -32,7 +33,8 @@ whole_history entries image holds = ∥∥₁_map holds (λ r. whole_is entries 
 
 module _ (old new : RoomView) (journal : List ℕ) (libraries : List Library) (before added : List Entry) (o : Opening) (results : List FileResult)
     (tells : old.tells ≡ true) (opened : IsOpenedFrom old journal before None o) (closed : IsClosedTo new journal (before ++ added) None o)
-    (made : Merges old before added 0 libraries results) (loaders : All (λ (e : Entry). e.loader < length libraries) added) where
+    (made : Merges old before added 0 libraries results) (loaders : All (λ (e : Entry). e.loader < length libraries) added)
+    (within : IsWithin journal_limits (before ++ added)) where
   first_sync : (s : ℕ) → (new.log journal).dated ≡ true → (new.log journal).synced 0 ≡ Some s → o.synced ≡ Some s
   first_sync s dated synced =
       let first = some_of o.synced (opened.synced (sym closed.left.dated ∙ dated)) in
@@ -51,6 +53,7 @@ module _ (old new : RoomView) (journal : List ℕ) (libraries : List Library) (b
     version = opened.version tells;
     judged = made.judged;
     merged = merged;
+    within = within;
     closed = closed.closed;
     there = ap is_some closed.file;
     is = subst (HasHistory (before ++ added)) (sym (ap bytes_or_none closed.file)) (whole_history (before ++ added) closed.bytes closed.holds);
@@ -70,8 +73,8 @@ pub record MergedBy (old new : RoomView) (journal : List ℕ) (libraries : List 
 
 pub merged_by : (old new : RoomView) (journal : List ℕ) (libraries : List Library) (entries : List Entry) (mark : Option (List Entry)) (o : Opening) (results : List FileResult)
     → old.tells ≡ true → IsLoadedWhole old journal libraries entries mark o results → (o.tells ≡ true → IsClosedTo new journal entries mark o)
-    → MergedBy old new journal libraries entries results
-merged_by old new journal libraries entries mark o results tells w closing =
+    → IsWithin o.origin.limits entries → MergedBy old new journal libraries entries results
+merged_by old new journal libraries entries mark o results tells w closing within =
     let closed = subst (λ m. IsClosedTo new journal (w.before ++ w.added) m o) w.unmarked (subst (λ es. IsClosedTo new journal es mark o) w.entries_are (closing (w.opened.tells tells))) in
     let made = merges old w.before w.added 0 libraries results w.loaded.files (all_done results w.faultless) in
     let loaders = subst (λ es. All (λ (e : Entry). e.loader < length libraries) es) (append-nil w.added) w.loaded.loaders in
@@ -81,7 +84,8 @@ merged_by old new journal libraries entries mark o results tells w closing =
         added = w.added;
         accepted = made.accepted;
         refused = made.refused;
-        history = one_history old new journal libraries w.before w.added o results tells w.opened closed made loaders;
+        history = one_history old new journal libraries w.before w.added o results tells w.opened closed made loaders
+            (subst (λ es. IsWithin journal_limits es) w.entries_are (subst (λ limits. IsWithin limits entries) w.opened.limits within));
       };
       entries_are = w.entries_are;
       text_is = ap (λ text. text ++ totals_text libraries results) made.refused_is ∙ ap (λ text. refused_part libraries made.refused ++ text) made.totals_is;

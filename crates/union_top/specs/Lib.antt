@@ -3,3 +3,4 @@ pub mod Merged
 pub mod Texts
 pub mod Runs
 pub mod Commands
+pub mod Complete

@@ -10,7 +10,8 @@ use Rattle.file_entries.specs.declared.refused.RefusedItem.{RefusedItem}
 use Rattle.entry_record.specs.History.{IsMerged}
 use Rattle.durable_catalogue.specs.Logs.{HasHistory}
 use Rattle.durable_catalogue.specs.Images.{Holds}
-use Rattle.room_files.specs.Journals.{log_bytes}
+use Rattle.durable_catalogue.specs.Openings.{IsWithin}
+use Rattle.room_files.specs.Journals.{journal_limits, log_bytes}
 
 -- The accepted entries and the refused items of the files of libraries, in their order: each file is there, and each of its items
 -- is judged by itself. The first of these files has that loader.
@@ -30,6 +31,8 @@ pub record IsOneHistory (old new : RoomView) (journal : List ℕ) (libraries : L
   pub version : version_of (log_bytes old journal) ≡ 2
   pub judged : AreJudged old 0 libraries accepted refused
   pub merged : IsMerged before accepted added
+  -- all of it is within the journal's limits
+  pub within : IsWithin journal_limits (before ++ added)
   -- what it is, in the file and in each image that a crash now may leave
   pub closed : new.has_log journal ≡ true
   pub there : is_some (new.file journal) ≡ true

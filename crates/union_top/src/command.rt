@@ -1,4 +1,4 @@
-ghost use Rattle.std.specs.Prelude.{◌≡◌, ◌↔◌, ◌==◌, ℕ, List, [], ◌∷◌, Some, None, IsTrue};
+ghost use Rattle.std.specs.Prelude.{◌≡◌, ◌↔◌, ◌⊎◌, ◌==◌, ℕ, ◌≤◌, List, [], ◌∷◌, true, Some, None, IsTrue};
 ghost use Rattle.std.specs.List.{list_any};
 ghost use Rattle.outside.specs.Room.{Stays};
 ghost use Rattle.command_words.specs.Command.{Command, command_of, names_of};
@@ -7,6 +7,7 @@ ghost use Rattle.console_lines.specs.Faults.{IsFaultTold, fault_line};
 ghost use Rattle.console_lines.specs.declared.fault.Fault.TheVariants.{Usage};
 ghost use Rattle.room_files.specs.Rooms.{ApartFrom};
 ghost use Rattle.union_top.specs.Commands.{Ends, Passes};
+ghost use Rattle.union_top.specs.Complete.{IsUnhindered};
 
 use crate::loading::{load, run_files};
 use archive_commands::{export, report};
@@ -106,6 +107,18 @@ pub fn run<H: Threads + Wait + Sync, R: Room, G: Gate + Sync>(
       faults_now = R.Out.faults console.new;
       status = result;
     }) }
+
+    // Where nothing hinders a command it ends with 0 or 1, or memory ran out.
+    ensures complete { (command : Command) → command_of words.now ≡ Some command → (R.seen room.old).tells ≡ true →
+        IsUnhindered words.now command (record {
+          old = R.seen room.old;
+          new = R.seen room.new;
+          told = R.Out.written console.old;
+          now = R.Out.written console.new;
+          faults = R.Out.faults console.old;
+          faults_now = R.Out.faults console.new;
+          status = result;
+        }) → (result ≤ 1) ⊎ (result ≡ 8) }
 {
     match request(words) {
         None => tell(console, Fault::Usage),

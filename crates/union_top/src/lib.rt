@@ -4,6 +4,7 @@
 pub use command::run;
 
 mod command;
+pub mod laws;
 mod loading;
 mod outputs;
 mod texts;

@@ -25,7 +25,7 @@ returns-in-Ok-text-clause-ends g c =
     (λ libraries are count room. (
       merged_by (seen c.args.room.now) (seen c.close_journal.new.room) c.args.journal.now libraries d.core.history (mark_of d.mark)
           (opening d.limits d.run d.opened (g.R.Log.Disk.seen d.before.value) (g.R.Log.Disk.seen d.first.value.disk)) results room (c.in-Ok.ensures.whole libraries are count room)
-          (λ told. c.close_journal.ensures.log (c.load_journal.ensures.apart.tells ∙ room) told),
+          (λ told. c.close_journal.ensures.log (c.load_journal.ensures.apart.tells ∙ room) told) c.is_within_limits.ensures,
       c.as_str.ensures.value ∙ (c.in-Ok-text.ensures libraries are (count ∙ (sym c.in-Ok.ensures.count ∙ ap length (sym slice))) ∙ ap (files_text libraries) slice),
     ))
 
@@ -40,4 +40,4 @@ returns-clause-ends g c =
     loads_failed _ _ _ _ _ _ _ _ _ _ _ c.tell-in-Err-text.ensures.status c.tell-in-Err-text.ensures.told (λ is. cc) (λ is. cc)
     (λ libraries are count room. NoMemory refl (merged_by (seen c.args.room.now) (seen c.close_journal.new.room) c.args.journal.now libraries d.core.history (mark_of d.mark)
     (opening d.limits d.run d.opened (g.R.Log.Disk.seen d.before.value) (g.R.Log.Disk.seen d.first.value.disk)) results room (c.in-Ok.ensures.whole libraries are count room)
-    (λ told. c.close_journal.ensures.log (c.load_journal.ensures.apart.tells ∙ room) told)).merged)
+    (λ told. c.close_journal.ensures.log (c.load_journal.ensures.apart.tells ∙ room) told) c.is_within_limits.ensures).merged)

@@ -33,7 +33,7 @@ returns-in-Err-files_text-clause-ends g c =
     (λ libraries are count room. NoMemory refl (record {
       merged = (merged_by (seen c.args.room.now) (seen c.close_journal.new.room) c.args.journal.now libraries d.core.history (mark_of d.mark)
           (opening d.limits d.run d.opened (g.R.Log.Disk.seen d.before.value) (g.R.Log.Disk.seen d.first.value.disk)) c.in-Ok.loaded.results room (c.in-Ok.ensures.whole libraries are count room)
-          (λ told. c.close_journal.ensures.log (c.load_journal.ensures.apart.tells ∙ room) told)).merged;
+          (λ told. c.close_journal.ensures.log (c.load_journal.ensures.apart.tells ∙ room) told) c.is_within_limits.ensures).merged;
       export = AsItWas (apart.files c.args.out.now c.requires.out_apart);
       report_is = AsItWas (apart.files c.args.report.now c.requires.report_apart);
     }))
@@ -62,7 +62,7 @@ returns-in-Ok-written-clause-ends g c =
     (λ libraries are count room. (
       merged_by old new c.args.journal.now libraries d.core.history (mark_of d.mark)
           (opening d.limits d.run d.opened (g.R.Log.Disk.seen d.before.value) (g.R.Log.Disk.seen d.first.value.disk)) results room (c.in-Ok.ensures.whole libraries are count room)
-          (λ told. c.close_journal-2.ensures.log (w.apart.tells ∙ (opened.tells ∙ room)) told),
+          (λ told. c.close_journal-2.ensures.log (w.apart.tells ∙ (opened.tells ∙ room)) told) c.is_within_limits.ensures,
       c.as_str.ensures.value ∙ (c.in-Ok-files_text.ensures libraries are (count ∙ (sym c.in-Ok.ensures.count ∙ ap length (sym slice))) ∙ ap (files_text libraries) slice),
     ))
     (λ room. record {
@@ -107,7 +107,7 @@ returns-in-Err-OutputFault-clause-ends g c =
     (λ libraries are count room. (
       merged_by old new c.args.journal.now libraries d.core.history (mark_of d.mark)
           (opening d.limits d.run d.opened (g.R.Log.Disk.seen d.before.value) (g.R.Log.Disk.seen d.first.value.disk)) results room (c.in-Ok.ensures.whole libraries are count room)
-          (λ told. c.close_journal-2.ensures.log (w.apart.tells ∙ (opened.tells ∙ room)) told),
+          (λ told. c.close_journal-2.ensures.log (w.apart.tells ∙ (opened.tells ∙ room)) told) c.is_within_limits.ensures,
       c.in-Ok-files_text.ensures libraries are (count ∙ (sym c.in-Ok.ensures.count ∙ ap length (sym slice))) ∙ ap (files_text libraries) slice,
     ))
     (λ room. record {
@@ -142,17 +142,17 @@ returns-clause-ends g c =
       merged = (
           merged_by old new c.args.journal.now libraries d.core.history (mark_of d.mark)
           (opening d.limits d.run d.opened (g.R.Log.Disk.seen d.before.value) (g.R.Log.Disk.seen d.first.value.disk)) results room (c.in-Ok.ensures.whole libraries are count room)
-          (λ told. c.close_journal-2.ensures.log (w.apart.tells ∙ (opened.tells ∙ room)) told)).merged;
+          (λ told. c.close_journal-2.ensures.log (w.apart.tells ∙ (opened.tells ∙ room)) told) c.is_within_limits.ensures).merged;
       export = subst (λ es. IsPartWritten (old.file c.args.out.now) (new.file c.args.out.now) (export_of all_keys (state_of es))) (
           merged_by old new c.args.journal.now libraries d.core.history (mark_of d.mark)
           (opening d.limits d.run d.opened (g.R.Log.Disk.seen d.before.value) (g.R.Log.Disk.seen d.first.value.disk)) results room (c.in-Ok.ensures.whole libraries are count room)
-          (λ told. c.close_journal-2.ensures.log (w.apart.tells ∙ (opened.tells ∙ room)) told)).entries_are
+          (λ told. c.close_journal-2.ensures.log (w.apart.tells ∙ (opened.tells ∙ room)) told) c.is_within_limits.ensures).entries_are
           (part_between old mid wrote new c.args.journal.now c.args.out.now (export_of all_keys (state_of d.core.history)) c.requires.out_apart opened closing
           (subst (λ es. IsPartWritten (mid.file c.args.out.now) (wrote.file c.args.out.now) (export_of all_keys (state_of es))) history (w.export_part (opened.tells ∙ room))));
       report_is = subst (λ es. IsPartWritten (old.file c.args.report.now) (new.file c.args.report.now) (report_of (state_of es))) (
           merged_by old new c.args.journal.now libraries d.core.history (mark_of d.mark)
           (opening d.limits d.run d.opened (g.R.Log.Disk.seen d.before.value) (g.R.Log.Disk.seen d.first.value.disk)) results room (c.in-Ok.ensures.whole libraries are count room)
-          (λ told. c.close_journal-2.ensures.log (w.apart.tells ∙ (opened.tells ∙ room)) told)).entries_are
+          (λ told. c.close_journal-2.ensures.log (w.apart.tells ∙ (opened.tells ∙ room)) told) c.is_within_limits.ensures).entries_are
           (part_between old mid wrote new c.args.journal.now c.args.report.now (report_of (state_of d.core.history)) c.requires.report_apart opened closing
           (subst (λ es. IsPartWritten (mid.file c.args.report.now) (wrote.file c.args.report.now) (report_of (state_of es))) history (w.report_part (opened.tells ∙ room))));
     }))

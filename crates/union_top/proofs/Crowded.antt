@@ -1,0 +1,156 @@
+-- Loading ends as full only where the accepted entries of all files pass a limit behind the history.
+use Rattle.std.proofs.Common.{◌≡◌, ℕ, ◌+◌, ◌<◌, ◌≤◌, true, false, ◌||◌, true≢false, List, ◌∷◌, ◌++◌, length, Option, Some, refl, sym, ap, subst, ◌∙◌, arith, append_assoc}
+use Rattle.std.specs.Prelude.{All, nat_lt}
+use Rattle.std.specs.List.{sum_by}
+use Rattle.std.proofs.lemmas.List.Sums.{sum_by-append}
+use Rattle.std.proofs.lemmas.List.{length-append}
+use Rattle.std.proofs.lemmas.Bool.Decides.{nat_tests}
+use Rattle.marc_types.specs.declared.entry.Entry.{Entry}
+use Rattle.outside.specs.Room.{RoomView}
+use Rattle.marc_stream.specs.Pieces.{Item, items}
+use Rattle.command_words.specs.Command.{Library}
+use Rattle.entry_record.specs.History.{entry_size, entries_size, brought_by, in_run, with_run, next_run}
+use Rattle.entry_history.specs.Commits.{passes_limits}
+use Rattle.file_entries.specs.Files.{IsJudged}
+use Rattle.file_entries.specs.declared.refused.RefusedItem.{RefusedItem}
+use Rattle.loader_workers.specs.declared.file_end.FileEnd.{FileEnd}
+use Rattle.loader_workers.specs.declared.file_end.FileEnd.TheVariants as end
+use Rattle.loader_workers.specs.declared.result.FileResult.{FileResult}
+use Rattle.parallel_loading.specs.Files.{IsFullBehind, IsEndOfFile}
+use Rattle.room_files.specs.Journals.{journal_limits}
+use Rattle.journal_loading.specs.Outcomes.{IsLibraryLoaded, AreLibrariesLoaded, NoLibrary, OneLibrary, ends_so, any_ends}
+use Rattle.union_top.specs.Merged.{AreJudged, NoFile, OneFile}
+use Rattle.union_top.proofs.Weights.{IsRunless, total, totals, total_from, total-append, total_runless, total_is_sum, total_is_length, totals_are_sums, from_first, from_next, from_none}
+use Rattle.union_top.proofs.Made.{made, made_first}
+
+some_same : {A : Type 0} {x y : A} → Some x ≡ Some y → x ≡ y
+some_same is = cc
+
+module _ (room : RoomView) (before added : List Entry) (mark : Option (List Entry)) where
+  -- the accepted entries of a file: those that are committed, those that loading left, and those of the items behind
+  record Behind (loader : ℕ) (r : FileResult) (entries : List Entry) : Type 0 where
+    pub front : List Entry
+    pub left : List Entry
+    pub coming : List Item
+    pub rest : List Entry
+    pub split : entries ≡ front ++ (left ++ rest)
+    pub committed : brought_by loader added ≡ with_run (next_run before) front
+    pub ends : IsEndOfFile journal_limits (before ++ added) (next_run before) mark r.end left coming
+
+  behind : (loader : ℕ) (l : Library) (r : FileResult) (bytes : List ℕ) (entries : List Entry) (refused : List RefusedItem)
+      → room.file l.file ≡ Some bytes → IsJudged l.code loader (items bytes) entries refused → IsLibraryLoaded room before added mark l loader r
+      → Behind loader r entries
+  behind loader l r bytes entries refused there judged one =
+      let f = one.loaded in
+      let same : items bytes ≡ f.done ++ f.coming = ap items (some_same (sym there ∙ one.there)) ∙ f.split in
+      let all = subst (λ is. IsJudged l.code loader is entries refused) same judged in
+      let first = made_first l.code loader f.done f.coming (f.front ++ f.next ++ f.more) entries (made l.code loader _ _ _ f.judged) (made l.code loader _ _ _ all) in
+      record {
+        front = f.front;
+        left = f.next ++ f.more;
+        coming = f.coming;
+        rest = first.0;
+        split = first.1 ∙ ap (λ es. es ++ first.0) (append_assoc f.front f.next f.more) ∙ append_assoc f.front (f.next ++ f.more) first.0;
+        committed = f.committed_are;
+        ends = f.ends;
+      }
+
+  -- what is committed of a file is part of its accepted entries
+  weighs : (w : Entry → ℕ) → IsRunless w → (loader : ℕ) (r : FileResult) (entries : List Entry) (b : Behind loader r entries)
+      → total w entries ≡ total w (brought_by loader added) + total w b.left + total w b.rest
+  weighs w same loader r entries b =
+      let split = ap (total w) b.split ∙ total-append w b.front (b.left ++ b.rest) in
+      let left = total-append w b.left b.rest in
+      let front = ap (total w) b.committed ∙ total_runless w (next_run before) same b.front in
+      omega (arith, split, left, front)
+
+  fits : (w : Entry → ℕ) → IsRunless w → (loader : ℕ) (libraries : List Library) (accepted : List (List Entry)) (refused : List (List RefusedItem)) (results : List FileResult)
+      → All (λ (e : Entry). e.loader < loader + length libraries) added → AreJudged room loader libraries accepted refused → AreLibrariesLoaded room before added mark loader libraries results
+      → total_from w loader added ≤ totals w accepted
+  unfolding totals
+  fits w same loader _ _ _ _ few (NoFile _) (NoLibrary _) =
+      let none = from_none w loader added (subst (λ n. All (λ (e : Entry). e.loader < n) added) (omega arith) few) in
+      omega (arith, none)
+  fits w same loader _ _ _ _ few (OneFile _ l bytes entries refused_items libraries accepted refused there judged others) (OneLibrary _ _ results _ r one more) =
+      let rest = fits w same (loader + 1) libraries accepted refused results (subst (λ n. All (λ (e : Entry). e.loader < n) added) (omega arith) few) others more in
+      let b = behind loader l r bytes entries refused_items there judged one in
+      let all = weighs w same loader r entries b in
+      let next = from_next w loader added in
+      omega (arith, rest, all, next)
+
+  -- an entry that passes a limit, and weighs no more together with all that is committed than what is accepted
+  pub record Crowded (loader : ℕ) (accepted : List (List Entry)) : Type 0 where
+    pub next : Entry
+    pub passes : passes_limits journal_limits (before ++ added) (in_run (next_run before) next) ≡ true
+    pub weighs : (w : Entry → ℕ) → IsRunless w → total_from w loader added + w next ≤ totals w accepted
+
+  module _ (loader : ℕ) (r : FileResult) (results : List FileResult) (entries : List Entry) (accepted : List (List Entry)) (b : Behind loader r entries)
+      (others : (w : Entry → ℕ) → IsRunless w → total_from w (loader + 1) added ≤ totals w accepted) where
+    first_crowded : r.end ≡ end.Full → Crowded loader (entries ∷ accepted)
+    unfolding total totals
+    first_crowded full =
+        let full_behind : IsFullBehind journal_limits (before ++ added) (next_run before) b.left =
+        subst (λ e. IsEndOfFile journal_limits (before ++ added) (next_run before) mark e b.left b.coming) full b.ends in
+        record {
+          next = full_behind.next;
+          passes = full_behind.passes;
+          weighs = λ w same.
+              let rest = others w same in
+              let all = weighs w same loader r entries b in
+              let first = ap (total w) full_behind.rest_is in
+              let next = from_next w loader added in
+              omega (arith, rest, all, first, next);
+        }
+
+    later_crowded : Crowded (loader + 1) accepted → Crowded loader (entries ∷ accepted)
+    unfolding totals
+    later_crowded c = record {
+      next = c.next;
+      passes = c.passes;
+      weighs = λ w same.
+          let rest = c.weighs w same in
+          let all = weighs w same loader r entries b in
+          let next = from_next w loader added in
+          omega (arith, rest, all, next);
+    }
+
+    one_crowded : (any_ends end.Full results ≡ true → Crowded (loader + 1) accepted) → any_ends end.Full (r ∷ results) ≡ true → Crowded loader (entries ∷ accepted)
+    one_crowded later full = decided r.end refl
+      where
+        any : (e : FileEnd) → r.end ≡ e → ends_so end.Full e ≡ false → any_ends end.Full results ≡ true
+        any e at other = ap (λ b. b || any_ends end.Full results) (sym other) ∙ ap (λ x. ends_so end.Full x || any_ends end.Full results) (sym at) ∙ full
+
+        decided : (e : FileEnd) → r.end ≡ e → Crowded loader (entries ∷ accepted)
+        decided end.Full at = first_crowded at
+        decided end.Done at = later_crowded (later (any end.Done at refl))
+        decided end.ReadFault at = later_crowded (later (any end.ReadFault at refl))
+        decided end.DeviceFault at = later_crowded (later (any end.DeviceFault at refl))
+        decided end.NoMemory at = later_crowded (later (any end.NoMemory at refl))
+
+  pub crowded : (loader : ℕ) (libraries : List Library) (accepted : List (List Entry)) (refused : List (List RefusedItem)) (results : List FileResult)
+      → All (λ (e : Entry). e.loader < loader + length libraries) added → AreJudged room loader libraries accepted refused → AreLibrariesLoaded room before added mark loader libraries results
+      → any_ends end.Full results ≡ true → Crowded loader accepted
+  crowded loader _ _ _ _ few (NoFile _) (NoLibrary _) full = absurd (true≢false (sym full))
+  crowded loader _ _ _ _ few (OneFile _ l bytes entries refused_items libraries accepted refused there judged others) (OneLibrary _ _ results _ r one more) full =
+      let fewer = subst (λ n. All (λ (e : Entry). e.loader < n) added) (omega arith) few in
+      one_crowded loader r results entries accepted (behind loader l r bytes entries refused_items there judged one) (λ w same. fits w same (loader + 1) libraries accepted refused results fewer others more)
+      (crowded (loader + 1) libraries accepted refused results fewer others more) full
+
+  -- with as many entries and bytes as fit, none passes a limit
+  pub never_crowded : (accepted : List (List Entry)) → length before + sum_by length accepted ≤ journal_limits.entries → entries_size before + sum_by entries_size accepted ≤ journal_limits.bytes
+      → Crowded 0 accepted → ⊥
+  never_crowded accepted few small c =
+      let one : IsRunless (λ e. 1) = λ run e. refl in
+      let size : IsRunless entry_size = λ run e. refl in
+      let numbers = c.weighs (λ e. 1) one in
+      let sizes = c.weighs entry_size size in
+      let added_number = from_first (λ e. 1) added ∙ total_is_length added in
+      let added_size = from_first entry_size added ∙ total_is_sum entry_size added in
+      let number = totals_are_sums (λ e. 1) length total_is_length accepted in
+      let bytes = totals_are_sums entry_size entries_size (total_is_sum entry_size) accepted in
+      let both_numbers = length-append before added in
+      let both_sizes = sum_by-append entry_size before added in
+      let no_more : nat_lt journal_limits.entries (length (before ++ added) + 1) ≡ false = grind (arith, nat_tests) in
+      let no_larger : nat_lt journal_limits.bytes (entries_size (before ++ added) + entry_size (in_run (next_run before) c.next)) ≡ false = grind (arith, nat_tests) in
+      let passes : true ≡ false = sym c.passes ∙ ap (λ b. b || nat_lt journal_limits.bytes (entries_size (before ++ added) + entry_size (in_run (next_run before) c.next))) no_more ∙ no_larger in
+      true≢false passes
