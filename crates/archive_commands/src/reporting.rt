@@ -63,6 +63,8 @@ pub fn report<R: Room>(
     // Nothing but the log and the output changes, and the output only where it is due.
     ensures apart { ApartFrom (R.seen room.old) (R.seen room.new) (journal.now ∷ out.now ∷ []) }
     ensures untouched { result ≢ 0 → result ≢ 4 → result ≢ 8 → ApartFrom (R.seen room.old) (R.seen room.new) (journal.now ∷ []) }
+    ensures unread { result ≡ 8 → (R.seen room.old).tells ≡ true →
+        (ApartFrom (R.seen room.old) (R.seen room.new) (journal.now ∷ [])) ⊎ (HasFittingHistory (log_bytes (R.seen room.old) journal.now)) }
     ensures keeps { (R.seen room.old).tells ≡ true → KeepsHistory (result ≡ 5) (R.seen room.old) (R.seen room.new) journal.now }
 
     // Each fault has its cause.

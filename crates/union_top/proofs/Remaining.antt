@@ -84,7 +84,7 @@ module _ (old new : RoomView) (journal : List ℕ) (libraries : List Library) (t
       (subst (λ n. All (λ (e : Entry). e.loader < n) p.added) (omega arith) loaders) fits.judged p.loaded.files full)))
 
   of_unbegun : (why : Fault) → IsUnbegun old new journal why → Remains why
-  of_unbegun why (Unopened of is so keeps) = of_opening (log_bytes old journal) of why is fits.version (may_be (log_bytes old journal) of fitting so)
+  of_unbegun why (Unopened of is so current keeps) = of_opening (log_bytes old journal) of why is fits.version (may_be (log_bytes old journal) of fitting so)
   of_unbegun why (Unbegun before o (inl input) opened closed) = subst Remains (sym input) tt
   of_unbegun why (Unbegun before o (inr memory) opened closed) = subst Remains (sym memory) tt
 

@@ -104,3 +104,11 @@ returns-in-Err-clause-keeps g c told =
     let seen = g.R.Room.seen in
     refused_keeps (seen c.args.room.now) (seen c.open_archive.new.room) c.args.journal.now c.tell.result c.in-Err.fault
     (c.tell.ensures.status ∙ ap fault_status c.opening_fault.ensures) (c.in-Err.ensures.keeps told)
+
+pub returns-in-Err-NoMemory-clause-unread : goal.returns-in-Err-NoMemory-clause-unread
+returns-in-Err-NoMemory-clause-unread g c status told = inr (
+    fitting_history c.in-Ok.archive.core.history (log_bytes (g.R.Room.seen c.args.room.now) c.args.journal.now)
+    (c.in-Ok.ensures.history told) c.in-Ok.ensures.within)
+
+pub returns-in-Err-clause-unread : goal.returns-in-Err-clause-unread
+returns-in-Err-clause-unread g c status told = inl c.open_archive.ensures.apart
