@@ -58,6 +58,7 @@ pub record Reads (journal out : List ℕ) (due : List Entry → List ℕ) (o : O
   pub device : o.status ≡ 5 → Rose (o.old.log_faults journal) (o.new.log_faults journal)
   pub output : o.status ≡ 4 → Rose (o.old.out_faults out) (o.new.out_faults out)
   pub told : 2 ≤ o.status → o.status ≢ 4 → TellsFault (WhyUnopened o.old journal) o.told o.now o.faults o.faults_now o.status
+  pub silent : (o.status ≡ 0) ⊎ (o.status ≡ 4) → (o.now ≡ o.told) × (o.faults_now ≡ o.faults)
   pub history : (o.status ≡ 0) ⊎ (o.status ≡ 4) → o.old.tells ≡ true → HasFittingHistory (log_bytes o.old journal)
   pub end : (entries : List Entry) → o.status ≡ 0 → o.old.tells ≡ true → HasHistory entries (log_bytes o.old journal) → o.new.file out ≡ Some (due entries)
   pub part : (entries : List Entry) → (o.status ≡ 4) ⊎ (o.status ≡ 8) → o.old.tells ≡ true → HasHistory entries (log_bytes o.old journal)
