@@ -1,6 +1,5 @@
 -- A catalogue with nothing staged is within its limits.
-use Rattle.std.proofs.Common.{◌≡◌, ℕ, ◌≤◌, List, [], ◌++◌, length, sym, ap, subst, ◌∙◌, append-nil}
-use Rattle.marc_types.specs.declared.entry.Entry.{Entry}
+use Rattle.std.proofs.Common.{◌≡◌, ◌≤◌, [], ◌++◌, length, ap, subst, ◌∙◌, append-nil}
 use Rattle.marc_types.specs.declared.entry.Limits.{Limits}
 use Rattle.entry_record.specs.History.{entries_size}
 use Rattle.catalogue_core.specs.Catalogues.{Catalogued, all_entries}
