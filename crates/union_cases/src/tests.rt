@@ -15,6 +15,7 @@ use std::thread::Threads;
 use union_top::run;
 
 mod journals;
+mod limits;
 mod many;
 mod rows;
 mod turns;
