@@ -43,3 +43,9 @@ impl<T: TryCopy> TryCopy for Option<T> {
         }
     }
 }
+
+impl TryCopy for u32 {
+    fn copy(&self, _alloc: Global) -> Result<u32, NoMemory> {
+        Ok(*self)
+    }
+}
