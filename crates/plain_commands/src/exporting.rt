@@ -2,8 +2,8 @@ ghost use Rattle.std.specs.Prelude.{◌≡◌, [], true, OnOk};
 ghost use Rattle.std.specs.Io.KnownBytes.{Appends};
 ghost use Rattle.outside.specs.Fault.{HasCause};
 ghost use Rattle.outside.specs.Sink.{WritesFront};
-ghost use Rattle.entry_record.specs.History.{state_of};
-ghost use Rattle.entry_record.specs.Output.{export_of, all_keys};
+ghost use Rattle.catalogue_rules.specs.Settle.{state_of};
+ghost use Rattle.catalogue_rules.specs.Output.{export_of, all_keys};
 
 use catalogue_core::Catalogue;
 use iso_export::write_catalogue;

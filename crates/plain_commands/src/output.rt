@@ -1,8 +1,8 @@
 ghost use Rattle.std.specs.Prelude.{◌≡◌, [], true, Some, None, OnOk};
 ghost use Rattle.outside.specs.Fault.{HasCause};
 ghost use Rattle.outside.specs.Room.{Apart};
-ghost use Rattle.entry_record.specs.History.{state_of};
-ghost use Rattle.entry_record.specs.Output.{export_of, all_keys};
+ghost use Rattle.catalogue_rules.specs.Settle.{state_of};
+ghost use Rattle.catalogue_rules.specs.Output.{export_of, all_keys};
 ghost use Rattle.plain_commands.specs.Files.{IsPartWritten};
 
 use crate::exporting::write_all_records;

@@ -8,8 +8,8 @@ use Rattle.outside.specs.Fault.{Rose}
 use Rattle.outside.specs.Room.{RoomView, Apart}
 use Rattle.outside.specs.Sink.{WritesFront}
 use Rattle.command_words.specs.Command.{Library}
-use Rattle.entry_record.specs.History.{state_of}
-use Rattle.entry_record.specs.Output.{export_of, all_keys, report_of}
+use Rattle.catalogue_rules.specs.Settle.{state_of}
+use Rattle.catalogue_rules.specs.Output.{export_of, all_keys, report_of}
 use Rattle.console_lines.specs.Faults.{IsFaultTold, fault_status, fault_line}
 use Rattle.console_lines.specs.declared.fault.Fault.{Fault}
 use Rattle.console_lines.specs.declared.fault.Fault.TheVariants as fault

@@ -6,8 +6,8 @@ use Rattle.outside.specs.Fault.{Rose}
 use Rattle.outside.specs.Room.{RoomView, Stays}
 use Rattle.marc_stream.specs.Pieces.{items}
 use Rattle.command_words.specs.Command.{Library, Command, Pass, Run, Load, Export, Report, Make, library_at}
-use Rattle.entry_record.specs.History.{state_of}
-use Rattle.entry_record.specs.Output.{export_of, report_of}
+use Rattle.catalogue_rules.specs.Settle.{state_of}
+use Rattle.catalogue_rules.specs.Output.{export_of, report_of}
 use Rattle.console_lines.specs.Faults.{TellsFault, IsFaultTold, fault_line}
 use Rattle.console_lines.specs.declared.fault.Fault.TheVariants.{Memory}
 use Rattle.durable_catalogue.specs.Logs.{HasHistory}

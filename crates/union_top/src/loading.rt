@@ -6,7 +6,7 @@ ghost use Rattle.outside.specs.Fault.{Rose};
 ghost use Rattle.outside.specs.Sink.{WritesFront};
 ghost use Rattle.command_words.specs.Command.{Library, library_at};
 ghost use Rattle.room_files.specs.Rooms.{ApartFrom};
-ghost use Rattle.durable_catalogue.specs.Openings.{IsWithin};
+ghost use Rattle.entry_record.specs.History.{IsWithin};
 ghost use Rattle.union_top.specs.Commands.{Loads, Runs};
 
 use crate::outputs::write_outputs;

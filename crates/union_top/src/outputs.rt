@@ -2,8 +2,8 @@
 ghost use Rattle.std.specs.Prelude.{◌≡◌, ◌≢◌, ◌⊎◌, ℕ, List, [], ◌∷◌, true, Some, None, OnOk, IfErr};
 ghost use Rattle.outside.specs.Fault.{Rose};
 ghost use Rattle.outside.specs.declared.fault.WriteFault.TheVariants.{OutputFault};
-ghost use Rattle.entry_record.specs.History.{state_of};
-ghost use Rattle.entry_record.specs.Output.{export_of, all_keys, report_of};
+ghost use Rattle.catalogue_rules.specs.Settle.{state_of};
+ghost use Rattle.catalogue_rules.specs.Output.{export_of, all_keys, report_of};
 ghost use Rattle.room_files.specs.Rooms.{ApartFrom, IsPartWritten};
 
 use catalogue_core::Catalogue;

@@ -1,7 +1,7 @@
 use Rattle.std.proofs.Common.{◌∙◌, ap, inl, inr, ℕ, List}
 use Rattle.marc_types.specs.declared.entry.Entry.{Entry}
-use Rattle.entry_record.specs.History.{state_of}
-use Rattle.entry_record.specs.Output.{report_of}
+use Rattle.catalogue_rules.specs.Settle.{state_of}
+use Rattle.catalogue_rules.specs.Output.{report_of}
 use Rattle.durable_catalogue.specs.declared.fault.OpenFault.TheVariants.{NoMemory}
 use Rattle.room_files.specs.Journals.{log_bytes}
 use Rattle.room_files.proofs.Journals.{closed_keeps}

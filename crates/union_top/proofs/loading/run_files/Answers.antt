@@ -4,8 +4,8 @@ use Rattle.outside.specs.declared.fault.WriteFault.TheVariants.{OutputFault}
 use Rattle.outside.proofs.Fronts.{front_none}
 use Rattle.outside.proofs.Rooms.{apart_then}
 use Rattle.durable_catalogue.specs.Durables.{mark_of, opening}
-use Rattle.entry_record.specs.History.{state_of}
-use Rattle.entry_record.specs.Output.{export_of, report_of, all_keys}
+use Rattle.catalogue_rules.specs.Settle.{state_of}
+use Rattle.catalogue_rules.specs.Output.{export_of, report_of, all_keys}
 use Rattle.room_files.proofs.Rooms.{apart_from_one}
 use Rattle.room_files.specs.Rooms.{IsPartWritten, AsItWas}
 use Rattle.union_top.specs.Texts.{files_text, has_refused}

@@ -1,11 +1,12 @@
 -- The state of a catalogue: two lists of records in key order. The rules are this project's own.
-use Rattle.std.specs.Prelude.{false, List, [], map, Option, None}
+use Rattle.std.specs.Prelude.{false, List, [], ◌∷◌, map, Option, None}
 use Rattle.std.specs.List.{filter_map}
 use Rattle.marc_types.specs.declared.field.Leader.{Leader}
 use Rattle.marc_types.specs.declared.field.Field.{Field}
 use Rattle.marc_types.specs.declared.key.Class.{Class}
 use Rattle.marc_types.specs.declared.key.Class.TheVariants.{Authority, Bibliographic}
 use Rattle.marc_types.specs.declared.key.Key.{Key}
+use Rattle.marc_types.specs.declared.entry.Kept.{Kept}
 use Rattle.marc_types.specs.declared.entry.Tie.{Tie}
 use Rattle.entry_record.specs.Authority.{Linkable, linkable_of}
 
@@ -22,6 +23,19 @@ pub record KeptRecord : Type 0 where
 -- a key and the record under it
 abbrev pub Row : Type 0
 Row = Key × KeptRecord
+
+abbrev pub kept_field : Field → Tie → KeptField
+kept_field field tie = record { field = field; tie = tie }
+
+-- fields, each with the tie beside it
+abbrev pub tied : List Field → List Tie → List KeptField
+tied [] ties = []
+tied (field ∷ fields) [] = []
+tied (field ∷ fields) (tie ∷ ties) = kept_field field tie ∷ tied fields ties
+
+-- what a catalogue keeps of a record, as the rules see it
+unfoldable pub kept_record : Kept → KeptRecord
+kept_record kept = record { leader = kept.rec.leader; fields = tied kept.rec.fields kept.links }
 
 -- the rows of each class, in key order
 pub record State : Type 0 where

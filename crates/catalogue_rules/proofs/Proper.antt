@@ -8,30 +8,26 @@ use Rattle.std.specs.Map.{keys_of}
 use Rattle.std.specs.Option.{option_map}
 use Rattle.std.specs.declared.cmp.Ordering.TheVariants.{Less}
 use Rattle.std.specs.Cmp.{eq_by_cmp_equiv}
-use Rattle.std.proofs.lemmas.Bool.{leb-true}
+use Rattle.std.proofs.lemmas.Bool.{leb-true, and_parts}
 use Rattle.std.proofs.lemmas.Grind.{common_steps}
 use Rattle.marc_types.specs.Valid.{is_code, is_code_byte, is_number, is_graphic, subfields_size}
-use Rattle.marc_types.specs.Order.{key_cmp, key_cmp_total}
+use Rattle.marc_types.specs.Order.{key_cmp, key_cmp_total, same_key}
 use Rattle.marc_types.specs.declared.field.Field.{Field}
 use Rattle.marc_types.specs.declared.key.Class.TheVariants.{Authority}
 use Rattle.marc_types.specs.declared.key.Key.{Key}
 use Rattle.marc_types.specs.declared.form.Kind.{Kind}
 use Rattle.marc_types.specs.declared.form.Form.{Form}
 use Rattle.heading_fields.specs.Tables.{authority_kind_of, is_subdividable}
-use Rattle.heading_fields.specs.Parts.{tag_of, subfields_of, part, base_part, full_part}
+use Rattle.heading_fields.specs.Parts.{part, base_part, full_part}
+use Rattle.marc_types.specs.Fields.{tag_of, subfields_of}
 use Rattle.heading_fields.specs.Numbers.{is_blankless}
 use Rattle.naco_form.specs.Form.{form_of, items_of}
-use Rattle.entry_record.specs.Identity.{same_key}
 use Rattle.entry_record.specs.Authority.{Linkable, is_heading, heading_of, full_form, has_form, option_filter, is_short_in_full, is_tracing_of, see_from_forms, linkable_kind, linkable_with, linkable_by, linkable_of}
-use Rattle.entry_record.specs.State.{Row, fields_of, row_linkable}
-use Rattle.entry_record.specs.Choice.{has_key}
-use Rattle.entry_record.specs.Valid.{IsAscending, IsRow}
-use Rattle.entry_record.proofs.Elements.{Each, each_anything, each_weaker, each_both, find_found}
-use Rattle.entry_record.proofs.Fit.{IsFit, formed_of}
-
-pub and_both : (a b : Bool) → (a && b) ≡ true → (a ≡ true) × (b ≡ true)
-and_both true b h = (refl, h)
-and_both false b h = cc
+use Rattle.catalogue_rules.specs.State.{Row, fields_of, row_linkable}
+use Rattle.catalogue_rules.specs.Choice.{has_key}
+use Rattle.catalogue_rules.specs.Valid.{IsAscending, IsRow}
+use Rattle.catalogue_rules.proofs.Elements.{Each, each_anything, each_weaker, each_both, find_found}
+use Rattle.catalogue_rules.proofs.Fit.{IsFit, formed_of}
 
 -- ---- a key of a record has no blank
 
@@ -43,7 +39,7 @@ graphic_filled b h = grind (arith, common_steps)
 
 all_weaker : (p q : ℕ → Bool) → ((b : ℕ) → p b ≡ true → q b ≡ true) → (bs : List ℕ) → list_all p bs ≡ true → list_all q bs ≡ true
 all_weaker p q f [] h = refl
-all_weaker p q f (b ∷ bs) h = let both = and_both (p b) (list_all p bs) h in rw (f b both.0) (all_weaker p q f bs both.1)
+all_weaker p q f (b ∷ bs) h = let both = and_parts (p b) (list_all p bs) h in rw (f b both.0) (all_weaker p q f bs both.1)
 
 -- code and number are short, and neither has a blank
 pub record IsKeyOfRecord (key : Key) : Type 0 where
@@ -54,10 +50,10 @@ pub record IsKeyOfRecord (key : Key) : Type 0 where
 pub key_of_record : (key : Key) → is_code key.code ≡ true → is_number key.number ≡ true → IsKeyOfRecord key
 unfolding is_code is_number is_blankless
 key_of_record key c n =
-    let code = and_both (nat_le 1 (length key.code) && nat_le (length key.code) 16) (list_all is_code_byte key.code) c in
-    let number = and_both (nat_le 1 (length key.number) && nat_le (length key.number) 64) (list_all is_graphic key.number) n in
-    let short_code = and_both (nat_le 1 (length key.code)) (nat_le (length key.code) 16) code.0 in
-    let short_number = and_both (nat_le 1 (length key.number)) (nat_le (length key.number) 64) number.0 in
+    let code = and_parts (nat_le 1 (length key.code) && nat_le (length key.code) 16) (list_all is_code_byte key.code) c in
+    let number = and_parts (nat_le 1 (length key.number) && nat_le (length key.number) 64) (list_all is_graphic key.number) n in
+    let short_code = and_parts (nat_le 1 (length key.code)) (nat_le (length key.code) 16) code.0 in
+    let short_number = and_parts (nat_le 1 (length key.number)) (nat_le (length key.number) 64) number.0 in
     record {
       blankless = rw (all_weaker is_code_byte (λ b. not (b == 0x20)) code_byte_filled key.code code.1) (all_weaker is_graphic (λ b. not (b == 0x20)) graphic_filled key.number number.1);
       code = leb-true (length key.code) 16 short_code.1;
@@ -110,7 +106,7 @@ kind_of_linkable f kind e = (option_passes (λ k. has_form f k && is_short_in_fu
 
 proper_with : (key : Key) (fields : List Field) (f : Field) (kind : Kind) → is_heading f ≡ true → linkable_kind f ≡ Some kind → IsProper key (linkable_with key fields f kind)
 proper_with key fields f kind h e =
-    let both = and_both (has_form f kind) (is_short_in_full f kind) (kind_of_linkable f kind e) in
+    let both = and_parts (has_form f kind) (is_short_in_full f kind) (kind_of_linkable f kind e) in
     let short : subfields_size (full_part kind Authority f) ≤ 512 = leb-true (subfields_size (full_part kind Authority f)) 512 both.1 in
     record {
       key_is = refl;

@@ -9,16 +9,16 @@ use Rattle.std.specs.Ordering.{is_eq, ordering_reverse, match_ordering}
 use Rattle.std.specs.declared.cmp.Ordering.{Ordering}
 use Rattle.std.specs.declared.cmp.Ordering.TheVariants.{Less, Equal, Greater}
 use Rattle.std.specs.Cmp.{eq_by_cmp_equiv}
-use Rattle.marc_types.specs.Order.{key_cmp, key_cmp_total, key_Decides}
+use Rattle.marc_types.specs.Order.{key_cmp, key_cmp_total, key_Decides, same_key}
 use Rattle.marc_types.specs.declared.key.Key.{Key}
-use Rattle.entry_record.specs.Identity.{is_deletion, same_key}
+use Rattle.entry_record.specs.Identity.{is_deletion}
 use Rattle.entry_record.specs.Authority.{Linkable}
-use Rattle.entry_record.specs.State.{KeptField, KeptRecord, Row, fields_of, row_linkable, each_in_row, new_record}
-use Rattle.entry_record.specs.Choice.{has_key}
-use Rattle.entry_record.specs.Settle.{Arrival, place}
-use Rattle.entry_record.specs.Valid.{IsAscending}
-use Rattle.entry_record.proofs.Elements.{Each}
-use Rattle.entry_record.proofs.Proper.{proper_linkable}
+use Rattle.catalogue_rules.specs.State.{KeptField, KeptRecord, Row, fields_of, row_linkable, each_in_row, new_record}
+use Rattle.catalogue_rules.specs.Choice.{has_key}
+use Rattle.catalogue_rules.specs.Settle.{Arrival, place}
+use Rattle.catalogue_rules.specs.Valid.{IsAscending}
+use Rattle.catalogue_rules.proofs.Elements.{Each}
+use Rattle.catalogue_rules.proofs.Proper.{proper_linkable}
 
 -- ---- the keys
 

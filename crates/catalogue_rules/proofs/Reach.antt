@@ -7,18 +7,19 @@ use Rattle.marc_types.specs.declared.key.Key.{Key}
 use Rattle.marc_types.specs.declared.form.Kind.{Kind}
 use Rattle.marc_types.specs.Valid.{subfields_size}
 use Rattle.heading_fields.specs.Tables.{kind_of}
-use Rattle.heading_fields.specs.Parts.{subfields_of, base_part, field_outside, reaches}
+use Rattle.heading_fields.specs.Parts.{base_part, field_outside, reaches}
+use Rattle.marc_types.specs.Fields.{subfields_of}
 use Rattle.heading_fields.specs.Numbers.{is_naming, unnumbered}
 use Rattle.heading_fields.specs.Rewriting.{rewriting, unlinking}
 use Rattle.heading_fields.proofs.Fieldlaws.{base_part_rewriting, field_part_rewriting, field_outside_rewriting, kind_of_rewriting, kind_of_unlinking, tag_of_unlinking, field_part_unlinking}
 use Rattle.heading_fields.proofs.Sublaws.{size_filter}
 use Rattle.entry_record.specs.Authority.{Linkable, has_form, option_filter, heading_kind}
-use Rattle.entry_record.specs.State.{KeptField}
-use Rattle.entry_record.specs.Settle.{link_to, end_link}
-use Rattle.entry_record.specs.Valid.{other_subfields, heading_reach, reach}
-use Rattle.entry_record.proofs.Fit.{IsFit}
-use Rattle.entry_record.proofs.Proper.{option_passes, part_of_form}
-use Rattle.entry_record.proofs.Sizes.{part_within_full, outside_less, outside_unnumbered}
+use Rattle.catalogue_rules.specs.State.{KeptField}
+use Rattle.catalogue_rules.specs.Settle.{link_to, end_link}
+use Rattle.catalogue_rules.specs.Valid.{other_subfields, heading_reach, reach}
+use Rattle.catalogue_rules.proofs.Fit.{IsFit}
+use Rattle.catalogue_rules.proofs.Proper.{option_passes, part_of_form}
+use Rattle.catalogue_rules.proofs.Sizes.{part_within_full, outside_less, outside_unnumbered}
 
 -- ---- the kind of a heading field stays
 

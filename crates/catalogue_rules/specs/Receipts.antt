@@ -2,8 +2,8 @@
 use Rattle.std.specs.Prelude.{ℕ, ◌==◌, List, [], ◌∷◌, ◌++◌, map, if◌then◌else◌}
 use Rattle.marc_types.specs.declared.entry.Entry.{Entry}
 use Rattle.marc_types.specs.declared.entry.Receipt.{Receipt}
-use Rattle.entry_record.specs.History.{arrival_of}
-use Rattle.entry_record.specs.Receipt.{receipt}
+use Rattle.catalogue_rules.specs.Settle.{arrival_of}
+use Rattle.catalogue_rules.specs.Receipt.{receipt}
 
 -- what the commit of one more entry behind a history answers
 abbrev pub receipt_behind : List Entry → Entry → Receipt

@@ -14,22 +14,23 @@ use Rattle.marc_types.specs.declared.key.Key.{Key}
 use Rattle.marc_types.specs.declared.form.Kind.{Kind}
 use Rattle.marc_types.specs.Valid.{subfields_size}
 use Rattle.heading_fields.specs.Tables.{kind_of}
-use Rattle.heading_fields.specs.Parts.{subfields_of, written_length, field_outside, reaches}
+use Rattle.heading_fields.specs.Parts.{written_length, field_outside, reaches}
+use Rattle.marc_types.specs.Fields.{subfields_of}
 use Rattle.heading_fields.specs.Numbers.{unnumbered}
 use Rattle.heading_fields.proofs.Fieldlaws.{written_length_rewriting}
 use Rattle.iso2709_record.specs.Written.{field_length, fields_length, record_length, fits}
 use Rattle.iso2709_record.proofs.Lengths.{field_length-variable, fits_from}
 use Rattle.entry_record.specs.Authority.{Linkable, heading_kind}
-use Rattle.entry_record.specs.State.{KeptField, Row, State, fields_of, linkable_authorities}
-use Rattle.entry_record.specs.Choice.{has_key}
-use Rattle.entry_record.specs.Valid.{IsLink, IsTied, IsRewrittenFrom, IsRewritten, HasRoom, IsValid, IsRow, EachRow, other_subfields, reach}
-use Rattle.entry_record.proofs.Elements.{Each, each_weaker, each_both, find_found}
-use Rattle.entry_record.proofs.Fit.{IsFit}
-use Rattle.entry_record.proofs.Proper.{all_fit}
-use Rattle.entry_record.proofs.Reach.{heading_of_kind, reach_of}
-use Rattle.entry_record.proofs.Room.{kind_of_variable, other_reach}
-use Rattle.entry_record.proofs.Settled.{IsKeptBy, kept_by, kind_by_is}
-use Rattle.entry_record.proofs.Sizes.{part_and_outside, part_within_full}
+use Rattle.catalogue_rules.specs.State.{KeptField, Row, State, fields_of, linkable_authorities}
+use Rattle.catalogue_rules.specs.Choice.{has_key}
+use Rattle.catalogue_rules.specs.Valid.{IsLink, IsTied, IsRewrittenFrom, IsRewritten, HasRoom, IsValid, IsRow, EachRow, other_subfields, reach}
+use Rattle.catalogue_rules.proofs.Elements.{Each, each_weaker, each_both, find_found}
+use Rattle.catalogue_rules.proofs.Fit.{IsFit}
+use Rattle.catalogue_rules.proofs.Proper.{all_fit}
+use Rattle.catalogue_rules.proofs.Reach.{heading_of_kind, reach_of}
+use Rattle.catalogue_rules.proofs.Room.{kind_of_variable, other_reach}
+use Rattle.catalogue_rules.proofs.Settled.{IsKeptBy, kept_by, kind_by_is}
+use Rattle.catalogue_rules.proofs.Sizes.{part_and_outside, part_within_full}
 
 written_is : (class : Class) (f : Field) (kind : Kind) → kind_of class f ≡ Some kind → written_length f ≡ field_length f
 written_is class (Control tag text) kind e = cc

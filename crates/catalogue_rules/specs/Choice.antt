@@ -3,19 +3,18 @@
 use Rattle.std.specs.Prelude.{Bool, true, false, ◌&&◌, ◌||◌, not, List, [], ◌∷◌, map, filter, find, Option, Some, None, unwrap_or, option_and_then, if◌then◌else◌}
 use Rattle.std.specs.List.{list_any}
 use Rattle.std.specs.Option.{option_or, option_map}
-use Rattle.std.specs.Ordering.{eq_by_cmp}
-use Rattle.marc_types.specs.Order.{form_cmp}
+use Rattle.marc_types.specs.Fields.{tag_of, subfields_of}
+use Rattle.marc_types.specs.Order.{same_form, same_key}
 use Rattle.marc_types.specs.declared.field.Subfield.{Subfield}
 use Rattle.marc_types.specs.declared.key.Class.{Class}
 use Rattle.marc_types.specs.declared.key.Key.{Key}
 use Rattle.marc_types.specs.declared.form.Kind.{Kind}
 use Rattle.marc_types.specs.declared.form.Form.{Form}
 use Rattle.heading_fields.specs.Tables.{is_subdividable}
-use Rattle.heading_fields.specs.Parts.{tag_of, subfields_of, is_subdivided}
+use Rattle.heading_fields.specs.Parts.{is_subdivided}
 use Rattle.heading_fields.specs.Numbers.{is_naming}
-use Rattle.entry_record.specs.Identity.{same_key}
 use Rattle.entry_record.specs.Authority.{Linkable, is_bare, same_kind, base_form, full_form}
-use Rattle.entry_record.specs.State.{KeptField}
+use Rattle.catalogue_rules.specs.State.{KeptField}
 
 -- a link to an authority, whole or by its base; or no link, with the keys that it could be or with none
 pub data Choice : Type 0 where
@@ -68,9 +67,6 @@ abbrev pub choice_among : Bool → List Linkable → Option Choice
 choice_among link_whole [] = None
 choice_among link_whole (c ∷ []) = Some (Link c link_whole)
 choice_among link_whole (c ∷ other ∷ more) = Some (Ambiguous (keys_of_linkable (c ∷ other ∷ more)))
-
-abbrev pub same_form : Form → Form → Bool
-same_form = eq_by_cmp form_cmp
 
 abbrev pub is_established : Form → Linkable → Bool
 is_established form c = same_form form c.established

@@ -3,13 +3,13 @@ ghost use Rattle.std.specs.Prelude.{◌≡◌, true, false, [], ◌∷◌, All, 
 ghost use Rattle.marc_types.specs.declared.key.Class.TheVariants.{Bibliographic};
 ghost use Rattle.marc_types.specs.declared.form.Kind.TheVariants.{Personal, Topical};
 ghost use Rattle.entry_record.specs.Authority.{base_form, full_form};
-ghost use Rattle.entry_record.specs.State.{State, fields_of, new_field};
-ghost use Rattle.entry_record.specs.Choice.{choice, Link, Ambiguous};
-ghost use Rattle.entry_record.specs.Worked.{dlc_key, item, twain, doe, women_history, women, numbered, clemens, shouted_doe, french_women, name_form, topic_form};
+ghost use Rattle.catalogue_rules.specs.State.{State, fields_of, new_field};
+ghost use Rattle.catalogue_rules.specs.Choice.{choice, Link, Ambiguous};
+ghost use Rattle.catalogue_rules.specs.Worked.{dlc_key, item, twain, doe, women_history, women, numbered, clemens, shouted_doe, french_women, name_form, topic_form};
 ghost use Rattle.iso2709_record.specs.Written.{fits};
-ghost use Rattle.entry_record.specs.Settle.{settle};
-ghost use Rattle.entry_record.specs.History.{IsAdmitted, state_of};
-ghost use Rattle.entry_record.specs.Valid.{IsReadyToSettle, IsValid, EachRow};
+ghost use Rattle.catalogue_rules.specs.Settle.{settle, state_of};
+ghost use Rattle.entry_record.specs.History.{IsAdmitted};
+ghost use Rattle.catalogue_rules.specs.Valid.{IsReadyToSettle, IsValid, EachRow};
 
 use marc_types::Entry;
 

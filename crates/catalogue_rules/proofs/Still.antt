@@ -9,13 +9,13 @@ use Rattle.marc_types.specs.declared.key.Class.TheVariants.{Authority, Bibliogra
 use Rattle.marc_types.specs.declared.key.Key.{Key}
 use Rattle.marc_types.specs.declared.form.Kind.{Kind}
 use Rattle.entry_record.specs.Authority.{Linkable, heading_kind}
-use Rattle.entry_record.specs.State.{KeptField, Row, State, linkable_authorities, each_in_row, each_field}
-use Rattle.entry_record.specs.Choice.{Choice, Link, Ambiguous, Unlinked, has_key, choice}
-use Rattle.entry_record.specs.Settle.{link_to, take_choice, settle_linked, settle_unlinked, settle_field, settle}
-use Rattle.entry_record.specs.Valid.{IsLink, IsTied, IsRewrittenFrom, IsRewritten, IsNoLink, IsSettled, IsValid}
-use Rattle.entry_record.proofs.Elements.{Each, each_weaker, each_both, find_found, each_anything}
-use Rattle.entry_record.proofs.Fitting.{from_found}
-use Rattle.entry_record.proofs.Settled.{IsKeptBy, kept_by}
+use Rattle.catalogue_rules.specs.State.{KeptField, Row, State, linkable_authorities, each_in_row, each_field}
+use Rattle.catalogue_rules.specs.Choice.{Choice, Link, Ambiguous, Unlinked, has_key, choice}
+use Rattle.catalogue_rules.specs.Settle.{link_to, take_choice, settle_linked, settle_unlinked, settle_field, settle}
+use Rattle.catalogue_rules.specs.Valid.{IsLink, IsTied, IsRewrittenFrom, IsRewritten, IsNoLink, IsSettled, IsValid}
+use Rattle.catalogue_rules.proofs.Elements.{Each, each_weaker, each_both, find_found, each_anything}
+use Rattle.catalogue_rules.proofs.Fitting.{from_found}
+use Rattle.catalogue_rules.proofs.Settled.{IsKeptBy, kept_by}
 
 linked_same : (class : Class) (h : KeptField) (c : Linkable) → h.tie.key ≡ Some c.key → h.tie.awaits ≡ None → IsRewrittenFrom class h c → link_to class h h.tie.whole c ≡ h
 linked_same class h c key awaits same = λ i. record { field = same i; tie = record { key = sym key i; whole = h.tie.whole; awaits = sym awaits i } }

@@ -2,22 +2,21 @@
 use Rattle.std.proofs.Common.{◌≡◌, ◌≤◌, Bool, true, false, List, Option, Some, None, is_some, refl, sym, ap, ◌∙◌, inl, inr, arith, if◌then◌else◌}
 use Rattle.std.specs.Prelude.{find, IfSome}
 use Rattle.std.specs.Option.{option_map_or}
-use Rattle.marc_types.specs.Order.{key_Decides}
+use Rattle.marc_types.specs.Order.{key_Decides, same_key}
 use Rattle.marc_types.specs.declared.key.Class.{Class}
 use Rattle.marc_types.specs.declared.key.Class.TheVariants.{Authority}
 use Rattle.marc_types.specs.declared.key.Key.{Key}
 use Rattle.heading_fields.specs.Tables.{is_subdividable}
-use Rattle.heading_fields.specs.Parts.{tag_of}
+use Rattle.marc_types.specs.Fields.{tag_of}
 use Rattle.heading_fields.proofs.Fieldlaws.{tag_of_unlinking}
-use Rattle.entry_record.specs.Identity.{same_key}
 use Rattle.entry_record.specs.Authority.{Linkable, heading_kind, is_heading_field}
-use Rattle.entry_record.specs.State.{KeptField}
-use Rattle.entry_record.specs.Choice.{has_key}
-use Rattle.entry_record.specs.Settle.{keeps_link, is_linked_to, awaits_key, end_link, await, hand_on, loosen}
-use Rattle.entry_record.specs.Valid.{IsLink, IsTied, reach}
-use Rattle.entry_record.proofs.Reach.{kind_unlinked, reach_unlinked, reach_by}
-use Rattle.entry_record.proofs.Settled.{heading_some}
-use Rattle.entry_record.proofs.Steady.{IsSteady, heading_tag}
+use Rattle.catalogue_rules.specs.State.{KeptField}
+use Rattle.catalogue_rules.specs.Choice.{has_key}
+use Rattle.catalogue_rules.specs.Settle.{keeps_link, is_linked_to, awaits_key, end_link, await, hand_on, loosen}
+use Rattle.catalogue_rules.specs.Valid.{IsLink, IsTied, reach}
+use Rattle.catalogue_rules.proofs.Reach.{kind_unlinked, reach_unlinked, reach_by}
+use Rattle.catalogue_rules.proofs.Settled.{heading_some}
+use Rattle.catalogue_rules.proofs.Steady.{IsSteady, heading_tag}
 
 -- tied, but for a link to one key, which may not stay
 pub record IsTiedBut (own : Key) (all : List Linkable) (class : Class) (h : KeptField) : Type 0 where

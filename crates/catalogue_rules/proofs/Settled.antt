@@ -2,22 +2,22 @@
 use Rattle.std.proofs.Common.{◌≡◌, ◌≤◌, Bool, true, false, ◌&&◌, ◌||◌, List, Option, Some, None, is_some, refl, sym, ap, ◌∙◌, arith}
 use Rattle.std.specs.Prelude.{find, IfSome}
 use Rattle.std.specs.Option.{option_map_or}
+use Rattle.std.proofs.lemmas.Bool.{and_parts}
 use Rattle.marc_types.specs.Order.{key_Decides}
 use Rattle.marc_types.specs.declared.key.Class.{Class}
 use Rattle.marc_types.specs.declared.key.Key.{Key}
 use Rattle.marc_types.specs.declared.form.Kind.{Kind}
 use Rattle.heading_fields.specs.Tables.{kind_of, is_subdividable}
-use Rattle.heading_fields.specs.Parts.{tag_of}
+use Rattle.marc_types.specs.Fields.{tag_of}
 use Rattle.heading_fields.proofs.Fieldlaws.{rewriting_twice, tag_of_rewriting, kind_of_rewriting}
 use Rattle.entry_record.specs.Authority.{Linkable, is_bare, same_kind, is_kind, heading_kind}
-use Rattle.entry_record.specs.State.{KeptField}
-use Rattle.entry_record.specs.Choice.{Choice, Link, Ambiguous, Unlinked, has_key, choice}
-use Rattle.entry_record.specs.Settle.{keeps_link, link_to, take_choice, settle_linked, settle_unlinked, settle_field}
-use Rattle.entry_record.specs.Valid.{IsLink, IsTied, IsRewritten, IsNoLink, IsSettled, reach}
-use Rattle.entry_record.proofs.Elements.{Each, find_found}
-use Rattle.entry_record.proofs.Fit.{IsFit, IsGood, IfLink, good_choice, same_kind_is}
-use Rattle.entry_record.proofs.Proper.{and_both}
-use Rattle.entry_record.proofs.Reach.{heading_of_kind, kind_rewritten, reach_rewritten, reach_chosen}
+use Rattle.catalogue_rules.specs.State.{KeptField}
+use Rattle.catalogue_rules.specs.Choice.{Choice, Link, Ambiguous, Unlinked, has_key, choice}
+use Rattle.catalogue_rules.specs.Settle.{keeps_link, link_to, take_choice, settle_linked, settle_unlinked, settle_field}
+use Rattle.catalogue_rules.specs.Valid.{IsLink, IsTied, IsRewritten, IsNoLink, IsSettled, reach}
+use Rattle.catalogue_rules.proofs.Elements.{Each, find_found}
+use Rattle.catalogue_rules.proofs.Fit.{IsFit, IsGood, IfLink, good_choice, same_kind_is}
+use Rattle.catalogue_rules.proofs.Reach.{heading_of_kind, kind_rewritten, reach_rewritten, reach_chosen}
 
 -- a field after settling, beside what it was before
 pub record IsDone (all : List Linkable) (class : Class) (before now : KeptField) : Type 0 where
@@ -80,7 +80,7 @@ pub kept_by : (all : List Linkable) (class : Class) (h : KeptField) (key : Key) 
     option_map_or (λ c. (h.tie.whole || is_bare c) && is_kind c.kind (kind_of class h.field)) o false ≡ true → (c : Linkable) × IsKeptBy all class h key c
 kept_by all class h key None e k = cc
 kept_by all class h key (Some c) e k =
-    let both = and_both (h.tie.whole || is_bare c) (is_kind c.kind (kind_of class h.field)) k in
+    let both = and_parts (h.tie.whole || is_bare c) (is_kind c.kind (kind_of class h.field)) k in
     (c, record { found = e; bare = both.0; kind_is = both.1 })
 
 pub kind_by_is : (kind : Kind) (o : Option Kind) (own : Kind) → o ≡ Some own → is_kind kind o ≡ true → own ≡ kind

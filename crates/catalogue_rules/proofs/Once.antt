@@ -8,15 +8,15 @@ use Rattle.marc_types.specs.declared.key.Key.{Key}
 use Rattle.marc_types.specs.declared.form.Kind.{Kind}
 use Rattle.heading_fields.proofs.Fieldlaws.{rewriting_twice, tag_of_rewriting}
 use Rattle.entry_record.specs.Authority.{Linkable, heading_kind, is_heading_field}
-use Rattle.entry_record.specs.State.{KeptField, Row, State, linkable_authorities, row_linkable, each_in_row, each_field}
-use Rattle.entry_record.specs.Choice.{Choice, Link, Ambiguous, Unlinked, has_key, choice}
-use Rattle.entry_record.specs.Settle.{link_to, take_choice, settle_linked, settle_unlinked, settle_field, settle}
-use Rattle.entry_record.specs.Valid.{IsAscending, IsRow, IsLinkOfHeading, IsReadyToSettle}
+use Rattle.catalogue_rules.specs.State.{KeptField, Row, State, linkable_authorities, row_linkable, each_in_row, each_field}
+use Rattle.catalogue_rules.specs.Choice.{Choice, Link, Ambiguous, Unlinked, has_key, choice}
+use Rattle.catalogue_rules.specs.Settle.{link_to, take_choice, settle_linked, settle_unlinked, settle_field, settle}
+use Rattle.catalogue_rules.specs.Valid.{IsAscending, IsRow, IsLinkOfHeading, IsReadyToSettle}
 use Rattle.std.proofs.lemmas.List.Elements.{recursion_from_All}
-use Rattle.entry_record.proofs.Elements.{Each, each_weaker, find_found}
-use Rattle.entry_record.proofs.Fit.{IsFit, IsGood, IfLink, good_choice}
-use Rattle.entry_record.proofs.Proper.{all_fit}
-use Rattle.entry_record.proofs.Steady.{IsSteady, linkables_stay, heading_tag}
+use Rattle.catalogue_rules.proofs.Elements.{Each, each_weaker, find_found}
+use Rattle.catalogue_rules.proofs.Fit.{IsFit, IsGood, IfLink, good_choice}
+use Rattle.catalogue_rules.proofs.Proper.{all_fit}
+use Rattle.catalogue_rules.proofs.Steady.{IsSteady, linkables_stay, heading_tag}
 
 -- a field that was linked and rewritten stays as it is
 linked_once : (all : List Linkable) (class : Class) (g : KeptField) (whole : Bool) (c : Linkable) → IsFit all c →

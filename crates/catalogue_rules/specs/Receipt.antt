@@ -9,12 +9,12 @@ use Rattle.marc_types.specs.declared.key.Class.{Class}
 use Rattle.marc_types.specs.declared.key.Class.TheVariants.{Authority, Bibliographic}
 use Rattle.marc_types.specs.declared.key.Key.{Key}
 use Rattle.marc_types.specs.declared.entry.Receipt.{Receipt}
-use Rattle.entry_record.specs.Identity.{same_key}
+use Rattle.marc_types.specs.Order.{same_key}
 use Rattle.entry_record.specs.Authority.{Linkable, heading_kind}
-use Rattle.entry_record.specs.State.{KeptField, KeptRecord, Row, State, rows_of, linkable_authorities}
-use Rattle.entry_record.specs.Choice.{Choice, Link, Ambiguous, Unlinked, choice}
-use Rattle.entry_record.specs.Sameness.{same_kept}
-use Rattle.entry_record.specs.Settle.{Arrival, state_after, step}
+use Rattle.catalogue_rules.specs.State.{KeptField, KeptRecord, Row, State, rows_of, linkable_authorities}
+use Rattle.catalogue_rules.specs.Choice.{Choice, Link, Ambiguous, Unlinked, choice}
+use Rattle.catalogue_rules.specs.Sameness.{same_kept}
+use Rattle.catalogue_rules.specs.Settle.{Arrival, state_after, step}
 
 -- linked under a key, ambiguous between the authorities with these keys (in key order), unlinked, or no heading field
 pub data Standing : Type 0 where

@@ -9,14 +9,15 @@ use Rattle.marc_types.specs.declared.key.Class.{Class}
 use Rattle.marc_types.specs.declared.form.Kind.{Kind}
 use Rattle.marc_types.specs.declared.form.Form.{Form}
 use Rattle.marc_types.specs.Valid.{subfields_size}
-use Rattle.marc_types.specs.Order.{kind_rank_same, form_Decides}
-use Rattle.heading_fields.specs.Parts.{subfields_of, part, base_part, full_part}
+use Rattle.marc_types.specs.Order.{kind_rank_same, form_Decides, same_form}
+use Rattle.heading_fields.specs.Parts.{part, base_part, full_part}
+use Rattle.marc_types.specs.Fields.{subfields_of}
 use Rattle.heading_fields.specs.Numbers.{is_naming, is_blankless}
 use Rattle.naco_form.specs.Form.{form_of}
 use Rattle.entry_record.specs.Authority.{Linkable, is_bare, same_kind, has_form, base_form, full_form}
-use Rattle.entry_record.specs.State.{KeptField}
-use Rattle.entry_record.specs.Choice.{Choice, Link, Ambiguous, Unlinked, has_key, takes_subdivisions, has_subdivision, can_take, is_taken_whole, link_where, by_awaited, by_first_name, by_number, choice_among, same_form, is_established, is_see_from_form, by_form, by_full_form, asks_base, by_base_form, choice}
-use Rattle.entry_record.proofs.Elements.{Each, each_weaker, each_filter, find_found, if_some_or, if_some_then}
+use Rattle.catalogue_rules.specs.State.{KeptField}
+use Rattle.catalogue_rules.specs.Choice.{Choice, Link, Ambiguous, Unlinked, has_key, takes_subdivisions, has_subdivision, can_take, is_taken_whole, link_where, by_awaited, by_first_name, by_number, choice_among, is_established, is_see_from_form, by_form, by_full_form, asks_base, by_base_form, choice}
+use Rattle.catalogue_rules.proofs.Elements.{Each, each_weaker, each_filter, find_found, if_some_or, if_some_then}
 
 -- an authority among others: it is found by its key, and its key, heading and forms are as those of records
 pub record IsFit (authorities : List Linkable) (c : Linkable) : Type 0 where

@@ -12,17 +12,17 @@ use Rattle.marc_types.specs.declared.key.Class.{Class}
 use Rattle.marc_types.specs.declared.key.Key.{Key}
 use Rattle.marc_types.specs.declared.form.Kind.{Kind}
 use Rattle.marc_types.specs.Valid.{subfields_size}
-use Rattle.heading_fields.specs.Parts.{subfields_of}
+use Rattle.marc_types.specs.Fields.{subfields_of}
 use Rattle.heading_fields.specs.Tables.{kind_of}
 use Rattle.iso2709_record.specs.Written.{field_length, fields_length, record_length}
 use Rattle.iso2709_record.proofs.Lengths.{field_length-variable}
 use Rattle.entry_record.specs.Authority.{heading_kind, is_heading_field}
 use Rattle.entry_record.specs.Admission.{grown_length, has_no_room}
-use Rattle.entry_record.specs.State.{KeptField, Row, new_field, new_record, each_in_row}
-use Rattle.entry_record.specs.Valid.{reach, HasRoom}
-use Rattle.entry_record.proofs.Elements.{Each}
-use Rattle.entry_record.proofs.Reach.{reach_of, heading_of_kind}
-use Rattle.entry_record.proofs.Sizes.{part_and_outside}
+use Rattle.catalogue_rules.specs.State.{KeptField, Row, new_field, new_record, each_in_row}
+use Rattle.catalogue_rules.specs.Valid.{reach, HasRoom}
+use Rattle.catalogue_rules.proofs.Elements.{Each}
+use Rattle.catalogue_rules.proofs.Reach.{reach_of, heading_of_kind}
+use Rattle.catalogue_rules.proofs.Sizes.{part_and_outside}
 
 -- ---- a record whose fields change
 

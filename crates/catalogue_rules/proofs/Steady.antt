@@ -8,10 +8,10 @@ use Rattle.marc_types.specs.declared.key.Class.TheVariants.{Authority}
 use Rattle.marc_types.specs.declared.key.Key.{Key}
 use Rattle.marc_types.specs.declared.form.Kind.{Kind}
 use Rattle.heading_fields.specs.Tables.{any_kind, kind_by_tag, kind_of}
-use Rattle.heading_fields.specs.Parts.{tag_of}
+use Rattle.marc_types.specs.Fields.{tag_of}
 use Rattle.entry_record.specs.Authority.{Linkable, is_heading, is_see_from, heading_of, has_form, option_filter, heading_kind, is_heading_field, is_tracing_of, see_from_forms, linkable_of, linkable_by, linkable_with, linkable_kind, full_form}
-use Rattle.entry_record.specs.State.{KeptField, Row, row_linkable, each_in_row}
-use Rattle.entry_record.proofs.Elements.{Each}
+use Rattle.catalogue_rules.specs.State.{KeptField, Row, row_linkable, each_in_row}
+use Rattle.catalogue_rules.proofs.Elements.{Each}
 
 -- a field that stays, or one that is a 5XX before and after
 abbrev pub IsSteady : Field → Field → Type 0

@@ -8,9 +8,9 @@ use Rattle.marc_types.specs.declared.form.Kind.TheVariants.{Personal, Topical}
 use Rattle.heading_fields.specs.Tables.{is_subdividable, is_subdivision}
 use Rattle.heading_fields.specs.Numbers.{is_naming, key_text}
 use Rattle.entry_record.specs.Authority.{is_bare, base_form, full_form}
-use Rattle.entry_record.specs.State.{new_field}
-use Rattle.entry_record.specs.Choice.{Link, Ambiguous, Unlinked, by_number, by_form, choice}
-use Rattle.entry_record.specs.Worked.{item, twain, doe, women_history, women, numbered, clemens, shouted_doe, french_women, name_form, topic_form}
+use Rattle.catalogue_rules.specs.State.{new_field}
+use Rattle.catalogue_rules.specs.Choice.{Link, Ambiguous, Unlinked, by_number, by_form, choice}
+use Rattle.catalogue_rules.specs.Worked.{item, twain, doe, women_history, women, numbered, clemens, shouted_doe, french_women, name_form, topic_form}
 
 pub chosen_by_number : choice (doe (codes "n3") ∷ twain ∷ []) Bibliographic Personal (new_field numbered) ≡ Link twain false
 unfolding choice by_number is_naming key_text is_subdividable is_subdivision

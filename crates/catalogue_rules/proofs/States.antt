@@ -13,25 +13,26 @@ use Rattle.marc_types.specs.declared.key.Class.TheVariants.{Authority, Bibliogra
 use Rattle.marc_types.specs.declared.key.Key.{Key}
 use Rattle.marc_types.specs.declared.refusal.Refusal.{Refusal}
 use Rattle.marc_types.specs.declared.refusal.Refusal.TheVariants.{OtherType, NoNumber, BadCode, NoHeading, HeadingTooLong, NoRoom}
-use Rattle.heading_fields.specs.Parts.{subfields_of}
-use Rattle.entry_record.specs.Identity.{class_of, is_known_type, control_number_of, code_of, key_of, same_key}
+use Rattle.marc_types.specs.Fields.{subfields_of}
+use Rattle.entry_record.specs.Identity.{class_of, is_known_type, control_number_of, code_of, key_of}
+use Rattle.marc_types.specs.Order.{same_key}
 use Rattle.entry_record.specs.Authority.{Linkable, heading_of, successor_of}
 use Rattle.entry_record.specs.Admission.{is_living_authority, has_long_heading, has_no_room, admission_refusal}
-use Rattle.entry_record.specs.State.{KeptField, Row, State, empty_state, new_field, new_record, row_linkable, linkable_authorities, each_in_row, each_field}
-use Rattle.entry_record.specs.Choice.{has_key}
-use Rattle.entry_record.specs.Settle.{Arrival, place, loosen, put_in, put, settle_field, settle, step, state_after}
-use Rattle.entry_record.specs.History.{IsAdmitted, arrival_of, state_of}
-use Rattle.entry_record.specs.Valid.{IsAscending, IsRow, IsShort, IsTied, IsRewritten, IsSettled, IsLinkOfHeading, HasRoom, IsValid, reach}
-use Rattle.entry_record.proofs.Elements.{Each, each_weaker, each_map}
-use Rattle.entry_record.proofs.Fit.{IsFit}
-use Rattle.entry_record.proofs.Once.{settled_linkables}
-use Rattle.entry_record.proofs.Proper.{all_fit}
-use Rattle.entry_record.proofs.Put.{IsTiedBut, IsLoosened, tied_but, tied_new, field_loosened, steady_loosen, link_some}
-use Rattle.entry_record.proofs.Room.{room_kept, room_admitted}
-use Rattle.entry_record.proofs.Rows.{ascend_place, ascend_changed, each_place, other_place}
-use Rattle.entry_record.proofs.Settled.{IsDone, field_done}
-use Rattle.entry_record.proofs.Sizes.{part_within_full}
-use Rattle.entry_record.proofs.Steady.{IsSteady, linkables_stay}
+use Rattle.catalogue_rules.specs.State.{KeptField, Row, State, empty_state, new_field, new_record, row_linkable, linkable_authorities, each_in_row, each_field}
+use Rattle.catalogue_rules.specs.Choice.{has_key}
+use Rattle.catalogue_rules.specs.Settle.{Arrival, place, loosen, put_in, put, settle_field, settle, step, state_after, arrival_of, state_of}
+use Rattle.entry_record.specs.History.{IsAdmitted}
+use Rattle.catalogue_rules.specs.Valid.{IsAscending, IsRow, IsShort, IsTied, IsRewritten, IsSettled, IsLinkOfHeading, HasRoom, IsValid, reach}
+use Rattle.catalogue_rules.proofs.Elements.{Each, each_weaker, each_map}
+use Rattle.catalogue_rules.proofs.Fit.{IsFit}
+use Rattle.catalogue_rules.proofs.Once.{settled_linkables}
+use Rattle.catalogue_rules.proofs.Proper.{all_fit}
+use Rattle.catalogue_rules.proofs.Put.{IsTiedBut, IsLoosened, tied_but, tied_new, field_loosened, steady_loosen, link_some}
+use Rattle.catalogue_rules.proofs.Room.{room_kept, room_admitted}
+use Rattle.catalogue_rules.proofs.Rows.{ascend_place, ascend_changed, each_place, other_place}
+use Rattle.catalogue_rules.proofs.Settled.{IsDone, field_done}
+use Rattle.catalogue_rules.proofs.Sizes.{part_within_full}
+use Rattle.catalogue_rules.proofs.Steady.{IsSteady, linkables_stay}
 
 -- ---- rows and states before and after settling
 

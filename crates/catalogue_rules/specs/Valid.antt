@@ -11,16 +11,17 @@ use Rattle.marc_types.specs.declared.key.Class.{Class}
 use Rattle.marc_types.specs.declared.key.Class.TheVariants.{Authority, Bibliographic}
 use Rattle.marc_types.specs.declared.key.Key.{Key}
 use Rattle.marc_types.specs.declared.form.Kind.{Kind}
-use Rattle.heading_fields.specs.Parts.{tag_of, base_part, field_part, field_outside}
+use Rattle.heading_fields.specs.Parts.{base_part, field_part, field_outside}
+use Rattle.marc_types.specs.Fields.{tag_of}
 use Rattle.heading_fields.specs.Numbers.{unnumbered}
 use Rattle.heading_fields.specs.Rewriting.{rewriting}
 use Rattle.heading_fields.specs.Tables.{is_subdividable}
 use Rattle.iso2709_record.specs.Written.{field_length}
 use Rattle.entry_record.specs.Identity.{class_of}
 use Rattle.entry_record.specs.Authority.{Linkable, longest_heading, heading_kind, is_heading_field}
-use Rattle.entry_record.specs.State.{KeptField, Row, State, linkable_authorities}
-use Rattle.entry_record.specs.Choice.{Choice, Link, Ambiguous, Unlinked, has_key, choice}
-use Rattle.entry_record.specs.Settle.{keeps_link}
+use Rattle.catalogue_rules.specs.State.{KeptField, Row, State, linkable_authorities}
+use Rattle.catalogue_rules.specs.Choice.{Choice, Link, Ambiguous, Unlinked, has_key, choice}
+use Rattle.catalogue_rules.specs.Settle.{keeps_link}
 
 -- of every row of either class
 abbrev pub EachRow : (Class → Row → Type 0) → State → Type 0

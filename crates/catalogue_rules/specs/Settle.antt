@@ -1,21 +1,22 @@
 -- What a committed record does to a catalogue: it is put into its place, and then every heading is settled. The rules are
 -- this project's own.
-use Rattle.std.specs.Prelude.{Bool, false, ◌&&◌, ◌||◌, List, find, fold, Option, Some, None, if◌then◌else◌}
+use Rattle.std.specs.Prelude.{Bool, false, ◌&&◌, ◌||◌, List, map, find, fold, Option, Some, None, if◌then◌else◌}
 use Rattle.std.specs.Option.{option_map_or}
 use Rattle.std.specs.BTreeMap.{insert_entry}
 use Rattle.std.specs.Map.{remove_entry}
-use Rattle.marc_types.specs.Order.{key_cmp}
+use Rattle.marc_types.specs.Order.{key_cmp, same_key}
 use Rattle.marc_types.specs.declared.field.Leader.{Leader}
 use Rattle.marc_types.specs.declared.field.Field.{Field}
 use Rattle.marc_types.specs.declared.key.Class.{Class}
 use Rattle.marc_types.specs.declared.key.Class.TheVariants.{Authority, Bibliographic}
 use Rattle.marc_types.specs.declared.key.Key.{Key}
+use Rattle.marc_types.specs.declared.entry.Entry.{Entry}
 use Rattle.heading_fields.specs.Tables.{kind_of}
 use Rattle.heading_fields.specs.Rewriting.{rewriting, unlinking}
-use Rattle.entry_record.specs.Identity.{is_deletion, same_key}
+use Rattle.entry_record.specs.Identity.{is_deletion}
 use Rattle.entry_record.specs.Authority.{Linkable, is_bare, is_kind, heading_kind, successor_of}
-use Rattle.entry_record.specs.State.{KeptField, Row, State, empty_state, new_record, linkable_authorities, each_field}
-use Rattle.entry_record.specs.Choice.{Choice, Link, Ambiguous, Unlinked, has_key, choice}
+use Rattle.catalogue_rules.specs.State.{KeptField, Row, State, empty_state, new_record, linkable_authorities, each_field}
+use Rattle.catalogue_rules.specs.Choice.{Choice, Link, Ambiguous, Unlinked, has_key, choice}
 
 -- what a commit brings: a record of a class under a key
 pub record Arrival : Type 0 where
@@ -108,3 +109,10 @@ step s a = settle (put a s)
 -- the state after a history
 unfoldable pub state_after : List Arrival → State
 state_after history = fold step empty_state history
+
+abbrev pub arrival_of : Entry → Arrival
+arrival_of e = record { class = e.class; key = e.key; leader = e.rec.leader; fields = e.rec.fields }
+
+-- the state that a list of entries leads to
+abbrev pub state_of : List Entry → State
+state_of history = state_after (map arrival_of history)

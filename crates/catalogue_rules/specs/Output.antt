@@ -8,15 +8,15 @@ use Rattle.marc_types.specs.declared.field.Tag.{Tag}
 use Rattle.marc_types.specs.declared.key.Class.{Class}
 use Rattle.marc_types.specs.declared.key.Class.TheVariants.{Authority, Bibliographic}
 use Rattle.marc_types.specs.declared.key.Key.{Key}
-use Rattle.heading_fields.specs.Parts.{tag_of}
+use Rattle.marc_types.specs.Fields.{tag_of}
 use Rattle.heading_fields.specs.Numbers.{key_text}
 use Rattle.iso2709_record.specs.Written.{record_bytes}
-use Rattle.entry_record.specs.Identity.{same_key}
+use Rattle.marc_types.specs.Order.{same_key}
 use Rattle.entry_record.specs.Authority.{Linkable}
-use Rattle.entry_record.specs.State.{KeptField, Row, State, fields_of, rows_of, linkable_authorities}
-use Rattle.entry_record.specs.Choice.{is_established, is_see_from_form, keys_of_linkable}
-use Rattle.entry_record.specs.Receipt.{Standing, LinkedTo, AmbiguousAmong, WithoutLink, WithoutHeading, standing_of, is_linked, is_ambiguous, is_unlinked, count_standing}
-use Rattle.entry_record.specs.Lines.{line, then_word, then_words}
+use Rattle.catalogue_rules.specs.State.{KeptField, Row, State, fields_of, rows_of, linkable_authorities}
+use Rattle.catalogue_rules.specs.Choice.{is_established, is_see_from_form, keys_of_linkable}
+use Rattle.catalogue_rules.specs.Receipt.{Standing, LinkedTo, AmbiguousAmong, WithoutLink, WithoutHeading, standing_of, is_linked, is_ambiguous, is_unlinked, count_standing}
+use Rattle.catalogue_rules.specs.Lines.{line, then_word, then_words}
 
 abbrev pub written_row : Row → List ℕ
 written_row row = record_bytes row.1.leader (fields_of row.1)

@@ -8,18 +8,17 @@ use Rattle.std.specs.declared.cmp.Ordering.{Ordering}
 use Rattle.std.specs.declared.cmp.Ordering.TheVariants.{Less, Equal, Greater}
 use Rattle.std.proofs.lemmas.List.{length-map}
 use Rattle.std.proofs.lemmas.List.Sums.{count_by-le-length}
-use Rattle.marc_types.specs.Order.{key_cmp}
+use Rattle.marc_types.specs.Order.{key_cmp, same_key}
 use Rattle.marc_types.specs.declared.key.Class.{Class}
 use Rattle.marc_types.specs.declared.key.Class.TheVariants.{Authority, Bibliographic}
 use Rattle.marc_types.specs.declared.key.Key.{Key}
 use Rattle.marc_types.specs.declared.entry.Entry.{Entry}
-use Rattle.entry_record.specs.Identity.{is_deletion, same_key}
-use Rattle.entry_record.specs.State.{KeptField, KeptRecord, Row, State, empty_state, new_record, each_in_row, each_field, linkable_authorities}
+use Rattle.entry_record.specs.Identity.{is_deletion}
+use Rattle.catalogue_rules.specs.State.{KeptField, KeptRecord, Row, State, empty_state, new_record, each_in_row, each_field, linkable_authorities}
 use Rattle.entry_record.specs.Authority.{successor_of}
-use Rattle.entry_record.specs.Settle.{Arrival, place, loosen, put, put_in, settle, settle_field, step, state_after}
-use Rattle.entry_record.specs.History.{arrival_of}
-use Rattle.entry_record.specs.Receipt.{is_changed_row, changed_in, receipt_of, receipt}
-use Rattle.entry_record.specs.Receipts.{receipt_behind}
+use Rattle.catalogue_rules.specs.Settle.{Arrival, place, loosen, put, put_in, settle, settle_field, step, state_after, arrival_of}
+use Rattle.catalogue_rules.specs.Receipt.{is_changed_row, changed_in, receipt_of, receipt}
+use Rattle.catalogue_rules.specs.Receipts.{receipt_behind}
 
 abbrev rows_in : State → ℕ
 rows_in s = length s.authorities + length s.bibliographic
