@@ -4,13 +4,13 @@ ghost use Rattle.std.specs.Option.{option_copied};
 ghost use Rattle.marc_types.specs.declared.entry.Entry.{Entry};
 ghost use Rattle.outside.specs.Disk.{SameDisk};
 ghost use Rattle.outside.specs.Fault.{HasCause, Rose};
-ghost use Rattle.outside.specs.Room.{AsLog, Apart};
+ghost use Rattle.outside.specs.Room.{AsLog, SameBut};
 ghost use Rattle.entry_record.specs.History.{state_of};
 ghost use Rattle.entry_record.specs.Output.{export_of};
 ghost use Rattle.durable_catalogue.specs.Logs.{HasHistory};
 ghost use Rattle.console_lines.specs.Faults.{TellsFault};
 ghost use Rattle.room_files.specs.Journals.{log_bytes, KeepsHistory};
-ghost use Rattle.room_files.specs.Rooms.{ApartFrom, IsPartWritten};
+ghost use Rattle.room_files.specs.Rooms.{IsPartWritten};
 ghost use Rattle.archive_commands.specs.Archives.{WhyUnopened, kept_keys, HasFittingHistory};
 
 use crate::fault::{OUTPUT_FAULT, WRITTEN, opening_fault};
@@ -32,7 +32,7 @@ fn write_kept<R: Room>(
 ) -> Result<(), Failed>
     requires free { (R.seen room.old).open_as out.now ≡ None }
     requires staged { core.now.staged ≡ [] }
-    ensures apart { Apart (R.seen room.old) (R.seen room.new) out.now }
+    ensures apart { SameBut (R.seen room.old) (R.seen room.new) (out.now ∷ []) }
     ensures closed { (R.seen room.new).open_as out.now ≡ None }
     ensures cause { HasCause ((R.seen room.old).out_faults out.now) ((R.seen room.new).out_faults out.now) result }
     ensures bytes { OnOk result ((R.seen room.old).tells ≡ true →
@@ -62,7 +62,7 @@ fn export_archive<R: Room>(
 ) -> Result<(), Failed>
     requires opened { (R.seen room.old).open_as journal.now ≡ Some AsLog }
     requires free { (R.seen room.old).open_as out.now ≡ None }
-    ensures apart { ApartFrom (R.seen room.old) (R.seen room.new) (journal.now ∷ out.now ∷ []) }
+    ensures apart { SameBut (R.seen room.old) (R.seen room.new) (journal.now ∷ out.now ∷ []) }
     ensures closed { (R.seen room.new).open_as journal.now ≡ None }
     ensures out_closed { (R.seen room.new).open_as out.now ≡ None }
     ensures cause { HasCause ((R.seen room.old).out_faults out.now) ((R.seen room.new).out_faults out.now) result }
@@ -96,8 +96,8 @@ pub fn export<R: Room>(
     ensures closed { (name : List ℕ) → (R.seen room.new).open_as name ≡ None }
 
     // Nothing but the log and the output changes, and the output only where it is due.
-    ensures apart { ApartFrom (R.seen room.old) (R.seen room.new) (journal.now ∷ out.now ∷ []) }
-    ensures untouched { result ≢ 0 → result ≢ 4 → ApartFrom (R.seen room.old) (R.seen room.new) (journal.now ∷ []) }
+    ensures apart { SameBut (R.seen room.old) (R.seen room.new) (journal.now ∷ out.now ∷ []) }
+    ensures untouched { result ≢ 0 → result ≢ 4 → SameBut (R.seen room.old) (R.seen room.new) (journal.now ∷ []) }
     ensures keeps { (R.seen room.old).tells ≡ true → KeepsHistory (result ≡ 5) (R.seen room.old) (R.seen room.new) journal.now }
 
     // Each fault has its cause.

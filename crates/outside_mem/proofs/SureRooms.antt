@@ -1,11 +1,11 @@
 -- A sure room, seen as any room is, after what is kept under its names changed or stayed.
-use Rattle.std.proofs.Common.{◌≡◌, ◌≢◌, ◌≤◌, Bool, true, false, true≢false, List, ℕ, Option, Some, None, refl, sym, ap, subst, ◌∙◌}
+use Rattle.std.proofs.Common.{◌≡◌, ◌≢◌, ◌≤◌, Bool, true, false, true≢false, List, ℕ, Option, Some, None, refl, sym, ap, subst, ◌∙◌, ◌∷◌, []}
 use Rattle.std.specs.Str.{bytes_eq}
 use Rattle.std.proofs.lemmas.Slice.Eq.{bytes_eq-Decides}
 use Rattle.outside.specs.Disk.{SameDisk}
-use Rattle.outside.specs.Room.{Stays, Apart}
+use Rattle.outside.specs.Room.{SameBut}
 use Rattle.outside.proofs.Disks.{same_disk}
-use Rattle.outside.proofs.Rooms.{stays_apart}
+use Rattle.outside.proofs.Rooms.{same_but_none}
 use Rattle.outside_mem.specs.SureDisk.{sure_disk_view}
 use Rattle.outside_mem.specs.SureFiles.{told_kept, one_fewer}
 use Rattle.outside_mem.specs.SureRoom.{kept_under, sure_room_view, kept_log, kept_sort, is_kept_log, SameKept, KeepsUnder, HasTaken}
@@ -19,31 +19,31 @@ same_log a b same = subst (λ s. SameDisk (kept_log a) (kept_log s)) (sym same) 
 
 -- what is kept under each name stays
 pub stays_kept : (old new : SureRoom) → SameKept old new → old.in_faults ≤ new.in_faults → old.out_faults ≤ new.out_faults → old.log_faults ≤ new.log_faults
-    → Stays (sure_room_view old) (sure_room_view new)
+    → SameBut (sure_room_view old) (sure_room_view new) []
 stays_kept old new same ins outs logs = record {
   tells = refl;
-  files = λ n. ap told_kept (same.under n);
-  open_names = λ n. ap kept_sort (same.under n);
-  log_names = λ n. ap is_kept_log (same.under n);
-  logs = λ n _. same_log (kept_under old n) (kept_under new n) (same.under n);
+  files = λ n _. ap told_kept (same.under n);
+  open_names = λ n _. ap kept_sort (same.under n);
+  log_names = λ n _. ap is_kept_log (same.under n);
+  logs = λ n _ _. same_log (kept_under old n) (kept_under new n) (same.under n);
   ins = λ n. ins;
   outs = λ n. outs;
   log_counts = λ n. logs;
 }
 
 pub apart_same : (old new : SureRoom) (name : List ℕ) → SameKept old new → old.in_faults ≤ new.in_faults → old.out_faults ≤ new.out_faults → old.log_faults ≤ new.log_faults
-    → Apart (sure_room_view old) (sure_room_view new) name
-apart_same old new name same ins outs logs = stays_apart (sure_room_view old) (sure_room_view new) name (stays_kept old new same ins outs logs)
+    → SameBut (sure_room_view old) (sure_room_view new) (name ∷ [])
+apart_same old new name same ins outs logs = same_but_none (sure_room_view old) (sure_room_view new) (name ∷ []) (stays_kept old new same ins outs logs)
 
 -- something else is kept under one name
 pub apart_kept : (old new : SureRoom) (name : List ℕ) (kept : Kept) → KeepsUnder old new name kept
-    → old.in_faults ≤ new.in_faults → old.out_faults ≤ new.out_faults → old.log_faults ≤ new.log_faults → Apart (sure_room_view old) (sure_room_view new) name
+    → old.in_faults ≤ new.in_faults → old.out_faults ≤ new.out_faults → old.log_faults ≤ new.log_faults → SameBut (sure_room_view old) (sure_room_view new) (name ∷ [])
 apart_kept old new name kept keeps ins outs logs = record {
   tells = refl;
-  files = λ n other. ap told_kept (keeps.others n other);
-  open_names = λ n other. ap kept_sort (keeps.others n other);
-  log_names = λ n other. ap is_kept_log (keeps.others n other);
-  logs = λ n other _. same_log (kept_under old n) (kept_under new n) (keeps.others n other);
+  files = λ n other. ap told_kept (keeps.others n other.0);
+  open_names = λ n other. ap kept_sort (keeps.others n other.0);
+  log_names = λ n other. ap is_kept_log (keeps.others n other.0);
+  logs = λ n other _. same_log (kept_under old n) (kept_under new n) (keeps.others n other.0);
   ins = λ n. ins;
   outs = λ n. outs;
   log_counts = λ n. logs;
@@ -94,17 +94,17 @@ of_each P old new name taken stays fewer n = decided (bytes_eq n name) refl
         subst (λ m. P (kept_under old m) (kept_under new m)) (sym is) (subst (P (kept_under old name)) (sym taken.here) (fewer (kept_under old name)))
     decided false differ =
         let other : n ≢ name = (λ e. true≢false (sym ((bytes_eq-Decides n name).1 e) ∙ differ)) in
-        subst (P (kept_under old n)) (sym (taken.others n other)) (stays (kept_under old n))
+        subst (P (kept_under old n)) (sym (taken.others n other.0)) (stays (kept_under old n))
 
 -- one copy was taken
 pub stays_taken : (old new : SureRoom) (name : List ℕ) → HasTaken old new name → old.in_faults ≤ new.in_faults → old.out_faults ≤ new.out_faults → old.log_faults ≤ new.log_faults
-    → Stays (sure_room_view old) (sure_room_view new)
+    → SameBut (sure_room_view old) (sure_room_view new) []
 stays_taken old new name taken ins outs logs = record {
   tells = refl;
-  files = of_each (λ a b. told_kept b ≡ told_kept a) old new name taken (λ kept. refl) fewer_file;
-  open_names = of_each (λ a b. kept_sort b ≡ kept_sort a) old new name taken (λ kept. refl) fewer_sort;
-  log_names = of_each (λ a b. is_kept_log b ≡ is_kept_log a) old new name taken (λ kept. refl) fewer_is_log;
-  logs = λ n _. of_each (λ a b. SameDisk (kept_log a) (kept_log b)) old new name taken (λ kept. same_disk (kept_log kept)) fewer_log n;
+  files = λ n _. of_each (λ a b. told_kept b ≡ told_kept a) old new name taken (λ kept. refl) fewer_file n;
+  open_names = λ n _. of_each (λ a b. kept_sort b ≡ kept_sort a) old new name taken (λ kept. refl) fewer_sort n;
+  log_names = λ n _. of_each (λ a b. is_kept_log b ≡ is_kept_log a) old new name taken (λ kept. refl) fewer_is_log n;
+  logs = λ n _ _. of_each (λ a b. SameDisk (kept_log a) (kept_log b)) old new name taken (λ kept. same_disk (kept_log kept)) fewer_log n;
   ins = λ n. ins;
   outs = λ n. outs;
   log_counts = λ n. logs;

@@ -1,8 +1,8 @@
-ghost use Rattle.std.specs.Prelude.{◌≡◌, ◌≢◌, ℕ, ◌+◌, ◌-◌, ◌<◌, ◌≤◌, ◌==◌, List, [], max, length, Option, Some, None, IsOk, IfOk, IfSome, IfNone, OnOk, OnErr, OnSome, is_err, is_none, true, false, ◌||◌, nat_lt, if◌then◌else◌};
+ghost use Rattle.std.specs.Prelude.{◌≡◌, ◌≢◌, ℕ, ◌+◌, ◌-◌, ◌<◌, ◌≤◌, ◌==◌, List, [], max, length, Option, Some, None, IsOk, IfOk, IfSome, IfNone, OnOk, OnErr, OnSome, is_err, is_none, true, false, ◌||◌, nat_lt, if◌then◌else◌, ◌∷◌};
 ghost use Rattle.std.specs.Option.{option_copied};
 ghost use Rattle.outside.specs.Disk.{SameDisk, longest_disk};
 ghost use Rattle.outside.specs.Fault.{HasCause, count_sum, counted};
-ghost use Rattle.outside.specs.Room.{AsOutput, AsLog, bytes_or_none, Stays, Apart};
+ghost use Rattle.outside.specs.Room.{AsOutput, AsLog, bytes_or_none, SameBut};
 ghost use Rattle.outside_mem.specs.SureDisk.{disk_state, sure_disk_view};
 ghost use Rattle.outside_mem.specs.SureFiles.{told_kept, copies_left};
 ghost use Rattle.outside_mem.specs.SureRoom.{sure_room_view, kept_under, free_places, kept_log, room_kept, lacks_place, lacks_log, places_after, SameKept, KeepsUnder, HasTaken, HasSureCounts};
@@ -156,7 +156,7 @@ impl Room for SureRoom {
     #[tactic(auto, using(crate::proofs::SureRooms::stays_taken))]
     fn open_in(&mut self, name: &str) -> Result<SureSource, Failed>
         requires { (sure_room_view self.old).open_as name.now ≡ None }
-        ensures stays { Stays (sure_room_view self.old) (sure_room_view self.new) }
+        ensures stays { SameBut (sure_room_view self.old) (sure_room_view self.new) [] }
         ensures cause { HasCause ((sure_room_view self.old).in_faults name.now) ((sure_room_view self.new).in_faults name.now) result }
 
         // It fails exactly where the name has no copy left, and else gives one of them.
@@ -177,8 +177,8 @@ impl Room for SureRoom {
     #[tactic(auto, using(crate::proofs::SureRooms::stays_kept, crate::proofs::SureRooms::apart_kept, crate::proofs::SureRooms::apart_same))]
     fn open_out(&mut self, name: &str) -> Result<SureSink, Failed>
         requires { (sure_room_view self.old).open_as name.now ≡ None }
-        ensures apart { Apart (sure_room_view self.old) (sure_room_view self.new) name.now }
-        ensures stays { OnErr result (Stays (sure_room_view self.old) (sure_room_view self.new)) }
+        ensures apart { SameBut (sure_room_view self.old) (sure_room_view self.new) (name.now ∷ []) }
+        ensures stays { OnErr result (SameBut (sure_room_view self.old) (sure_room_view self.new) []) }
         ensures cause { HasCause ((sure_room_view self.old).out_faults name.now) ((sure_room_view self.new).out_faults name.now) result }
 
         // It fails exactly where the name is new, and no place is left or the name is too long for it.
@@ -200,8 +200,8 @@ impl Room for SureRoom {
     #[tactic(auto, using(crate::proofs::SureRooms::stays_kept, crate::proofs::SureRooms::apart_kept, crate::proofs::SureRooms::apart_same))]
     fn open_log(&mut self, name: &str) -> Result<SureDisk, Failed>
         requires { (sure_room_view self.old).open_as name.now ≡ None }
-        ensures apart { Apart (sure_room_view self.old) (sure_room_view self.new) name.now }
-        ensures stays { OnErr result (Stays (sure_room_view self.old) (sure_room_view self.new)) }
+        ensures apart { SameBut (sure_room_view self.old) (sure_room_view self.new) (name.now ∷ []) }
+        ensures stays { OnErr result (SameBut (sure_room_view self.old) (sure_room_view self.new) []) }
         ensures cause { HasCause ((sure_room_view self.old).log_faults name.now) ((sure_room_view self.new).log_faults name.now) result }
 
         // It fails exactly where an output would, and where the file is longer than a disk can be.
@@ -227,7 +227,7 @@ impl Room for SureRoom {
     // A sure source has no faults to add.
     #[tactic(auto, using(crate::proofs::SureRooms::stays_kept))]
     fn close_in(&mut self, _name: &str, _object: SureSource)
-        ensures stays { Stays (sure_room_view self.old) (sure_room_view self.new) }
+        ensures stays { SameBut (sure_room_view self.old) (sure_room_view self.new) [] }
         ensures kept { SameKept self.old self.new }
         ensures counts { HasSureCounts self.new self.old.shelf.room (free_places self.old) self.old.in_faults self.old.out_faults self.old.log_faults }
         ensures counted { self.new.in_faults ≡ count_sum self.old.in_faults 0 }
@@ -238,7 +238,7 @@ impl Room for SureRoom {
     #[tactic(auto, using(crate::proofs::SureRooms::apart_kept))]
     fn close_out(&mut self, name: &str, object: SureSink) -> Result<(), Failed>
         requires { (sure_room_view self.old).open_as name.now ≡ Some AsOutput }
-        ensures apart { Apart (sure_room_view self.old) (sure_room_view self.new) name.now }
+        ensures apart { SameBut (sure_room_view self.old) (sure_room_view self.new) (name.now ∷ []) }
 
         // It never fails, and the name has a file of what was written, in the sink's room, without copies.
         ensures ok { IsOk result }
@@ -256,7 +256,7 @@ impl Room for SureRoom {
     #[tactic(auto, using(crate::proofs::SureRooms::apart_kept, crate::proofs::SureRooms::closed_log))]
     fn close_log(&mut self, name: &str, object: SureDisk)
         requires { (sure_room_view self.old).open_as name.now ≡ Some AsLog }
-        ensures apart { Apart (sure_room_view self.old) (sure_room_view self.new) name.now }
+        ensures apart { SameBut (sure_room_view self.old) (sure_room_view self.new) (name.now ∷ []) }
 
         // The name has the disk as its closed log.
         ensures moments { SameDisk (sure_disk_view object) (kept_log (kept_under self.new name.now)) }

@@ -1,6 +1,6 @@
-ghost use Rattle.std.specs.Prelude.{◌≡◌, [], true, Some, None, OnOk};
+ghost use Rattle.std.specs.Prelude.{◌≡◌, [], true, Some, None, OnOk, ◌∷◌};
 ghost use Rattle.outside.specs.Fault.{HasCause};
-ghost use Rattle.outside.specs.Room.{Apart};
+ghost use Rattle.outside.specs.Room.{SameBut};
 ghost use Rattle.entry_record.specs.History.{state_of};
 ghost use Rattle.entry_record.specs.Output.{export_of, all_keys};
 ghost use Rattle.plain_commands.specs.Files.{IsPartWritten};
@@ -17,7 +17,7 @@ pub(crate) const OUTPUT_FAULT: u8 = 4;
 pub fn write_out<R: Room>(room: &mut R, name: &str, core: &Catalogue) -> Result<(), Failed>
     requires free { (R.seen room.old).open_as name.now ≡ None }
     requires staged { core.now.staged ≡ [] }
-    ensures apart { Apart (R.seen room.old) (R.seen room.new) name.now }
+    ensures apart { SameBut (R.seen room.old) (R.seen room.new) (name.now ∷ []) }
     ensures closed { (R.seen room.new).open_as name.now ≡ None }
     ensures cause { HasCause ((R.seen room.old).out_faults name.now) ((R.seen room.new).out_faults name.now) result }
     ensures bytes { OnOk result ((R.seen room.old).tells ≡ true →

@@ -1,7 +1,7 @@
 //! Outputs: each is closed again on every path.
-ghost use Rattle.std.specs.Prelude.{◌≡◌, [], true, Some, None, OnOk};
+ghost use Rattle.std.specs.Prelude.{◌≡◌, [], true, Some, None, OnOk, ◌∷◌};
 ghost use Rattle.outside.specs.Fault.{HasCause, HasWriteCause};
-ghost use Rattle.outside.specs.Room.{Apart};
+ghost use Rattle.outside.specs.Room.{SameBut};
 ghost use Rattle.entry_record.specs.History.{state_of};
 ghost use Rattle.entry_record.specs.Output.{export_of, report_of};
 ghost use Rattle.selection.specs.Selections.{ForSelected, IsCallable};
@@ -25,7 +25,7 @@ pub fn write_export<R: Room, F: Fn(&Key) -> bool>(
     requires free { (R.seen room.old).open_as name.now ≡ None }
     requires staged { core.now.staged ≡ [] }
     requires callable { IsCallable F.Fn selection.now }
-    ensures apart { Apart (R.seen room.old) (R.seen room.new) name.now }
+    ensures apart { SameBut (R.seen room.old) (R.seen room.new) (name.now ∷ []) }
     ensures closed { (R.seen room.new).open_as name.now ≡ None }
     ensures cause { HasCause ((R.seen room.old).out_faults name.now) ((R.seen room.new).out_faults name.now) result }
 
@@ -51,7 +51,7 @@ pub fn write_report_file<R: Room>(
 ) -> Result<(), WriteFault>
     requires free { (R.seen room.old).open_as name.now ≡ None }
     requires staged { core.now.staged ≡ [] }
-    ensures apart { Apart (R.seen room.old) (R.seen room.new) name.now }
+    ensures apart { SameBut (R.seen room.old) (R.seen room.new) (name.now ∷ []) }
     ensures closed { (R.seen room.new).open_as name.now ≡ None }
     ensures cause { HasWriteCause ((R.seen room.old).out_faults name.now) ((R.seen room.new).out_faults name.now) result }
 

@@ -5,7 +5,7 @@ ghost use Rattle.std.specs.Io.KnownBytes.{Appends};
 ghost use Rattle.outside.specs.Fault.{Rose};
 ghost use Rattle.outside.specs.Sink.{WritesFront};
 ghost use Rattle.command_words.specs.Command.{Library, library_at};
-ghost use Rattle.room_files.specs.Rooms.{ApartFrom};
+ghost use Rattle.outside.specs.Room.{SameBut};
 ghost use Rattle.durable_catalogue.specs.Openings.{IsWithin};
 ghost use Rattle.union_top.specs.Commands.{Loads, Runs};
 
@@ -69,7 +69,7 @@ pub fn load<H: Threads + Wait + Sync, R: Room, G: Gate + Sync>(
     requires apart { (index : ℕ) (library : Library) → library_at words.now index ≡ Some library → library.file ≢ journal.now }
     ensures statuses { IsTrue (list_any (λ s. s == result) (0 ∷ 1 ∷ 3 ∷ 4 ∷ 5 ∷ 6 ∷ 7 ∷ 8 ∷ 9 ∷ [])) }
     ensures closed { (name : List ℕ) → (R.seen room.new).open_as name ≡ None }
-    ensures apart { ApartFrom (R.seen room.old) (R.seen room.new) (journal.now ∷ []) }
+    ensures apart { SameBut (R.seen room.old) (R.seen room.new) (journal.now ∷ []) }
     ensures ends { Loads words.now journal.now files (record {
       old = R.seen room.old;
       new = R.seen room.new;
@@ -119,7 +119,7 @@ pub fn run_files<H: Threads + Wait + Sync, R: Room, G: Gate + Sync>(
     requires differ { report.now ≢ out.now }
     ensures statuses { IsTrue (list_any (λ s. s == result) (0 ∷ 1 ∷ 3 ∷ 4 ∷ 5 ∷ 6 ∷ 7 ∷ 8 ∷ 9 ∷ [])) }
     ensures closed { (name : List ℕ) → (R.seen room.new).open_as name ≡ None }
-    ensures apart { ApartFrom (R.seen room.old) (R.seen room.new) (journal.now ∷ out.now ∷ report.now ∷ []) }
+    ensures apart { SameBut (R.seen room.old) (R.seen room.new) (journal.now ∷ out.now ∷ report.now ∷ []) }
     ensures ends { Runs words.now journal.now out.now report.now files (record {
       old = R.seen room.old;
       new = R.seen room.new;

@@ -4,7 +4,8 @@ ghost use Rattle.outside.specs.Fault.{Rose};
 ghost use Rattle.outside.specs.declared.fault.WriteFault.TheVariants.{OutputFault};
 ghost use Rattle.entry_record.specs.History.{state_of};
 ghost use Rattle.entry_record.specs.Output.{export_of, all_keys, report_of};
-ghost use Rattle.room_files.specs.Rooms.{ApartFrom, IsPartWritten};
+ghost use Rattle.room_files.specs.Rooms.{IsPartWritten};
+ghost use Rattle.outside.specs.Room.{SameBut};
 
 use catalogue_core::Catalogue;
 use marc_types::Key;
@@ -25,7 +26,7 @@ pub fn write_outputs<R: Room>(
     requires report_free { (R.seen room.old).open_as report.now ≡ None }
     requires differ { report.now ≢ out.now }
     requires staged { core.now.staged ≡ [] }
-    ensures apart { ApartFrom (R.seen room.old) (R.seen room.new) (out.now ∷ report.now ∷ []) }
+    ensures apart { SameBut (R.seen room.old) (R.seen room.new) (out.now ∷ report.now ∷ []) }
     ensures closed { (R.seen room.new).open_as out.now ≡ None }
     ensures report_closed { (R.seen room.new).open_as report.now ≡ None }
     ensures cause { IfErr result (λ fault. fault ≡ OutputFault →

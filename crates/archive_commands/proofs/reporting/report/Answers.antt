@@ -5,7 +5,6 @@ use Rattle.entry_record.specs.Output.{report_of}
 use Rattle.durable_catalogue.specs.declared.fault.OpenFault.TheVariants.{NoMemory}
 use Rattle.room_files.specs.Journals.{log_bytes}
 use Rattle.room_files.proofs.Journals.{closed_keeps}
-use Rattle.room_files.proofs.Rooms.{apart_from_one}
 use Rattle.console_lines.specs.Faults.{fault_status}
 use Rattle.archive_commands.proofs.Rooms.{closed_everywhere, apart_opened, part_opened}
 use Rattle.archive_commands.proofs.Histories.{whole_of_any, part_of_any, fitting_history}
@@ -112,4 +111,4 @@ returns-in-Err-NoMemory-clause-unread g c status told = inr (
     (c.in-Ok.ensures.history told) c.in-Ok.ensures.within)
 
 pub returns-in-Err-clause-unread : goal.returns-in-Err-clause-unread
-returns-in-Err-clause-unread g c status told = inl (apart_from_one _ _ _ c.open_archive.ensures.apart)
+returns-in-Err-clause-unread g c status told = inl c.open_archive.ensures.apart

@@ -8,14 +8,14 @@ pub returns-in-Ok-clause-export_part : goal.returns-in-Ok-clause-export_part
 returns-in-Ok-clause-export_part g c told =
     let seen = g.R.Room.seen in
     subst (λ f. IsPartWritten ((seen c.args.room.now).file c.args.out.now) f (export_of all_keys (state_of c.args.core.now.history)))
-    (sym (c.write_report_file.ensures.apart.files c.args.out.now (λ is. c.requires.differ (sym is))))
+    (sym (c.write_report_file.ensures.apart.files c.args.out.now ((λ is. c.requires.differ (sym is)), tt)))
     (c.write_export.ensures.part all_keys (c.new-everything.ensures.selects all_keys (search rules)) told)
 
 pub returns-in-Ok-clause-report_part : goal.returns-in-Ok-clause-report_part
 returns-in-Ok-clause-report_part g c told =
     let seen = g.R.Room.seen in
     subst (λ f. IsPartWritten f ((seen c.write_report_file.new.room).file c.args.report.now) (report_of (state_of c.args.core.now.history)))
-    (c.write_export.ensures.apart.files c.args.report.now c.requires.differ)
+    (c.write_export.ensures.apart.files c.args.report.now (c.requires.differ, tt))
     (c.write_report_file.ensures.part (c.write_export.ensures.apart.tells ∙ told))
 
 pub returns-in-Err-clause-export_part : goal.returns-in-Err-clause-export_part
