@@ -1,5 +1,5 @@
 -- What clauses see of a room.
-use Rattle.std.specs.Prelude.{◌≡◌, ◌≢◌, ℕ, ◌≤◌, List, [], ◌∷◌, Option, Some, None, Bool, true, Unit}
+use Rattle.std.specs.Prelude.{◌≡◌, ◌≢◌, ℕ, ◌≤◌, List, [], ◌∷◌, Option, Some, None, Bool, true}
 use Rattle.outside.specs.Disk.{DiskView, SameDisk}
 
 -- how a name is open, other than as input

@@ -10,8 +10,8 @@ ghost use Rattle.outside_mem.specs.MemDisk.{disk_view};
 ghost use Rattle.outside_mem.specs.declared.files.FileState.TheVariants.{Absent, Closed, ClosedLog, OpenOutput, OpenLog};
 
 use crate::files::{self, FileState, MemFile};
-use crate::{MemDisk, MemSink, MemSource, NoMemory};
-use outside::{Bytes, Failed, LONGEST_DISK, Room};
+use crate::{MemDisk, MemSink, MemSource};
+use outside::{Bytes, Failed, LONGEST_DISK, NoMemory, Room};
 use std::alloc::Global;
 
 /// A room in memory, which tells its files and closed logs. It keeps one count of faults per sort, which stands for every name.
