@@ -3,7 +3,7 @@ use Rattle.std.proofs.Common.{◌≡◌, ◌≢◌, ◌∙◌, ◌⊎◌, inl, i
 use Rattle.std.specs.Str.{bytes_eq}
 use Rattle.marc_types.specs.Order.{text_Decides}
 use Rattle.outside.specs.Room.{RoomView, SameBut, AsLog}
-use Rattle.room_files.specs.Rooms.{IsPartWritten}
+use Rattle.output_files.specs.Outputs.{IsPartWritten}
 use Rattle.outside.proofs.Rooms.{same_but_first, same_but_then}
 
 same_or_not : (a b : List ℕ) → (a ≡ b) ⊎ (a ≢ b)

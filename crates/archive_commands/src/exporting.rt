@@ -10,16 +10,17 @@ ghost use Rattle.entry_record.specs.Output.{export_of};
 ghost use Rattle.durable_catalogue.specs.Logs.{HasHistory};
 ghost use Rattle.console_lines.specs.Faults.{TellsFault};
 ghost use Rattle.room_files.specs.Journals.{log_bytes, KeepsHistory};
-ghost use Rattle.room_files.specs.Rooms.{IsPartWritten};
+ghost use Rattle.output_files.specs.Outputs.{IsPartWritten};
 ghost use Rattle.archive_commands.specs.Archives.{WhyUnopened, kept_keys, HasFittingHistory};
 
-use crate::fault::{OUTPUT_FAULT, WRITTEN, opening_fault};
+use crate::fault::{OUTPUT_FAULT, WRITTEN};
 use catalogue_core::Catalogue;
 use console_lines::tell;
 use durable_catalogue::Archive;
 use marc_types::Key;
 use outside::{Failed, Room};
-use room_files::{close_archive, open_archive, write_export};
+use output_files::{write_all_records, write_export};
+use room_files::{close_archive, fault_of_opening, open_archive};
 use selection::Selection;
 use std::alloc::Global;
 
@@ -41,10 +42,7 @@ fn write_kept<R: Room>(
         (export_of (kept_keys (option_copied code.entry)) (state_of core.now.history)) }
 {
     match code {
-        None => {
-            let everything = Selection::new(|_key: &Key| true);
-            write_export(room, out, core, &everything)
-        }
+        None => write_all_records(room, out, core),
         Some(code) => {
             let coded = Selection::new(|key: &Key| key.code.as_str() == code);
             write_export(room, out, core, &coded)
@@ -123,7 +121,7 @@ pub fn export<R: Room>(
 {
     let archive = match open_archive(alloc, room, journal) {
         Ok(archive) => archive,
-        Err(fault) => return tell(console, opening_fault(fault)),
+        Err(fault) => return tell(console, fault_of_opening(fault)),
     };
     match export_archive(room, journal, out, code, archive) {
         Ok(()) => WRITTEN,

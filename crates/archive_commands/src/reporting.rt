@@ -9,14 +9,15 @@ ghost use Rattle.entry_record.specs.Output.{report_of};
 ghost use Rattle.durable_catalogue.specs.Logs.{HasHistory};
 ghost use Rattle.console_lines.specs.Faults.{TellsFault};
 ghost use Rattle.room_files.specs.Journals.{log_bytes, KeepsHistory};
-ghost use Rattle.room_files.specs.Rooms.{IsPartWritten};
+ghost use Rattle.output_files.specs.Outputs.{IsPartWritten};
 ghost use Rattle.archive_commands.specs.Archives.{WhyUnopened, HasFittingHistory};
 
-use crate::fault::{OUTPUT_FAULT, WRITTEN, opening_fault};
+use crate::fault::{OUTPUT_FAULT, WRITTEN};
 use console_lines::{Fault, tell};
 use durable_catalogue::Archive;
 use outside::{Room, WriteFault};
-use room_files::{close_archive, open_archive, write_report_file};
+use output_files::write_report_file;
+use room_files::{close_archive, fault_of_opening, open_archive};
 use std::alloc::Global;
 
 /// Writes an archive's report into the file `out`, and closes its log.
@@ -89,7 +90,7 @@ pub fn report<R: Room>(
 {
     let archive = match open_archive(alloc, room, journal) {
         Ok(archive) => archive,
-        Err(fault) => return tell(console, opening_fault(fault)),
+        Err(fault) => return tell(console, fault_of_opening(fault)),
     };
     match report_archive(alloc, room, journal, out, archive) {
         Ok(()) => WRITTEN,

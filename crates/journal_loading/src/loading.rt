@@ -8,7 +8,7 @@ ghost use Rattle.room_files.specs.Journals.{IsOpenedFrom, IsClosedTo};
 ghost use Rattle.journal_loading.specs.Inputs.{AreLibraries, IsInputFault, AreInputs, IsFresh};
 ghost use Rattle.journal_loading.specs.Outcomes.{IsLoadedWhole, IsUnbegun, IsLoadingFault, IsFinished, IsStopped};
 
-use crate::faults::{fault_of_opening, loading_fault};
+use crate::faults::loading_fault;
 use crate::inputs::{close_inputs, open_inputs};
 use command_words::Words;
 use console_lines::Fault;
@@ -17,7 +17,7 @@ use loader_workers::Results;
 use marc_types::NoMemory;
 use outside::{Disk, Gate, Room};
 use parallel_loading::{InputFiles, load_files};
-use room_files::{close_journal, open_journal};
+use room_files::{close_journal, fault_of_opening, open_journal};
 use std::alloc::Global;
 use std::sync::Wait;
 use std::thread::Threads;

@@ -4,10 +4,10 @@ ghost use Rattle.outside.specs.Fault.{Rose, HasWriteCause};
 ghost use Rattle.outside.specs.Room.{SameBut};
 ghost use Rattle.workload.specs.Workload.{workload_bytes};
 ghost use Rattle.console_lines.specs.Faults.{fault_line, IsFaultTold};
-ghost use Rattle.plain_commands.specs.Files.{IsPartWritten};
+ghost use Rattle.output_files.specs.Outputs.{IsPartWritten};
 ghost use Rattle.plain_commands.specs.Making.{IsEndOfMake};
 
-use crate::output::OUTPUT_FAULT;
+use crate::OUTPUT_FAULT;
 use crate::summing::workload_text;
 use console_lines::{Fault, tell};
 use marc_types::NoMemory;

@@ -8,10 +8,11 @@ ghost use Rattle.console_lines.specs.Faults.{TellsFault};
 ghost use Rattle.plain_commands.specs.Loading.{EndsLoading, IsFullAt};
 ghost use Rattle.plain_commands.specs.Passing.{IsReady, IsEndOfPass};
 
-use crate::output::{OUTPUT_FAULT, write_out};
+use crate::OUTPUT_FAULT;
 use crate::ready::{Ready, prepare};
 use console_lines::tell;
 use outside::{Room, Sink};
+use output_files::write_all_records;
 use std::alloc::Global;
 
 /// The exit statuses of a pass that wrote all: nothing was refused, or something was.
@@ -31,7 +32,7 @@ fn deliver<R: Room>(room: &mut R, console: &mut R::Out, out: &str, ready: &Ready
         IsEndOfPass library file bytes ((R.seen room.old).file out.now) ((R.seen room.new).file out.now)
         (R.Out.written console.old) (R.Out.written console.new) result }
 {
-    match write_out(room, out, ready.loaded.core()) {
+    match write_all_records(room, out, ready.loaded.core()) {
         Ok(()) => {}
         Err(_) => return OUTPUT_FAULT,
     }

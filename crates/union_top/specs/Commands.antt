@@ -11,7 +11,7 @@ use Rattle.entry_record.specs.Output.{export_of, report_of}
 use Rattle.console_lines.specs.Faults.{TellsFault, IsFaultTold, fault_line}
 use Rattle.console_lines.specs.declared.fault.Fault.TheVariants.{Memory}
 use Rattle.durable_catalogue.specs.Logs.{HasHistory}
-use Rattle.room_files.specs.Rooms.{IsPartWritten}
+use Rattle.output_files.specs.Outputs.{IsPartWritten}
 use Rattle.room_files.specs.Journals.{log_bytes, KeepsHistory}
 use Rattle.archive_commands.specs.Archives.{WhyUnopened, kept_keys, HasFittingHistory}
 use Rattle.plain_commands.specs.Loading.{IsFullAt, EndsLoading}

@@ -6,7 +6,7 @@ use Rattle.outside.proofs.Rooms.{same_but_then}
 use Rattle.durable_catalogue.specs.Durables.{mark_of, opening}
 use Rattle.entry_record.specs.History.{state_of}
 use Rattle.entry_record.specs.Output.{export_of, report_of, all_keys}
-use Rattle.room_files.specs.Rooms.{IsPartWritten, AsItWas}
+use Rattle.output_files.specs.Outputs.{IsPartWritten, AsItWas}
 use Rattle.union_top.specs.Texts.{files_text, has_refused}
 use Rattle.union_top.specs.Runs.{NotLoaded, NoMemory}
 use Rattle.union_top.proofs.OneHistory.{merged_by}

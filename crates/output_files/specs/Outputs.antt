@@ -1,4 +1,4 @@
--- What a command leaves of the files that it writes.
+-- What an output leaves of the file of its name.
 use Rattle.std.specs.Prelude.{◌≡◌, ℕ, List, ◌++◌, Option, Some}
 
 -- the file is as it was, or holds a front of the bytes that are due there

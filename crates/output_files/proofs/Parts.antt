@@ -2,7 +2,7 @@
 use Rattle.std.proofs.Common.{◌≡◌, ◌∙◌, ℕ, List, [], Option, Some}
 use Rattle.outside.specs.Sink.{WritesFront}
 use Rattle.outside.proofs.Fronts.{appends_told}
-use Rattle.plain_commands.specs.Files.{IsPartWritten, Holds}
+use Rattle.output_files.specs.Outputs.{IsPartWritten, Holds}
 
 pub part_of_closed : (old new empty written : Option (List ℕ)) (due : List ℕ)
     → empty ≡ Some [] → WritesFront empty written due → new ≡ written → IsPartWritten old new due

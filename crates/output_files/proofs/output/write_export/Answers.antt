@@ -1,6 +1,6 @@
 use Rattle.std.proofs.Common.{◌∙◌}
-use Rattle.room_files.proofs.Parts.{part_of_closed}
-use Rattle.room_files.proofs.output.write_export.Goals as goal
+use Rattle.output_files.proofs.Parts.{part_of_closed}
+use Rattle.output_files.proofs.output.write_export.Goals as goal
 
 pub returns-in_err-written-clause-part : goal.returns-in_err-written-clause-part
 returns-in_err-written-clause-part g c kept selects told =
