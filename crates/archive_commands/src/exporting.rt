@@ -4,22 +4,23 @@ ghost use Rattle.std.specs.Option.{option_copied};
 ghost use Rattle.marc_types.specs.declared.entry.Entry.{Entry};
 ghost use Rattle.outside.specs.Disk.{SameDisk};
 ghost use Rattle.outside.specs.Fault.{HasCause, Rose};
-ghost use Rattle.outside.specs.Room.{AsLog, Apart};
+ghost use Rattle.outside.specs.Room.{AsLog, SameBut};
 ghost use Rattle.catalogue_rules.specs.Settle.{state_of};
 ghost use Rattle.catalogue_rules.specs.Output.{export_of};
 ghost use Rattle.durable_catalogue.specs.Logs.{HasHistory};
 ghost use Rattle.console_lines.specs.Faults.{TellsFault};
 ghost use Rattle.room_files.specs.Journals.{log_bytes, KeepsHistory};
-ghost use Rattle.room_files.specs.Rooms.{ApartFrom, IsPartWritten};
+ghost use Rattle.output_files.specs.Outputs.{IsPartWritten};
 ghost use Rattle.archive_commands.specs.Archives.{WhyUnopened, kept_keys, HasFittingHistory};
 
-use crate::fault::{OUTPUT_FAULT, WRITTEN, opening_fault};
+use crate::fault::{OUTPUT_FAULT, WRITTEN};
 use catalogue_core::Catalogue;
 use console_lines::tell;
 use durable_catalogue::Archive;
 use marc_types::Key;
 use outside::{Failed, Room};
-use room_files::{close_archive, open_archive, write_export};
+use output_files::{write_all_records, write_export};
+use room_files::{close_archive, fault_of_opening, open_archive};
 use selection::Selection;
 use std::alloc::Global;
 
@@ -32,7 +33,7 @@ fn write_kept<R: Room>(
 ) -> Result<(), Failed>
     requires free { (R.seen room.old).open_as out.now ≡ None }
     requires staged { core.now.staged ≡ [] }
-    ensures apart { Apart (R.seen room.old) (R.seen room.new) out.now }
+    ensures apart { SameBut (R.seen room.old) (R.seen room.new) (out.now ∷ []) }
     ensures closed { (R.seen room.new).open_as out.now ≡ None }
     ensures cause { HasCause ((R.seen room.old).out_faults out.now) ((R.seen room.new).out_faults out.now) result }
     ensures bytes { OnOk result ((R.seen room.old).tells ≡ true →
@@ -41,10 +42,7 @@ fn write_kept<R: Room>(
         (export_of (kept_keys (option_copied code.entry)) (state_of core.now.history)) }
 {
     match code {
-        None => {
-            let everything = Selection::new(|_key: &Key| true);
-            write_export(room, out, core, &everything)
-        }
+        None => write_all_records(room, out, core),
         Some(code) => {
             let coded = Selection::new(|key: &Key| key.code.as_str() == code);
             write_export(room, out, core, &coded)
@@ -62,7 +60,7 @@ fn export_archive<R: Room>(
 ) -> Result<(), Failed>
     requires opened { (R.seen room.old).open_as journal.now ≡ Some AsLog }
     requires free { (R.seen room.old).open_as out.now ≡ None }
-    ensures apart { ApartFrom (R.seen room.old) (R.seen room.new) (journal.now ∷ out.now ∷ []) }
+    ensures apart { SameBut (R.seen room.old) (R.seen room.new) (journal.now ∷ out.now ∷ []) }
     ensures closed { (R.seen room.new).open_as journal.now ≡ None }
     ensures out_closed { (R.seen room.new).open_as out.now ≡ None }
     ensures cause { HasCause ((R.seen room.old).out_faults out.now) ((R.seen room.new).out_faults out.now) result }
@@ -96,8 +94,8 @@ pub fn export<R: Room>(
     ensures closed { (name : List ℕ) → (R.seen room.new).open_as name ≡ None }
 
     // Nothing but the log and the output changes, and the output only where it is due.
-    ensures apart { ApartFrom (R.seen room.old) (R.seen room.new) (journal.now ∷ out.now ∷ []) }
-    ensures untouched { result ≢ 0 → result ≢ 4 → ApartFrom (R.seen room.old) (R.seen room.new) (journal.now ∷ []) }
+    ensures apart { SameBut (R.seen room.old) (R.seen room.new) (journal.now ∷ out.now ∷ []) }
+    ensures untouched { result ≢ 0 → result ≢ 4 → SameBut (R.seen room.old) (R.seen room.new) (journal.now ∷ []) }
     ensures keeps { (R.seen room.old).tells ≡ true → KeepsHistory (result ≡ 5) (R.seen room.old) (R.seen room.new) journal.now }
 
     // Each fault has its cause.
@@ -123,7 +121,7 @@ pub fn export<R: Room>(
 {
     let archive = match open_archive(alloc, room, journal) {
         Ok(archive) => archive,
-        Err(fault) => return tell(console, opening_fault(fault)),
+        Err(fault) => return tell(console, fault_of_opening(fault)),
     };
     match export_archive(room, journal, out, code, archive) {
         Ok(()) => WRITTEN,

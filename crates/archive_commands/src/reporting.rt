@@ -3,20 +3,21 @@ ghost use Rattle.std.specs.List.{list_any};
 ghost use Rattle.marc_types.specs.declared.entry.Entry.{Entry};
 ghost use Rattle.outside.specs.Disk.{SameDisk};
 ghost use Rattle.outside.specs.Fault.{HasWriteCause, Rose};
-ghost use Rattle.outside.specs.Room.{AsLog};
+ghost use Rattle.outside.specs.Room.{AsLog, SameBut};
 ghost use Rattle.catalogue_rules.specs.Settle.{state_of};
 ghost use Rattle.catalogue_rules.specs.Output.{report_of};
 ghost use Rattle.durable_catalogue.specs.Logs.{HasHistory};
 ghost use Rattle.console_lines.specs.Faults.{TellsFault};
 ghost use Rattle.room_files.specs.Journals.{log_bytes, KeepsHistory};
-ghost use Rattle.room_files.specs.Rooms.{ApartFrom, IsPartWritten};
+ghost use Rattle.output_files.specs.Outputs.{IsPartWritten};
 ghost use Rattle.archive_commands.specs.Archives.{WhyUnopened, HasFittingHistory};
 
-use crate::fault::{OUTPUT_FAULT, WRITTEN, opening_fault};
+use crate::fault::{OUTPUT_FAULT, WRITTEN};
 use console_lines::{Fault, tell};
 use durable_catalogue::Archive;
 use outside::{Room, WriteFault};
-use room_files::{close_archive, open_archive, write_report_file};
+use output_files::write_report_file;
+use room_files::{close_archive, fault_of_opening, open_archive};
 use std::alloc::Global;
 
 /// Writes an archive's report into the file `out`, and closes its log.
@@ -29,7 +30,7 @@ fn report_archive<R: Room>(
 ) -> Result<(), WriteFault>
     requires opened { (R.seen room.old).open_as journal.now ≡ Some AsLog }
     requires free { (R.seen room.old).open_as out.now ≡ None }
-    ensures apart { ApartFrom (R.seen room.old) (R.seen room.new) (journal.now ∷ out.now ∷ []) }
+    ensures apart { SameBut (R.seen room.old) (R.seen room.new) (journal.now ∷ out.now ∷ []) }
     ensures closed { (R.seen room.new).open_as journal.now ≡ None }
     ensures out_closed { (R.seen room.new).open_as out.now ≡ None }
     ensures cause { HasWriteCause ((R.seen room.old).out_faults out.now) ((R.seen room.new).out_faults out.now) result }
@@ -61,10 +62,10 @@ pub fn report<R: Room>(
     ensures closed { (name : List ℕ) → (R.seen room.new).open_as name ≡ None }
 
     // Nothing but the log and the output changes, and the output only where it is due.
-    ensures apart { ApartFrom (R.seen room.old) (R.seen room.new) (journal.now ∷ out.now ∷ []) }
-    ensures untouched { result ≢ 0 → result ≢ 4 → result ≢ 8 → ApartFrom (R.seen room.old) (R.seen room.new) (journal.now ∷ []) }
+    ensures apart { SameBut (R.seen room.old) (R.seen room.new) (journal.now ∷ out.now ∷ []) }
+    ensures untouched { result ≢ 0 → result ≢ 4 → result ≢ 8 → SameBut (R.seen room.old) (R.seen room.new) (journal.now ∷ []) }
     ensures unread { result ≡ 8 → (R.seen room.old).tells ≡ true →
-        (ApartFrom (R.seen room.old) (R.seen room.new) (journal.now ∷ [])) ⊎ (HasFittingHistory (log_bytes (R.seen room.old) journal.now)) }
+        (SameBut (R.seen room.old) (R.seen room.new) (journal.now ∷ [])) ⊎ (HasFittingHistory (log_bytes (R.seen room.old) journal.now)) }
     ensures keeps { (R.seen room.old).tells ≡ true → KeepsHistory (result ≡ 5) (R.seen room.old) (R.seen room.new) journal.now }
 
     // Each fault has its cause.
@@ -89,7 +90,7 @@ pub fn report<R: Room>(
 {
     let archive = match open_archive(alloc, room, journal) {
         Ok(archive) => archive,
-        Err(fault) => return tell(console, opening_fault(fault)),
+        Err(fault) => return tell(console, fault_of_opening(fault)),
     };
     match report_archive(alloc, room, journal, out, archive) {
         Ok(()) => WRITTEN,

@@ -8,7 +8,8 @@ use Rattle.std.specs.Str.{bytes_eq}
 use Rattle.std.proofs.lemmas.Bool.{and_parts, not-true, true≢false}
 use Rattle.std.proofs.lemmas.Option.{slice_get_past}
 use Rattle.std.proofs.lemmas.Slice.Eq.{bytes_eq-Decides}
-use Rattle.command_words.specs.Command.{Library, Command, Pass, Run, Load, Export, Report, Make, is_name, differ, split_at_equals, library_of, are_libraries, is_free, number_upto, greatest_seed, greatest_count, are_two_names, pass_of, run_of, load_of, export_of, report_of, make_of, command_of, file_at, library_at, file_count, names_of, IsNoneOf, AreNames, IsBounded}
+use Rattle.outside.specs.Room.{IsNoneOf}
+use Rattle.command_words.specs.Command.{Library, Command, Pass, Run, Load, Export, Report, Make, is_name, differ, split_at_equals, library_of, are_libraries, is_free, number_upto, greatest_seed, greatest_count, are_two_names, pass_of, run_of, load_of, export_of, report_of, make_of, command_of, file_at, library_at, file_count, names_of, AreNames, IsBounded}
 
 -- a test and what it lets through
 if_some : {A : Type 0} (good : Bool) (a b : A) → (if good then Some a else None) ≡ Some b → (good ≡ true) × (a ≡ b)

@@ -1,6 +1,7 @@
 //! Laws of the words: each is the contract of a function that does nothing.
 ghost use Rattle.std.specs.Prelude.{◌≡◌, ◌<◌, ◌≤◌, ℕ, true, Some, None, is_some};
-ghost use Rattle.command_words.specs.Command.{Command, Library, command_of, library_at, file_count, names_of, IsNoneOf, AreNames, IsBounded};
+ghost use Rattle.outside.specs.Room.{IsNoneOf};
+ghost use Rattle.command_words.specs.Command.{Command, Library, command_of, library_at, file_count, names_of, AreNames, IsBounded};
 
 use crate::words::Words;
 

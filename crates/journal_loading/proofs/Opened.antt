@@ -2,23 +2,11 @@
 use Rattle.std.proofs.Common.{◌≡◌, ℕ, ◌+◌, ◌<◌, ◌≤◌, suc, zero, Bool, false, nat_eq, ◌≢◌, List, [], ◌∷◌, ◌++◌, length, take, slice_get, Option, Some, None, IsSome, is_some, true, refl, sym, ap, subst, ◌∙◌, arith}
 use Rattle.std.proofs.lemmas.Bool.Decides.{nat_tests}
 use Rattle.outside.specs.Fault.{Rose}
-use Rattle.outside.specs.Room.{RoomView, Stays, Apart}
+use Rattle.outside.specs.Room.{RoomView, SameBut}
 use Rattle.outside.proofs.Disks.{same_disk}
 use Rattle.command_words.specs.Command.{Library, library_at}
 use Rattle.parallel_loading.specs.declared.input.InputFile.{InputFile}
 use Rattle.journal_loading.specs.Inputs.{IsInputFault, IsInputOf, AreInputs, NoInput, OneInput, RisesFrom}
-
-pub stays_same : (room : RoomView) → Stays room room
-stays_same room = record {
-  tells = refl;
-  files = λ n. refl;
-  open_names = λ n. refl;
-  log_names = λ n. refl;
-  logs = λ n is. same_disk (room.log n);
-  ins = λ n. omega arith;
-  outs = λ n. omega arith;
-  log_counts = λ n. omega arith;
-}
 
 pub some_of : {A : Type 0} (o : Option A) → is_some o ≡ true → (x : A) × (o ≡ Some x)
 some_of None is = cc
@@ -28,7 +16,7 @@ some_same : {A : Type 0} {x y : A} → Some x ≡ Some y → x ≡ y
 some_same is = cc
 
 -- a fault of a later opening is one since an earlier moment
-pub fault_since : (words : List (List ℕ)) (old now new : RoomView) → Stays old now → IsInputFault words now new → IsInputFault words old new
+pub fault_since : (words : List (List ℕ)) (old now new : RoomView) → SameBut old now [] → IsInputFault words now new → IsInputFault words old new
 fault_since words old now new stays is = record {
   index = is.index;
   library = is.library;
@@ -38,23 +26,23 @@ fault_since words old now new stays is = record {
 
 module _ {S : Type 0} (left : S → Option (List ℕ)) where
   -- what was opened in a room is what would have been before calls that change no file
-  pub input_before : (old now : RoomView) (library : Library) (input : InputFile S) → Stays old now → IsInputOf left now library input → IsInputOf left old library input
+  pub input_before : (old now : RoomView) (library : Library) (input : InputFile S) → SameBut old now [] → IsInputOf left now library input → IsInputOf left old library input
   input_before old now library input stays is = record {
-    there = λ tells. subst IsSome (stays.files library.file) (is.there (stays.tells ∙ tells));
-    bytes = λ tells. is.bytes (stays.tells ∙ tells) ∙ stays.files library.file;
+    there = λ tells. subst IsSome (stays.files library.file tt) (is.there (stays.tells ∙ tells));
+    bytes = λ tells. is.bytes (stays.tells ∙ tells) ∙ stays.files library.file tt;
     code = is.code;
   }
 
   -- the same before calls that change one file alone, which is none of these
-  pub input_apart : (old now : RoomView) (name : List ℕ) (library : Library) (input : InputFile S) → Apart old now name → library.file ≢ name
+  pub input_apart : (old now : RoomView) (name : List ℕ) (library : Library) (input : InputFile S) → SameBut old now (name ∷ []) → library.file ≢ name
       → IsInputOf left now library input → IsInputOf left old library input
   input_apart old now name library input apart other is = record {
-    there = λ tells. subst IsSome (apart.files library.file other) (is.there (apart.tells ∙ tells));
-    bytes = λ tells. is.bytes (apart.tells ∙ tells) ∙ apart.files library.file other;
+    there = λ tells. subst IsSome (apart.files library.file (other, tt)) (is.there (apart.tells ∙ tells));
+    bytes = λ tells. is.bytes (apart.tells ∙ tells) ∙ apart.files library.file (other, tt);
     code = is.code;
   }
 
-  pub inputs_after : (words : List (List ℕ)) (old now : RoomView) (name : List ℕ) → Apart old now name → (libraries : List Library) (inputs : List (InputFile S))
+  pub inputs_after : (words : List (List ℕ)) (old now : RoomView) (name : List ℕ) → SameBut old now (name ∷ []) → (libraries : List Library) (inputs : List (InputFile S))
       → ((index : ℕ) (library : Library) → slice_get libraries index ≡ Some library → library.file ≢ name) → AreInputs left now libraries inputs → AreInputs left old libraries inputs
   inputs_after words old now name apart [] [] others NoInput = NoInput
   inputs_after words old now name apart [] (i ∷ inputs) others are = elim are [ ]
@@ -88,7 +76,7 @@ module _ {A : Type 0} where
 
 -- the last of the inputs that are left is closed
 pub closed_more : {S : Type 0} (faults : S → ℕ) (words : List (List ℕ)) (all left : List (InputFile S)) (last : InputFile S) (old now new : RoomView)
-    → RisesFrom faults (length left + 1) words all old now → Stays old now → Stays now new
+    → RisesFrom faults (length left + 1) words all old now → SameBut old now [] → SameBut now new []
     → ((library : Library) → library_at words (length left) ≡ Some library → Rose 0 (faults last.source) → Rose (now.in_faults library.file) (new.in_faults library.file))
     → slice_get all (length left) ≡ Some last
     → RisesFrom faults (length left) words all old new

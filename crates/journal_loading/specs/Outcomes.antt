@@ -11,11 +11,11 @@ use Rattle.console_lines.specs.declared.fault.Fault.TheVariants as fault
 use Rattle.durable_catalogue.specs.Durables.{Opening, marked}
 use Rattle.durable_catalogue.specs.Openings.{IsUnopened}
 use Rattle.durable_catalogue.specs.declared.fault.OpenFault.{OpenFault}
-use Rattle.durable_catalogue.specs.declared.fault.OpenFault.TheVariants as opening
 use Rattle.loader_workers.specs.declared.file_end.FileEnd.{FileEnd}
 use Rattle.loader_workers.specs.declared.file_end.FileEnd.TheVariants as end
 use Rattle.loader_workers.specs.declared.result.FileResult.{FileResult}
 use Rattle.parallel_loading.specs.Files.{IsFileLoaded, AreOfOneFile}
+use Rattle.room_files.specs.Faults.{fault_of_opening}
 use Rattle.room_files.specs.Journals.{journal_limits, log_bytes, IsOpenedFrom, IsClosedTo, KeepsHistory}
 
 -- the file of a library was loaded by the loader with that number
@@ -57,14 +57,6 @@ loading_fault results =
     else if any_ends end.ReadFault results then Some fault.Input
     else if any_ends end.NoMemory results then Some fault.Memory
     else None
-
--- an opening's fault, as the console tells it
-abbrev pub fault_of_opening : OpenFault → Fault
-fault_of_opening opening.DeviceFault = fault.Device
-fault_of_opening (opening.NotAJournal place) = fault.NotAJournal place
-fault_of_opening opening.OldVersion = fault.OldVersion
-fault_of_opening opening.Full = fault.Full
-fault_of_opening opening.NoMemory = fault.Memory
 
 -- Files were loaded whole into the journal of that name, over which the catalogue is still open: it had `before`, and has `added`
 -- behind that.

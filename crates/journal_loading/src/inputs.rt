@@ -1,7 +1,7 @@
 //! The inputs of a command's files: opened all before the first is read, and closed on every path.
-ghost use Rattle.std.specs.Prelude.{◌≡◌, ◌≢◌, ℕ, ◌<◌, ◌≤◌, List, Some, None, IsSome, All, IfOk, IfErr, IfSome, length, take, slice_get, is_some, true};
+ghost use Rattle.std.specs.Prelude.{◌≡◌, ◌≢◌, ℕ, ◌<◌, ◌≤◌, List, Some, None, IsSome, All, IfOk, IfErr, IfSome, length, take, slice_get, is_some, true, []};
 ghost use Rattle.outside.specs.Fault.{Rose};
-ghost use Rattle.outside.specs.Room.{Stays};
+ghost use Rattle.outside.specs.Room.{SameBut};
 ghost use Rattle.command_words.specs.Command.{Library, library_at};
 ghost use Rattle.journal_loading.specs.Inputs.{AreLibraries, IsInputFault, IsInputOf, AreInputs, IsFresh, RisesFrom};
 
@@ -21,7 +21,7 @@ fn open_input<R: Room>(
 ) -> Result<InputFile<R::In>, Fault>
     requires there { is_some (library_at words.now index) ≡ true }
     requires free { (library : Library) → library_at words.now index ≡ Some library → (R.seen room.old).open_as library.file ≡ None }
-    ensures stays { Stays (R.seen room.old) (R.seen room.new) }
+    ensures stays { SameBut (R.seen room.old) (R.seen room.new) [] }
     ensures input { IfOk result (λ input. (library : Library) → library_at words.now index ≡ Some library →
         IsInputOf R.In.left (R.seen room.old) library input) }
     ensures fresh { IfOk result (IsFresh R.In.faults) }
@@ -49,7 +49,7 @@ pub fn open_inputs<R: Room>(
 ) -> (Vec<InputFile<R::In>>, Option<Fault>)
     requires there { (index : ℕ) → index < files → is_some (library_at words.now index) ≡ true }
     requires free { (index : ℕ) (library : Library) → library_at words.now index ≡ Some library → (R.seen room.old).open_as library.file ≡ None }
-    ensures stays { Stays (R.seen room.old) (R.seen room.new) }
+    ensures stays { SameBut (R.seen room.old) (R.seen room.new) [] }
     ensures inputs { (libraries : List Library) → AreLibraries words.now libraries →
         AreInputs R.In.left (R.seen room.old) (take (length result.0.items) libraries) result.0.items }
     ensures fresh { All (IsFresh R.In.faults) result.0.items }
@@ -73,7 +73,7 @@ pub fn open_inputs<R: Room>(
 /// Closes the file with that number.
 fn close_input<R: Room>(room: &mut R, words: &Words, index: u32, input: InputFile<R::In>)
     requires there { is_some (library_at words.now index) ≡ true }
-    ensures stays { Stays (R.seen room.old) (R.seen room.new) }
+    ensures stays { SameBut (R.seen room.old) (R.seen room.new) [] }
     ensures rose { (library : Library) → library_at words.now index ≡ Some library → Rose 0 (R.In.faults input.source) →
         Rose ((R.seen room.old).in_faults library.file) ((R.seen room.new).in_faults library.file) }
 {
@@ -88,7 +88,7 @@ fn close_input<R: Room>(room: &mut R, words: &Words, index: u32, input: InputFil
 pub fn close_inputs<R: Room>(room: &mut R, words: &Words, inputs: InputFiles<R::In>)
     requires there { (index : ℕ) → index < length inputs → is_some (library_at words.now index) ≡ true }
     requires few { length inputs ≤ 64 }
-    ensures stays { Stays (R.seen room.old) (R.seen room.new) }
+    ensures stays { SameBut (R.seen room.old) (R.seen room.new) [] }
     ensures rose { RisesFrom R.In.faults 0 words.now inputs (R.seen room.old) (R.seen room.new) }
 {
     let mut inputs = inputs.into_vec();

@@ -1,14 +1,14 @@
 //! A command's files, loaded into a journal.
-ghost use Rattle.std.specs.Prelude.{◌≡◌, ◌≢◌, ℕ, ◌<◌, ◌≤◌, List, [], true, Some, None, is_some, length, All, IfOk, IfErr, OnOk, OnErr};
+ghost use Rattle.std.specs.Prelude.{◌≡◌, ◌≢◌, ℕ, ◌<◌, ◌≤◌, List, [], true, Some, None, is_some, length, All, IfOk, IfErr, OnOk, OnErr, ◌∷◌};
 ghost use Rattle.outside.specs.Fault.{Rose};
-ghost use Rattle.outside.specs.Room.{Apart, AsLog};
+ghost use Rattle.outside.specs.Room.{SameBut, AsLog};
 ghost use Rattle.command_words.specs.Command.{Library, library_at};
 ghost use Rattle.durable_catalogue.specs.Durables.{mark_of, opening};
 ghost use Rattle.room_files.specs.Journals.{IsOpenedFrom, IsClosedTo};
 ghost use Rattle.journal_loading.specs.Inputs.{AreLibraries, IsInputFault, AreInputs, IsFresh};
 ghost use Rattle.journal_loading.specs.Outcomes.{IsLoadedWhole, IsUnbegun, IsLoadingFault, IsFinished, IsStopped};
 
-use crate::faults::{fault_of_opening, loading_fault};
+use crate::faults::loading_fault;
 use crate::inputs::{close_inputs, open_inputs};
 use command_words::Words;
 use console_lines::Fault;
@@ -17,7 +17,7 @@ use loader_workers::Results;
 use marc_types::NoMemory;
 use outside::{Disk, Gate, Room};
 use parallel_loading::{InputFiles, load_files};
-use room_files::{close_journal, open_journal};
+use room_files::{close_journal, fault_of_opening, open_journal};
 use std::alloc::Global;
 use std::sync::Wait;
 use std::thread::Threads;
@@ -40,7 +40,7 @@ fn begin<R: Room>(
     requires few { files ≤ 64 }
     requires there { (index : ℕ) → index < files → is_some (library_at words.now index) ≡ true }
     requires apart { (index : ℕ) (library : Library) → library_at words.now index ≡ Some library → library.file ≢ journal.now }
-    ensures apart { Apart (R.seen room.old) (R.seen room.new) journal.now }
+    ensures apart { SameBut (R.seen room.old) (R.seen room.new) (journal.now ∷ []) }
     ensures opened { OnOk result ((R.seen room.new).open_as journal.now ≡ Some AsLog) }
     ensures closed { OnErr result ((R.seen room.new).open_as journal.now ≡ None) }
     ensures catalogue { IfOk result (λ r. IsOpenedFrom (R.seen room.old) journal.now r.0.core.history (mark_of r.0.mark)
@@ -78,7 +78,7 @@ fn finish<R: Room>(
     results: Result<Results, NoMemory>,
 ) -> Result<LoadedJournal<R::Log>, Fault>
     requires { (R.seen room.old).open_as journal.now ≡ Some AsLog }
-    ensures apart { Apart (R.seen room.old) (R.seen room.new) journal.now }
+    ensures apart { SameBut (R.seen room.old) (R.seen room.new) (journal.now ∷ []) }
     ensures opened { OnOk result ((R.seen room.new).open_as journal.now ≡ Some AsLog) }
     ensures closed { OnErr result ((R.seen room.new).open_as journal.now ≡ None) }
     ensures loaded { IfOk result (λ l. l.durable ≡ durable) }
@@ -124,7 +124,7 @@ pub fn load_journal<H: Threads + Wait + Sync, R: Room, G: Gate + Sync>(
     requires apart { (index : ℕ) (library : Library) → library_at words.now index ≡ Some library → library.file ≢ journal.now }
 
     // The room: no file and no name but the journal's changes, and that is open exactly where the catalogue comes back.
-    ensures apart { Apart (R.seen room.old) (R.seen room.new) journal.now }
+    ensures apart { SameBut (R.seen room.old) (R.seen room.new) (journal.now ∷ []) }
     ensures opened { OnOk result ((R.seen room.new).open_as journal.now ≡ Some AsLog) }
     ensures closed { OnErr result ((R.seen room.new).open_as journal.now ≡ None) }
 

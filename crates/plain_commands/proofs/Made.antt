@@ -1,7 +1,7 @@
 -- How a make ended.
 use Rattle.std.proofs.Common.{◌≡◌, ℕ, List, Option, sym, subst}
 use Rattle.workload.specs.Workload.{workload_bytes}
-use Rattle.plain_commands.specs.Files.{IsPartWritten}
+use Rattle.output_files.specs.Outputs.{IsPartWritten}
 use Rattle.plain_commands.specs.Making.{IsEndOfMake, OutOfMemory}
 
 pub ended_without_memory : (seed count status : ℕ) (old new before after : Option (List ℕ)) → status ≡ 8

@@ -6,7 +6,7 @@ use Rattle.std.specs.Io.KnownBytes.{Appends}
 use Rattle.outside.specs.Sink.{WritesFront}
 use Rattle.catalogue_core.specs.Catalogues.{Catalogued}
 use Rattle.plain_commands.specs.Totals.{holding}
-use Rattle.plain_commands.specs.Files.{IsPartWritten}
+use Rattle.output_files.specs.Outputs.{IsPartWritten}
 use Rattle.plain_commands.specs.Passing.{exported, IsReady, IsEndOfPass, Whole, InPart}
 use Rattle.file_entries.specs.declared.refused.RefusedItem.{RefusedItem}
 use Rattle.plain_commands.specs.declared.ready.Ready.{Ready}

@@ -9,7 +9,7 @@ use Rattle.catalogue_rules.specs.Output.{export_of, all_keys}
 use Rattle.file_entries.specs.Files.{IsJudged}
 use Rattle.file_entries.specs.declared.refused.RefusedItem.{RefusedItem}
 use Rattle.console_lines.specs.Lines.{refused_lines, totals_line}
-use Rattle.plain_commands.specs.Files.{IsPartWritten}
+use Rattle.output_files.specs.Outputs.{IsPartWritten}
 use Rattle.plain_commands.specs.Totals.{totals_of, IsWithinLimits}
 use Rattle.plain_commands.specs.Loading.{IsLoaded}
 use Rattle.plain_commands.specs.declared.ready.Ready.{Ready}

@@ -4,11 +4,12 @@
 pub use making::make;
 pub use passing::pass;
 
-mod exporting;
+/// The exit status where a file or the console could not be written.
+pub(crate) const OUTPUT_FAULT: u8 = 4;
+
 mod loaded;
 mod loading;
 mod making;
-mod output;
 mod passing;
 mod ready;
 mod summing;

@@ -1,13 +1,13 @@
 ghost use Rattle.std.specs.Prelude.{◌≡◌, ◌≤◌, ◌⊎◌, ◌==◌, ℕ, List, [], ◌∷◌, true, Some, None, IsTrue, OnOk};
 ghost use Rattle.std.specs.List.{list_any};
 ghost use Rattle.outside.specs.Fault.{Rose, HasWriteCause};
-ghost use Rattle.outside.specs.Room.{Apart};
+ghost use Rattle.outside.specs.Room.{SameBut};
 ghost use Rattle.workload.specs.Workload.{workload_bytes};
 ghost use Rattle.console_lines.specs.Faults.{fault_line, IsFaultTold};
-ghost use Rattle.plain_commands.specs.Files.{IsPartWritten};
+ghost use Rattle.output_files.specs.Outputs.{IsPartWritten};
 ghost use Rattle.plain_commands.specs.Making.{IsEndOfMake};
 
-use crate::output::OUTPUT_FAULT;
+use crate::OUTPUT_FAULT;
 use crate::summing::workload_text;
 use console_lines::{Fault, tell};
 use marc_types::NoMemory;
@@ -27,7 +27,7 @@ fn write_workload<R: Room>(
 ) -> Result<(), WriteFault>
     requires few { count ≤ 1048576 }
     requires free { (R.seen room.old).open_as name.now ≡ None }
-    ensures apart { Apart (R.seen room.old) (R.seen room.new) name.now }
+    ensures apart { SameBut (R.seen room.old) (R.seen room.new) (name.now ∷ []) }
     ensures closed { (R.seen room.new).open_as name.now ≡ None }
     ensures cause { HasWriteCause ((R.seen room.old).out_faults name.now) ((R.seen room.new).out_faults name.now) result }
     ensures bytes { OnOk result ((R.seen room.old).tells ≡ true → (R.seen room.new).file name.now ≡ Some (workload_bytes seed count)) }
@@ -57,7 +57,7 @@ pub fn make<R: Room>(
     requires closed { (name : List ℕ) → (R.seen room.old).open_as name ≡ None }
     ensures statuses { IsTrue (list_any (λ s. s == result) (0 ∷ 4 ∷ 8 ∷ [])) }
     ensures closed { (name : List ℕ) → (R.seen room.new).open_as name ≡ None }
-    ensures apart { Apart (R.seen room.old) (R.seen room.new) out.now }
+    ensures apart { SameBut (R.seen room.old) (R.seen room.new) (out.now ∷ []) }
     ensures output { result ≡ 4 → Rose ((R.seen room.old).out_faults out.now) ((R.seen room.new).out_faults out.now)
         ⊎ Rose (R.Out.faults console.old) (R.Out.faults console.new) }
     ensures told { result ≡ 8 → IsFaultTold (R.Out.written console.old) (R.Out.written console.new)

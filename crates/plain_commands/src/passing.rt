@@ -2,16 +2,17 @@ ghost use Rattle.std.specs.Prelude.{◌≡◌, ◌≢◌, ◌<◌, ◌≤◌, �
 ghost use Rattle.std.specs.List.{list_any};
 ghost use Rattle.marc_types.specs.Valid.{is_code};
 ghost use Rattle.outside.specs.Fault.{Rose};
-ghost use Rattle.outside.specs.Room.{Stays, Apart};
+ghost use Rattle.outside.specs.Room.{SameBut};
 ghost use Rattle.marc_stream.specs.Pieces.{items};
 ghost use Rattle.console_lines.specs.Faults.{TellsFault};
 ghost use Rattle.plain_commands.specs.Loading.{EndsLoading, IsFullAt};
 ghost use Rattle.plain_commands.specs.Passing.{IsReady, IsEndOfPass};
 
-use crate::output::{OUTPUT_FAULT, write_out};
+use crate::OUTPUT_FAULT;
 use crate::ready::{Ready, prepare};
 use console_lines::tell;
 use outside::{Room, Sink};
+use output_files::write_all_records;
 use std::alloc::Global;
 
 /// The exit statuses of a pass that wrote all: nothing was refused, or something was.
@@ -22,7 +23,7 @@ const REFUSED: u8 = 1;
 /// Writes the export into the file `out`, and then tells the console; answers the exit status.
 fn deliver<R: Room>(room: &mut R, console: &mut R::Out, out: &str, ready: &Ready) -> u8
     requires free { (R.seen room.old).open_as out.now ≡ None }
-    ensures apart { Apart (R.seen room.old) (R.seen room.new) out.now }
+    ensures apart { SameBut (R.seen room.old) (R.seen room.new) (out.now ∷ []) }
     ensures closed { (R.seen room.new).open_as out.now ≡ None }
     ensures status { (result ≤ 1) ⊎ (result ≡ 4) }
     ensures output { result ≡ 4 → Rose ((R.seen room.old).out_faults out.now) ((R.seen room.new).out_faults out.now)
@@ -31,7 +32,7 @@ fn deliver<R: Room>(room: &mut R, console: &mut R::Out, out: &str, ready: &Ready
         IsEndOfPass library file bytes ((R.seen room.old).file out.now) ((R.seen room.new).file out.now)
         (R.Out.written console.old) (R.Out.written console.new) result }
 {
-    match write_out(room, out, ready.loaded.core()) {
+    match write_all_records(room, out, ready.loaded.core()) {
         Ok(()) => {}
         Err(_) => return OUTPUT_FAULT,
     }
@@ -62,8 +63,8 @@ pub fn pass<R: Room>(
     requires library { IsTrue (is_code code.now) }
     ensures statuses { IsTrue (list_any (λ s. s == result) (0 ∷ 1 ∷ 3 ∷ 4 ∷ 7 ∷ 8 ∷ [])) }
     ensures closed { (name : List ℕ) → (R.seen room.new).open_as name ≡ None }
-    ensures apart { Apart (R.seen room.old) (R.seen room.new) out.now }
-    ensures unchanged { 1 < result → result ≢ 4 → Stays (R.seen room.old) (R.seen room.new) }
+    ensures apart { SameBut (R.seen room.old) (R.seen room.new) (out.now ∷ []) }
+    ensures unchanged { 1 < result → result ≢ 4 → SameBut (R.seen room.old) (R.seen room.new) [] }
     ensures input { result ≡ 3 → Rose ((R.seen room.old).in_faults file.now) ((R.seen room.new).in_faults file.now) }
     ensures output { result ≡ 4 → Rose ((R.seen room.old).out_faults out.now) ((R.seen room.new).out_faults out.now)
         ⊎ Rose (R.Out.faults console.old) (R.Out.faults console.new) }

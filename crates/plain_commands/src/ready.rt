@@ -1,7 +1,7 @@
-ghost use Rattle.std.specs.Prelude.{◌≡◌, ℕ, List, true, Some, None, IsSome, IsTrue, OnOk, IfOk, IfErr};
+ghost use Rattle.std.specs.Prelude.{◌≡◌, ℕ, List, true, Some, None, IsSome, IsTrue, OnOk, IfOk, IfErr, []};
 ghost use Rattle.marc_types.specs.Valid.{is_code};
 ghost use Rattle.outside.specs.Fault.{Rose};
-ghost use Rattle.outside.specs.Room.{Stays};
+ghost use Rattle.outside.specs.Room.{SameBut};
 ghost use Rattle.marc_stream.specs.Pieces.{items};
 ghost use Rattle.plain_commands.specs.Loading.{EndsLoading, IsLoaded, IsFullAt};
 ghost use Rattle.plain_commands.specs.Passing.{IsReady};
@@ -32,7 +32,7 @@ fn ready_of(alloc: Global, file: &str, loaded: Loaded) -> Result<Ready, NoMemory
 pub fn prepare<R: Room>(alloc: Global, room: &mut R, code: &str, file: &str) -> Result<Ready, Fault>
     requires free { (R.seen room.old).open_as file.now ≡ None }
     requires library { IsTrue (is_code code.now) }
-    ensures stays { Stays (R.seen room.old) (R.seen room.new) }
+    ensures stays { SameBut (R.seen room.old) (R.seen room.new) [] }
     ensures there { OnOk result ((R.seen room.old).tells ≡ true → IsSome ((R.seen room.old).file file.now)) }
     ensures there_full { IfErr result (λ fault. fault ≡ Fault.Full → (R.seen room.old).tells ≡ true → IsSome ((R.seen room.old).file file.now)) }
     ensures ready { IfOk result (λ ready. (bytes : List ℕ) → (R.seen room.old).tells ≡ true → (R.seen room.old).file file.now ≡ Some bytes →

@@ -18,7 +18,8 @@ use Rattle.console_lines.specs.declared.fault.Fault.TheVariants as fault
 use Rattle.durable_catalogue.specs.declared.fault.OpenFault.{OpenFault}
 use Rattle.durable_catalogue.specs.declared.fault.OpenFault.TheVariants as opening
 use Rattle.room_files.specs.Journals.{log_bytes}
-use Rattle.archive_commands.specs.Archives.{HasFittingHistory, WhyUnopened, opening_fault}
+use Rattle.archive_commands.specs.Archives.{HasFittingHistory, WhyUnopened}
+use Rattle.room_files.specs.Faults.{fault_of_opening}
 use Rattle.plain_commands.specs.Loading.{IsFullAt}
 use Rattle.plain_commands.specs.Totals.{IsWithinLimits, most_entries, most_bytes}
 use Rattle.union_top.specs.Commands.{Outcome, Makes, Reads, Loads, Runs, Ends}
@@ -79,7 +80,7 @@ by_fault status fault.Memory remains is two three five = inr is
 by_fault status fault.OldVersion remains is two three five = absurd remains
 
 -- no status is that of an opening's fault
-by_opening : (log : List ℕ) (of : OpenFault) (status : ℕ) → MayBe log of → status ≡ fault_status (opening_fault of) → (status ≡ 6) ⊎ (status ≡ 7) → ⊥
+by_opening : (log : List ℕ) (of : OpenFault) (status : ℕ) → MayBe log of → status ≡ fault_status (fault_of_opening of) → (status ≡ 6) ⊎ (status ≡ 7) → ⊥
 by_opening log opening.DeviceFault status may is (inl six) = omega (arith, is, six)
 by_opening log opening.DeviceFault status may is (inr seven) = omega (arith, is, seven)
 by_opening log (opening.NotAJournal place) status may is which = may

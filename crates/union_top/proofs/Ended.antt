@@ -5,7 +5,7 @@ use Rattle.std.specs.Str.{bytes_eq}
 use Rattle.std.proofs.lemmas.Slice.Eq.{bytes_eq-Decides}
 use Rattle.marc_types.specs.declared.entry.Entry.{Entry}
 use Rattle.outside.specs.Fault.{Rose}
-use Rattle.outside.specs.Room.{RoomView, Apart}
+use Rattle.outside.specs.Room.{RoomView, SameBut}
 use Rattle.outside.specs.Sink.{WritesFront}
 use Rattle.command_words.specs.Command.{Library}
 use Rattle.catalogue_rules.specs.Settle.{state_of}
@@ -14,7 +14,7 @@ use Rattle.console_lines.specs.Faults.{IsFaultTold, fault_status, fault_line}
 use Rattle.console_lines.specs.declared.fault.Fault.{Fault}
 use Rattle.console_lines.specs.declared.fault.Fault.TheVariants as fault
 use Rattle.loader_workers.specs.declared.result.FileResult.{FileResult}
-use Rattle.room_files.specs.Rooms.{ApartFrom, IsPartWritten}
+use Rattle.output_files.specs.Outputs.{IsPartWritten}
 use Rattle.journal_loading.specs.Inputs.{AreLibraries, IsInputFault}
 use Rattle.union_top.specs.Texts.{files_text, has_refused}
 use Rattle.union_top.specs.Runs.{WhyNotLoad, WhyNotRun}
@@ -29,8 +29,8 @@ decide_name {P} a b same other = decided (bytes_eq a b) refl
     decided false is = other (λ eq. true≢false (sym ((bytes_eq-Decides a b).1 eq) ∙ is))
 
 -- a journal was opened in a room, outputs were written and closed, and it was closed: no name is open
-pub closed_run : (old mid out_room new : RoomView) (journal out report : List ℕ) → ((n : List ℕ) → old.open_as n ≡ None) → Apart old mid journal
-    → ApartFrom mid out_room (out ∷ report ∷ []) → out_room.open_as out ≡ None → out_room.open_as report ≡ None → Apart out_room new journal → new.open_as journal ≡ None
+pub closed_run : (old mid out_room new : RoomView) (journal out report : List ℕ) → ((n : List ℕ) → old.open_as n ≡ None) → SameBut old mid (journal ∷ [])
+    → SameBut mid out_room (out ∷ report ∷ []) → out_room.open_as out ≡ None → out_room.open_as report ≡ None → SameBut out_room new (journal ∷ []) → new.open_as journal ≡ None
     → (n : List ℕ) → new.open_as n ≡ None
 closed_run old mid out_room new journal out report free opened wrote out_closed report_closed closing closed n =
     decide_name n journal (λ is. subst (λ m. new.open_as m ≡ None) (sym is) closed) (λ no_journal. closing.open_names n no_journal ∙
@@ -134,7 +134,7 @@ module _ (words : List (List ℕ)) (journal : List ℕ) (files : ℕ) (old new :
 
   module _ (out report : List ℕ) where
     pub runs_failed : (why : Fault) → status ≡ fault_status why → IsFaultTold told now faults faults_now (fault_line why)
-        → (why ≢ fault.Memory → ApartFrom old new (journal ∷ []))
+        → (why ≢ fault.Memory → SameBut old new (journal ∷ []))
         → (why ≡ fault.Device → Rose (old.log_faults journal) (new.log_faults journal)) → (why ≡ fault.Input → IsInputFault words old new)
         → ((libraries : List Library) → AreLibraries words libraries → length libraries ≡ files → old.tells ≡ true → WhyNotRun old new journal out report libraries why)
         → Runs words journal out report files done
@@ -191,17 +191,17 @@ module _ (words : List (List ℕ)) (journal : List ℕ) (files : ℕ) (old new :
     }
 
 -- a journal was opened in a room and closed: no name is open
-pub closed_load : (old mid new : RoomView) (journal : List ℕ) → ((n : List ℕ) → old.open_as n ≡ None) → Apart old mid journal → Apart mid new journal → new.open_as journal ≡ None
+pub closed_load : (old mid new : RoomView) (journal : List ℕ) → ((n : List ℕ) → old.open_as n ≡ None) → SameBut old mid (journal ∷ []) → SameBut mid new (journal ∷ []) → new.open_as journal ≡ None
     → (n : List ℕ) → new.open_as n ≡ None
 closed_load old mid new journal free opened closing closed n =
     decide_name n journal (λ is. subst (λ m. new.open_as m ≡ None) (sym is) closed) (λ other. closing.open_names n other ∙ (opened.open_names n other ∙ free n))
 
 -- a file that is written between the opening and the closing of a journal
-pub part_between : (old mid wrote new : RoomView) (journal name due : List ℕ) → name ≢ journal → Apart old mid journal → Apart wrote new journal
+pub part_between : (old mid wrote new : RoomView) (journal name due : List ℕ) → name ≢ journal → SameBut old mid (journal ∷ []) → SameBut wrote new (journal ∷ [])
     → IsPartWritten (mid.file name) (wrote.file name) due → IsPartWritten (old.file name) (new.file name) due
 part_between old mid wrote new journal name due other opened closing is =
     subst (λ f. IsPartWritten f (new.file name) due) (opened.files name other) (subst (λ f. IsPartWritten (mid.file name) f due) (sym (closing.files name other)) is)
 
-pub rose_between : (old mid wrote new : RoomView) (journal name : List ℕ) → Apart old mid journal → Apart wrote new journal → Rose (mid.out_faults name) (wrote.out_faults name)
+pub rose_between : (old mid wrote new : RoomView) (journal name : List ℕ) → SameBut old mid (journal ∷ []) → SameBut wrote new (journal ∷ []) → Rose (mid.out_faults name) (wrote.out_faults name)
     → Rose (old.out_faults name) (new.out_faults name)
 rose_between old mid wrote new journal name opened closing rose = let first = opened.outs name in let last = closing.outs name in omega (arith, first, rose, last)

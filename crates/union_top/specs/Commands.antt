@@ -3,7 +3,7 @@ use Rattle.std.specs.Prelude.{◌≡◌, ◌≢◌, ◌⊎◌, ℕ, ◌<◌, ◌
 use Rattle.std.specs.List.{list_any}
 use Rattle.marc_types.specs.declared.entry.Entry.{Entry}
 use Rattle.outside.specs.Fault.{Rose}
-use Rattle.outside.specs.Room.{RoomView, Stays}
+use Rattle.outside.specs.Room.{RoomView, SameBut}
 use Rattle.marc_stream.specs.Pieces.{items}
 use Rattle.command_words.specs.Command.{Library, Command, Pass, Run, Load, Export, Report, Make, library_at}
 use Rattle.catalogue_rules.specs.Settle.{state_of}
@@ -11,7 +11,7 @@ use Rattle.catalogue_rules.specs.Output.{export_of, report_of}
 use Rattle.console_lines.specs.Faults.{TellsFault, IsFaultTold, fault_line}
 use Rattle.console_lines.specs.declared.fault.Fault.TheVariants.{Memory}
 use Rattle.durable_catalogue.specs.Logs.{HasHistory}
-use Rattle.room_files.specs.Rooms.{ApartFrom, IsPartWritten}
+use Rattle.output_files.specs.Outputs.{IsPartWritten}
 use Rattle.room_files.specs.Journals.{log_bytes, KeepsHistory}
 use Rattle.archive_commands.specs.Archives.{WhyUnopened, kept_keys, HasFittingHistory}
 use Rattle.plain_commands.specs.Loading.{IsFullAt, EndsLoading}
@@ -33,7 +33,7 @@ pub record Outcome : Type 1 where
 -- the pass of one file through an empty catalogue
 pub record Passes (code file out : List ℕ) (o : Outcome) : Type 0 where
   pub statuses : IsTrue (list_any (λ s. s == o.status) (0 ∷ 1 ∷ 3 ∷ 4 ∷ 7 ∷ 8 ∷ []))
-  pub unchanged : 1 < o.status → o.status ≢ 4 → Stays o.old o.new
+  pub unchanged : 1 < o.status → o.status ≢ 4 → SameBut o.old o.new []
   pub input : o.status ≡ 3 → Rose (o.old.in_faults file) (o.new.in_faults file)
   pub output : o.status ≡ 4 → Rose (o.old.out_faults out) (o.new.out_faults out) ⊎ Rose o.faults o.faults_now
   pub full : (bytes : List ℕ) → o.old.tells ≡ true → o.old.file file ≡ Some bytes → o.status ≡ 7 → IsFullAt code (items bytes)
@@ -54,9 +54,9 @@ pub record Makes (seed count : ℕ) (out : List ℕ) (o : Outcome) : Type 0 wher
 pub record Reads (journal out : List ℕ) (due : List Entry → List ℕ) (o : Outcome) : Type 0 where
   pub statuses : IsTrue (list_any (λ s. s == o.status) (0 ∷ 4 ∷ 5 ∷ 6 ∷ 7 ∷ 8 ∷ []))
   pub keeps : o.old.tells ≡ true → KeepsHistory (o.status ≡ 5) o.old o.new journal
-  pub untouched : o.status ≢ 0 → o.status ≢ 4 → o.status ≢ 8 → ApartFrom o.old o.new (journal ∷ [])
+  pub untouched : o.status ≢ 0 → o.status ≢ 4 → o.status ≢ 8 → SameBut o.old o.new (journal ∷ [])
   -- where memory ran out the output is touched only if there was a history to write
-  pub unread : o.status ≡ 8 → o.old.tells ≡ true → ApartFrom o.old o.new (journal ∷ []) ⊎ HasFittingHistory (log_bytes o.old journal)
+  pub unread : o.status ≡ 8 → o.old.tells ≡ true → SameBut o.old o.new (journal ∷ []) ⊎ HasFittingHistory (log_bytes o.old journal)
   pub device : o.status ≡ 5 → Rose (o.old.log_faults journal) (o.new.log_faults journal)
   pub output : o.status ≡ 4 → Rose (o.old.out_faults out) (o.new.out_faults out)
   pub told : 2 ≤ o.status → o.status ≢ 4 → TellsFault (WhyUnopened o.old journal) o.told o.now o.faults o.faults_now o.status
@@ -88,7 +88,7 @@ pub record Loads (words : List (List ℕ)) (journal : List ℕ) (files : ℕ) (o
 
 -- the same, and then the export and the report of the journal
 pub record Runs (words : List (List ℕ)) (journal out report : List ℕ) (files : ℕ) (o : Outcome) : Type 0 where
-  pub untouched : 1 < o.status → o.status ≢ 4 → o.status ≢ 8 → ApartFrom o.old o.new (journal ∷ [])
+  pub untouched : 1 < o.status → o.status ≢ 4 → o.status ≢ 8 → SameBut o.old o.new (journal ∷ [])
   pub device : o.status ≡ 5 → Rose (o.old.log_faults journal) (o.new.log_faults journal)
   pub input : o.status ≡ 3 → IsInputFault words o.old o.new
   pub output : o.status ≡ 4 → Rose (o.old.out_faults out) (o.new.out_faults out) ⊎ Rose (o.old.out_faults report) (o.new.out_faults report) ⊎ Rose o.faults o.faults_now

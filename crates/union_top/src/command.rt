@@ -1,11 +1,10 @@
 ghost use Rattle.std.specs.Prelude.{◌≡◌, ◌↔◌, ◌⊎◌, ◌==◌, ℕ, ◌≤◌, List, [], ◌∷◌, true, Some, None, IsTrue};
 ghost use Rattle.std.specs.List.{list_any};
-ghost use Rattle.outside.specs.Room.{Stays};
+ghost use Rattle.outside.specs.Room.{SameBut};
 ghost use Rattle.command_words.specs.Command.{Command, command_of, names_of};
 ghost use Rattle.command_words.specs.Asked.{command_asked};
 ghost use Rattle.console_lines.specs.Faults.{IsFaultTold, fault_line};
 ghost use Rattle.console_lines.specs.declared.fault.Fault.TheVariants.{Usage};
-ghost use Rattle.room_files.specs.Rooms.{ApartFrom};
 ghost use Rattle.union_top.specs.Commands.{Ends, Passes};
 ghost use Rattle.union_top.specs.Complete.{IsUnhindered};
 
@@ -34,7 +33,7 @@ fn carry_out<H: Threads + Wait + Sync, R: Room, G: Gate + Sync>(
     requires closed { (name : List ℕ) → (R.seen room.old).open_as name ≡ None }
     ensures statuses { IsTrue (list_any (λ s. s == result) (0 ∷ 1 ∷ 3 ∷ 4 ∷ 5 ∷ 6 ∷ 7 ∷ 8 ∷ 9 ∷ [])) }
     ensures closed { (name : List ℕ) → (R.seen room.new).open_as name ≡ None }
-    ensures apart { ApartFrom (R.seen room.old) (R.seen room.new) (names_of (command_asked asked.entry)) }
+    ensures apart { SameBut (R.seen room.old) (R.seen room.new) (names_of (command_asked asked.entry)) }
     ensures ends { Ends words.now (command_asked asked.entry) (record {
       old = R.seen room.old;
       new = R.seen room.new;
@@ -91,13 +90,13 @@ pub fn run<H: Threads + Wait + Sync, R: Room, G: Gate + Sync>(
 
     // Words that are no command change nothing, and the console is told so.
     ensures usage { result ≡ 2 ↔ command_of words.now ≡ None }
-    ensures unchanged { result ≡ 2 → Stays (R.seen room.old) (R.seen room.new) }
+    ensures unchanged { result ≡ 2 → SameBut (R.seen room.old) (R.seen room.new) [] }
     ensures usage_told { result ≡ 2 → IsFaultTold (R.Out.written console.old) (R.Out.written console.new)
         (R.Out.faults console.old) (R.Out.faults console.new) (fault_line Usage) }
 
     // A command changes no file but its log and outputs, and ends as it says.
     ensures apart { (command : Command) → command_of words.now ≡ Some command →
-        ApartFrom (R.seen room.old) (R.seen room.new) (names_of command) }
+        SameBut (R.seen room.old) (R.seen room.new) (names_of command) }
     ensures ends { (command : Command) → command_of words.now ≡ Some command → Ends words.now command (record {
       old = R.seen room.old;
       new = R.seen room.new;

@@ -5,18 +5,16 @@ ghost use Rattle.std.specs.Io.KnownBytes.{Appends};
 ghost use Rattle.outside.specs.Fault.{Rose};
 ghost use Rattle.outside.specs.Sink.{WritesFront};
 ghost use Rattle.command_words.specs.Command.{Library, library_at};
-ghost use Rattle.room_files.specs.Rooms.{ApartFrom};
-ghost use Rattle.entry_record.specs.History.{IsWithin};
+ghost use Rattle.outside.specs.Room.{SameBut};
 ghost use Rattle.union_top.specs.Commands.{Loads, Runs};
 
 use crate::outputs::write_outputs;
 use crate::texts::{files_text, has_refused};
 use command_words::Words;
 use console_lines::{Fault, tell};
-use durable_catalogue::Durable;
 use journal_loading::{LoadedJournal, load_journal};
 use marc_types::NoMemory;
-use outside::{Disk, Gate, Room, Sink, WriteFault};
+use outside::{Gate, Room, Sink, WriteFault};
 use room_files::close_journal;
 use std::alloc::Global;
 use std::sync::Wait;
@@ -44,13 +42,6 @@ fn tell_lines<K: Sink>(console: &mut K, text: &str, refused: bool) -> u8
     }
 }
 
-/// A catalogue over a journal is within its limits. This is a law for proofs; the call only looks at the catalogue.
-fn is_within_limits<D: Disk>(durable: &Durable<D>)
-    ensures { IsWithin durable.now.limits durable.now.core.history }
-{
-    durable.core().is_within_limits();
-}
-
 /// Loads files into the journal of that name.
 pub fn load<H: Threads + Wait + Sync, R: Room, G: Gate + Sync>(
     rt: &H,
@@ -69,7 +60,7 @@ pub fn load<H: Threads + Wait + Sync, R: Room, G: Gate + Sync>(
     requires apart { (index : ℕ) (library : Library) → library_at words.now index ≡ Some library → library.file ≢ journal.now }
     ensures statuses { IsTrue (list_any (λ s. s == result) (0 ∷ 1 ∷ 3 ∷ 4 ∷ 5 ∷ 6 ∷ 7 ∷ 8 ∷ 9 ∷ [])) }
     ensures closed { (name : List ℕ) → (R.seen room.new).open_as name ≡ None }
-    ensures apart { ApartFrom (R.seen room.old) (R.seen room.new) (journal.now ∷ []) }
+    ensures apart { SameBut (R.seen room.old) (R.seen room.new) (journal.now ∷ []) }
     ensures ends { Loads words.now journal.now files (record {
       old = R.seen room.old;
       new = R.seen room.new;
@@ -86,7 +77,7 @@ pub fn load<H: Threads + Wait + Sync, R: Room, G: Gate + Sync>(
         Ok(loaded) => loaded,
         Err(fault) => return tell(console, fault),
     };
-    is_within_limits(&durable);
+    durable.is_within_limits();
     let text = files_text(alloc, words, results.as_slice());
     close_journal(room, journal, durable);
     match text {
@@ -119,7 +110,7 @@ pub fn run_files<H: Threads + Wait + Sync, R: Room, G: Gate + Sync>(
     requires differ { report.now ≢ out.now }
     ensures statuses { IsTrue (list_any (λ s. s == result) (0 ∷ 1 ∷ 3 ∷ 4 ∷ 5 ∷ 6 ∷ 7 ∷ 8 ∷ 9 ∷ [])) }
     ensures closed { (name : List ℕ) → (R.seen room.new).open_as name ≡ None }
-    ensures apart { ApartFrom (R.seen room.old) (R.seen room.new) (journal.now ∷ out.now ∷ report.now ∷ []) }
+    ensures apart { SameBut (R.seen room.old) (R.seen room.new) (journal.now ∷ out.now ∷ report.now ∷ []) }
     ensures ends { Runs words.now journal.now out.now report.now files (record {
       old = R.seen room.old;
       new = R.seen room.new;
@@ -136,7 +127,7 @@ pub fn run_files<H: Threads + Wait + Sync, R: Room, G: Gate + Sync>(
         Ok(loaded) => loaded,
         Err(fault) => return tell(console, fault),
     };
-    is_within_limits(&durable);
+    durable.is_within_limits();
     let text = match files_text(alloc, words, results.as_slice()) {
         Ok(text) => text,
         Err(NoMemory) => {

@@ -76,4 +76,4 @@ pub returns-in-Err-clause-keeps : goal.returns-in-Err-clause-keeps
 returns-in-Err-clause-keeps g c told =
     let seen = g.R.Room.seen in
     refused_keeps (seen c.args.room.now) (seen c.open_archive.new.room) c.args.journal.now c.tell.result c.in-Err.fault
-    (c.tell.ensures.status ∙ ap fault_status c.opening_fault.ensures) (c.in-Err.ensures.keeps told)
+    (c.tell.ensures.status ∙ ap fault_status c.fault_of_opening.ensures) (c.in-Err.ensures.keeps told)

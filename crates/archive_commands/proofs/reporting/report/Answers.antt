@@ -5,7 +5,6 @@ use Rattle.catalogue_rules.specs.Output.{report_of}
 use Rattle.durable_catalogue.specs.declared.fault.OpenFault.TheVariants.{NoMemory}
 use Rattle.room_files.specs.Journals.{log_bytes}
 use Rattle.room_files.proofs.Journals.{closed_keeps}
-use Rattle.room_files.proofs.Rooms.{apart_from_one}
 use Rattle.console_lines.specs.Faults.{fault_status}
 use Rattle.archive_commands.proofs.Rooms.{closed_everywhere, apart_opened, part_opened}
 use Rattle.archive_commands.proofs.Histories.{whole_of_any, part_of_any, fitting_history}
@@ -104,7 +103,7 @@ pub returns-in-Err-clause-keeps : goal.returns-in-Err-clause-keeps
 returns-in-Err-clause-keeps g c told =
     let seen = g.R.Room.seen in
     refused_keeps (seen c.args.room.now) (seen c.open_archive.new.room) c.args.journal.now c.tell.result c.in-Err.fault
-    (c.tell.ensures.status ∙ ap fault_status c.opening_fault.ensures) (c.in-Err.ensures.keeps told)
+    (c.tell.ensures.status ∙ ap fault_status c.fault_of_opening.ensures) (c.in-Err.ensures.keeps told)
 
 pub returns-in-Err-NoMemory-clause-unread : goal.returns-in-Err-NoMemory-clause-unread
 returns-in-Err-NoMemory-clause-unread g c status told = inr (
@@ -112,4 +111,4 @@ returns-in-Err-NoMemory-clause-unread g c status told = inr (
     (c.in-Ok.ensures.history told) c.in-Ok.ensures.within)
 
 pub returns-in-Err-clause-unread : goal.returns-in-Err-clause-unread
-returns-in-Err-clause-unread g c status told = inl (apart_from_one _ _ _ c.open_archive.ensures.apart)
+returns-in-Err-clause-unread g c status told = inl c.open_archive.ensures.apart

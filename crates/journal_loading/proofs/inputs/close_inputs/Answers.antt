@@ -1,6 +1,6 @@
 use Rattle.std.proofs.Common.{rules, ◌≡◌, ◌∷◌, [], ◌+◌, length, Some, slice_get, sym, ap, subst, ◌∙◌, arith, length-append}
 use Rattle.command_words.specs.Command.{library_at}
-use Rattle.outside.proofs.Rooms.{stays_then}
+use Rattle.outside.proofs.Rooms.{same_but_then}
 use Rattle.journal_loading.proofs.Opened.{at_end, at_before, closed_more}
 use Rattle.journal_loading.proofs.inputs.close_inputs.Goals as goal
 
@@ -15,7 +15,7 @@ loop-input-preserved g c =
     let still = c.close_input.ensures.stays in
     let at : slice_get all (length left) ≡ Some last = sym (same (length left) (omega (arith, len))) ∙ ap (λ items. slice_get items (length left)) popped ∙ at_end left last in
     let counted : c.len.result ≡ length left = search rules in (
-      stays_then _ _ _ stays still,
+      same_but_then _ _ _ _ stays still,
       omega (arith, len, few),
       λ index less. sym (at_before left last index less) ∙ ap (λ items. slice_get items index) (sym popped) ∙ same index (omega (arith, len, less)),
       closed_more g.R.In.Source.faults c.args.words.now all left last (g.R.Room.seen c.args.room.now) (g.R.Room.seen c.loop-input.room) (g.R.Room.seen c.close_input.new.room)

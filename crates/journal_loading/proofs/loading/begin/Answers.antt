@@ -1,5 +1,5 @@
 use Rattle.std.proofs.Common.{◌≢◌, IfSome, ◌≡◌, length, take, refl, sym, ap, subst, ◌∙◌, arith}
-use Rattle.outside.proofs.Rooms.{stays_then, stays_apart, apart_then}
+use Rattle.outside.proofs.Rooms.{same_but_then, same_but_none}
 use Rattle.durable_catalogue.specs.Durables.{mark_of, opening}
 use Rattle.console_lines.specs.declared.fault.Fault.TheVariants as fault
 use Rattle.journal_loading.specs.Inputs.{IsInputFault, AreInputs}
@@ -14,7 +14,7 @@ returns-in-Err-clause-fault g c tells =
 
 pub open_inputs-inputs-requires-clause-free : goal.open_inputs-inputs-requires-clause-free
 open_inputs-inputs-requires-clause-free g c κs within index library named =
-    c.open_journal.ensures.apart.open_names library.file (c.requires.apart index library named) ∙ c.requires.free library.file
+    c.open_journal.ensures.apart.open_names library.file (c.requires.apart index library named, tt) ∙ c.requires.free library.file
 
 pub close_inputs-requires-clause-there : goal.close_inputs-requires-clause-there
 close_inputs-requires-clause-there g c κs within index less =
@@ -22,10 +22,10 @@ close_inputs-requires-clause-there g c κs within index less =
 
 pub close_journal-requires-after_bounds : goal.close_journal-requires-after_bounds
 close_journal-requires-after_bounds g c κs within =
-    c.close_inputs.ensures.stays.open_names c.args.journal.now ∙ (c.open_inputs-inputs.ensures.stays.open_names c.args.journal.now ∙ c.in-Ok.ensures.opened)
+    c.close_inputs.ensures.stays.open_names c.args.journal.now tt ∙ (c.open_inputs-inputs.ensures.stays.open_names c.args.journal.now tt ∙ c.in-Ok.ensures.opened)
 
 pub returns-in-None-clause-apart : goal.returns-in-None-clause-apart
-returns-in-None-clause-apart g c = apart_then _ _ _ _ c.open_journal.ensures.apart (stays_apart _ _ _ c.open_inputs-inputs.ensures.stays)
+returns-in-None-clause-apart g c = same_but_then _ _ _ _ c.open_journal.ensures.apart (same_but_none _ _ _ c.open_inputs-inputs.ensures.stays)
 
 pub returns-in-None-clause-inputs : goal.returns-in-None-clause-inputs
 returns-in-None-clause-inputs g c libraries are count =
@@ -41,7 +41,7 @@ returns-in-None-clause-inputs g c libraries are count =
 
 pub returns-in-Some-clause-apart : goal.returns-in-Some-clause-apart
 returns-in-Some-clause-apart g c =
-    apart_then _ _ _ _ c.open_journal.ensures.apart (apart_then _ _ _ _ (stays_apart _ _ _ (stays_then _ _ _ c.open_inputs-inputs.ensures.stays c.close_inputs.ensures.stays)) c.close_journal.ensures.apart)
+    same_but_then _ _ _ _ c.open_journal.ensures.apart (same_but_then _ _ _ _ (same_but_none _ _ _ (same_but_then _ _ _ _ c.open_inputs-inputs.ensures.stays c.close_inputs.ensures.stays)) c.close_journal.ensures.apart)
 
 pub returns-in-Some-clause-fault : goal.returns-in-Some-clause-fault
 returns-in-Some-clause-fault g c tells =

@@ -1,5 +1,5 @@
 use Rattle.std.proofs.Common.{◌≡◌, sym, subst, ◌∙◌, arith}
-use Rattle.outside.proofs.Rooms.{stays_apart, apart_then}
+use Rattle.outside.proofs.Rooms.{same_but_none, same_but_then}
 use Rattle.command_words.specs.Command.{library_at}
 use Rattle.durable_catalogue.specs.Durables.{mark_of, opening}
 use Rattle.room_files.specs.Journals.{IsOpenedFrom}
@@ -36,7 +36,7 @@ close_inputs-requires-clause-few g c κs within =
     omega (arith, few, same, count)
 
 pub returns-clause-apart : goal.returns-clause-apart
-returns-clause-apart g c = apart_then _ _ _ _ c.in-Ok.ensures.apart (apart_then _ _ _ _ (stays_apart _ _ _ c.close_inputs.ensures.stays) c.finish.ensures.apart)
+returns-clause-apart g c = same_but_then _ _ _ _ c.in-Ok.ensures.apart (same_but_then _ _ _ _ (same_but_none _ _ _ c.close_inputs.ensures.stays) c.finish.ensures.apart)
 
 pub returns-clause-whole : goal.returns-clause-whole
 returns-clause-whole g c =

@@ -5,11 +5,11 @@ use Rattle.plain_commands.proofs.passing.deliver.Goals as goal
 
 pub returns-in-Err-clause-end : goal.returns-in-Err-clause-end
 returns-in-Err-clause-end g c library file bytes tells is =
-    ended_in_part _ _ _ _ _ _ _ c.args.ready.now _ is c.core.ensures (c.write_out.ensures.part tells) (front_none _ _)
+    ended_in_part _ _ _ _ _ _ _ c.args.ready.now _ is c.core.ensures (c.write_all_records.ensures.part tells) (front_none _ _)
 
 pub returns-in-Err-write_all-clause-end : goal.returns-in-Err-write_all-clause-end
 returns-in-Err-write_all-clause-end g c library file bytes tells is =
-    ended_in_part _ _ _ _ _ _ _ c.args.ready.now _ is c.core.ensures (c.write_out.ensures.part tells) (rw (← c.as_bytes.ensures.value) c.write_all.ensures.front)
+    ended_in_part _ _ _ _ _ _ _ c.args.ready.now _ is c.core.ensures (c.write_all_records.ensures.part tells) (rw (← c.as_bytes.ensures.value) c.write_all.ensures.front)
 
 pub returns-then-is_empty-clause-end : goal.returns-then-is_empty-clause-end
 returns-then-is_empty-clause-end g c library file bytes tells is =

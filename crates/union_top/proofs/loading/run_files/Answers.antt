@@ -2,12 +2,11 @@ use Rattle.std.proofs.Common.{rules, IfErr, Err, string_bytes, ◌≡◌, ◌⊎
 use Rattle.outside.specs.Fault.{Rose}
 use Rattle.outside.specs.declared.fault.WriteFault.TheVariants.{OutputFault}
 use Rattle.outside.proofs.Fronts.{front_none}
-use Rattle.outside.proofs.Rooms.{apart_then}
+use Rattle.outside.proofs.Rooms.{same_but_then}
 use Rattle.durable_catalogue.specs.Durables.{mark_of, opening}
 use Rattle.catalogue_rules.specs.Settle.{state_of}
 use Rattle.catalogue_rules.specs.Output.{export_of, report_of, all_keys}
-use Rattle.room_files.proofs.Rooms.{apart_from_one}
-use Rattle.room_files.specs.Rooms.{IsPartWritten, AsItWas}
+use Rattle.output_files.specs.Outputs.{IsPartWritten, AsItWas}
 use Rattle.union_top.specs.Texts.{files_text, has_refused}
 use Rattle.union_top.specs.Runs.{NotLoaded, NoMemory}
 use Rattle.union_top.proofs.OneHistory.{merged_by}
@@ -16,10 +15,10 @@ use Rattle.union_top.proofs.loading.run_files.Goals as goal
 
 pub returns-in-Err-clause-ends : goal.returns-in-Err-clause-ends
 returns-in-Err-clause-ends g c =
-    runs_failed _ _ _ _ _ _ _ _ _ _ _ _ c.in-Err.fault c.tell.ensures.status c.tell.ensures.told (λ other. apart_from_one _ _ _ c.load_journal.ensures.apart)
+    runs_failed _ _ _ _ _ _ _ _ _ _ _ _ c.in-Err.fault c.tell.ensures.status c.tell.ensures.told (λ other. c.load_journal.ensures.apart)
     c.in-Err.ensures.device c.in-Err.ensures.input
-    (λ libraries are count room. NotLoaded (c.in-Err.ensures.fault libraries are count room) (c.load_journal.ensures.apart.files c.args.out.now c.requires.out_apart)
-    (c.load_journal.ensures.apart.files c.args.report.now c.requires.report_apart))
+    (λ libraries are count room. NotLoaded (c.in-Err.ensures.fault libraries are count room) (c.load_journal.ensures.apart.files c.args.out.now (c.requires.out_apart, tt))
+    (c.load_journal.ensures.apart.files c.args.report.now (c.requires.report_apart, tt)))
 
 pub returns-in-Err-files_text-clause-closed : goal.returns-in-Err-files_text-clause-closed
 returns-in-Err-files_text-clause-closed g c = closed_load _ _ _ _ c.requires.free c.load_journal.ensures.apart c.close_journal.ensures.apart c.close_journal.ensures.closed
@@ -28,14 +27,14 @@ pub returns-in-Err-files_text-clause-ends : goal.returns-in-Err-files_text-claus
 returns-in-Err-files_text-clause-ends g c =
     let seen = g.R.Room.seen in
     let d = c.in-Ok.loaded.durable in
-    let apart = apart_then _ _ _ _ c.load_journal.ensures.apart c.close_journal.ensures.apart in
-    runs_failed _ _ _ _ _ _ _ _ _ _ _ _ _ c.tell-in-Err-files_text.ensures.status c.tell-in-Err-files_text.ensures.told (λ other. apart_from_one _ _ _ apart) (λ is. cc) (λ is. cc)
+    let apart = same_but_then _ _ _ _ c.load_journal.ensures.apart c.close_journal.ensures.apart in
+    runs_failed _ _ _ _ _ _ _ _ _ _ _ _ _ c.tell-in-Err-files_text.ensures.status c.tell-in-Err-files_text.ensures.told (λ other. apart) (λ is. cc) (λ is. cc)
     (λ libraries are count room. NoMemory refl (record {
       merged = (merged_by (seen c.args.room.now) (seen c.close_journal.new.room) c.args.journal.now libraries d.core.history (mark_of d.mark)
           (opening d.limits d.run d.opened (g.R.Log.Disk.seen d.before.value) (g.R.Log.Disk.seen d.first.value.disk)) c.in-Ok.loaded.results room (c.in-Ok.ensures.whole libraries are count room)
           (λ told. c.close_journal.ensures.log (c.load_journal.ensures.apart.tells ∙ room) told) c.is_within_limits.ensures).merged;
-      export = AsItWas (apart.files c.args.out.now c.requires.out_apart);
-      report_is = AsItWas (apart.files c.args.report.now c.requires.report_apart);
+      export = AsItWas (apart.files c.args.out.now (c.requires.out_apart, tt));
+      report_is = AsItWas (apart.files c.args.report.now (c.requires.report_apart, tt));
     }))
 
 pub returns-in-Ok-written-clause-closed : goal.returns-in-Ok-written-clause-closed
