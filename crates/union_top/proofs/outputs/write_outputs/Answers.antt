@@ -1,6 +1,6 @@
 use Rattle.std.proofs.Common.{rules, sym, subst, ◌∙◌}
-use Rattle.entry_record.specs.History.{state_of}
-use Rattle.entry_record.specs.Output.{export_of, report_of, all_keys}
+use Rattle.catalogue_rules.specs.Settle.{state_of}
+use Rattle.catalogue_rules.specs.Output.{export_of, report_of, all_keys}
 use Rattle.room_files.specs.Rooms.{IsPartWritten}
 use Rattle.union_top.proofs.outputs.write_outputs.Goals as goal
 
