@@ -15,8 +15,8 @@ ghost use Rattle.archive_commands.specs.Archives.{WhyUnopened, HasFittingHistory
 use crate::fault::{OUTPUT_FAULT, WRITTEN};
 use console_lines::{Fault, tell};
 use durable_catalogue::Archive;
-use outside::{Room, WriteFault};
 use output_files::write_report_file;
+use outside::{Room, WriteFault};
 use room_files::{close_archive, fault_of_opening, open_archive};
 use std::alloc::Global;
 

@@ -114,6 +114,7 @@ module _ {O S E C R Q A : Type 0} where
     where
       first : {X : Type 0} {x y : X} {xs ys : List X} → x ∷ xs ≡ y ∷ ys → x ≡ y
       first e = cc
+
       others : {X : Type 0} {x y : X} {xs ys : List X} → x ∷ xs ≡ y ∷ ys → xs ≡ ys
       others e = cc
 

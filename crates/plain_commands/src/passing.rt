@@ -11,8 +11,8 @@ ghost use Rattle.plain_commands.specs.Passing.{IsReady, IsEndOfPass};
 use crate::OUTPUT_FAULT;
 use crate::ready::{Ready, prepare};
 use console_lines::tell;
-use outside::{Room, Sink};
 use output_files::write_all_records;
+use outside::{Room, Sink};
 use std::alloc::Global;
 
 /// The exit statuses of a pass that wrote all: nothing was refused, or something was.

@@ -8,8 +8,8 @@ ghost use Rattle.output_files.specs.Outputs.{IsPartWritten};
 ghost use Rattle.outside.specs.Room.{SameBut};
 
 use catalogue_core::Catalogue;
-use outside::{Room, WriteFault};
 use output_files::{write_all_records, write_report_file};
+use outside::{Room, WriteFault};
 use std::alloc::Global;
 
 /// Writes the export of a catalogue into the file `out`, and then its report into the file `report`.
