@@ -1,5 +1,5 @@
 -- What callers see of a link table. Authorities stand there by the numbers of their keys.
-use Rattle.std.specs.Prelude.{◌≡◌, ℕ, ◌+◌, ◌-◌, ◌≤◌, Bool, true, false, ◌&&◌, nat_eq, Option, None, Some, if◌then◌else◌}
+use Rattle.std.specs.Prelude.{ℕ, ◌+◌, ◌-◌, ◌≤◌, Bool, false, nat_eq, Option, None, Some, if◌then◌else◌}
 use Rattle.numbering.specs.declared.seat.Seat.{Seat}
 use Rattle.numbering.specs.Seats.{same_seat}
 use Rattle.link_table.specs.declared.link.Link.{Link}

@@ -1,5 +1,6 @@
 ghost use Rattle.std.specs.Prelude.{◌≡◌, nat_eq, OnOk, OnErr, IfOk, IfSome, IfNone, None, Some, filter};
 ghost use Rattle.std.specs.HashMap.{keys};
+ghost use Rattle.std.specs.List.{IsDistinct};
 ghost use Rattle.numbering.specs.Seats.{same_seat};
 ghost use Rattle.place_names.specs.Slots.{row_at, rooms_at};
 ghost use Rattle.place_names.specs.Counts.{times};
@@ -75,7 +76,9 @@ impl LinkTable {
         ensures free { (links self.new).key_of seat ≡ None }
         ensures undone { IfSome result (λ link. with_row_back link (links self.new) ≡ links self.old) }
     {
-        let number = self.slots.take(seat)?;
+        let Some(number) = self.slots.take(seat) else {
+            return None;
+        };
         Some(Link { number, seat })
     }
 
@@ -101,10 +104,11 @@ impl LinkTable {
     pub fn of(&self, alloc: Global, number: u32) -> Result<Seats, NoMemory>
         ensures { IfOk result (λ seats. ListsEach same_seat (is_linked number (links self.now)) seats.items) }
     {
-        match self.names.group(number) {
-            None => Ok(Vec::new(alloc)),
-            Some(group) => self.linked_in(alloc, group, number),
-        }
+        let Some(group) = self.names.group(number) else {
+            return Ok(Vec::new(alloc));
+        };
+        let seats = self.linked_in(alloc, group, number)?;
+        Ok(seats)
     }
 
     // Those of a group's seats that are linked to the authority.
@@ -114,7 +118,8 @@ impl LinkTable {
         group: &HashMap<Seat, u32>,
         number: u32,
     ) -> Result<Seats, NoMemory>
-        ensures { IfOk result (λ seats. seats.items ≡ filter (is_linked number (links self.now)) (keys group.now)) }
+        ensures kept { IfOk result (λ seats. seats.items ≡ filter (is_linked number (links self.now)) (keys group.now)) }
+        ensures distinct { IsDistinct same_seat (keys group.now) }
     {
         let mut seats = Vec::new(alloc);
         for seat in group.keys() {

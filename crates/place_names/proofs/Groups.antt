@@ -6,6 +6,12 @@ use Rattle.std.specs.HashMap.{HashMap, get}
 use Rattle.std.specs.HashMap.Eq.{lookup_congr}
 use Rattle.place_names.specs.Counts.{times_if, times, once}
 
+swapped : (b c : Bool) → ◌≡◌ {A = ℕ} (cond b (cond c 1 0) 0) (cond c (cond b 1 0) 0)
+swapped true true = refl
+swapped true false = refl
+swapped false true = refl
+swapped false false = refl
+
 module _ {P S : Type 0} (same : P → P → Bool) where
   grown_by : (b : Bool) (now group old : Option (HashMap P ℕ S)) (p : P) (n : ℕ) → times_if same now p ≡ times_if same old p + n → (b ≡ true → group ≡ old)
       → times_if same (cond b now group) p ≡ times_if same group p + cond b n 0
@@ -29,6 +35,7 @@ module _ {N P S T : Type 0} {same_name : N → N → Bool} (same : P → P → B
   regrouped grown n p =
       ap (λ g. times_if same g p) (changed n)
       ∙ grown_by same (same_name name n) group (get same_name old n) (get same_name old name) p (if same thing p then 1 else 0) (grown p) (one_group laws old name n)
+      ∙ ap (λ k. times same_name same old n p + k) (swapped (same_name name n) (same thing p))
 
   -- the group has one less
   pub ungrouped : ((p : P) → times_if same group p ≡ times_if same (get same_name old name) p - (if same thing p then 1 else 0))
@@ -36,3 +43,4 @@ module _ {N P S T : Type 0} {same_name : N → N → Bool} (same : P → P → B
   ungrouped shrunk n p =
       ap (λ g. times_if same g p) (changed n)
       ∙ shrunk_by same (same_name name n) group (get same_name old n) (get same_name old name) p (if same thing p then 1 else 0) (shrunk p) (one_group laws old name n)
+      ∙ ap (λ k. times same_name same old n p - k) (swapped (same_name name n) (same thing p))

@@ -23,4 +23,4 @@ module _ {N P : Type 0} (same_name : N → N → Bool) (same : P → P → Bool)
 
   -- how often one name and one thing count
   abbrev pub once : N → P → N → P → ℕ
-  once one_name one name thing = if same_name one_name name then (if same one thing then 1 else 0) else 0
+  once one_name one name thing = if same one thing then (if same_name one_name name then 1 else 0) else 0
