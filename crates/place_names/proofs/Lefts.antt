@@ -1,5 +1,5 @@
 -- What is left of a count beside what stands: the count is of all rows, standing or taken, so what is left is of those that are taken.
-use Rattle.std.proofs.Common.{◌≡◌, ◌∙◌, sym, refl, ℕ, ◌+◌, ◌-◌, ◌≤◌, arith, Bool, true, false}
+use Rattle.std.proofs.Common.{◌≡◌, refl, ℕ, ◌+◌, ◌-◌, ◌≤◌, arith, Bool, true, false}
 use Rattle.std.specs.Prelude.{if◌then◌else◌}
 
 pub take_left : (here : Bool) (count stand it : ℕ) → stand ≤ count → (here ≡ true → stand ≡ it) → count - (if here then 0 else stand) ≡ count - stand + (if here then it else 0)

@@ -1,5 +1,5 @@
 -- The slot of a thing: its row, if one stands, and room for all its rows, also for those that are taken.
-use Rattle.std.specs.Prelude.{◌≡◌, ℕ, Bool, Option, None, Some, if◌then◌else◌, is_some}
+use Rattle.std.specs.Prelude.{ℕ, Bool, Option, None, Some, if◌then◌else◌, is_some}
 use Rattle.std.specs.HashMap.{HashMap, get}
 use Rattle.place_names.specs.declared.slots.Slot.{Slot}
 

@@ -1,9 +1,9 @@
-use Rattle.link_table.proofs.Steps.{came, came_sound}
+use Rattle.link_table.proofs.Steps.{came, back_sound}
 use Rattle.link_table.proofs.table.LinkTable.put_back.Goals as goal
 
 pub invariant_of-self : goal.invariant_of-self
 invariant_of-self c = record {
-  sound = came_sound c.args.self.now.sound c.args.link c.requires.taken c.requires.free c.put.ensures.rows c.put.ensures.rooms;
+  sound = back_sound c.args.self.now.sound c.args.link c.requires.taken c.requires.free c.put.ensures.rows c.put.ensures.rooms;
 }
 
 pub returns : goal.returns
