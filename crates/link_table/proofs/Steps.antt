@@ -6,9 +6,9 @@ use Rattle.numbering.specs.declared.seat.Seat.{Seat}
 use Rattle.numbering.specs.Seats.{same_seat, seat_Decides}
 use Rattle.place_names.specs.Slots.{standing, put}
 use Rattle.place_names.specs.Counts.{once}
-use Rattle.place_names.proofs.Rows.{itself, itself_one, put_again, there_and_back, more_than, took_left, came_left, came_sound, went_left, went_sound}
+use Rattle.place_names.proofs.Rows.{itself, itself_one, put_here, put_again, there_and_back, more_than, took_left, came_left, came_sound, went_left, went_sound}
 use Rattle.link_table.specs.declared.link.Link.{Link}
-use Rattle.link_table.specs.Links.{Links, with_key, more_taken, less_taken, with_row_taken, with_row_back, leads_to, IsTaken}
+use Rattle.link_table.specs.Links.{Links, with_key, more_taken, less_taken, with_row_taken, with_row_back, leads_to, row_of, IsTaken}
 use Rattle.link_table.specs.Sound.{IsSound, seen, leading}
 
 once_itself : (link : Link) → ◌≡◌ {A = ℕ} (once nat_eq same_seat link.number link.seat link.number link.seat) 1
@@ -93,7 +93,7 @@ module _ (link : Link) (links : Links) where
   -- what was taken and is put back at once is as it was
   pub back_taken : links.key_of link.seat ≡ Some link.number → with_row_back link (with_row_taken link links) ≡ links
   back_taken was = λ i. record {
-    key_of = λ seat. put_again seat_Decides link.seat (Some link.number) links.key_of was seat i;
+    key_of = λ seat. put_again seat_Decides link.seat (Some link.number) None links.key_of was seat i;
     taken = λ seat. there_and_back (links.taken seat) (if same_seat link.seat seat then 1 else 0) i;
     taken_from = λ number seat. there_and_back (links.taken_from number seat) (once nat_eq same_seat link.number link.seat number seat) i;
   }
@@ -105,6 +105,18 @@ module _ (link : Link) (links : Links) where
     taken = λ seat. there_and_back (links.taken seat) (if same_seat link.seat seat then 1 else 0) i;
     taken_from = λ number seat. there_and_back (links.taken_from number seat) (once nat_eq same_seat link.number link.seat number seat) i;
   })
+
+  -- what was added comes out
+  pub comes_out : (after : Links) → after ≡ with_key link.seat (Some link.number) links → row_of link.seat (after.key_of link.seat) ≡ Some link
+  comes_out after e = ap (λ l. row_of link.seat (l.key_of link.seat)) e ∙ ap (row_of link.seat) (put_here seat_Decides link.seat (Some link.number) links.key_of)
+
+  -- a row that comes, is taken and is let go leaves nothing
+  pub came_and_went : links.key_of link.seat ≡ None → less_taken link (with_row_taken link (with_key link.seat (Some link.number) links)) ≡ links
+  came_and_went free = λ i. record {
+    key_of = λ seat. put_again seat_Decides link.seat None (Some link.number) links.key_of free seat i;
+    taken = λ seat. there_and_back (links.taken seat) (if same_seat link.seat seat then 1 else 0) i;
+    taken_from = λ number seat. there_and_back (links.taken_from number seat) (once nat_eq same_seat link.number link.seat number seat) i;
+  }
 
 -- parts that are alike at each seat look the same
 pub seen_as : {row row' : Seat → Option ℕ} {rooms rooms' : Seat → ℕ} (times : ℕ → Seat → ℕ) → ((seat : Seat) → row' seat ≡ row seat) → ((seat : Seat) → rooms' seat ≡ rooms seat)

@@ -7,5 +7,5 @@ use Rattle.link_table.specs.Links.{Links}
 use Rattle.link_table.specs.Sound.{seen}
 use Rattle.link_table.specs.declared.table.LinkTable.{LinkTable}
 
-abbrev pub links : LinkTable → Links
+unfoldable pub links : LinkTable → Links
 links table = seen (row_at same_seat table.slots.slots) (rooms_at same_seat table.slots.slots) (times nat_eq same_seat table.names.groups)

@@ -8,3 +8,5 @@ pub use table::LinkTable;
 
 mod link;
 mod table;
+#[cfg(test)]
+mod tests;

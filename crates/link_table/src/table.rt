@@ -22,6 +22,7 @@ pub struct LinkTable {
     ghost sound: { IsSound (row_at same_seat slots.slots) (rooms_at same_seat slots.slots) (times nat_eq same_seat names.groups) },
 }
 
+#[tactic(auto, unfolding(crate::specs::Table::links))]
 impl LinkTable {
     ghost use Rattle.link_table.specs.Links.{no_links, with_key, more_taken, less_taken, with_row_taken, with_row_back, row_of, is_linked, IsTaken};
     ghost use Rattle.link_table.specs.Table.{links};

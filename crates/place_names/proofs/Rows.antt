@@ -15,9 +15,9 @@ same_by : {X : Type 0} (here : Bool) (now was : X) → (here ≡ true → was �
 same_by true now was e = sym (e refl)
 same_by false now was e = refl
 
-again_by : {R : Type 0} (here : Bool) (now was : Option R) → (here ≡ true → was ≡ now) → (if here then now else (if here then None else was)) ≡ was
-again_by true now was e = sym (e refl)
-again_by false now was e = refl
+again_by : {X : Type 0} (here : Bool) (now between was : X) → (here ≡ true → was ≡ now) → (if here then now else (if here then between else was)) ≡ was
+again_by true now between was e = sym (e refl)
+again_by false now between was e = refl
 
 -- the sums of what is added and taken again
 pub there_and_back : (n k : ℕ) → n + k - k ≡ n
@@ -53,9 +53,9 @@ module _ {P : Type 0} {same : P → P → Bool} (decides : (x y : P) → Decides
   pub put_same : {R : Type 0} (one : P) (now : Option R) (row : P → Option R) → row one ≡ now → (p : P) → put same one now row p ≡ row p
   put_same one now row was p = same_by (same one p) now (row p) (λ e. at_thing row one p e ∙ was)
 
-  -- nor does it once the slot was emptied
-  pub put_again : {R : Type 0} (one : P) (now : Option R) (row : P → Option R) → row one ≡ now → (p : P) → put same one now (put same one None row) p ≡ row p
-  put_again one now row was p = again_by (same one p) now (row p) (λ e. at_thing row one p e ∙ was)
+  -- nor does it where something else was put there meanwhile
+  pub put_again : {R : Type 0} (one : P) (now between : Option R) (row : P → Option R) → row one ≡ now → (p : P) → put same one now (put same one between row) p ≡ row p
+  put_again one now between row was p = again_by (same one p) now between (row p) (λ e. at_thing row one p e ∙ was)
 
   -- a slot with one more room has a room without a row
   pub room_more : {R : Type 0} (row' row : Option R) (rooms' rooms : ℕ) (one : P) → standing row ≤ rooms → row' ≡ row → rooms' ≡ rooms + (if same one one then 1 else 0) → standing row' + 1 ≤ rooms'

@@ -8,3 +8,5 @@ pub use slots::Slots;
 
 mod counts;
 mod slots;
+#[cfg(test)]
+mod tests;

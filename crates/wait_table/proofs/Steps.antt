@@ -6,10 +6,10 @@ use Rattle.numbering.specs.declared.seat.Seat.{Seat}
 use Rattle.numbering.specs.Seats.{same_seat, seat_Decides}
 use Rattle.place_names.specs.Slots.{standing, put}
 use Rattle.place_names.specs.Counts.{brought}
-use Rattle.place_names.proofs.Rows.{itself_one, brought_itself, put_again, there_and_back, more_than, took_left, came_left, came_sound, went_sound}
+use Rattle.place_names.proofs.Rows.{itself_one, brought_itself, put_here, put_again, there_and_back, more_than, took_left, came_left, came_sound, went_sound}
 use Rattle.wait_table.specs.declared.waiting.Waiting.{Waiting}
 use Rattle.wait_table.specs.declared.waiting.WaitRow.{WaitRow}
-use Rattle.wait_table.specs.Waits.{Waits, forms_of, times_of, has, asks_form, names_key, with_waiting, more_taken, with_row_taken, with_row_back, IsTaken}
+use Rattle.wait_table.specs.Waits.{Waits, forms_of, times_of, has, asks_form, names_key, with_waiting, more_taken, less_taken, with_row_taken, with_row_back, row_of, IsTaken}
 use Rattle.wait_table.specs.Sound.{IsSound, seen, asking, naming}
 
 module _ {row : Seat → Option Waiting} {rooms : Seat → ℕ} {forms keys : ℕ → Seat → ℕ} (sound : IsSound row rooms forms keys) (one : WaitRow) where
@@ -70,7 +70,7 @@ module _ (one : WaitRow) (waits : Waits) where
   -- what was taken and is put back at once is as it was
   pub back_taken : waits.waiting one.seat ≡ Some one.waiting → with_row_back one (with_row_taken one waits) ≡ waits
   back_taken was = λ i. record {
-    waiting = λ seat. put_again seat_Decides one.seat (Some one.waiting) waits.waiting was seat i;
+    waiting = λ seat. put_again seat_Decides one.seat (Some one.waiting) None waits.waiting was seat i;
     taken = λ seat. there_and_back (waits.taken seat) (if same_seat one.seat seat then 1 else 0) i;
     taken_forms = λ form seat. there_and_back (waits.taken_forms form seat) (brought nat_eq same_seat (forms_of one.waiting.forms) one.seat form seat) i;
     taken_keys = λ key seat. there_and_back (waits.taken_keys key seat) (brought nat_eq same_seat one.waiting.keys one.seat key seat) i;
@@ -84,6 +84,19 @@ module _ (one : WaitRow) (waits : Waits) where
     taken_forms = λ form seat. there_and_back (waits.taken_forms form seat) (brought nat_eq same_seat (forms_of one.waiting.forms) one.seat form seat) i;
     taken_keys = λ key seat. there_and_back (waits.taken_keys key seat) (brought nat_eq same_seat one.waiting.keys one.seat key seat) i;
   })
+
+  -- what was added comes out
+  pub comes_out : (after : Waits) → after ≡ with_waiting one.seat (Some one.waiting) waits → row_of one.seat (after.waiting one.seat) ≡ Some one
+  comes_out after e = ap (λ w. row_of one.seat (w.waiting one.seat)) e ∙ ap (row_of one.seat) (put_here seat_Decides one.seat (Some one.waiting) waits.waiting)
+
+  -- a row that comes, is taken and is let go leaves nothing
+  pub came_and_went : waits.waiting one.seat ≡ None → less_taken one (with_row_taken one (with_waiting one.seat (Some one.waiting) waits)) ≡ waits
+  came_and_went free = λ i. record {
+    waiting = λ seat. put_again seat_Decides one.seat None (Some one.waiting) waits.waiting free seat i;
+    taken = λ seat. there_and_back (waits.taken seat) (if same_seat one.seat seat then 1 else 0) i;
+    taken_forms = λ form seat. there_and_back (waits.taken_forms form seat) (brought nat_eq same_seat (forms_of one.waiting.forms) one.seat form seat) i;
+    taken_keys = λ key seat. there_and_back (waits.taken_keys key seat) (brought nat_eq same_seat one.waiting.keys one.seat key seat) i;
+  }
 
 -- parts that are alike at each seat look the same
 pub seen_as : {row row' : Seat → Option Waiting} {rooms rooms' : Seat → ℕ} (forms keys : ℕ → Seat → ℕ) → ((seat : Seat) → row' seat ≡ row seat) → ((seat : Seat) → rooms' seat ≡ rooms seat)

@@ -7,7 +7,7 @@ use Rattle.wait_table.specs.Waits.{Waits}
 use Rattle.wait_table.specs.Sound.{seen}
 use Rattle.wait_table.specs.declared.table.WaitTable.{WaitTable}
 
-abbrev pub waits : WaitTable → Waits
+unfoldable pub waits : WaitTable → Waits
 waits table =
     seen (row_at same_seat table.slots.slots) (rooms_at same_seat table.slots.slots) (times nat_eq same_seat table.forms.groups)
     (times nat_eq same_seat table.keys.groups)

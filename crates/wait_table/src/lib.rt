@@ -7,4 +7,6 @@ pub use table::WaitTable;
 pub use waiting::{Asked, WaitRow, Waiting};
 
 mod table;
+#[cfg(test)]
+mod tests;
 mod waiting;

@@ -52,6 +52,7 @@ fn forget_forms(forms: &mut Counts<u32, Seat>, asked: Asked, seat: Seat)
     }
 }
 
+#[tactic(auto, unfolding(crate::specs::Table::waits))]
 impl WaitTable {
     ghost use Rattle.wait_table.specs.Waits.{no_waits, with_waiting, more_taken, less_taken, with_row_taken, with_row_back, row_of, asks, names, IsTaken};
     ghost use Rattle.wait_table.specs.Table.{waits};
