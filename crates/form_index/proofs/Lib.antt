@@ -1,0 +1,4 @@
+pub mod Moved
+pub mod Ordered
+pub mod Stepping
+pub mod Trims

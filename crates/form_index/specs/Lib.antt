@@ -1,0 +1,6 @@
+pub mod Forms
+pub mod Index
+pub mod Listed
+pub mod Order
+pub mod Stands
+pub mod Trimmed
