@@ -64,10 +64,10 @@ module _ (R : ℕ → ℕ → Ordering) (o : IsTotalOrder R) where
   not_same : (m n : ℕ) (r : Ordering) → R m n ≡ r → r ≢ Equal → (m == n) ≡ false
   not_same m n r is differs = ne_eqb m n (λ e. differs (sym is ∙ ap (λ k. R k n) e ∙ tied_itself o n))
 
-  less_differs : (m n : ℕ) → R m n ≡ Less → (m == n) ≡ false
+  pub less_differs : (m n : ℕ) → R m n ≡ Less → (m == n) ≡ false
   less_differs m n e = not_same m n Less e (λ h. cc)
 
-  greater_differs : (m n : ℕ) → R m n ≡ Greater → (m == n) ≡ false
+  pub greater_differs : (m n : ℕ) → R m n ≡ Greater → (m == n) ≡ false
   greater_differs m n e = not_same m n Greater e (λ h. cc)
 
   all_greater : (n : ℕ) (l : List ℕ) → AllByRecursion (λ m. R m n ≡ Greater) l → has n l ≡ false

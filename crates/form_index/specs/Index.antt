@@ -4,7 +4,7 @@ use Rattle.std.specs.Option.{option_map_or}
 use Rattle.marc_types.specs.declared.key.Key.{Key}
 use Rattle.form_index.specs.Order.{Ascends, has}
 use Rattle.form_index.specs.Trimmed.{trimmed, with_at}
-use Rattle.form_index.specs.Listed.{IsShort, Listed, each_of, list_at, released, seated, unseated}
+use Rattle.form_index.specs.Listed.{InOrder, IsShort, Listed, Stepped, each_of, list_at, released, seated, unseated}
 use Rattle.form_index.specs.Forms.{Forms, belongs, forms_by, is_among}
 use Rattle.form_index.specs.declared.among.Among.{Among}
 use Rattle.form_index.specs.declared.among.Among.TheVariants.{All, Bare}
@@ -25,6 +25,9 @@ pub record Listing : Type 0 where
 pub record Indexed : Type 0 where
   pub rows : List (Option Forms)
   pub lists : Listing
+
+abbrev pub no_index : Indexed
+no_index = record { rows = []; lists = record { all = record { established = []; see_from = [] }; bare = record { established = []; see_from = [] } } }
 
 -- a row that was taken out, under the number of its key
 pub record Taken : Type 0 where
@@ -50,11 +53,19 @@ ExchangesRow number row old new = (n : ℕ) → row_under n new ≡ (if n == num
 
 -- ---- lists
 
+abbrev pub no_headed : Headed
+no_headed = record { established = []; see_from = [] }
+
+abbrev pub headed_among : Among → Listing → Headed
+headed_among All l = l.all
+headed_among Bare l = l.bare
+
+abbrev pub headed_by : By → Headed → List Listed
+headed_by Established h = h.established
+headed_by SeeFrom h = h.see_from
+
 abbrev pub lists_by : Among → By → Listing → List Listed
-lists_by All Established l = l.all.established
-lists_by All SeeFrom l = l.all.see_from
-lists_by Bare Established l = l.bare.established
-lists_by Bare SeeFrom l = l.bare.see_from
+lists_by among by l = headed_by by (headed_among among l)
 
 abbrev pub listed : Among → By → ℕ → Listing → Listed
 listed among by form l = list_at (lists_by among by l) form
@@ -70,6 +81,19 @@ listing_step row step l = record { all = headed_step row step l.all; bare = if r
 -- the lists to which the row belongs took the step, and the others are as they were
 abbrev pub Took : Forms → (Listed → Listed) → Listing → Listing → Type 0
 Took row step old new = (among : Among) (by : By) (form : ℕ) → listed among by form new ≡ (if belongs among by form row then step (listed among by form old) else listed among by form old)
+
+-- the same of the lists of some rows
+pub record TookHeaded (row : Forms) (step : Listed → Listed) (old new : Headed) : Type 0 where
+  pub established : Stepped (forms_by Established row) step old.established new.established
+  pub see_from : Stepped (forms_by SeeFrom row) step old.see_from new.see_from
+
+pub record IsShortHeaded (h : Headed) : Type 0 where
+  pub established : IsShort h.established
+  pub see_from : IsShort h.see_from
+
+pub record HeadedInOrder (keys : List Key) (h : Headed) : Type 0 where
+  pub established : InOrder keys h.established
+  pub see_from : InOrder keys h.see_from
 
 abbrev pub IsShortListing : Listing → Type 0
 IsShortListing l = (among : Among) (by : By) → IsShort (lists_by among by l)
@@ -99,9 +123,33 @@ let_go row x = record { rows = x.rows; lists = listing_step row.forms (released 
 abbrev pub IsHeld : Taken → Indexed → Type 0
 IsHeld row x = (among : Among) (by : By) (form : ℕ) → belongs among by form row.forms ≡ true → has row.number (listed among by form x.lists).held ≡ true
 
+-- a row was taken out: others stay, and putting it back gives the old value
+pub record TakesOut (keys : List Key) (row : Taken) (old new : Indexed) : Type 0 where
+  pub is : new ≡ taken_out row old
+  pub rows : ExchangesRow row.number None old new
+  pub held : IsHeld row new
+  pub undone : put_back keys row new ≡ old
+
+-- a row was put under a number that had none: others stay, and taking it and letting it go gives the old value
+pub record Puts (row : Taken) (old new : Indexed) : Type 0 where
+  pub rows : ExchangesRow row.number (Some row.forms) old new
+  pub undone : let_go row (taken_out row new) ≡ old
+
+-- a row was put back: others stay
+pub record PutsBack (keys : List Key) (row : Taken) (old new : Indexed) : Type 0 where
+  pub is : new ≡ put_back keys row old
+  pub rows : ExchangesRow row.number (Some row.forms) old new
+
+abbrev pub taken : ℕ → Forms → Taken
+taken number forms = record { number = number; forms = forms }
+
 -- ---- candidates
 
 -- the numbers of the rows that belong to a form's list, each once, in the order of any keys by which the index is in order
 pub record IsScan (among : Among) (by : By) (form : ℕ) (x : Indexed) (numbers : List ℕ) : Type 0 where
-  pub members : (n : ℕ) → has n numbers ≡ option_map_or (belongs among by form) false (row_under n x)
+  pub members : (n : ℕ) → has n numbers ≡ option_map_or (belongs among by form) (row_under n x) false
   pub ordered : (keys : List Key) → IsInOrder keys x → Ascends keys numbers
+
+-- no row belongs to the form's list
+abbrev pub IsBlankScan : Among → By → ℕ → Indexed → Type 0
+IsBlankScan among by form x = (n : ℕ) → option_map_or (belongs among by form) (row_under n x) false ≡ false

@@ -1,3 +1,4 @@
+pub mod Candidates
 pub mod Forms
 pub mod Index
 pub mod Listed

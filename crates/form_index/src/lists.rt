@@ -49,7 +49,7 @@ impl Lists {
         requires { is_once forms.now ≡ true }
         ensures ok { OnOk result (Stepped forms.now (with_held number) self.old self.new) }
         ensures err { OnErr result (self.new ≡ self.old) }
-        ensures short { IsShort self.old × IsShort self.new }
+        ensures short { IsShort self.new }
     {
         hold_each(&mut self.lists, alloc, number, forms)
     }

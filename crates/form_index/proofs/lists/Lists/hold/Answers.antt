@@ -1,7 +1,7 @@
 use Rattle.std.proofs.Common.{◌∙◌, sym, subst, ap}
 use Rattle.std.proofs.lemmas.Result.{on_ok_weaker, on_err_weaker}
 use Rattle.form_index.specs.Trimmed.{trimmed}
-use Rattle.form_index.specs.Listed.{IsShort, Stepped, is_no_list, with_held}
+use Rattle.form_index.specs.Listed.{Stepped, is_no_list, with_held}
 use Rattle.form_index.proofs.Stepping.{same_lists, short_lists, steps_shown}
 use Rattle.form_index.proofs.lists.Lists.hold.Goals as goal
 
@@ -16,4 +16,4 @@ returns-clause-err c =
     on_err_weaker c.hold_each.result (λ same. same_lists c.self.inside.lists.items c.hold_each.new.lists.items same ∙ c.self.view_is) c.hold_each.ensures.err
 
 pub returns-clause-short : goal.returns-clause-short
-returns-clause-short c = (subst IsShort c.self.view_is (short_lists c.self.inside.lists.items), short_lists c.hold_each.new.lists.items)
+returns-clause-short c = short_lists c.hold_each.new.lists.items
