@@ -1,3 +1,4 @@
+pub mod Indexing
 pub mod Listing
 pub mod Moved
 pub mod Onces

@@ -102,7 +102,9 @@ impl FormIndex {
         ensures none { IfNone result (self.new ≡ self.old) }
         ensures ordered { IsInOrder keys.now self.new }
     {
-        let forms = empty_slot(&mut self.rows, number)?;
+        let Some(forms) = empty_slot(&mut self.rows, number) else {
+            return None;
+        };
         self.lists.step(Step::Unseat, keys, number, &forms);
         Some(FormRow { number, forms })
     }
