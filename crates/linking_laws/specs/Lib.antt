@@ -1,0 +1,4 @@
+pub mod Behind
+pub mod Commits
+pub mod Stages
+pub mod Waiting
