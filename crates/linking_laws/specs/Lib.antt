@@ -1,4 +1,5 @@
 pub mod Behind
 pub mod Commits
+pub mod Partway
 pub mod Stages
 pub mod Waiting
