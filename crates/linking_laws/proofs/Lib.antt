@@ -5,4 +5,6 @@ pub mod Others
 pub mod Pairs
 pub mod Partial
 pub mod Staged
+pub mod Sums
 pub mod Touched
+pub mod Visited

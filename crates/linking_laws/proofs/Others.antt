@@ -74,7 +74,7 @@ others_place a rows = sym (at (is_deletion a.leader))
 
 -- ---- the other rows
 
-above : (key : Key) (other : Key) → key_cmp key other ≡ Less → (keys : List Key) → AllByRecursion (λ y. key_cmp other y ≡ Less) keys → AllByRecursion (λ y. key_cmp key y ≡ Less) keys
+pub above : (key : Key) (other : Key) → key_cmp key other ≡ Less → (keys : List Key) → AllByRecursion (λ y. key_cmp other y ≡ Less) keys → AllByRecursion (λ y. key_cmp key y ≡ Less) keys
 above key other l [] a = tt
 above key other l (k ∷ keys) a = (key_cmp_total.trans key other k l a.0, above key other l keys a.1)
 
@@ -82,7 +82,7 @@ apart_above : (P : Row → Type 0) (key : Key) (rows : List Row) → AllByRecurs
 apart_above P key [] b a = tt
 apart_above P key (row ∷ rows) b a = (a.0 (ap is_eq b.0), apart_above P key rows b.1 a.1)
 
-below_equal : (key own : Key) (keys : List Key) → key ≡ own → AllByRecursion (λ y. key_cmp own y ≡ Less) keys → AllByRecursion (λ y. key_cmp key y ≡ Less) keys
+pub below_equal : (key own : Key) (keys : List Key) → key ≡ own → AllByRecursion (λ y. key_cmp own y ≡ Less) keys → AllByRecursion (λ y. key_cmp key y ≡ Less) keys
 below_equal key own keys e a = subst (λ (k : Key). AllByRecursion (λ y. key_cmp k y ≡ Less) keys) (sym e) a
 
 each_insert_at : (P : Row → Type 0) (key : Key) (r : KeptRecord) (o : Ordering) (row : Row) (rows more : List Row) → key_cmp key row.0 ≡ o → P (key, r) →

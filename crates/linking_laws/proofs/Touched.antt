@@ -60,18 +60,18 @@ unasked key all class kind h fits e = each_weaker (IsFit all) (IsUnasked key cla
 
 -- ---- a field that waits or doesn't
 
-waiting_unlinked : (forms : List Form) (key : Key) (class : Class) (h : KeptField) → h.tie.key ≡ None →
+pub waiting_unlinked : (forms : List Form) (key : Key) (class : Class) (h : KeptField) → h.tie.key ≡ None →
     is_waiting_for forms key class h ≡ option_map_or (λ kind. is_named forms key class kind h) (heading_kind class h.field) false
 unfolding is_waiting_for
 waiting_unlinked forms key class h e =
     ap (λ (o : Option Key). if is_some o then false else option_map_or (λ kind. is_named forms key class kind h) (heading_kind class h.field) false) e
 
-waiting_linked : (forms : List Form) (key own : Key) (class : Class) (h : KeptField) → h.tie.key ≡ Some own → is_waiting_for forms key class h ≡ false
+pub waiting_linked : (forms : List Form) (key own : Key) (class : Class) (h : KeptField) → h.tie.key ≡ Some own → is_waiting_for forms key class h ≡ false
 unfolding is_waiting_for
 waiting_linked forms key own class h e =
     ap (λ (o : Option Key). if is_some o then false else option_map_or (λ kind. is_named forms key class kind h) (heading_kind class h.field) false) e
 
-settle_of_unlinked : (all : List Linkable) (class : Class) (h : KeptField) → h.tie.key ≡ None → settle_field all class h ≡ settle_unlinked all class h
+pub settle_of_unlinked : (all : List Linkable) (class : Class) (h : KeptField) → h.tie.key ≡ None → settle_field all class h ≡ settle_unlinked all class h
 unfolding settle_field
 settle_of_unlinked all class h e = ap (λ (o : Option Key). option_map_or (settle_linked all class h) o (settle_unlinked all class h)) e
 
@@ -81,13 +81,13 @@ settle_of_linked all class h own e = ap (λ (o : Option Key). option_map_or (set
 
 -- ---- carrying
 
-linked_to : (key own : Key) (h : KeptField) → h.tie.key ≡ Some own → is_linked_to key h ≡ same_key key own
+pub linked_to : (key own : Key) (h : KeptField) → h.tie.key ≡ Some own → is_linked_to key h ≡ same_key key own
 linked_to key own h e = ap (λ (o : Option Key). option_map_or (same_key key) o false) e
 
-unlinked_to : (key : Key) (h : KeptField) → h.tie.key ≡ None → is_linked_to key h ≡ false
+pub unlinked_to : (key : Key) (h : KeptField) → h.tie.key ≡ None → is_linked_to key h ≡ false
 unlinked_to key h e = ap (λ (o : Option Key). option_map_or (same_key key) o false) e
 
-carry_off : (key : Key) (o : Option Linkable) (class : Class) (h : KeptField) → is_linked_to key h ≡ false → carry_by key o class h ≡ h
+pub carry_off : (key : Key) (o : Option Linkable) (class : Class) (h : KeptField) → is_linked_to key h ≡ false → carry_by key o class h ≡ h
 unfolding carry_field
 carry_off key None class h e = refl
 carry_off key (Some c) class h e =
@@ -229,7 +229,7 @@ drop_found now key successor class h old (Some c) linked kind =
 
 -- ---- a field before and behind the commit
 
-link_is : (all : List Linkable) (class : Class) (h : KeptField) (key : Key) (o : Option Key) → o ≡ Some key → IfSome o (IsLink all class h) → IsLink all class h key
+pub link_is : (all : List Linkable) (class : Class) (h : KeptField) (key : Key) (o : Option Key) → o ≡ Some key → IfSome o (IsLink all class h) → IsLink all class h key
 link_is all class h key None e l = cc
 link_is all class h key (Some k) e l = let same : k ≡ key = cc in subst (IsLink all class h) same l
 
@@ -277,16 +277,16 @@ module _ (key : Key) (successor : Option Key) (before now : List Linkable) (turn
       ∙ ap (λ (o : Option Linkable). option_map_or (link_to class h h.tie.whole) o h) (found_elsewhere own apart)
       ∙ sym (settle_of_linked now class h own e)
 
-  abbrev T : KeptField → KeptField
+  abbrev pub T : KeptField → KeptField
   T h = settle_field now class (loosen now key successor class h)
 
-  abbrev D : KeptField → KeptField
+  abbrev pub D : KeptField → KeptField
   D h = drop_by (dropping_by (find (has_key key) before) (find (has_key key) now)) now key successor class h
 
   rest : KeptField → KeptField
   rest x = choose_field now (forms_touched key before now) key class (carry_by key (find (has_key key) now) class x)
 
-  once : (h : KeptField) → settle_field now class (T h) ≡ T h
+  pub once : (h : KeptField) → settle_field now class (T h) ≡ T h
   once h = field_once now class turn.now_fit (loosen now key successor class h)
 
   finish : (h x : KeptField) → x ≡ T h → rest x ≡ T h
@@ -310,15 +310,21 @@ module _ (key : Key) (successor : Option Key) (before now : List Linkable) (turn
   unfolding loosen
   loosen_off h e = ap (λ (b : Bool). if b then (if keeps_link now class h key then h else end_link key successor h) else hand_on key successor h) e
 
-  kept_or_ended : (h : KeptField) (b : Bool) → is_linked_to key h ≡ true → loosen now key successor class h ≡ (if b then h else end_link key successor h) →
-      D h ≡ (if b then h else settle_unlinked now class (end_link key successor h)) → rest (D h) ≡ T h
-  kept_or_ended h true linked l d =
-      ap rest d ∙ finish_carried h h (carry_linked key now class h linked ∙ sym (ap (settle_field now class) l))
-  kept_or_ended h false linked l d =
-      ap rest d ∙ finish h (settle_unlinked now class (end_link key successor h)) (sym (ap (settle_field now class) l ∙ settle_of_unlinked now class (end_link key successor h) refl))
+  -- what is dropped to its last form is carried to it
+  carried : (h x : KeptField) → x ≡ T h → carry_by key (find (has_key key) now) class x ≡ T h
+  carried h x e = ap (carry_by key (find (has_key key) now) class) e ∙ carried_settled key now class (T h) (once h)
 
-  own_link : (h : KeptField) (own : Key) → h.tie.key ≡ Some own → same_key key own ≡ true → IsTied before class h → rest (D h) ≡ T h
-  own_link h own e same tied =
+  kept_or_ended : (h : KeptField) (b : Bool) → is_linked_to key h ≡ true → loosen now key successor class h ≡ (if b then h else end_link key successor h) →
+      D h ≡ (if b then h else settle_unlinked now class (end_link key successor h)) → carry_by key (find (has_key key) now) class (D h) ≡ T h
+  kept_or_ended h true linked l d =
+      ap (carry_by key (find (has_key key) now) class) d ∙ carry_linked key now class h linked ∙ sym (ap (settle_field now class) l)
+  kept_or_ended h false linked l d =
+      carried h (D h) (d ∙ sym (ap (settle_field now class) l ∙ settle_of_unlinked now class (end_link key successor h) refl))
+
+  -- a link to the key has its last form once it is carried
+  pub own_carried : (h : KeptField) (own : Key) → h.tie.key ≡ Some own → same_key key own ≡ true → IsTied before class h →
+      carry_by key (find (has_key key) now) class (D h) ≡ settle_field now class (loosen now key successor class h)
+  own_carried h own e same tied =
       let is : key ≡ own = (key_Decides key own).0 same in
       let linked = linked_to key own h e ∙ same in
       let link = link_is before class h own h.tie.key e tied.linked in
@@ -328,7 +334,10 @@ module _ (key : Key) (successor : Option Key) (before now : List Linkable) (turn
       (ap (λ (o : Option Linkable). drop_by (dropping_by o (find (has_key key) now)) now key successor class h) by.1.found
       ∙ drop_found now key successor class h by.0 (find (has_key key) now) linked by.1.kind_is)
 
-  awaits_off : (h : KeptField) → h.tie.awaits ≡ None → awaits_key key h ≡ false
+  own_link : (h : KeptField) (own : Key) → h.tie.key ≡ Some own → same_key key own ≡ true → IsTied before class h → rest (D h) ≡ T h
+  own_link h own e same tied = finish_carried h (D h) (own_carried h own e same tied)
+
+  pub awaits_off : (h : KeptField) → h.tie.awaits ≡ None → awaits_key key h ≡ false
   awaits_off h e = ap (λ (o : Option Key). option_map_or (same_key key) o false) e
 
   drop_idle : (h : KeptField) (d : Dropping) → is_linked_to key h ≡ false → (if awaits_key key h then option_map_or (λ other. settle_unlinked now class (await h other)) successor h else h) ≡ h →
@@ -364,15 +373,10 @@ module _ (key : Key) (successor : Option Key) (before now : List Linkable) (turn
       ∙ waits_or_not h (is_waiting_for (forms_touched key before now) key class h) refl e sound.settled
       ∙ sym (ap (settle_field now class) l ∙ settle_of_unlinked now class h e)
 
-  handed : (h : KeptField) (o : Option Key) → successor ≡ o → h.tie.key ≡ None → awaits_key key h ≡ true → IsSound before class h → rest (D h) ≡ T h
-  handed h None s e awaits sound =
-      let off = unlinked_to key h e in
-      left h e sound
-      (drop_idle h (dropping_by (find (has_key key) before) (find (has_key key) now)) off
-      (ap (λ (b : Bool). if b then option_map_or (λ other. settle_unlinked now class (await h other)) successor h else h) awaits
-      ∙ ap (λ (k : Option Key). option_map_or (λ other. settle_unlinked now class (await h other)) k h) s))
-      (loosen_off h off ∙ ap (λ (b : Bool). if b then option_map_or (await h) successor h else h) awaits ∙ ap (λ (k : Option Key). option_map_or (await h) k h) s)
-  handed h (Some other) s e awaits sound =
+  -- what is handed on has its last form at once
+  pub handed_on : (h : KeptField) (other : Key) → successor ≡ Some other → h.tie.key ≡ None → awaits_key key h ≡ true →
+      D h ≡ settle_field now class (loosen now key successor class h)
+  handed_on h other s e awaits =
       let off = unlinked_to key h e in
       let none = turn.gone (ap is_some s) in
       let dropped : D h ≡ settle_unlinked now class (await h other) =
@@ -382,7 +386,37 @@ module _ (key : Key) (successor : Option Key) (before now : List Linkable) (turn
       ∙ ap (λ (o : Option Key). option_map_or (λ k. settle_unlinked now class (await h k)) o h) s in
       let loose : loosen now key successor class h ≡ await h other =
       loosen_off h off ∙ ap (λ (b : Bool). if b then option_map_or (await h) successor h else h) awaits ∙ ap (λ (k : Option Key). option_map_or (await h) k h) s in
-      finish h (D h) (dropped ∙ sym (ap (settle_field now class) loose ∙ settle_of_unlinked now class (await h other) e))
+      dropped ∙ sym (ap (settle_field now class) loose ∙ settle_of_unlinked now class (await h other) e)
+
+  pub handed_carried : (h : KeptField) (other : Key) → successor ≡ Some other → h.tie.key ≡ None → awaits_key key h ≡ true →
+      carry_by key (find (has_key key) now) class (D h) ≡ settle_field now class (loosen now key successor class h)
+  handed_carried h other s e awaits = carried h (D h) (handed_on h other s e awaits)
+
+  -- an unlinked field that isn't handed on isn't dropped
+  pub not_handed : (h : KeptField) → h.tie.key ≡ None → successor ≡ None → D h ≡ h
+  not_handed h e s =
+      let off = unlinked_to key h e in
+      drop_idle h (dropping_by (find (has_key key) before) (find (has_key key) now)) off
+      (ap (λ (k : Option Key). if awaits_key key h then option_map_or (λ other. settle_unlinked now class (await h other)) k h else h) s ∙ same (awaits_key key h))
+    where
+      same : (b : Bool) → (if b then h else h) ≡ h
+      same true = refl
+      same false = refl
+
+  pub not_awaiting : (h : KeptField) → is_linked_to key h ≡ false → awaits_key key h ≡ false → D h ≡ h
+  not_awaiting h off calm =
+      drop_idle h (dropping_by (find (has_key key) before) (find (has_key key) now)) off
+      (ap (λ (b : Bool). if b then option_map_or (λ other. settle_unlinked now class (await h other)) successor h else h) calm)
+
+  handed : (h : KeptField) (o : Option Key) → successor ≡ o → h.tie.key ≡ None → awaits_key key h ≡ true → IsSound before class h → rest (D h) ≡ T h
+  handed h None s e awaits sound =
+      let off = unlinked_to key h e in
+      left h e sound
+      (drop_idle h (dropping_by (find (has_key key) before) (find (has_key key) now)) off
+      (ap (λ (b : Bool). if b then option_map_or (λ other. settle_unlinked now class (await h other)) successor h else h) awaits
+      ∙ ap (λ (k : Option Key). option_map_or (λ other. settle_unlinked now class (await h other)) k h) s))
+      (loosen_off h off ∙ ap (λ (b : Bool). if b then option_map_or (await h) successor h else h) awaits ∙ ap (λ (k : Option Key). option_map_or (await h) k h) s)
+  handed h (Some other) s e awaits sound = finish h (D h) (handed_on h other s e awaits)
 
   no_link : (h : KeptField) (b : Bool) → awaits_key key h ≡ b → h.tie.key ≡ None → IsSound before class h → rest (D h) ≡ T h
   no_link h true awaits e sound = handed h successor refl e awaits sound
@@ -424,14 +458,14 @@ module _ (key : Key) (successor : Option Key) (before now : List Linkable) (turn
   named_awaits true b c e = cc
   named_awaits false true c e = cc
 
-  some_heading : (h : KeptField) (o : Option Kind) (b : Bool) → awaits_key key h ≡ b → (b ≡ true → is_some o ≡ true) →
+  pub some_heading : (h : KeptField) (o : Option Kind) (b : Bool) → awaits_key key h ≡ b → (b ≡ true → is_some o ≡ true) →
       option_map_or (λ kind. is_named (forms_touched key before now) key class kind h) o false ≡ false → awaits_key key h ≡ false
   some_heading h None true e heading w = let no = heading refl in cc
   some_heading h None false e heading w = e
   some_heading h (Some kind) b e heading w =
       named_awaits (asks_for (forms_touched key before now) class kind h) (list_any (is_naming key) (subfields_of h.field)) (awaits_key key h) w
 
-  awaits_some : (o : Option Key) → option_map_or (same_key key) o false ≡ true → is_some o ≡ true
+  pub awaits_some : (o : Option Key) → option_map_or (same_key key) o false ≡ true → is_some o ≡ true
   awaits_some None e = cc
   awaits_some (Some k) e = refl
 

@@ -2,4 +2,6 @@ pub mod Behind
 pub mod Commits
 pub mod Partway
 pub mod Stages
+pub mod Visits
 pub mod Waiting
+pub mod Weights

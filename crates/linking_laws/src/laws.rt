@@ -1,5 +1,5 @@
 //! The laws: each is the contract of a function that does nothing.
-ghost use Rattle.std.specs.Prelude.{◌≡◌, false, All, List, [], ◌∷◌, ◌++◌};
+ghost use Rattle.std.specs.Prelude.{◌≡◌, ◌≤◌, false, All, List, [], ◌∷◌, ◌++◌};
 ghost use Rattle.marc_types.specs.declared.key.Class.{Class};
 ghost use Rattle.marc_types.specs.declared.key.Class.TheVariants.{Authority, Bibliographic};
 ghost use Rattle.marc_types.specs.declared.key.Key.{Key};
@@ -16,6 +16,7 @@ ghost use Rattle.linking_laws.specs.Behind.{placed_in};
 ghost use Rattle.linking_laws.specs.Waiting.{names_key, others_of, IsUnasked};
 ghost use Rattle.linking_laws.specs.Partway.{AreOrdered, IsNext, IsPartway, IsSteadyChange, IsWhole, swapped};
 ghost use Rattle.linking_laws.specs.Stages.{settle_own};
+ghost use Rattle.linking_laws.specs.Visits.{commit_visits, commit_weight};
 ghost use Rattle.linking_laws.specs.Commits.{IsCommit, IsSound, IsChosenAlike, StaysUntouched, field_behind, field_staged, placed_by, state_staged};
 
 /// A choice is the same without the authorities of one key, where the field doesn't name the key and asks for none of their forms.
@@ -99,4 +100,10 @@ pub fn authorities_stay_on_the_way()
     ensures { (change : Class → KeptField → KeptField) (done : List Place) (before now : State)
         → AreOrdered before → IsPartway change done before now → IsSteadyChange change before
         → linkable_authorities now ≡ linkable_authorities before }
+{}
+
+/// The stages of an authority's commit make at most as many visits to kept records as what it touches weighs.
+#[tactic(auto, using(crate::proofs::Sums::visits_within))]
+pub fn visits_are_within_what_is_touched()
+    ensures { (s : State) (e : Entry) → IsCommit Authority s e → commit_visits s e ≤ commit_weight s e }
 {}
