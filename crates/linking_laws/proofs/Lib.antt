@@ -1,4 +1,5 @@
 pub mod Commits
+pub mod Counts
 pub mod Exchanges
 pub mod Heart
 pub mod Others
