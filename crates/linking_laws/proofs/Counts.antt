@@ -13,24 +13,27 @@ use Rattle.std.proofs.lemmas.List.Sums.{sum_by-cons}
 use Rattle.std.proofs.lemmas.Map.Keys.{sorted_head, sorted_tail}
 use Rattle.std.proofs.lemmas.Map.Made.{lookup-map_values}
 use Rattle.marc_types.specs.Order.{key_cmp, key_Decides}
+use Rattle.marc_types.specs.declared.field.Field.{Field}
+use Rattle.marc_types.specs.declared.field.Leader.{Leader}
 use Rattle.marc_types.specs.declared.key.Class.{Class}
 use Rattle.marc_types.specs.declared.key.Class.TheVariants.{Authority, Bibliographic}
 use Rattle.marc_types.specs.declared.key.Key.{Key}
 use Rattle.marc_types.specs.declared.entry.Entry.{Entry}
 use Rattle.entry_record.specs.Identity.{is_deletion, same_key}
 use Rattle.entry_record.specs.Authority.{Linkable}
-use Rattle.entry_record.specs.State.{KeptField, KeptRecord, Row, State, rows_of, new_record, linkable_authorities}
-use Rattle.entry_record.specs.Settle.{Arrival, place, settle_field, step}
+use Rattle.entry_record.specs.State.{KeptField, KeptRecord, Row, State, rows_of, new_record, linkable_authorities, new_field}
+use Rattle.entry_record.specs.Settle.{Arrival, place, settle_field, step, loosen}
 use Rattle.entry_record.specs.History.{arrival_of}
-use Rattle.entry_record.specs.Receipt.{kept_under, same_class, is_committed, differs, is_changed_row, changed_in}
+use Rattle.entry_record.specs.Receipt.{kept_under, same_class, is_committed, differs, is_changed_row, changed_in, receipt_of, Standing, is_linked, is_ambiguous, is_unlinked, standing_of, count_standing}
 use Rattle.entry_record.specs.Sameness.{same_kept}
 use Rattle.entry_record.specs.Valid.{IsAscending, IsValid}
 use Rattle.entry_record.proofs.Elements.{Each, each_weaker}
+use Rattle.record_store.proofs.Places.{IsBelow, lookup_below}
 use Rattle.record_store.specs.Store.{field_at, field_under}
 use Rattle.linking_laws.specs.Behind.{placed_in, placed, ended_by, loosened_by, record_behind, state_behind}
 use Rattle.linking_laws.specs.Commits.{IsCommit}
-use Rattle.linking_laws.specs.Receipts.{is_key_among, AreDistinct, IsExchanged, place_in, AreChanged, count_fields, StayKept}
-use Rattle.linking_laws.proofs.Commits.{step_behind, step_valid}
+use Rattle.linking_laws.specs.Receipts.{is_key_among, AreDistinct, IsExchanged, place_in, AreChanged, AreChangedBy, AreOwnCounts, receipt_by, count_fields, StayKept, count_own}
+use Rattle.linking_laws.proofs.Commits.{step_behind, step_valid, step_linkables}
 use Rattle.linking_laws.proofs.Heart.{other_key}
 use Rattle.linking_laws.proofs.Others.{own_key, below_equal}
 
@@ -331,3 +334,85 @@ pub changed_records_are : (s : State) (e : Entry) (k class : Class) (keys : List
 changed_records_are s e k class keys c are =
     changed_are (arrival_of e) s (step s (arrival_of e)) class keys are (stay_kept s e k class c)
     (ascends class (step s (arrival_of e)) (step_valid s e c.valid c.admitted))
+
+-- the sum of both classes is the receipt's number
+pub changed_number : (at : ℕ) (s : State) (e : Entry) (k : Class) (authorities bibliographic : List Key) → IsCommit k s e → AreChangedBy s e Authority authorities →
+    AreChangedBy s e Bibliographic bibliographic → (receipt_by at s e).changed_records ≡ length authorities + length bibliographic
+unfolding receipt_of
+changed_number at s e k authorities bibliographic c first second =
+    let one = changed_records_are s e k Authority authorities c first in
+    let two = changed_records_are s e k Bibliographic bibliographic c second in
+    omega arith
+
+-- ---- the committed record
+
+found_at : (key : Key) (r : KeptRecord) (o : Ordering) (row : Row) (rows more : List Row) → key_cmp key row.0 ≡ o → lookup (same_key key) more ≡ Some r →
+    lookup (same_key key) (match_ordering o ((key, r) ∷ row ∷ rows) ((row.0, r) ∷ rows) (row ∷ more)) ≡ Some r
+found_at key r Less row rows more e is = ap (λ b. cond b (Some r) (lookup (same_key key) (row ∷ rows))) (own_key key)
+found_at key r Equal row rows more e is = ap (λ o. cond (is_eq o) (Some r) (lookup (same_key key) rows)) e
+found_at key r Greater row rows more e is = ap (λ o. cond (is_eq o) (Some row.1) (lookup (same_key key) more)) e ∙ is
+
+found_inserted : (rows : List Row) (key : Key) (r : KeptRecord) → lookup (same_key key) (insert_entry key_cmp rows key r) ≡ Some r
+found_inserted [] key r = ap (λ b. cond b (Some r) None) (own_key key)
+found_inserted (row ∷ rows) key r = found_at key r (key_cmp key row.0) row rows (insert_entry key_cmp rows key r) refl (found_inserted rows key r)
+
+absent_at : (key : Key) (b : Bool) (row : Row) (rows more : List Row) → same_key key row.0 ≡ b → IsBelow row.0 (keys_of rows) → lookup (same_key key) more ≡ None →
+    lookup (same_key key) (cond b rows (row ∷ more)) ≡ None
+absent_at key true row rows more e below is = lookup_below key rows (below_equal key row.0 (keys_of rows) ((key_Decides key row.0).0 e) below)
+absent_at key false row rows more e below is = ap (λ b. cond b (Some row.1) (lookup (same_key key) more)) e ∙ is
+
+absent_removed : (rows : List Row) (key : Key) → IsAscending rows → lookup (same_key key) (remove_entry (same_key key) rows) ≡ None
+absent_removed [] key order = refl
+absent_removed (row ∷ rows) key order =
+    absent_at key (same_key key row.0) row rows (remove_entry (same_key key) rows) refl (sorted_head key_cmp row.0 (keys_of rows) order)
+    (absent_removed rows key (sorted_tail key_cmp row.0 (keys_of rows) order))
+
+found_placed : (a : Arrival) (rows : List Row) → IsAscending rows → lookup (same_key a.key) (place a rows) ≡ (if is_deletion a.leader then None else Some (new_record a.leader a.fields))
+unfolding place
+found_placed a rows order = at (is_deletion a.leader)
+  where
+    at : (b : Bool) → lookup (same_key a.key) (if b then remove_entry (same_key a.key) rows else insert_entry key_cmp rows a.key (new_record a.leader a.fields))
+        ≡ (if b then None else Some (new_record a.leader a.fields))
+    at true = absent_removed rows a.key order
+    at false = found_inserted rows a.key (new_record a.leader a.fields)
+
+kept_own : (k : Class) (a : Arrival) (s : State) → IsValid s → kept_under k a.key (placed_in k a s) ≡ (if is_deletion a.leader then None else Some (new_record a.leader a.fields))
+kept_own Authority a s v = found_placed a s.authorities v.authorities_ascend
+kept_own Bibliographic a s v = found_placed a s.bibliographic v.bibliographic_ascend
+
+fresh_field : (all : List Linkable) (o : Option (Key × Option Key)) (class : Class) (f : Field) → loosened_by all o class (new_field f) ≡ new_field f
+unfolding loosen
+fresh_field all None class f = refl
+fresh_field all (Some (key, successor)) class f = refl
+
+fresh_fields : (all : List Linkable) (o : Option (Key × Option Key)) (class : Class) (fs : List Field) → map (loosened_by all o class) (map new_field fs) ≡ map new_field fs
+fresh_fields all o class [] = refl
+fresh_fields all o class (f ∷ fs) = λ i. fresh_field all o class f i ∷ fresh_fields all o class fs i
+
+count_at : (test : Standing → Bool) (all : List Linkable) (o : Option (Key × Option Key)) (class : Class) (l : Leader) (fs : List Field) (b : Bool) →
+    option_map_or (count_standing test all class) (option_map (record_behind all o class) (if b then None else Some (new_record l fs))) 0
+    ≡ (if b then 0 else count_by (λ h. test (standing_of all class h)) (map (settle_field all class) (map new_field fs)))
+count_at test all o class l fs true = refl
+count_at test all o class l fs false =
+    ap (λ (hs : List KeptField). count_by (λ h. test (standing_of all class h)) (map (settle_field all class) hs)) (fresh_fields all o class fs)
+
+counted_own : (test : Standing → Bool) (s : State) (e : Entry) → IsCommit e.class s e →
+    option_map_or (count_standing test (linkable_authorities (step s (arrival_of e))) e.class) (kept_under e.class e.key (step s (arrival_of e))) 0 ≡ count_own test s e
+counted_own test s e c =
+    let a = arrival_of e in
+    let all = linkable_authorities (placed a s) in
+    ap (λ (l : List Linkable). option_map_or (count_standing test l e.class) (kept_under e.class e.key (step s a)) 0) (step_linkables s e c.valid c.admitted)
+    ∙ ap (λ (t : State). option_map_or (count_standing test all e.class) (kept_under e.class e.key t) 0) (step_behind s e c.valid c.admitted)
+    ∙ ap (λ (o : Option KeptRecord). option_map_or (count_standing test all e.class) o 0) (kept_behind all (ended_by a) (placed a s) e.class e.key)
+    ∙ ap (λ (o : Option KeptRecord). option_map_or (count_standing test all e.class) (option_map (record_behind all (ended_by a) e.class) o) 0) (kept_own e.class a s c.valid)
+    ∙ count_at test all (ended_by a) e.class e.rec.leader e.rec.fields (is_deletion e.rec.leader)
+
+own_class : (s : State) (e : Entry) (k : Class) → IsCommit k s e → IsCommit e.class s e
+own_class s e k c = record { valid = c.valid; admitted = c.admitted; class_is = refl }
+
+-- the other numbers of the receipt are counted over the committed record's settled fields
+pub own_counts : (at : ℕ) (s : State) (e : Entry) (k : Class) → IsCommit k s e → AreOwnCounts s e (receipt_by at s e)
+unfolding receipt_of
+own_counts at s e k c =
+    let own = own_class s e k c in
+    record { linked = counted_own is_linked s e own; ambiguous = counted_own is_ambiguous s e own; unlinked = counted_own is_unlinked s e own }

@@ -1,5 +1,7 @@
+pub mod Between
 pub mod Commits
 pub mod Counts
+pub mod Dropped
 pub mod Exchanges
 pub mod Heart
 pub mod Others

@@ -131,7 +131,7 @@ carry_linked_at key all class h (Some own) e linked =
     ∙ sym (settle_of_linked all class h own e)
 
 -- a link to the key is carried as it is settled
-carry_linked : (key : Key) (all : List Linkable) (class : Class) (h : KeptField) → is_linked_to key h ≡ true → carry_by key (find (has_key key) all) class h ≡ settle_field all class h
+pub carry_linked : (key : Key) (all : List Linkable) (class : Class) (h : KeptField) → is_linked_to key h ≡ true → carry_by key (find (has_key key) all) class h ≡ settle_field all class h
 carry_linked key all class h linked = carry_linked_at key all class h h.tie.key refl linked
 
 carried_at : (key : Key) (all : List Linkable) (class : Class) (h : KeptField) (b : Bool) → is_linked_to key h ≡ b → settle_field all class h ≡ h → carry_by key (find (has_key key) all) class h ≡ h
@@ -144,15 +144,15 @@ carried_settled key all class h e = carried_at key all class h (is_linked_to key
 
 -- ---- choosing
 
-choose_on : (all : List Linkable) (forms : List Form) (key : Key) (class : Class) (h : KeptField) → is_waiting_for forms key class h ≡ true → choose_field all forms key class h ≡ settle_unlinked all class h
+pub choose_on : (all : List Linkable) (forms : List Form) (key : Key) (class : Class) (h : KeptField) → is_waiting_for forms key class h ≡ true → choose_field all forms key class h ≡ settle_unlinked all class h
 unfolding choose_field
 choose_on all forms key class h e = ap (λ (b : Bool). if b then settle_unlinked all class h else h) e
 
-choose_off : (all : List Linkable) (forms : List Form) (key : Key) (class : Class) (h : KeptField) → is_waiting_for forms key class h ≡ false → choose_field all forms key class h ≡ h
+pub choose_off : (all : List Linkable) (forms : List Form) (key : Key) (class : Class) (h : KeptField) → is_waiting_for forms key class h ≡ false → choose_field all forms key class h ≡ h
 unfolding choose_field
 choose_off all forms key class h e = ap (λ (b : Bool). if b then settle_unlinked all class h else h) e
 
-waits_unlinked : (all : List Linkable) (forms : List Form) (key : Key) (class : Class) (h : KeptField) (o : Option Key) → h.tie.key ≡ o → is_waiting_for forms key class h ≡ true →
+pub waits_unlinked : (all : List Linkable) (forms : List Form) (key : Key) (class : Class) (h : KeptField) (o : Option Key) → h.tie.key ≡ o → is_waiting_for forms key class h ≡ true →
     settle_unlinked all class h ≡ settle_field all class h
 waits_unlinked all forms key class h None e w = sym (settle_of_unlinked all class h e)
 waits_unlinked all forms key class h (Some own) e w = let off = waiting_linked forms key own class h e in cc
@@ -178,7 +178,7 @@ kind_turned a b false true p q =
     let same = same_kind_is b a q in
     sym p ∙ ap (λ (k : Kind). same_kind k b) (sym same) ∙ ap (λ (k : Kind). same_kind b k) same ∙ q
 
-kind_agrees : (old new : Kind) (o : Option Kind) → is_kind old o ≡ true → is_kind new o ≡ same_kind old new
+pub kind_agrees : (old new : Kind) (o : Option Kind) → is_kind old o ≡ true → is_kind new o ≡ same_kind old new
 kind_agrees old new None e = cc
 kind_agrees old new (Some k) e =
     let same = same_kind_is old k e in
@@ -189,7 +189,7 @@ kind_agrees old new (Some k) e =
 abbrev keeps_by : Class → KeptField → Option Linkable → Bool
 keeps_by class h o = option_map_or (λ c. (h.tie.whole || is_bare c) && is_kind c.kind (kind_of class h.field)) o false
 
-drop_on : (now : List Linkable) (key : Key) (only_base : Bool) (successor : Option Key) (class : Class) (h : KeptField) → is_linked_to key h ≡ true →
+pub drop_on : (now : List Linkable) (key : Key) (only_base : Bool) (successor : Option Key) (class : Class) (h : KeptField) → is_linked_to key h ≡ true →
     drop_field now key only_base successor class h ≡ (if only_base && h.tie.whole then h else settle_unlinked now class (end_link key successor h))
 unfolding drop_field
 drop_on now key only_base successor class h e =
@@ -197,7 +197,7 @@ drop_on now key only_base successor class h e =
     then (if only_base && h.tie.whole then h else settle_unlinked now class (end_link key successor h))
     else (if awaits_key key h then option_map_or (λ other. settle_unlinked now class (await h other)) successor h else h)) e
 
-drop_off : (now : List Linkable) (key : Key) (only_base : Bool) (successor : Option Key) (class : Class) (h : KeptField) → is_linked_to key h ≡ false →
+pub drop_off : (now : List Linkable) (key : Key) (only_base : Bool) (successor : Option Key) (class : Class) (h : KeptField) → is_linked_to key h ≡ false →
     drop_field now key only_base successor class h ≡ (if awaits_key key h then option_map_or (λ other. settle_unlinked now class (await h other)) successor h else h)
 unfolding drop_field
 drop_off now key only_base successor class h e =

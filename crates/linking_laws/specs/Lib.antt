@@ -1,5 +1,6 @@
 pub mod Behind
 pub mod Commits
+pub mod Middle
 pub mod Partway
 pub mod Receipts
 pub mod Stages

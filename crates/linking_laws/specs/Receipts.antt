@@ -9,8 +9,10 @@ use Rattle.marc_types.specs.declared.key.Place.{Place}
 use Rattle.marc_types.specs.declared.entry.Entry.{Entry}
 use Rattle.entry_record.specs.Identity.{is_deletion, same_key}
 use Rattle.entry_record.specs.State.{KeptField, KeptRecord, State, new_field, linkable_authorities}
-use Rattle.entry_record.specs.Settle.{Arrival, settle_field}
-use Rattle.entry_record.specs.Receipt.{Standing, standing_of, kept_under, is_committed}
+use Rattle.entry_record.specs.Settle.{Arrival, settle_field, step}
+use Rattle.entry_record.specs.History.{arrival_of}
+use Rattle.marc_types.specs.declared.entry.Receipt.{Receipt}
+use Rattle.entry_record.specs.Receipt.{Standing, is_linked, is_ambiguous, is_unlinked, receipt_of, standing_of, kept_under, is_committed}
 use Rattle.entry_record.specs.Sameness.{same_kept}
 use Rattle.record_store.specs.Store.{field_under}
 use Rattle.linking_laws.specs.Commits.{placed_by}
@@ -57,3 +59,17 @@ count_own test s e =
     let now = linkable_authorities (placed_by e.class s e) in
     if is_deletion e.rec.leader then 0
     else count_by (λ h. test (standing_of now e.class h)) (map (settle_field now e.class) (map new_field e.rec.fields))
+
+-- how the committed record's fields stand, in the receipt
+pub record AreOwnCounts (s : State) (e : Entry) (r : Receipt) : Type 0 where
+  pub linked : r.linked ≡ count_own is_linked s e
+  pub ambiguous : r.ambiguous ≡ count_own is_ambiguous s e
+  pub unlinked : r.unlinked ≡ count_own is_unlinked s e
+
+-- what a commit behind so many entries answers
+abbrev pub receipt_by : ℕ → State → Entry → Receipt
+receipt_by at s e = receipt_of at s (arrival_of e) (step s (arrival_of e))
+
+-- the keys of the records that the commit of an entry changed, without its own
+abbrev pub AreChangedBy : State → Entry → Class → List Key → Type 0
+AreChangedBy s e class keys = AreChanged (arrival_of e) s (step s (arrival_of e)) class keys

@@ -1,5 +1,5 @@
 //! The laws: each is the contract of a function that does nothing.
-ghost use Rattle.std.specs.Prelude.{◌≡◌, ◌≤◌, false, All, List, [], ◌∷◌, ◌++◌};
+ghost use Rattle.std.specs.Prelude.{◌≡◌, ℕ, ◌+◌, ◌≤◌, false, All, length, List, [], ◌∷◌, ◌++◌};
 ghost use Rattle.marc_types.specs.declared.key.Class.{Class};
 ghost use Rattle.marc_types.specs.declared.key.Class.TheVariants.{Authority, Bibliographic};
 ghost use Rattle.marc_types.specs.declared.key.Key.{Key};
@@ -15,7 +15,15 @@ ghost use Rattle.entry_record.specs.Valid.{EachField, IsValid};
 ghost use Rattle.linking_laws.specs.Behind.{placed_in};
 ghost use Rattle.linking_laws.specs.Waiting.{names_key, others_of, IsUnasked};
 ghost use Rattle.linking_laws.specs.Partway.{AreOrdered, IsNext, IsPartway, IsSteadyChange, IsWhole, swapped};
-ghost use Rattle.linking_laws.specs.Stages.{settle_own};
+ghost use Rattle.linking_laws.specs.Middle.{IsEitherStage, IsMiddle, IsMiddleWith, IsVisited};
+ghost use Rattle.linking_laws.specs.Receipts.{AreChangedBy, AreOwnCounts, receipt_by};
+ghost use Rattle.linking_laws.specs.Stages.{carry_by, choose_field, settle_own};
+ghost use Rattle.entry_record.specs.Choice.{has_key};
+ghost use Rattle.entry_record.specs.State.{Row};
+ghost use Rattle.marc_types.specs.declared.field.Field.{Field};
+ghost use Rattle.marc_types.specs.declared.form.Form.{Form};
+ghost use Rattle.record_store.specs.Store.{StaysRecord};
+ghost use Rattle.std.specs.Prelude.{find};
 ghost use Rattle.linking_laws.specs.Visits.{commit_visits, commit_weight};
 ghost use Rattle.linking_laws.specs.Commits.{IsCommit, IsSound, IsChosenAlike, StaysUntouched, field_behind, field_staged, placed_by, state_staged};
 
@@ -106,4 +114,42 @@ pub fn authorities_stay_on_the_way()
 #[tactic(auto, using(crate::proofs::Sums::visits_within))]
 pub fn visits_are_within_what_is_touched()
     ensures { (s : State) (e : Entry) → IsCommit Authority s e → commit_visits s e ≤ commit_weight s e }
+{}
+
+/// The records that a commit changed are as many as the keys of the other records with a field that differs.
+#[tactic(auto, using(crate::proofs::Counts::changed_number))]
+pub fn a_receipt_counts_the_changed_records()
+    ensures { (at : ℕ) (s : State) (e : Entry) (k : Class) (authorities bibliographic : List Key)
+        → IsCommit k s e → AreChangedBy s e Authority authorities → AreChangedBy s e Bibliographic bibliographic
+        → (receipt_by at s e).changed_records ≡ length authorities + length bibliographic }
+{}
+
+/// The other numbers of a receipt are counted over the committed record's own fields, as soon as these are settled.
+#[tactic(auto, using(crate::proofs::Counts::own_counts))]
+pub fn a_receipt_counts_the_own_fields()
+    ensures { (at : ℕ) (s : State) (e : Entry) (k : Class) → IsCommit k s e → AreOwnCounts s e (receipt_by at s e) }
+{}
+
+/// A valid state may stand between two stages.
+#[tactic(auto, using(crate::proofs::Between::valid_middle))]
+pub fn a_valid_state_is_a_middle()
+    ensures { (s : State) → IsValid s → IsMiddle s }
+{}
+
+/// A stage that leaves each field or settles it leads from one state between stages to another, with the same authorities.
+pub fn a_stage_leads_between_stages()
+    ensures { (all : List Linkable) (change : Class → KeptField → KeptField) (s : State)
+        → IsMiddleWith all s → IsEitherStage all change → IsMiddleWith all (each_field change s) }
+{}
+
+/// Carrying leaves each field or settles it, and so does choosing.
+pub fn carrying_and_choosing_settle()
+    ensures carry { (key : Key) (all : List Linkable) → IsEitherStage all (carry_by key (find (has_key key) all)) }
+    ensures choose { (all : List Linkable) (forms : List Form) (key : Key) → IsEitherStage all (choose_field all forms key) }
+{}
+
+/// A visited record with room stays a record with another field at one place.
+#[tactic(auto, using(crate::proofs::Between::stays_record))]
+pub fn a_record_stays_one()
+    ensures { (class : Class) (row : Row) (i : ℕ) (field : Field) → IsVisited class row field → StaysRecord i field row.1 }
 {}
