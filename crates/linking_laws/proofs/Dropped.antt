@@ -1,0 +1,218 @@
+-- Before links to a key are dropped, and after.
+use Rattle.std.proofs.Common.{◌≡◌, ◌≤◌, Bool, true, false, ◌&&◌, List, [], ◌∷◌, map, Option, Some, None, is_some, refl, sym, ap, ◌∙◌, subst, if◌then◌else◌, arith, inl, inr, ◌⊎◌}
+use Rattle.std.specs.Prelude.{All, filter_map}
+use Rattle.std.specs.Option.{option_map_or}
+use Rattle.std.proofs.lemmas.List.Elements.{recursion_from_All}
+use Rattle.marc_types.specs.declared.field.Field.{Field}
+use Rattle.marc_types.specs.declared.key.Class.{Class}
+use Rattle.marc_types.specs.declared.key.Class.TheVariants.{Authority, Bibliographic}
+use Rattle.marc_types.specs.declared.key.Key.{Key}
+use Rattle.heading_fields.specs.Parts.{tag_of}
+use Rattle.entry_record.specs.Identity.{same_key}
+use Rattle.entry_record.specs.Authority.{Linkable}
+use Rattle.entry_record.specs.State.{KeptField, Row, State, row_linkable, linkable_authorities, each_in_row, each_field}
+use Rattle.entry_record.specs.Settle.{keeps_link, is_linked_to, awaits_key, end_link, await, hand_on, loosen, settle_unlinked, settle_field}
+use Rattle.entry_record.specs.Valid.{IsRow, IsTied, HasRoom, reach}
+use Rattle.entry_record.proofs.Elements.{Each, each_weaker, each_both, each_map}
+use Rattle.entry_record.proofs.Fit.{IsFit}
+use Rattle.entry_record.proofs.Fitting.{field_within}
+use Rattle.entry_record.proofs.Once.{steady_field}
+use Rattle.entry_record.proofs.Proper.{all_fit}
+use Rattle.entry_record.proofs.Put.{IsTiedBut, field_loosened, steady_loosen}
+use Rattle.entry_record.proofs.Room.{room_kept}
+use Rattle.entry_record.proofs.Rows.{ascend_changed}
+use Rattle.entry_record.proofs.Settled.{field_done}
+use Rattle.entry_record.proofs.States.{link_of_heading}
+use Rattle.entry_record.proofs.Steady as steady
+use Rattle.entry_record.proofs.Steady.{linkables_stay}
+use Rattle.linking_laws.specs.Middle.{IsWithinReach, IsMiddleWith, IsTiedButTo, IsSparedRightly, CanDrop}
+use Rattle.linking_laws.specs.Stages.{Dropping, DropNone, DropBases, DropAll, drop_field, drop_by}
+use Rattle.linking_laws.proofs.Between.{IsMiddleRow, IsHandled, middle_from}
+use Rattle.linking_laws.proofs.Touched.{drop_on, drop_off, settle_of_unlinked}
+
+-- ---- one field
+
+tied_but_of : (key : Key) (all : List Linkable) (class : Class) (h : KeptField) → IsTiedButTo key all class h → IsTiedBut key all class h
+tied_but_of key all class h t = record { heading = t.heading; kept = t.kept; unawaiting = t.unawaiting; awaits = t.awaits; whole = t.whole }
+
+-- a field is left where it is tied, or settled once it is loosened
+abbrev IsLeftOrLoosened : List Linkable → Key → Option Key → Class → KeptField → KeptField → Type 0
+IsLeftOrLoosened all key successor class h g = (IsTied all class h × (g ≡ h)) ⊎ (g ≡ settle_field all class (loosen all key successor class h))
+
+module _ (all : List Linkable) (key : Key) (successor : Option Key) (class : Class) where
+  loosen_on : (h : KeptField) (o : Option Key) → is_linked_to key h ≡ true → loosen all key o class h ≡ (if keeps_link all class h key then h else end_link key o h)
+  unfolding loosen
+  loosen_on h o e = ap (λ (b : Bool). if b then (if keeps_link all class h key then h else end_link key o h) else hand_on key o h) e
+
+  loosen_off : (h : KeptField) (o : Option Key) → is_linked_to key h ≡ false → loosen all key o class h ≡ hand_on key o h
+  unfolding loosen
+  loosen_off h o e = ap (λ (b : Bool). if b then (if keeps_link all class h key then h else end_link key o h) else hand_on key o h) e
+
+  kept_tied : (h : KeptField) → is_linked_to key h ≡ true → keeps_link all class h key ≡ true → IsTiedButTo key all class h → IsTied all class h
+  kept_tied h linked keeps t =
+      subst (IsTied all class) (loosen_on h successor linked ∙ ap (λ (b : Bool). if b then h else end_link key successor h) keeps)
+      (field_loosened key all successor class h (tied_but_of key all class h t)).tied
+
+  hand_none : (h : KeptField) (b : Bool) → (if b then h else h) ≡ h
+  hand_none h true = refl
+  hand_none h false = refl
+
+  other_tied : (h : KeptField) → is_linked_to key h ≡ false → IsTiedButTo key all class h → IsTied all class h
+  other_tied h off t =
+      subst (IsTied all class) (loosen_off h None off ∙ hand_none h (awaits_key key h)) (field_loosened key all None class h (tied_but_of key all class h t)).tied
+
+  on_at : (h : KeptField) (only_base b : Bool) → (only_base && h.tie.whole) ≡ b → is_linked_to key h ≡ true → keeps_link all class h key ≡ b → IsTiedButTo key all class h →
+      IsLeftOrLoosened all key successor class h (drop_field all key only_base successor class h)
+  on_at h only_base true e linked keeps t =
+      inl (kept_tied h linked keeps t, drop_on all key only_base successor class h linked ∙ ap (λ (c : Bool). if c then h else settle_unlinked all class (end_link key successor h)) e)
+  on_at h only_base false e linked keeps t =
+      inr (drop_on all key only_base successor class h linked ∙ ap (λ (c : Bool). if c then h else settle_unlinked all class (end_link key successor h)) e
+      ∙ sym (ap (settle_field all class) (loosen_on h successor linked ∙ ap (λ (c : Bool). if c then h else end_link key successor h) keeps)
+      ∙ settle_of_unlinked all class (end_link key successor h) refl))
+
+  no_key : (h : KeptField) (o : Option Key) → h.tie.key ≡ o → awaits_key key h ≡ true → IsTiedButTo key all class h → h.tie.key ≡ None
+  no_key h None e awaits t = e
+  no_key h (Some own) e awaits t =
+      let none = t.unawaiting (ap is_some e) in
+      let off : awaits_key key h ≡ false = ap (λ (o : Option Key). option_map_or (same_key key) o false) none in
+      cc
+
+  handed_at : (h : KeptField) (only_base : Bool) (o : Option Key) → successor ≡ o → is_linked_to key h ≡ false → awaits_key key h ≡ true → IsTiedButTo key all class h →
+      IsLeftOrLoosened all key successor class h (drop_field all key only_base successor class h)
+  handed_at h only_base None s off awaits t =
+      inl (
+        other_tied h off t,
+        drop_off all key only_base successor class h off
+            ∙ ap (λ (o : Option Key). if awaits_key key h then option_map_or (λ other. settle_unlinked all class (await h other)) o h else h) s ∙ hand_none h (awaits_key key h),
+      )
+  handed_at h only_base (Some other) s off awaits t =
+      let loose : loosen all key successor class h ≡ await h other =
+      loosen_off h successor off ∙ ap (λ (b : Bool). if b then option_map_or (await h) successor h else h) awaits ∙ ap (λ (k : Option Key). option_map_or (await h) k h) s in
+      inr (drop_off all key only_base successor class h off
+      ∙ ap (λ (b : Bool). if b then option_map_or (λ k. settle_unlinked all class (await h k)) successor h else h) awaits
+      ∙ ap (λ (o : Option Key). option_map_or (λ k. settle_unlinked all class (await h k)) o h) s
+      ∙ sym (ap (settle_field all class) loose ∙ settle_of_unlinked all class (await h other) (no_key h h.tie.key refl awaits t)))
+
+  off_at : (h : KeptField) (only_base b : Bool) → awaits_key key h ≡ b → is_linked_to key h ≡ false → IsTiedButTo key all class h →
+      IsLeftOrLoosened all key successor class h (drop_field all key only_base successor class h)
+  off_at h only_base true awaits off t = handed_at h only_base successor refl off awaits t
+  off_at h only_base false awaits off t =
+      inl (
+        other_tied h off t,
+        drop_off all key only_base successor class h off
+            ∙ ap (λ (b : Bool). if b then option_map_or (λ other. settle_unlinked all class (await h other)) successor h else h) awaits,
+      )
+
+  dropped_at : (h : KeptField) (only_base b : Bool) → is_linked_to key h ≡ b → (b ≡ true → keeps_link all class h key ≡ (only_base && h.tie.whole)) → IsTiedButTo key all class h →
+      IsLeftOrLoosened all key successor class h (drop_field all key only_base successor class h)
+  dropped_at h only_base true linked spared t = on_at h only_base (only_base && h.tie.whole) refl linked (spared refl) t
+  dropped_at h only_base false off spared t = off_at h only_base (awaits_key key h) refl off t
+
+  left_at : (h : KeptField) (b : Bool) → is_linked_to key h ≡ b → (b ≡ true → keeps_link all class h key ≡ true) → IsTiedButTo key all class h → IsTied all class h
+  left_at h true linked spared t = kept_tied h linked (spared refl) t
+  left_at h false off spared t = other_tied h off t
+
+  dropped_field : (d : Dropping) (h : KeptField) → IsTiedButTo key all class h → IsSparedRightly d key all class h → IsLeftOrLoosened all key successor class h (drop_by d all key successor class h)
+  dropped_field DropNone h t spared = inl (left_at h (is_linked_to key h) refl spared t, refl)
+  dropped_field DropBases h t spared = dropped_at h true (is_linked_to key h) refl spared t
+  dropped_field DropAll h t spared = dropped_at h false (is_linked_to key h) refl spared t
+
+  handled : Each (IsFit all) all → (h g : KeptField) → IsTiedButTo key all class h → IsWithinReach class h → IsLeftOrLoosened all key successor class h g → IsHandled all class h g
+  handled fits h g t w (inl both) = subst (IsHandled all class h) (sym both.1) (record { tied = both.0; less = omega arith; within = w })
+  handled fits h g t w (inr e) =
+      let loose = field_loosened key all successor class h (tied_but_of key all class h t) in
+      let l = loosen all key successor class h in
+      let done = field_done all class fits l loose.tied in
+      let one = loose.within in
+      let two = done.within in
+      subst (IsHandled all class h) (sym e)
+      (record { tied = done.tied; less = omega arith; within = field_within all class fits (settle_field all class l) (done.tied, done.rewritten) })
+
+steady_then : (f g k : Field) → steady.IsSteady f g → steady.IsSteady g k → steady.IsSteady f k
+steady_then f g k (inl p) (inl q) = inl (p ∙ q)
+steady_then f g k (inl p) (inr q) = inr (ap (λ (x : Field). (tag_of x).a) p ∙ q.0, q.1)
+steady_then f g k (inr p) (inl q) = inr (p.0, ap (λ (x : Field). (tag_of x).a) (sym q) ∙ p.1)
+steady_then f g k (inr p) (inr q) = inr (p.0, q.1)
+
+steady_dropped : (all : List Linkable) (key : Key) (successor : Option Key) (h g : KeptField) → IsTiedButTo key all Authority h → IsLeftOrLoosened all key successor Authority h g → steady.IsSteady h.field g.field
+steady_dropped all key successor h g t (inl both) = inl (ap (λ (x : KeptField). x.field) (sym both.1))
+steady_dropped all key successor h g t (inr e) =
+    let l = loosen all key successor Authority h in
+    let loose = field_loosened key all successor Authority h (tied_but_of key all Authority h t) in
+    subst (λ (x : KeptField). steady.IsSteady h.field x.field) (sym e)
+    (steady_then h.field l.field (settle_field all Authority l).field (steady_loosen key all successor h (tied_but_of key all Authority h t))
+    (steady_field all l (link_of_heading all Authority l loose.tied)))
+
+-- ---- rows
+
+record IsDropRow (d : Dropping) (key : Key) (all : List Linkable) (class : Class) (row : Row) : Type 0 where
+  row_is : IsRow class row
+  ties : Each (IsTiedButTo key all class) row.1.fields
+  spared : Each (IsSparedRightly d key all class) row.1.fields
+  room : HasRoom class row
+  within : Each (IsWithinReach class) row.1.fields
+
+drop_rows : (d : Dropping) (key : Key) (all : List Linkable) (class : Class) (rows : List Row) → All (IsRow class) rows → All (λ (row : Row). All (IsTiedButTo key all class) row.1.fields) rows →
+    All (λ (row : Row). All (IsSparedRightly d key all class) row.1.fields) rows → All (HasRoom class) rows → All (λ (row : Row). All (IsWithinReach class) row.1.fields) rows →
+    Each (IsDropRow d key all class) rows
+drop_rows d key all class rows r t p m w =
+    let T = λ (row : Row). All (IsTiedButTo key all class) row.1.fields in
+    let P = λ (row : Row). All (IsSparedRightly d key all class) row.1.fields in
+    let W = λ (row : Row). All (IsWithinReach class) row.1.fields in
+    let one = each_both (IsRow class) T rows (recursion_from_All (IsRow class) rows r) (recursion_from_All T rows t) in
+    let two = each_both (HasRoom class) W rows (recursion_from_All (HasRoom class) rows m) (recursion_from_All W rows w) in
+    let both = each_both (λ row. IsRow class row × T row) (λ row. HasRoom class row × W row) rows one two in
+    each_weaker (λ row. ((IsRow class row × T row) × (HasRoom class row × W row)) × P row) (IsDropRow d key all class)
+    (λ row x. record {
+      row_is = x.0.0.0;
+      ties = recursion_from_All (IsTiedButTo key all class) row.1.fields x.0.0.1;
+      spared = recursion_from_All (IsSparedRightly d key all class) row.1.fields x.1;
+      room = x.0.1.0;
+      within = recursion_from_All (IsWithinReach class) row.1.fields x.0.1.1;
+    }) rows
+    (each_both (λ row. (IsRow class row × T row) × (HasRoom class row × W row)) P rows both (recursion_from_All P rows p))
+
+module _ (d : Dropping) (all : List Linkable) (key : Key) (successor : Option Key) (class : Class) (fits : Each (IsFit all) all) where
+  all_handled : (hs : List KeptField) → Each (IsTiedButTo key all class) hs → Each (IsSparedRightly d key all class) hs → Each (IsWithinReach class) hs →
+      Each (λ h. IsHandled all class h (drop_by d all key successor class h)) hs
+  all_handled [] t p w = tt
+  all_handled (h ∷ hs) t p w =
+      (handled all key successor class fits h (drop_by d all key successor class h) t.0 w.0 (dropped_field all key successor class d h t.0 p.0), all_handled hs t.1 p.1 w.1)
+
+  drop_row : (row : Row) → IsDropRow d key all class row → IsMiddleRow all class (each_in_row (drop_by d all key successor class) row)
+  drop_row row m =
+      let change = drop_by d all key successor class in
+      let done = all_handled row.1.fields m.ties m.spared m.within in
+      let P = λ (h : KeptField). IsHandled all class h (drop_by d all key successor class h) in
+      record {
+        row_is = record { class_is = m.row_is.class_is; code = m.row_is.code; number = m.row_is.number };
+        ties = each_map P (IsTied all class) change (λ h x. x.tied) row.1.fields done;
+        room = room_kept class change row (each_weaker P (λ h. reach class (change h) ≤ reach class h) (λ h x. x.less) row.1.fields done) m.room;
+        within = each_map P (IsWithinReach class) change (λ h x. x.within) row.1.fields done;
+      }
+
+all_steady : (d : Dropping) (all : List Linkable) (key : Key) (successor : Option Key) (hs : List KeptField) → Each (IsTiedButTo key all Authority) hs → Each (IsSparedRightly d key all Authority) hs →
+    Each (λ h. steady.IsSteady h.field (drop_by d all key successor Authority h).field) hs
+all_steady d all key successor [] t p = tt
+all_steady d all key successor (h ∷ hs) t p =
+    (steady_dropped all key successor h (drop_by d all key successor Authority h) t.0 (dropped_field all key successor Authority d h t.0 p.0), all_steady d all key successor hs t.1 p.1)
+
+-- dropping leads between stages
+pub drop_ready : (d : Dropping) (key : Key) (successor : Option Key) (s : State) → CanDrop d key s →
+    IsMiddleWith (linkable_authorities s) (each_field (drop_by d (linkable_authorities s) key successor) s)
+unfolding each_field
+drop_ready d key successor s m =
+    let all = linkable_authorities s in
+    let fits = all_fit s.authorities m.authorities_ascend (recursion_from_All (IsRow Authority) s.authorities m.rows.0) in
+    let first = drop_rows d key all Authority s.authorities m.rows.0 m.ties.0 m.spared.0 m.room.0 m.within.0 in
+    let second = drop_rows d key all Bibliographic s.bibliographic m.rows.1 m.ties.1 m.spared.1 m.room.1 m.within.1 in
+    let A = drop_by d all key successor Authority in
+    let B = drop_by d all key successor Bibliographic in
+    let stay : filter_map row_linkable (map (each_in_row A) s.authorities) ≡ all =
+    linkables_stay A s.authorities
+    (each_weaker (IsDropRow d key all Authority) (λ (row : Row). Each (λ h. steady.IsSteady h.field (drop_by d all key successor Authority h).field) row.1.fields)
+    (λ row x. all_steady d all key successor row.1.fields x.ties x.spared) s.authorities first) in
+    middle_from all (record { authorities = map (each_in_row A) s.authorities; bibliographic = map (each_in_row B) s.bibliographic }) stay
+    (ascend_changed A s.authorities m.authorities_ascend) (ascend_changed B s.bibliographic m.bibliographic_ascend)
+    (each_map (IsDropRow d key all Authority) (IsMiddleRow all Authority) (each_in_row A) (drop_row d all key successor Authority fits) s.authorities first)
+    (each_map (IsDropRow d key all Bibliographic) (IsMiddleRow all Bibliographic) (each_in_row B) (drop_row d all key successor Bibliographic fits) s.bibliographic second)

@@ -1,0 +1,13 @@
+pub mod Between
+pub mod Commits
+pub mod Counts
+pub mod Dropped
+pub mod Exchanges
+pub mod Heart
+pub mod Others
+pub mod Pairs
+pub mod Partial
+pub mod Staged
+pub mod Sums
+pub mod Touched
+pub mod Visited
