@@ -19,23 +19,24 @@ use Rattle.marc_types.specs.declared.key.Key.{Key}
 use Rattle.marc_types.specs.declared.form.Form.{Form}
 use Rattle.iso2709_record.specs.Written.{field_length}
 use Rattle.iso2709_record.proofs.Lengths.{field_length-control, field_length-variable}
-use Rattle.entry_record.specs.Identity.{same_key}
+use Rattle.marc_types.specs.Order.{same_key}
 use Rattle.entry_record.specs.Authority.{Linkable}
-use Rattle.entry_record.specs.State.{KeptField, Row, State, fields_of, row_linkable, linkable_authorities, each_in_row, each_field}
-use Rattle.entry_record.specs.Choice.{has_key}
-use Rattle.entry_record.specs.Settle.{is_linked_to, settle_field}
-use Rattle.entry_record.specs.Valid.{IsAscending, IsRow, IsTied, IsRewritten, HasRoom, IsValid, reach}
-use Rattle.entry_record.proofs.Elements.{Each, each_weaker, each_both, each_map}
-use Rattle.entry_record.proofs.Fit.{IsFit}
-use Rattle.entry_record.proofs.Fitting.{field_within}
-use Rattle.entry_record.proofs.Once.{steady_field}
-use Rattle.entry_record.proofs.Proper.{all_fit, and_both}
-use Rattle.entry_record.proofs.Room.{room_kept}
-use Rattle.entry_record.proofs.Rows.{ascend_changed}
-use Rattle.entry_record.proofs.Settled.{field_done}
-use Rattle.entry_record.proofs.States.{link_of_heading}
+use Rattle.catalogue_rules.specs.State.{KeptField, Row, State, fields_of, row_linkable, linkable_authorities, each_in_row, each_field}
+use Rattle.catalogue_rules.specs.Choice.{has_key}
+use Rattle.catalogue_rules.specs.Settle.{is_linked_to, settle_field}
+use Rattle.catalogue_rules.specs.Valid.{IsAscending, IsRow, IsTied, IsRewritten, HasRoom, IsValid, reach}
+use Rattle.catalogue_rules.proofs.Elements.{Each, each_weaker, each_both, each_map}
+use Rattle.catalogue_rules.proofs.Fit.{IsFit}
+use Rattle.catalogue_rules.proofs.Fitting.{field_within}
+use Rattle.catalogue_rules.proofs.Once.{steady_field}
+use Rattle.catalogue_rules.proofs.Proper.{all_fit}
+use Rattle.entry_record.proofs.Proper.{and_both}
+use Rattle.catalogue_rules.proofs.Room.{room_kept}
+use Rattle.catalogue_rules.proofs.Rows.{ascend_changed}
+use Rattle.catalogue_rules.proofs.Settled.{field_done}
+use Rattle.catalogue_rules.proofs.States.{link_of_heading}
 use Rattle.entry_record.proofs.Steady as steady
-use Rattle.entry_record.proofs.Steady.{linkable_stays, linkables_stay}
+use Rattle.catalogue_rules.proofs.Steady.{linkable_stays, linkables_stay}
 use Rattle.record_store.specs.Store.{StaysRecord}
 use Rattle.linking_laws.specs.Middle.{IsWithinReach, IsMiddle, IsLeftOrSettled, IsEitherStage, IsMiddleWith, IsVisited}
 use Rattle.linking_laws.specs.Stages.{carry_by, choose_field, in_own_row, settle_own}

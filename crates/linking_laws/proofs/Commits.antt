@@ -8,18 +8,19 @@ use Rattle.marc_types.specs.declared.key.Class.{Class}
 use Rattle.marc_types.specs.declared.key.Class.TheVariants.{Authority, Bibliographic}
 use Rattle.marc_types.specs.declared.entry.Entry.{Entry}
 use Rattle.entry_record.specs.Authority.{Linkable, successor_of}
-use Rattle.entry_record.specs.State.{KeptRecord, Row, State, new_record, linkable_authorities, each_in_record, each_in_row, each_field}
-use Rattle.entry_record.specs.Settle.{Arrival, place, loosen, put_in, put, settle_field, settle, step}
-use Rattle.entry_record.specs.History.{IsAdmitted, arrival_of}
-use Rattle.entry_record.specs.Valid.{IsRow, IsTied, IsLinkOfHeading, HasRoom, IsValid}
-use Rattle.entry_record.proofs.Elements.{Each, each_weaker, each_both}
-use Rattle.entry_record.proofs.Fit.{IsFit}
-use Rattle.entry_record.proofs.Once.{settled_linkables}
-use Rattle.entry_record.proofs.Proper.{all_fit}
-use Rattle.entry_record.proofs.Put.{IsTiedBut, steady_loosen}
-use Rattle.entry_record.proofs.Rows.{ascend_place, each_place, other_place}
-use Rattle.entry_record.proofs.States.{IsReadyRow, IsReady, IsFitArrival, IsLooseRow, loose_row, new_ready, settled_done, put_ready, done_valid, fit_entry, link_of_heading}
-use Rattle.entry_record.proofs.Steady.{IsSteady, linkables_stay}
+use Rattle.catalogue_rules.specs.State.{KeptRecord, Row, State, new_record, linkable_authorities, each_in_record, each_in_row, each_field}
+use Rattle.catalogue_rules.specs.Settle.{Arrival, place, loosen, put_in, put, settle_field, settle, step}
+use Rattle.entry_record.specs.History.{IsAdmitted}
+use Rattle.catalogue_rules.specs.Settle.{arrival_of}
+use Rattle.catalogue_rules.specs.Valid.{IsRow, IsTied, IsLinkOfHeading, HasRoom, IsValid}
+use Rattle.catalogue_rules.proofs.Elements.{Each, each_weaker, each_both}
+use Rattle.catalogue_rules.proofs.Fit.{IsFit}
+use Rattle.catalogue_rules.proofs.Once.{settled_linkables}
+use Rattle.catalogue_rules.proofs.Proper.{all_fit}
+use Rattle.catalogue_rules.proofs.Put.{IsTiedBut, steady_loosen}
+use Rattle.catalogue_rules.proofs.Rows.{ascend_place, each_place, other_place}
+use Rattle.catalogue_rules.proofs.States.{IsReadyRow, IsReady, IsFitArrival, IsLooseRow, loose_row, new_ready, settled_done, put_ready, done_valid, fit_entry, link_of_heading}
+use Rattle.catalogue_rules.proofs.Steady.{IsSteady, linkables_stay}
 use Rattle.linking_laws.specs.Behind.{placed_in, placed, linkable_behind, ended_in, ended_by, rows_behind, state_behind}
 
 -- ---- a valid state is ready for a commit

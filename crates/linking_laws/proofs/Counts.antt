@@ -19,15 +19,16 @@ use Rattle.marc_types.specs.declared.key.Class.{Class}
 use Rattle.marc_types.specs.declared.key.Class.TheVariants.{Authority, Bibliographic}
 use Rattle.marc_types.specs.declared.key.Key.{Key}
 use Rattle.marc_types.specs.declared.entry.Entry.{Entry}
-use Rattle.entry_record.specs.Identity.{is_deletion, same_key}
+use Rattle.entry_record.specs.Identity.{is_deletion}
+use Rattle.marc_types.specs.Order.{same_key}
 use Rattle.entry_record.specs.Authority.{Linkable}
-use Rattle.entry_record.specs.State.{KeptField, KeptRecord, Row, State, rows_of, new_record, linkable_authorities, new_field}
-use Rattle.entry_record.specs.Settle.{Arrival, place, settle_field, step, loosen}
-use Rattle.entry_record.specs.History.{arrival_of}
-use Rattle.entry_record.specs.Receipt.{kept_under, same_class, is_committed, differs, is_changed_row, changed_in, receipt_of, Standing, is_linked, is_ambiguous, is_unlinked, standing_of, count_standing}
-use Rattle.entry_record.specs.Sameness.{same_kept}
-use Rattle.entry_record.specs.Valid.{IsAscending, IsValid}
-use Rattle.entry_record.proofs.Elements.{Each, each_weaker}
+use Rattle.catalogue_rules.specs.State.{KeptField, KeptRecord, Row, State, rows_of, new_record, linkable_authorities, new_field}
+use Rattle.catalogue_rules.specs.Settle.{Arrival, place, settle_field, step, loosen}
+use Rattle.catalogue_rules.specs.Settle.{arrival_of}
+use Rattle.catalogue_rules.specs.Receipt.{kept_under, same_class, is_committed, differs, is_changed_row, changed_in, receipt_of, Standing, is_linked, is_ambiguous, is_unlinked, standing_of, count_standing}
+use Rattle.catalogue_rules.specs.Sameness.{same_kept}
+use Rattle.catalogue_rules.specs.Valid.{IsAscending, IsValid}
+use Rattle.catalogue_rules.proofs.Elements.{Each, each_weaker}
 use Rattle.record_store.proofs.Places.{IsBelow, lookup_below}
 use Rattle.record_store.specs.Store.{field_at, field_under}
 use Rattle.linking_laws.specs.Behind.{placed_in, placed, ended_by, loosened_by, record_behind, state_behind}

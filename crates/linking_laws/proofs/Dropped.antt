@@ -8,23 +8,23 @@ use Rattle.marc_types.specs.declared.key.Class.{Class}
 use Rattle.marc_types.specs.declared.key.Class.TheVariants.{Authority, Bibliographic}
 use Rattle.marc_types.specs.declared.key.Key.{Key}
 use Rattle.heading_fields.specs.Parts.{tag_of}
-use Rattle.entry_record.specs.Identity.{same_key}
+use Rattle.marc_types.specs.Order.{same_key}
 use Rattle.entry_record.specs.Authority.{Linkable}
-use Rattle.entry_record.specs.State.{KeptField, Row, State, row_linkable, linkable_authorities, each_in_row, each_field}
-use Rattle.entry_record.specs.Settle.{keeps_link, is_linked_to, awaits_key, end_link, await, hand_on, loosen, settle_unlinked, settle_field}
-use Rattle.entry_record.specs.Valid.{IsRow, IsTied, HasRoom, reach}
-use Rattle.entry_record.proofs.Elements.{Each, each_weaker, each_both, each_map}
-use Rattle.entry_record.proofs.Fit.{IsFit}
-use Rattle.entry_record.proofs.Fitting.{field_within}
-use Rattle.entry_record.proofs.Once.{steady_field}
-use Rattle.entry_record.proofs.Proper.{all_fit}
-use Rattle.entry_record.proofs.Put.{IsTiedBut, field_loosened, steady_loosen}
-use Rattle.entry_record.proofs.Room.{room_kept}
-use Rattle.entry_record.proofs.Rows.{ascend_changed}
-use Rattle.entry_record.proofs.Settled.{field_done}
-use Rattle.entry_record.proofs.States.{link_of_heading}
+use Rattle.catalogue_rules.specs.State.{KeptField, Row, State, row_linkable, linkable_authorities, each_in_row, each_field}
+use Rattle.catalogue_rules.specs.Settle.{keeps_link, is_linked_to, awaits_key, end_link, await, hand_on, loosen, settle_unlinked, settle_field}
+use Rattle.catalogue_rules.specs.Valid.{IsRow, IsTied, HasRoom, reach}
+use Rattle.catalogue_rules.proofs.Elements.{Each, each_weaker, each_both, each_map}
+use Rattle.catalogue_rules.proofs.Fit.{IsFit}
+use Rattle.catalogue_rules.proofs.Fitting.{field_within}
+use Rattle.catalogue_rules.proofs.Once.{steady_field}
+use Rattle.catalogue_rules.proofs.Proper.{all_fit}
+use Rattle.catalogue_rules.proofs.Put.{IsTiedBut, field_loosened, steady_loosen}
+use Rattle.catalogue_rules.proofs.Room.{room_kept}
+use Rattle.catalogue_rules.proofs.Rows.{ascend_changed}
+use Rattle.catalogue_rules.proofs.Settled.{field_done}
+use Rattle.catalogue_rules.proofs.States.{link_of_heading}
 use Rattle.entry_record.proofs.Steady as steady
-use Rattle.entry_record.proofs.Steady.{linkables_stay}
+use Rattle.catalogue_rules.proofs.Steady.{linkables_stay}
 use Rattle.linking_laws.specs.Middle.{IsWithinReach, IsMiddleWith, IsTiedButTo, IsSparedRightly, CanDrop}
 use Rattle.linking_laws.specs.Stages.{Dropping, DropNone, DropBases, DropAll, drop_field, drop_by}
 use Rattle.linking_laws.proofs.Between.{IsMiddleRow, IsHandled, middle_from}

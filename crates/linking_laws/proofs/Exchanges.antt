@@ -9,9 +9,9 @@ use Rattle.marc_types.specs.declared.key.Class.{Class}
 use Rattle.marc_types.specs.declared.key.Class.TheVariants.{Authority, Bibliographic}
 use Rattle.marc_types.specs.declared.key.Key.{Key}
 use Rattle.marc_types.specs.declared.key.Place.{Place}
-use Rattle.entry_record.specs.Identity.{same_key}
-use Rattle.entry_record.specs.State.{KeptField, KeptRecord, Row, State, rows_of, each_in_record, each_in_row, each_field}
-use Rattle.entry_record.specs.Receipt.{same_class}
+use Rattle.marc_types.specs.Order.{same_key}
+use Rattle.catalogue_rules.specs.State.{KeptField, KeptRecord, Row, State, rows_of, each_in_record, each_in_row, each_field}
+use Rattle.catalogue_rules.specs.Receipt.{same_class}
 use Rattle.record_store.specs.Store.{field_at, field_under, with_field, with_field_under, with_rows}
 use Rattle.linking_laws.specs.Partway.{same_place, swapped, row_outline, outlines}
 

@@ -12,12 +12,13 @@ use Rattle.marc_types.specs.declared.form.Kind.{Kind}
 use Rattle.marc_types.specs.declared.form.Form.{Form}
 use Rattle.heading_fields.specs.Parts.{subfields_of}
 use Rattle.heading_fields.specs.Numbers.{is_naming}
-use Rattle.entry_record.specs.Identity.{same_key}
+use Rattle.marc_types.specs.Order.{same_key}
 use Rattle.entry_record.specs.Authority.{Linkable, is_bare, base_form, full_form}
-use Rattle.entry_record.specs.State.{KeptField}
-use Rattle.entry_record.specs.Choice.{Link, Unlinked, has_key, takes_subdivisions, can_take, is_taken_whole, link_where, by_awaited, by_first_name, by_number, choice_among, same_form, is_established, is_see_from_form, by_form, by_full_form, asks_base, by_base_form, choice}
-use Rattle.entry_record.specs.Settle.{awaits_key}
-use Rattle.entry_record.proofs.Elements.{Each, each_weaker, each_filter}
+use Rattle.catalogue_rules.specs.State.{KeptField}
+use Rattle.catalogue_rules.specs.Choice.{Link, Unlinked, has_key, takes_subdivisions, can_take, is_taken_whole, link_where, by_awaited, by_first_name, by_number, choice_among, is_established, is_see_from_form, by_form, by_full_form, asks_base, by_base_form, choice}
+use Rattle.marc_types.specs.Order.{same_form}
+use Rattle.catalogue_rules.specs.Settle.{awaits_key}
+use Rattle.catalogue_rules.proofs.Elements.{Each, each_weaker, each_filter}
 use Rattle.linking_laws.specs.Waiting.{asked_full, is_form_among, asked_forms, asks_for, names_key, forms_of, others_of, IsUnasked}
 
 -- ---- skipping what passes no test

@@ -13,14 +13,15 @@ use Rattle.marc_types.specs.declared.field.Field.{Field}
 use Rattle.marc_types.specs.declared.field.Leader.{Leader}
 use Rattle.marc_types.specs.declared.key.Class.TheVariants.{Authority}
 use Rattle.marc_types.specs.declared.key.Key.{Key}
-use Rattle.entry_record.specs.Identity.{is_deletion, same_key}
+use Rattle.entry_record.specs.Identity.{is_deletion}
+use Rattle.marc_types.specs.Order.{same_key}
 use Rattle.entry_record.specs.Authority.{Linkable, option_filter, replacement_key, successor_of}
-use Rattle.entry_record.specs.State.{KeptRecord, Row, State, linkable_authorities, fields_of, new_record, row_linkable}
-use Rattle.entry_record.specs.Choice.{has_key}
-use Rattle.entry_record.specs.Settle.{Arrival, place}
-use Rattle.entry_record.specs.Valid.{IsAscending}
-use Rattle.entry_record.proofs.Elements.{Each}
-use Rattle.entry_record.proofs.Proper.{proper_linkable}
+use Rattle.catalogue_rules.specs.State.{KeptRecord, Row, State, linkable_authorities, fields_of, new_record, row_linkable}
+use Rattle.catalogue_rules.specs.Choice.{has_key}
+use Rattle.catalogue_rules.specs.Settle.{Arrival, place}
+use Rattle.catalogue_rules.specs.Valid.{IsAscending}
+use Rattle.catalogue_rules.proofs.Elements.{Each}
+use Rattle.catalogue_rules.proofs.Proper.{proper_linkable}
 use Rattle.linking_laws.specs.Behind.{placed_in}
 use Rattle.linking_laws.specs.Waiting.{others_of}
 

@@ -11,10 +11,10 @@ use Rattle.marc_types.specs.declared.key.Class.{Class}
 use Rattle.marc_types.specs.declared.key.Class.TheVariants.{Authority, Bibliographic}
 use Rattle.marc_types.specs.declared.key.Key.{Key}
 use Rattle.marc_types.specs.declared.key.Place.{Place}
-use Rattle.entry_record.specs.Identity.{same_key}
-use Rattle.entry_record.specs.State.{KeptField, Row, State, linkable_authorities, each_field}
-use Rattle.entry_record.specs.Receipt.{same_class}
-use Rattle.entry_record.specs.Valid.{IsAscending}
+use Rattle.marc_types.specs.Order.{same_key}
+use Rattle.catalogue_rules.specs.State.{KeptField, Row, State, linkable_authorities, each_field}
+use Rattle.catalogue_rules.specs.Receipt.{same_class}
+use Rattle.catalogue_rules.specs.Valid.{IsAscending}
 use Rattle.entry_record.proofs.Proper.{and_both}
 use Rattle.record_store.specs.Store.{field_under}
 use Rattle.linking_laws.specs.Partway.{same_place, is_place_among, swapped, row_outline, outlines, changed_among, AreOrdered, IsNext, IsPartway, IsWhole, IsSteady, IsSteadyChange}

@@ -7,18 +7,19 @@ use Rattle.marc_types.specs.declared.key.Class.{Class}
 use Rattle.marc_types.specs.declared.key.Class.TheVariants.{Authority, Bibliographic}
 use Rattle.marc_types.specs.declared.key.Key.{Key}
 use Rattle.marc_types.specs.declared.entry.Entry.{Entry}
-use Rattle.entry_record.specs.Identity.{same_key}
+use Rattle.marc_types.specs.Order.{same_key}
 use Rattle.entry_record.specs.Authority.{Linkable}
-use Rattle.entry_record.specs.State.{KeptField, Row, State, new_field, new_record, linkable_authorities, each_in_row, each_field}
-use Rattle.entry_record.specs.Choice.{has_key}
-use Rattle.entry_record.specs.Settle.{Arrival, place, loosen, settle_field, step}
-use Rattle.entry_record.specs.History.{IsAdmitted, arrival_of}
-use Rattle.entry_record.specs.Valid.{EachField, IsAscending, IsRow, IsTied, IsRewritten, IsSettled, IsValid}
-use Rattle.entry_record.proofs.Elements.{Each, each_weaker, each_both}
-use Rattle.entry_record.proofs.Fit.{IsFit}
-use Rattle.entry_record.proofs.Proper.{all_fit}
-use Rattle.entry_record.proofs.States.{IsFitArrival, fit_entry}
-use Rattle.entry_record.proofs.Still.{field_same}
+use Rattle.catalogue_rules.specs.State.{KeptField, Row, State, new_field, new_record, linkable_authorities, each_in_row, each_field}
+use Rattle.catalogue_rules.specs.Choice.{has_key}
+use Rattle.catalogue_rules.specs.Settle.{Arrival, place, loosen, settle_field, step}
+use Rattle.entry_record.specs.History.{IsAdmitted}
+use Rattle.catalogue_rules.specs.Settle.{arrival_of}
+use Rattle.catalogue_rules.specs.Valid.{EachField, IsAscending, IsRow, IsTied, IsRewritten, IsSettled, IsValid}
+use Rattle.catalogue_rules.proofs.Elements.{Each, each_weaker, each_both}
+use Rattle.catalogue_rules.proofs.Fit.{IsFit}
+use Rattle.catalogue_rules.proofs.Proper.{all_fit}
+use Rattle.catalogue_rules.proofs.States.{IsFitArrival, fit_entry}
+use Rattle.catalogue_rules.proofs.Still.{field_same}
 use Rattle.linking_laws.specs.Behind.{placed_in, ended_in, row_behind, state_behind}
 use Rattle.linking_laws.specs.Waiting.{forms_touched}
 use Rattle.linking_laws.specs.Stages.{dropping_by, successor_in, drop_by, carry_by, choose_field, in_own_row, settle_own, by_stages, field_by_stages}

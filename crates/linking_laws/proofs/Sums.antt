@@ -15,16 +15,17 @@ use Rattle.marc_types.specs.declared.key.Class.{Class}
 use Rattle.marc_types.specs.declared.key.Class.TheVariants.{Authority, Bibliographic}
 use Rattle.marc_types.specs.declared.key.Key.{Key}
 use Rattle.marc_types.specs.declared.entry.Entry.{Entry}
-use Rattle.entry_record.specs.Identity.{is_deletion, same_key}
+use Rattle.entry_record.specs.Identity.{is_deletion}
+use Rattle.marc_types.specs.Order.{same_key}
 use Rattle.entry_record.specs.Authority.{Linkable}
-use Rattle.entry_record.specs.State.{KeptField, KeptRecord, Row, State, new_field, new_record, linkable_authorities, each_in_row, each_field}
-use Rattle.entry_record.specs.Choice.{has_key}
-use Rattle.entry_record.specs.Settle.{Arrival, place, settle_field}
-use Rattle.entry_record.specs.History.{arrival_of}
-use Rattle.entry_record.specs.Valid.{IsAscending}
-use Rattle.entry_record.proofs.Elements.{Each, each_weaker}
-use Rattle.entry_record.proofs.Once.{field_once}
-use Rattle.entry_record.proofs.States.{fit_entry}
+use Rattle.catalogue_rules.specs.State.{KeptField, KeptRecord, Row, State, new_field, new_record, linkable_authorities, each_in_row, each_field}
+use Rattle.catalogue_rules.specs.Choice.{has_key}
+use Rattle.catalogue_rules.specs.Settle.{Arrival, place, settle_field}
+use Rattle.catalogue_rules.specs.Settle.{arrival_of}
+use Rattle.catalogue_rules.specs.Valid.{IsAscending}
+use Rattle.catalogue_rules.proofs.Elements.{Each, each_weaker}
+use Rattle.catalogue_rules.proofs.Once.{field_once}
+use Rattle.catalogue_rules.proofs.States.{fit_entry}
 use Rattle.linking_laws.specs.Behind.{placed_in}
 use Rattle.linking_laws.specs.Waiting.{forms_touched}
 use Rattle.linking_laws.specs.Commits.{IsCommit, IsSound, authorities_behind}

@@ -12,16 +12,17 @@ use Rattle.heading_fields.specs.Tables.{kind_of}
 use Rattle.heading_fields.specs.Numbers.{is_naming}
 use Rattle.heading_fields.specs.Parts.{subfields_of}
 use Rattle.heading_fields.specs.Rewriting.{rewriting}
-use Rattle.entry_record.specs.Identity.{same_key}
+use Rattle.marc_types.specs.Order.{same_key}
 use Rattle.entry_record.specs.Authority.{Linkable, is_bare, same_kind, is_kind, heading_kind}
-use Rattle.entry_record.specs.State.{KeptField}
-use Rattle.entry_record.specs.Choice.{has_key, same_form, choice}
-use Rattle.entry_record.specs.Settle.{keeps_link, is_linked_to, awaits_key, end_link, await, hand_on, loosen, link_to, take_choice, settle_linked, settle_unlinked, settle_field}
-use Rattle.entry_record.specs.Valid.{IsLink, IsTied}
-use Rattle.entry_record.proofs.Elements.{Each, each_weaker}
-use Rattle.entry_record.proofs.Fit.{IsFit, same_kind_is}
-use Rattle.entry_record.proofs.Once.{field_once}
-use Rattle.entry_record.proofs.Settled.{kept_by}
+use Rattle.catalogue_rules.specs.State.{KeptField}
+use Rattle.catalogue_rules.specs.Choice.{has_key, choice}
+use Rattle.marc_types.specs.Order.{same_form}
+use Rattle.catalogue_rules.specs.Settle.{keeps_link, is_linked_to, awaits_key, end_link, await, hand_on, loosen, link_to, take_choice, settle_linked, settle_unlinked, settle_field}
+use Rattle.catalogue_rules.specs.Valid.{IsLink, IsTied}
+use Rattle.catalogue_rules.proofs.Elements.{Each, each_weaker}
+use Rattle.catalogue_rules.proofs.Fit.{IsFit, same_kind_is}
+use Rattle.catalogue_rules.proofs.Once.{field_once}
+use Rattle.catalogue_rules.proofs.Settled.{kept_by}
 use Rattle.linking_laws.specs.Waiting.{is_form_among, asked_forms, asks_for, names_key, is_named, is_waiting_for, forms_of, forms_under, is_touched, forms_touched, others_of, IsUnasked}
 use Rattle.linking_laws.specs.Commits.{IsSound}
 use Rattle.linking_laws.specs.Stages.{Dropping, DropNone, DropBases, DropAll, dropping_by, drop_field, drop_by, carry_field, carry_by, choose_field, field_by_stages}

@@ -9,11 +9,11 @@ use Rattle.marc_types.specs.declared.form.Kind.{Kind}
 use Rattle.marc_types.specs.declared.form.Form.{Form}
 use Rattle.heading_fields.specs.Numbers.{is_naming}
 use Rattle.heading_fields.specs.Parts.{subfields_of}
-use Rattle.entry_record.specs.Identity.{same_key}
+use Rattle.marc_types.specs.Order.{same_key}
 use Rattle.entry_record.specs.Authority.{Linkable, heading_kind, is_heading_field}
-use Rattle.entry_record.specs.State.{KeptField}
-use Rattle.entry_record.specs.Choice.{has_key, choice}
-use Rattle.entry_record.specs.Settle.{is_linked_to, awaits_key, end_link, await, loosen, take_choice, settle_unlinked, settle_field}
+use Rattle.catalogue_rules.specs.State.{KeptField}
+use Rattle.catalogue_rules.specs.Choice.{has_key, choice}
+use Rattle.catalogue_rules.specs.Settle.{is_linked_to, awaits_key, end_link, await, loosen, take_choice, settle_unlinked, settle_field}
 use Rattle.linking_laws.specs.Waiting.{asks_for, names_key, is_named, is_waiting_for, forms_touched}
 use Rattle.linking_laws.specs.Commits.{IsSound}
 use Rattle.linking_laws.specs.Stages.{Dropping, DropNone, DropBases, DropAll, dropping_by, drop_by, carry_by}

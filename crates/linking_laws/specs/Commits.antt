@@ -6,10 +6,11 @@ use Rattle.marc_types.specs.declared.key.Class.TheVariants.{Authority}
 use Rattle.marc_types.specs.declared.entry.Entry.{Entry}
 use Rattle.marc_types.specs.declared.form.Form.{Form}
 use Rattle.entry_record.specs.Authority.{Linkable}
-use Rattle.entry_record.specs.State.{KeptField, State, linkable_authorities}
-use Rattle.entry_record.specs.Settle.{loosen, settle_unlinked, settle_field}
-use Rattle.entry_record.specs.History.{IsAdmitted, arrival_of}
-use Rattle.entry_record.specs.Valid.{IsTied, IsValid}
+use Rattle.catalogue_rules.specs.State.{KeptField, State, linkable_authorities}
+use Rattle.catalogue_rules.specs.Settle.{loosen, settle_unlinked, settle_field}
+use Rattle.entry_record.specs.History.{IsAdmitted}
+use Rattle.catalogue_rules.specs.Settle.{arrival_of}
+use Rattle.catalogue_rules.specs.Valid.{IsTied, IsValid}
 use Rattle.linking_laws.specs.Behind.{placed_in}
 use Rattle.linking_laws.specs.Waiting.{is_waiting_for, is_touched, forms_touched}
 use Rattle.linking_laws.specs.Stages.{successor_in, by_stages, field_by_stages}

@@ -8,12 +8,12 @@ use Rattle.marc_types.specs.declared.key.Key.{Key}
 use Rattle.heading_fields.specs.Parts.{tag_of}
 use Rattle.heading_fields.specs.Tables.{is_subdividable}
 use Rattle.iso2709_record.specs.Written.{field_length}
-use Rattle.entry_record.specs.Identity.{same_key}
+use Rattle.marc_types.specs.Order.{same_key}
 use Rattle.entry_record.specs.Authority.{Linkable, is_heading_field}
-use Rattle.entry_record.specs.State.{KeptField, Row, State, fields_of, linkable_authorities}
-use Rattle.entry_record.specs.Settle.{keeps_link, is_linked_to, settle_field}
+use Rattle.catalogue_rules.specs.State.{KeptField, Row, State, fields_of, linkable_authorities}
+use Rattle.catalogue_rules.specs.Settle.{keeps_link, is_linked_to, settle_field}
 use Rattle.linking_laws.specs.Stages.{Dropping, DropNone, DropBases, DropAll}
-use Rattle.entry_record.specs.Valid.{EachRow, EachField, IsAscending, IsRow, IsTied, HasRoom, reach}
+use Rattle.catalogue_rules.specs.Valid.{EachRow, EachField, IsAscending, IsRow, IsTied, HasRoom, reach}
 
 -- a field is no longer than its reach
 abbrev pub IsWithinReach : Class → KeptField → Type 0

@@ -8,10 +8,10 @@ use Rattle.marc_types.specs.declared.key.Class.{Class}
 use Rattle.marc_types.specs.declared.key.Class.TheVariants.{Authority}
 use Rattle.marc_types.specs.declared.key.Key.{Key}
 use Rattle.marc_types.specs.declared.key.Place.{Place}
-use Rattle.entry_record.specs.Identity.{same_key}
-use Rattle.entry_record.specs.State.{KeptField, Row, State, rows_of}
-use Rattle.entry_record.specs.Receipt.{same_class}
-use Rattle.entry_record.specs.Valid.{IsAscending}
+use Rattle.marc_types.specs.Order.{same_key}
+use Rattle.catalogue_rules.specs.State.{KeptField, Row, State, rows_of}
+use Rattle.catalogue_rules.specs.Receipt.{same_class}
+use Rattle.catalogue_rules.specs.Valid.{IsAscending}
 use Rattle.record_store.specs.Store.{field_under, with_field_under, with_rows}
 
 abbrev pub same_place : Place → Place → Bool

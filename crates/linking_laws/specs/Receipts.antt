@@ -7,13 +7,14 @@ use Rattle.marc_types.specs.declared.key.Class.{Class}
 use Rattle.marc_types.specs.declared.key.Key.{Key}
 use Rattle.marc_types.specs.declared.key.Place.{Place}
 use Rattle.marc_types.specs.declared.entry.Entry.{Entry}
-use Rattle.entry_record.specs.Identity.{is_deletion, same_key}
-use Rattle.entry_record.specs.State.{KeptField, KeptRecord, State, new_field, linkable_authorities}
-use Rattle.entry_record.specs.Settle.{Arrival, settle_field, step}
-use Rattle.entry_record.specs.History.{arrival_of}
+use Rattle.entry_record.specs.Identity.{is_deletion}
+use Rattle.marc_types.specs.Order.{same_key}
+use Rattle.catalogue_rules.specs.State.{KeptField, KeptRecord, State, new_field, linkable_authorities}
+use Rattle.catalogue_rules.specs.Settle.{Arrival, settle_field, step}
+use Rattle.catalogue_rules.specs.Settle.{arrival_of}
 use Rattle.marc_types.specs.declared.entry.Receipt.{Receipt}
-use Rattle.entry_record.specs.Receipt.{Standing, is_linked, is_ambiguous, is_unlinked, receipt_of, standing_of, kept_under, is_committed}
-use Rattle.entry_record.specs.Sameness.{same_kept}
+use Rattle.catalogue_rules.specs.Receipt.{Standing, is_linked, is_ambiguous, is_unlinked, receipt_of, standing_of, kept_under, is_committed}
+use Rattle.catalogue_rules.specs.Sameness.{same_kept}
 use Rattle.record_store.specs.Store.{field_under}
 use Rattle.linking_laws.specs.Commits.{placed_by}
 

@@ -10,11 +10,11 @@ use Rattle.marc_types.specs.declared.key.Key.{Key}
 use Rattle.marc_types.specs.declared.form.Kind.{Kind}
 use Rattle.marc_types.specs.declared.form.Form.{Form}
 use Rattle.heading_fields.specs.Rewriting.{rewriting}
-use Rattle.entry_record.specs.Identity.{same_key}
+use Rattle.marc_types.specs.Order.{same_key}
 use Rattle.entry_record.specs.Authority.{Linkable, is_bare, same_kind, successor_of}
-use Rattle.entry_record.specs.State.{KeptField, Row, State, each_in_row, each_field}
-use Rattle.entry_record.specs.Choice.{has_key}
-use Rattle.entry_record.specs.Settle.{Arrival, is_linked_to, awaits_key, end_link, await, settle_unlinked, settle_field}
+use Rattle.catalogue_rules.specs.State.{KeptField, Row, State, each_in_row, each_field}
+use Rattle.catalogue_rules.specs.Choice.{has_key}
+use Rattle.catalogue_rules.specs.Settle.{Arrival, is_linked_to, awaits_key, end_link, await, settle_unlinked, settle_field}
 use Rattle.linking_laws.specs.Waiting.{is_waiting_for, forms_touched}
 
 -- which links to a key end: none, those by the base, or all

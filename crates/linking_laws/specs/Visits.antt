@@ -7,17 +7,17 @@ use Rattle.marc_types.specs.declared.key.Class.{Class}
 use Rattle.marc_types.specs.declared.key.Class.TheVariants.{Authority}
 use Rattle.marc_types.specs.declared.key.Key.{Key}
 use Rattle.marc_types.specs.declared.form.Form.{Form}
-use Rattle.entry_record.specs.Identity.{same_key}
+use Rattle.marc_types.specs.Order.{same_key}
 use Rattle.entry_record.specs.Authority.{Linkable, is_heading_field}
-use Rattle.entry_record.specs.State.{KeptField, Row, State, each_field, linkable_authorities}
-use Rattle.entry_record.specs.Choice.{has_key}
-use Rattle.entry_record.specs.Settle.{Arrival, is_linked_to, awaits_key, end_link, await, settle_unlinked}
+use Rattle.catalogue_rules.specs.State.{KeptField, Row, State, each_field, linkable_authorities}
+use Rattle.catalogue_rules.specs.Choice.{has_key}
+use Rattle.catalogue_rules.specs.Settle.{Arrival, is_linked_to, awaits_key, end_link, await, settle_unlinked}
 use Rattle.linking_laws.specs.Waiting.{names_key, is_waiting_for, forms_touched}
 use Rattle.linking_laws.specs.Stages.{Dropping, DropNone, DropBases, DropAll, dropping_by, successor_in, drop_by, carry_by, settle_own}
 use Rattle.linking_laws.specs.Weights.{one_if, sum_row, sum_fields, arrival_weight, state_weight}
 use Rattle.linking_laws.specs.Commits.{authorities_behind, placed_by}
 use Rattle.marc_types.specs.declared.entry.Entry.{Entry}
-use Rattle.entry_record.specs.History.{arrival_of}
+use Rattle.catalogue_rules.specs.Settle.{arrival_of}
 
 -- one where the choice of an unlinked field is a link
 abbrev pub link_visit : List Linkable → Class → KeptField → ℕ

@@ -10,9 +10,10 @@ use Rattle.marc_types.specs.declared.form.Form.{Form}
 use Rattle.heading_fields.specs.Parts.{subfields_of}
 use Rattle.heading_fields.specs.Numbers.{is_naming}
 use Rattle.entry_record.specs.Authority.{Linkable, heading_kind, base_form, full_form}
-use Rattle.entry_record.specs.State.{KeptField}
-use Rattle.entry_record.specs.Choice.{has_key, takes_subdivisions, same_form, asks_base}
-use Rattle.entry_record.specs.Settle.{is_linked_to, awaits_key}
+use Rattle.catalogue_rules.specs.State.{KeptField}
+use Rattle.catalogue_rules.specs.Choice.{has_key, takes_subdivisions, asks_base}
+use Rattle.marc_types.specs.Order.{same_form}
+use Rattle.catalogue_rules.specs.Settle.{is_linked_to, awaits_key}
 
 -- the full form of a field, where it takes subdivisions
 abbrev pub asked_full : Class → Kind → KeptField → List Form

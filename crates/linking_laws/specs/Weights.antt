@@ -10,8 +10,8 @@ use Rattle.marc_types.specs.declared.form.Form.{Form}
 use Rattle.heading_fields.specs.Parts.{subfields_of}
 use Rattle.entry_record.specs.Identity.{is_deletion}
 use Rattle.entry_record.specs.Authority.{Linkable, is_heading_field}
-use Rattle.entry_record.specs.State.{KeptField, Row, State, new_field}
-use Rattle.entry_record.specs.Settle.{Arrival, is_linked_to}
+use Rattle.catalogue_rules.specs.State.{KeptField, Row, State, new_field}
+use Rattle.catalogue_rules.specs.Settle.{Arrival, is_linked_to}
 use Rattle.linking_laws.specs.Waiting.{names_key, is_waiting_for, forms_touched}
 use Rattle.linking_laws.specs.Stages.{successor_in}
 
