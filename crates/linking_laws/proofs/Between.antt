@@ -30,12 +30,12 @@ use Rattle.catalogue_rules.proofs.Fit.{IsFit}
 use Rattle.catalogue_rules.proofs.Fitting.{field_within}
 use Rattle.catalogue_rules.proofs.Once.{steady_field}
 use Rattle.catalogue_rules.proofs.Proper.{all_fit}
-use Rattle.entry_record.proofs.Proper.{and_both}
+use Rattle.std.proofs.lemmas.Bool.{and_parts}
 use Rattle.catalogue_rules.proofs.Room.{room_kept}
 use Rattle.catalogue_rules.proofs.Rows.{ascend_changed}
 use Rattle.catalogue_rules.proofs.Settled.{field_done}
 use Rattle.catalogue_rules.proofs.States.{link_of_heading}
-use Rattle.entry_record.proofs.Steady as steady
+use Rattle.catalogue_rules.proofs.Steady as steady
 use Rattle.catalogue_rules.proofs.Steady.{linkable_stays, linkables_stay}
 use Rattle.record_store.specs.Store.{StaysRecord}
 use Rattle.linking_laws.specs.Middle.{IsWithinReach, IsMiddle, IsLeftOrSettled, IsEitherStage, IsMiddleWith, IsVisited}
@@ -235,17 +235,17 @@ both_true a b p q = rw (p, q) refl
 
 set_fields : (fs : List Field) (i : ℕ) (f : Field) → list_all is_field fs ≡ true → is_field f ≡ true → list_all is_field (slice_set fs i f) ≡ true
 set_fields [] i f all own = refl
-set_fields (x ∷ fs) zero f all own = both_true (is_field f) (list_all is_field fs) own (and_both (is_field x) (list_all is_field fs) all).1
+set_fields (x ∷ fs) zero f all own = both_true (is_field f) (list_all is_field fs) own (and_parts (is_field x) (list_all is_field fs) all).1
 set_fields (x ∷ fs) (suc i) f all own =
-    let parts = and_both (is_field x) (list_all is_field fs) all in
+    let parts = and_parts (is_field x) (list_all is_field fs) all in
     both_true (is_field x) (list_all is_field (slice_set fs i f)) parts.0 (set_fields fs i f parts.1 own)
 
 set_record : (l : Leader) (fs : List Field) (i : ℕ) (f : Field) → is_record l fs ≡ true → is_field f ≡ true → fields_size fs + field_size f ≤ 1000000 → is_record l (slice_set fs i f) ≡ true
 unfolding is_record
 set_record l fs i f visited own few =
-    let one = and_both (is_leader l && list_all is_field fs && nat_le (length fs) 8331) (nat_le (fields_size fs) 1000000) visited in
-    let two = and_both (is_leader l && list_all is_field fs) (nat_le (length fs) 8331) one.0 in
-    let three = and_both (is_leader l) (list_all is_field fs) two.0 in
+    let one = and_parts (is_leader l && list_all is_field fs && nat_le (length fs) 8331) (nat_le (fields_size fs) 1000000) visited in
+    let two = and_parts (is_leader l && list_all is_field fs) (nat_le (length fs) 8331) one.0 in
+    let three = and_parts (is_leader l) (list_all is_field fs) two.0 in
     let size = set_size fs i f in
     let most : fields_size (slice_set fs i f) ≤ 1000000 = omega arith in
     both_true (is_leader l && list_all is_field (slice_set fs i f) && nat_le (length (slice_set fs i f)) 8331) (nat_le (fields_size (slice_set fs i f)) 1000000)

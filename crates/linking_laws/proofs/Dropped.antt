@@ -7,7 +7,7 @@ use Rattle.marc_types.specs.declared.field.Field.{Field}
 use Rattle.marc_types.specs.declared.key.Class.{Class}
 use Rattle.marc_types.specs.declared.key.Class.TheVariants.{Authority, Bibliographic}
 use Rattle.marc_types.specs.declared.key.Key.{Key}
-use Rattle.heading_fields.specs.Parts.{tag_of}
+use Rattle.marc_types.specs.Fields.{tag_of}
 use Rattle.marc_types.specs.Order.{same_key}
 use Rattle.entry_record.specs.Authority.{Linkable}
 use Rattle.catalogue_rules.specs.State.{KeptField, Row, State, row_linkable, linkable_authorities, each_in_row, each_field}
@@ -23,7 +23,7 @@ use Rattle.catalogue_rules.proofs.Room.{room_kept}
 use Rattle.catalogue_rules.proofs.Rows.{ascend_changed}
 use Rattle.catalogue_rules.proofs.Settled.{field_done}
 use Rattle.catalogue_rules.proofs.States.{link_of_heading}
-use Rattle.entry_record.proofs.Steady as steady
+use Rattle.catalogue_rules.proofs.Steady as steady
 use Rattle.catalogue_rules.proofs.Steady.{linkables_stay}
 use Rattle.linking_laws.specs.Middle.{IsWithinReach, IsMiddleWith, IsTiedButTo, IsSparedRightly, CanDrop}
 use Rattle.linking_laws.specs.Stages.{Dropping, DropNone, DropBases, DropAll, drop_field, drop_by}

@@ -11,7 +11,7 @@ use Rattle.marc_types.specs.declared.field.Leader.{Leader}
 use Rattle.marc_types.specs.declared.key.Class.TheVariants.{Authority}
 use Rattle.marc_types.specs.declared.key.Key.{Key}
 use Rattle.marc_types.specs.declared.form.Kind.{Kind}
-use Rattle.heading_fields.specs.Parts.{tag_of}
+use Rattle.marc_types.specs.Fields.{tag_of}
 use Rattle.marc_types.specs.Order.{same_key}
 use Rattle.entry_record.specs.Authority.{Linkable, is_heading, is_see_from, heading_of, is_tracing_of, see_from_forms, full_form, linkable_kind, linkable_with, linkable_by, linkable_of}
 use Rattle.catalogue_rules.specs.State.{KeptField, Row, row_linkable}

@@ -15,7 +15,7 @@ use Rattle.marc_types.specs.Order.{same_key}
 use Rattle.catalogue_rules.specs.State.{KeptField, Row, State, linkable_authorities, each_field}
 use Rattle.catalogue_rules.specs.Receipt.{same_class}
 use Rattle.catalogue_rules.specs.Valid.{IsAscending}
-use Rattle.entry_record.proofs.Proper.{and_both}
+use Rattle.std.proofs.lemmas.Bool.{and_parts}
 use Rattle.record_store.specs.Store.{field_under}
 use Rattle.linking_laws.specs.Partway.{same_place, is_place_among, swapped, row_outline, outlines, changed_among, AreOrdered, IsNext, IsPartway, IsWhole, IsSteady, IsSteadyChange}
 use Rattle.linking_laws.proofs.Exchanges.{field_swapped, outlines_swapped, field_each, outlines_each}
@@ -31,8 +31,8 @@ class_same Bibliographic Authority e = cc
 -- two places that the test finds the same are the same
 pub place_is : (p q : Place) → same_place p q ≡ true → p ≡ q
 place_is p q e =
-    let outer = and_both (same_class p.class q.class && same_key p.key q.key) (p.field == q.field) e in
-    let inner = and_both (same_class p.class q.class) (same_key p.key q.key) outer.0 in
+    let outer = and_parts (same_class p.class q.class && same_key p.key q.key) (p.field == q.field) e in
+    let inner = and_parts (same_class p.class q.class) (same_key p.key q.key) outer.0 in
     let class : p.class ≡ q.class = class_same p.class q.class inner.0 in
     let key : p.key ≡ q.key = (key_Decides p.key q.key).0 inner.1 in
     let field : p.field ≡ q.field = (unsigned_Decides p.field q.field).0 outer.1 in

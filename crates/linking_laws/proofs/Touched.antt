@@ -10,7 +10,7 @@ use Rattle.marc_types.specs.declared.form.Kind.{Kind}
 use Rattle.marc_types.specs.declared.form.Form.{Form}
 use Rattle.heading_fields.specs.Tables.{kind_of}
 use Rattle.heading_fields.specs.Numbers.{is_naming}
-use Rattle.heading_fields.specs.Parts.{subfields_of}
+use Rattle.marc_types.specs.Fields.{subfields_of}
 use Rattle.heading_fields.specs.Rewriting.{rewriting}
 use Rattle.marc_types.specs.Order.{same_key}
 use Rattle.entry_record.specs.Authority.{Linkable, is_bare, same_kind, is_kind, heading_kind}

@@ -8,7 +8,7 @@ use Rattle.marc_types.specs.declared.key.Key.{Key}
 use Rattle.marc_types.specs.declared.form.Kind.{Kind}
 use Rattle.marc_types.specs.declared.form.Form.{Form}
 use Rattle.heading_fields.specs.Numbers.{is_naming}
-use Rattle.heading_fields.specs.Parts.{subfields_of}
+use Rattle.marc_types.specs.Fields.{subfields_of}
 use Rattle.marc_types.specs.Order.{same_key}
 use Rattle.entry_record.specs.Authority.{Linkable, heading_kind, is_heading_field}
 use Rattle.catalogue_rules.specs.State.{KeptField}

@@ -5,7 +5,7 @@ use Rattle.marc_types.specs.Valid.{is_record, is_field}
 use Rattle.marc_types.specs.declared.field.Field.{Field}
 use Rattle.marc_types.specs.declared.key.Class.{Class}
 use Rattle.marc_types.specs.declared.key.Key.{Key}
-use Rattle.heading_fields.specs.Parts.{tag_of}
+use Rattle.marc_types.specs.Fields.{tag_of}
 use Rattle.heading_fields.specs.Tables.{is_subdividable}
 use Rattle.iso2709_record.specs.Written.{field_length}
 use Rattle.marc_types.specs.Order.{same_key}

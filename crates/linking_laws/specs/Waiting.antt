@@ -7,7 +7,7 @@ use Rattle.marc_types.specs.declared.key.Class.{Class}
 use Rattle.marc_types.specs.declared.key.Key.{Key}
 use Rattle.marc_types.specs.declared.form.Kind.{Kind}
 use Rattle.marc_types.specs.declared.form.Form.{Form}
-use Rattle.heading_fields.specs.Parts.{subfields_of}
+use Rattle.marc_types.specs.Fields.{subfields_of}
 use Rattle.heading_fields.specs.Numbers.{is_naming}
 use Rattle.entry_record.specs.Authority.{Linkable, heading_kind, base_form, full_form}
 use Rattle.catalogue_rules.specs.State.{KeptField}
