@@ -33,10 +33,10 @@ pub closed_run : (old mid out_room new : RoomView) (journal out report : List �
     → SameBut mid out_room (out ∷ report ∷ []) → out_room.open_as out ≡ None → out_room.open_as report ≡ None → SameBut out_room new (journal ∷ []) → new.open_as journal ≡ None
     → (n : List ℕ) → new.open_as n ≡ None
 closed_run old mid out_room new journal out report free opened wrote out_closed report_closed closing closed n =
-    decide_name n journal (λ is. subst (λ m. new.open_as m ≡ None) (sym is) closed) (λ no_journal. closing.open_names n no_journal ∙
+    decide_name n journal (λ is. subst (λ m. new.open_as m ≡ None) (sym is) closed) (λ no_journal. closing.open_names n (no_journal, tt) ∙
     decide_name n out (λ is. subst (λ m. out_room.open_as m ≡ None) (sym is) out_closed) (λ no_out.
     decide_name n report (λ is. subst (λ m. out_room.open_as m ≡ None) (sym is) report_closed) (λ no_report.
-    wrote.open_names n (no_out, (no_report, tt)) ∙ (opened.open_names n no_journal ∙ free n))))
+    wrote.open_names n (no_out, (no_report, tt)) ∙ (opened.open_names n (no_journal, tt) ∙ free n))))
 
 -- a fault by its status
 pub is_device : (why : Fault) → fault_status why ≡ 5 → why ≡ fault.Device
@@ -194,13 +194,13 @@ module _ (words : List (List ℕ)) (journal : List ℕ) (files : ℕ) (old new :
 pub closed_load : (old mid new : RoomView) (journal : List ℕ) → ((n : List ℕ) → old.open_as n ≡ None) → SameBut old mid (journal ∷ []) → SameBut mid new (journal ∷ []) → new.open_as journal ≡ None
     → (n : List ℕ) → new.open_as n ≡ None
 closed_load old mid new journal free opened closing closed n =
-    decide_name n journal (λ is. subst (λ m. new.open_as m ≡ None) (sym is) closed) (λ other. closing.open_names n other ∙ (opened.open_names n other ∙ free n))
+    decide_name n journal (λ is. subst (λ m. new.open_as m ≡ None) (sym is) closed) (λ other. closing.open_names n (other, tt) ∙ (opened.open_names n (other, tt) ∙ free n))
 
 -- a file that is written between the opening and the closing of a journal
 pub part_between : (old mid wrote new : RoomView) (journal name due : List ℕ) → name ≢ journal → SameBut old mid (journal ∷ []) → SameBut wrote new (journal ∷ [])
     → IsPartWritten (mid.file name) (wrote.file name) due → IsPartWritten (old.file name) (new.file name) due
 part_between old mid wrote new journal name due other opened closing is =
-    subst (λ f. IsPartWritten f (new.file name) due) (opened.files name other) (subst (λ f. IsPartWritten (mid.file name) f due) (sym (closing.files name other)) is)
+    subst (λ f. IsPartWritten f (new.file name) due) (opened.files name (other, tt)) (subst (λ f. IsPartWritten (mid.file name) f due) (sym (closing.files name (other, tt))) is)
 
 pub rose_between : (old mid wrote new : RoomView) (journal name : List ℕ) → SameBut old mid (journal ∷ []) → SameBut wrote new (journal ∷ []) → Rose (mid.out_faults name) (wrote.out_faults name)
     → Rose (old.out_faults name) (new.out_faults name)

@@ -70,8 +70,8 @@ returns-in-Ok-written-clause-ends g c =
       report_is = part_between old mid wrote new c.args.journal.now c.args.report.now (report_of (state_of d.core.history)) c.requires.report_apart opened closing
           (subst (λ es. IsPartWritten (mid.file c.args.report.now) (wrote.file c.args.report.now) (report_of (state_of es))) history (w.report_part (opened.tells ∙ room)));
     })
-    (λ other room. closing.files c.args.out.now c.requires.out_apart ∙ subst (λ es. wrote.file c.args.out.now ≡ Some (export_of all_keys (state_of es))) history (c.in-Ok-written.ensures.export (opened.tells ∙ room)))
-    (λ other room. closing.files c.args.report.now c.requires.report_apart ∙ subst (λ es. wrote.file c.args.report.now ≡ Some (report_of (state_of es))) history (c.in-Ok-written.ensures.report (opened.tells ∙ room)))
+    (λ other room. closing.files c.args.out.now (c.requires.out_apart, tt) ∙ subst (λ es. wrote.file c.args.out.now ≡ Some (export_of all_keys (state_of es))) history (c.in-Ok-written.ensures.export (opened.tells ∙ room)))
+    (λ other room. closing.files c.args.report.now (c.requires.report_apart, tt) ∙ subst (λ es. wrote.file c.args.report.now ≡ Some (report_of (state_of es))) history (c.in-Ok-written.ensures.report (opened.tells ∙ room)))
 
 pub returns-in-Err-OutputFault-clause-closed : goal.returns-in-Err-OutputFault-clause-closed
 returns-in-Err-OutputFault-clause-closed g c =
