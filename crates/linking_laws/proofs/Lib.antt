@@ -1,4 +1,4 @@
-pub mod Between
+pub mod Agreeing
 pub mod Commits
 pub mod Counts
 pub mod Dropped
@@ -7,7 +7,9 @@ pub mod Heart
 pub mod Others
 pub mod Pairs
 pub mod Partial
+pub mod Settling
 pub mod Staged
+pub mod Steadily
 pub mod Sums
 pub mod Touched
 pub mod Visited
