@@ -4,6 +4,7 @@ pub mod Counts
 pub mod Dropped
 pub mod Exchanges
 pub mod Heart
+pub mod Listed
 pub mod Others
 pub mod Pairs
 pub mod Partial

@@ -5,7 +5,7 @@ use Rattle.std.specs.Map.{lookup}
 use Rattle.std.specs.Option.{option_and_then}
 use Rattle.std.proofs.lemmas.List.Elements.{recursion_from_All}
 use Rattle.marc_types.specs.declared.key.Class.{Class}
-use Rattle.marc_types.specs.declared.key.Class.TheVariants.{Authority}
+use Rattle.marc_types.specs.declared.key.Class.TheVariants.{Authority, Bibliographic}
 use Rattle.marc_types.specs.declared.key.Key.{Key}
 use Rattle.marc_types.specs.declared.key.Place.{Place}
 use Rattle.entry_record.specs.Identity.{same_key}
@@ -47,6 +47,12 @@ each_row_of P rows a =
 pub field_of_authority : (P : KeptField → Type 0) (s : State) (q : Place) (h : KeptField) → All (λ (row : Row). All P row.1.fields) s.authorities → q.class ≡ Authority → field_under q s ≡ Some h → P h
 field_of_authority P s q h a class e =
     field_in P s.authorities q.key q.field h (lookup (same_key q.key) s.authorities) (each_row_of P s.authorities a) refl
+    (sym (ap (λ (c : Class). option_and_then (field_at q.field) (lookup (same_key q.key) (rows_of c s))) class) ∙ e)
+
+pub field_of_bibliographic : (P : KeptField → Type 0) (s : State) (q : Place) (h : KeptField) → All (λ (row : Row). All P row.1.fields) s.bibliographic → q.class ≡ Bibliographic →
+    field_under q s ≡ Some h → P h
+field_of_bibliographic P s q h a class e =
+    field_in P s.bibliographic q.key q.field h (lookup (same_key q.key) s.bibliographic) (each_row_of P s.bibliographic a) refl
     (sym (ap (λ (c : Class). option_and_then (field_at q.field) (lookup (same_key q.key) (rows_of c s))) class) ∙ e)
 
 -- a stage that leaves each field or settles it is of 5XX fields

@@ -44,6 +44,10 @@ asks_at form class h =
 abbrev pub linked_at : Key → Class → KeptField → Bool
 linked_at key class h = is_linked_to key h
 
+-- what dropping the links to a key names: each place linked to it, and each that waits for it
+abbrev pub dropped_at : Key → Class → KeptField → Bool
+dropped_at key class h = is_linked_to key h || waits_for_key key class h
+
 -- there is a field at the place, and it passes
 abbrev pub holds_at : (Class → KeptField → Bool) → State → Place → Bool
 holds_at test s p = option_map_or (test p.class) (field_under p s) false

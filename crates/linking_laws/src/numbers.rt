@@ -6,13 +6,21 @@ ghost use Rattle.marc_types.specs.declared.key.Key.{Key};
 ghost use Rattle.marc_types.specs.declared.entry.Entry.{Entry};
 ghost use Rattle.entry_record.specs.State.{State};
 ghost use Rattle.linking_laws.specs.Receipts.{AreChangedBy, AreOwnCounts, receipt_by};
-ghost use Rattle.linking_laws.specs.Visits.{commit_visits, commit_weight};
+ghost use Rattle.linking_laws.specs.Visits.{commit_visits, commit_weight, own_commit_visits};
 ghost use Rattle.linking_laws.specs.Commits.{IsCommit};
+ghost use Rattle.entry_record.specs.History.{arrival_of};
+ghost use Rattle.linking_laws.specs.Weights.{arrival_weight};
 
 /// The stages of an authority's commit make at most as many visits to kept records as what it touches weighs.
 #[tactic(auto, using(crate::proofs::Sums::visits_within))]
 pub fn visits_are_within_what_is_touched()
     ensures { (s : State) (e : Entry) → IsCommit Authority s e → commit_visits s e ≤ commit_weight s e }
+{}
+
+/// A bibliographic commit makes at most as many visits as its own heading fields weigh.
+#[tactic(auto, using(crate::proofs::Sums::own_visits_within))]
+pub fn own_visits_are_within_what_is_brought()
+    ensures { (s : State) (e : Entry) → IsCommit Bibliographic s e → own_commit_visits s e ≤ arrival_weight (arrival_of e) }
 {}
 
 /// The records that a commit changed are as many as the keys of the other records with a field that differs.
