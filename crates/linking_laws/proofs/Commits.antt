@@ -28,7 +28,7 @@ use Rattle.linking_laws.specs.Behind.{placed_in, placed, linkable_behind, ended_
 ready_row : (all : List Linkable) (class : Class) (row : Row) → (IsRow class row × All (IsTied all class) row.1.fields) × HasRoom class row → IsReadyRow all class row
 ready_row all class row x = record { row_is = x.0.0; ties = recursion_from_All (IsTied all class) row.1.fields x.0.1; room = x.1 }
 
-ready_rows : (all : List Linkable) (class : Class) (rows : List Row) → All (IsRow class) rows → All (λ (row : Row). All (IsTied all class) row.1.fields) rows → All (HasRoom class) rows →
+pub ready_rows : (all : List Linkable) (class : Class) (rows : List Row) → All (IsRow class) rows → All (λ (row : Row). All (IsTied all class) row.1.fields) rows → All (HasRoom class) rows →
     Each (IsReadyRow all class) rows
 ready_rows all class rows r t m =
     let T = λ (row : Row). All (IsTied all class) row.1.fields in
@@ -64,11 +64,11 @@ placed_fit Authority a s e fit r =
     (ready_are (linkable_authorities s) Authority s.authorities r.authorities))
 placed_fit Bibliographic a s e fit r = all_fit s.authorities r.authorities_ascend (ready_are (linkable_authorities s) Authority s.authorities r.authorities)
 
-loosened_one : (class : Class) (a : Arrival) (s : State) (row : Row) → IsReadyRow (linkable_authorities s) class row → IsLooseRow a.key (linkable_authorities (placed_in Authority a s)) class row
+pub loosened_one : (class : Class) (a : Arrival) (s : State) (row : Row) → IsReadyRow (linkable_authorities s) class row → IsLooseRow a.key (linkable_authorities (placed_in Authority a s)) class row
 loosened_one class a s row r =
     loose_row a.key (linkable_authorities s) (linkable_authorities (placed_in Authority a s)) class (λ key apart. other_place key a s.authorities apart) row r
 
-new_loose : (class : Class) (a : Arrival) (s : State) → a.class ≡ class → IsFitArrival a → IsLooseRow a.key (linkable_authorities (placed_in Authority a s)) class (a.key, new_record a.leader a.fields)
+pub new_loose : (class : Class) (a : Arrival) (s : State) → a.class ≡ class → IsFitArrival a → IsLooseRow a.key (linkable_authorities (placed_in Authority a s)) class (a.key, new_record a.leader a.fields)
 new_loose class a s e fit =
     let now = linkable_authorities (placed_in Authority a s) in
     loose_row a.key now now class (λ key apart. refl) (a.key, new_record a.leader a.fields) (new_ready now a class e fit)

@@ -295,7 +295,7 @@ class_apart k c b e off = at (same_class k c) e off
     at true p q = q
     at false p q = cc
 
-kept_placed : (k c : Class) (a : Arrival) (s : State) (q : Key) → a.class ≡ k → (same_class k c && same_key a.key q) ≡ false → kept_under c q (placed_in k a s) ≡ kept_under c q s
+pub kept_placed : (k c : Class) (a : Arrival) (s : State) (q : Key) → a.class ≡ k → (same_class k c && same_key a.key q) ≡ false → kept_under c q (placed_in k a s) ≡ kept_under c q s
 kept_placed Authority Authority a s q e apart = other_placed a q s.authorities (class_apart Authority Authority (same_key a.key q) refl apart)
 kept_placed Bibliographic Bibliographic a s q e apart = other_placed a q s.bibliographic (class_apart Bibliographic Bibliographic (same_key a.key q) refl apart)
 kept_placed Authority Bibliographic a s q e apart = refl

@@ -1,38 +1,45 @@
 -- Before links to a key are dropped, and after.
-use Rattle.std.proofs.Common.{◌≡◌, ◌≤◌, Bool, true, false, ◌&&◌, List, [], ◌∷◌, map, Option, Some, None, is_some, refl, sym, ap, ◌∙◌, subst, if◌then◌else◌, arith, inl, inr, ◌⊎◌}
-use Rattle.std.specs.Prelude.{All, filter_map}
+use Rattle.std.proofs.Common.{◌≡◌, ◌≤◌, Bool, true, false, ◌&&◌, List, [], ◌∷◌, map, Option, Some, None, is_some, refl, sym, ap, ◌∙◌, subst, if◌then◌else◌, arith, inl, inr, ◌⊎◌, ◌||◌}
+use Rattle.std.specs.Prelude.{All, filter_map, find}
 use Rattle.std.specs.Option.{option_map_or}
-use Rattle.std.proofs.lemmas.List.Elements.{recursion_from_All}
+use Rattle.std.proofs.lemmas.List.Elements.{recursion_from_All, All-from_recursion}
+use Rattle.marc_types.specs.Order.{key_Decides}
 use Rattle.marc_types.specs.declared.field.Field.{Field}
 use Rattle.marc_types.specs.declared.key.Class.{Class}
 use Rattle.marc_types.specs.declared.key.Class.TheVariants.{Authority, Bibliographic}
 use Rattle.marc_types.specs.declared.key.Key.{Key}
 use Rattle.marc_types.specs.Fields.{tag_of}
 use Rattle.marc_types.specs.Order.{same_key}
-use Rattle.entry_record.specs.Authority.{Linkable}
-use Rattle.catalogue_rules.specs.State.{KeptField, Row, State, row_linkable, linkable_authorities, each_in_row, each_field}
-use Rattle.catalogue_rules.specs.Settle.{keeps_link, is_linked_to, awaits_key, end_link, await, hand_on, loosen, settle_unlinked, settle_field}
+use Rattle.entry_record.specs.Authority.{Linkable, is_bare, same_kind, is_kind}
+use Rattle.catalogue_rules.specs.State.{KeptField, Row, State, row_linkable, linkable_authorities, each_in_row, each_field, new_field, new_record}
+use Rattle.catalogue_rules.specs.Settle.{keeps_link, is_linked_to, awaits_key, end_link, await, hand_on, loosen, settle_unlinked, settle_field, place}
 use Rattle.catalogue_rules.specs.Valid.{IsRow, IsTied, HasRoom, reach}
 use Rattle.catalogue_rules.proofs.Elements.{Each, each_weaker, each_both, each_map}
 use Rattle.catalogue_rules.proofs.Fit.{IsFit}
 use Rattle.catalogue_rules.proofs.Fitting.{field_within}
 use Rattle.catalogue_rules.proofs.Once.{steady_field}
 use Rattle.catalogue_rules.proofs.Proper.{all_fit}
-use Rattle.catalogue_rules.proofs.Put.{IsTiedBut, field_loosened, steady_loosen}
+use Rattle.catalogue_rules.proofs.Put.{IsTiedBut, field_loosened, steady_loosen, tied_new}
 use Rattle.catalogue_rules.proofs.Room.{room_kept}
-use Rattle.catalogue_rules.proofs.Rows.{ascend_changed}
-use Rattle.catalogue_rules.proofs.Settled.{field_done}
-use Rattle.catalogue_rules.proofs.States.{link_of_heading}
+use Rattle.catalogue_rules.proofs.Rows.{ascend_changed, ascend_place, each_place}
+use Rattle.catalogue_rules.proofs.Settled.{field_done, kept_by}
+use Rattle.catalogue_rules.proofs.States.{link_of_heading, IsLooseRow, IsReadyRow, fit_entry}
 use Rattle.catalogue_rules.proofs.Steady as steady
 use Rattle.catalogue_rules.proofs.Steady.{linkables_stay}
-use Rattle.linking_laws.specs.Middle.{IsWithinReach, IsMiddleWith, IsTiedButTo, IsSparedRightly, CanDrop}
-use Rattle.linking_laws.specs.Stages.{Dropping, DropNone, DropBases, DropAll, drop_field, drop_by}
-use Rattle.linking_laws.proofs.Between.{IsMiddleRow, IsHandled, middle_from}
-use Rattle.linking_laws.proofs.Touched.{drop_on, drop_off, settle_of_unlinked}
+use Rattle.linking_laws.specs.Middle.{IsWithinReach, IsMiddleWith, IsTiedButTo, IsSparedRightly, CanDrop, is_spared}
+use Rattle.linking_laws.specs.Stages.{Dropping, DropNone, DropBases, DropAll, drop_field, drop_by, dropping_by}
+use Rattle.linking_laws.proofs.Settling.{IsMiddleRow, IsHandled, middle_from, all_fields, valid_middle}
+use Rattle.linking_laws.proofs.Touched.{drop_on, drop_off, settle_of_unlinked, kind_agrees, link_is, unlinked_to, linked_to}
+use Rattle.marc_types.specs.declared.entry.Entry.{Entry}
+use Rattle.heading_fields.specs.Tables.{kind_of}
+use Rattle.catalogue_rules.specs.Choice.{has_key}
+use Rattle.catalogue_rules.specs.Settle.{arrival_of}
+use Rattle.linking_laws.specs.Commits.{IsCommit, authorities_behind, placed_by}
+use Rattle.linking_laws.proofs.Commits.{valid_ready, placed_fit, loosened_one, new_loose}
 
 -- ---- one field
 
-tied_but_of : (key : Key) (all : List Linkable) (class : Class) (h : KeptField) → IsTiedButTo key all class h → IsTiedBut key all class h
+pub tied_but_of : (key : Key) (all : List Linkable) (class : Class) (h : KeptField) → IsTiedButTo key all class h → IsTiedBut key all class h
 tied_but_of key all class h t = record { heading = t.heading; kept = t.kept; unawaiting = t.unawaiting; awaits = t.awaits; whole = t.whole }
 
 -- a field is left where it is tied, or settled once it is loosened
@@ -112,7 +119,7 @@ module _ (all : List Linkable) (key : Key) (successor : Option Key) (class : Cla
   left_at h true linked spared t = kept_tied h linked (spared refl) t
   left_at h false off spared t = other_tied h off t
 
-  dropped_field : (d : Dropping) (h : KeptField) → IsTiedButTo key all class h → IsSparedRightly d key all class h → IsLeftOrLoosened all key successor class h (drop_by d all key successor class h)
+  pub dropped_field : (d : Dropping) (h : KeptField) → IsTiedButTo key all class h → IsSparedRightly d key all class h → IsLeftOrLoosened all key successor class h (drop_by d all key successor class h)
   dropped_field DropNone h t spared = inl (left_at h (is_linked_to key h) refl spared t, refl)
   dropped_field DropBases h t spared = dropped_at h true (is_linked_to key h) refl spared t
   dropped_field DropAll h t spared = dropped_at h false (is_linked_to key h) refl spared t
@@ -134,7 +141,7 @@ steady_then f g k (inl p) (inr q) = inr (ap (λ (x : Field). (tag_of x).a) p ∙
 steady_then f g k (inr p) (inl q) = inr (p.0, ap (λ (x : Field). (tag_of x).a) (sym q) ∙ p.1)
 steady_then f g k (inr p) (inr q) = inr (p.0, q.1)
 
-steady_dropped : (all : List Linkable) (key : Key) (successor : Option Key) (h g : KeptField) → IsTiedButTo key all Authority h → IsLeftOrLoosened all key successor Authority h g → steady.IsSteady h.field g.field
+pub steady_dropped : (all : List Linkable) (key : Key) (successor : Option Key) (h g : KeptField) → IsTiedButTo key all Authority h → IsLeftOrLoosened all key successor Authority h g → steady.IsSteady h.field g.field
 steady_dropped all key successor h g t (inl both) = inl (ap (λ (x : KeptField). x.field) (sym both.1))
 steady_dropped all key successor h g t (inr e) =
     let l = loosen all key successor Authority h in
@@ -216,3 +223,119 @@ drop_ready d key successor s m =
     (ascend_changed A s.authorities m.authorities_ascend) (ascend_changed B s.bibliographic m.bibliographic_ascend)
     (each_map (IsDropRow d key all Authority) (IsMiddleRow all Authority) (each_in_row A) (drop_row d all key successor Authority fits) s.authorities first)
     (each_map (IsDropRow d key all Bibliographic) (IsMiddleRow all Bibliographic) (each_in_row B) (drop_row d all key successor Bibliographic fits) s.bibliographic second)
+
+-- ---- a commit can drop
+
+abbrev keeps_by : Class → KeptField → Option Linkable → Bool
+keeps_by class h o = option_map_or (λ c. (h.tie.whole || is_bare c) && is_kind c.kind (kind_of class h.field)) o false
+
+spared_bits : (h : KeptField) (same bare whole : Bool) → h.tie.whole ≡ whole → ((whole || bare) && same) ≡ is_spared (if same then (if bare then DropNone else DropBases) else DropAll) h
+spared_bits h true true true w = refl
+spared_bits h true true false w = refl
+spared_bits h true false true w = sym w
+spared_bits h true false false w = sym w
+spared_bits h false true true w = refl
+spared_bits h false true false w = refl
+spared_bits h false false true w = refl
+spared_bits h false false false w = refl
+
+spared_found : (class : Class) (h : KeptField) (old : Linkable) (new : Option Linkable) → is_kind old.kind (kind_of class h.field) ≡ true →
+    keeps_by class h new ≡ is_spared (dropping_by (Some old) new) h
+spared_found class h old None kind = refl
+spared_found class h old (Some c) kind =
+    ap (λ (b : Bool). (h.tie.whole || is_bare c) && b) (kind_agrees old.kind c.kind (kind_of class h.field) kind)
+    ∙ spared_bits h (same_kind old.kind c.kind) (is_bare c) h.tie.whole refl
+
+spared_at : (key : Key) (before now : List Linkable) (class : Class) (h : KeptField) (o : Option Key) → h.tie.key ≡ o → IsTied before class h →
+    IsSparedRightly (dropping_by (find (has_key key) before) (find (has_key key) now)) key now class h
+spared_at key before now class h None e t = λ linked. let off = unlinked_to key h e in cc
+spared_at key before now class h (Some own) e t = λ linked.
+    let is : key ≡ own = (key_Decides key own).0 (sym (linked_to key own h e) ∙ linked) in
+    let link = link_is before class h own h.tie.key e t.linked in
+    let kept : keeps_link before class h key ≡ true = ap (λ (k : Key). keeps_link before class h k) is ∙ link.kept in
+    let by = kept_by before class h key (find (has_key key) before) refl kept in
+    spared_found class h by.0 (find (has_key key) now) by.1.kind_is
+    ∙ ap (λ (o : Option Linkable). is_spared (dropping_by o (find (has_key key) now)) h) (sym by.1.found)
+
+but_of : (key : Key) (all : List Linkable) (class : Class) (h : KeptField) → IsTiedBut key all class h → IsTiedButTo key all class h
+but_of key all class h t = record { heading = t.heading; kept = t.kept; unawaiting = t.unawaiting; awaits = t.awaits; whole = t.whole }
+
+loose_drop : (d : Dropping) (key : Key) (all : List Linkable) (class : Class) (row : Row) → IsLooseRow key all class row → Each (IsSparedRightly d key all class) row.1.fields →
+    Each (IsWithinReach class) row.1.fields → IsDropRow d key all class row
+loose_drop d key all class row l p w = record {
+  row_is = l.row_is;
+  ties = each_weaker (IsTiedBut key all class) (IsTiedButTo key all class) (but_of key all class) row.1.fields l.ties;
+  spared = p;
+  room = l.room;
+  within = w;
+}
+
+new_spared : (d : Dropping) (key : Key) (all : List Linkable) (class : Class) (fs : List Field) → Each (IsSparedRightly d key all class) (map new_field fs)
+new_spared d key all class [] = tt
+new_spared d key all class (f ∷ fs) = (λ linked. cc, new_spared d key all class fs)
+
+new_within : (all : List Linkable) (class : Class) → Each (IsFit all) all → (fs : List Field) → Each (IsWithinReach class) (map new_field fs)
+new_within all class fits [] = tt
+new_within all class fits (f ∷ fs) = (field_within all class fits (new_field f) (tied_new all class (new_field f) refl refl refl, tt), new_within all class fits fs)
+
+abbrev turned : State → Entry → Dropping
+turned s e = dropping_by (find (has_key e.key) (linkable_authorities s)) (find (has_key e.key) (authorities_behind s e))
+
+old_rows : (s : State) (e : Entry) (class : Class) (rows : List Row) → Each (IsReadyRow (linkable_authorities s) class) rows → Each (λ (row : Row). Each (IsWithinReach class) row.1.fields) rows →
+    Each (IsDropRow (turned s e) e.key (authorities_behind s e) class) rows
+old_rows s e class rows r w =
+    let before = linkable_authorities s in
+    let now = authorities_behind s e in
+    each_weaker (λ row. IsReadyRow before class row × Each (IsWithinReach class) row.1.fields) (IsDropRow (turned s e) e.key now class)
+    (λ row x. loose_drop (turned s e) e.key now class row (loosened_one class (arrival_of e) s row x.0)
+    (each_weaker (IsTied before class) (IsSparedRightly (turned s e) e.key now class) (λ h t. spared_at e.key before now class h h.tie.key refl t) row.1.fields x.0.ties) x.1)
+    rows (each_both (IsReadyRow before class) (λ (row : Row). Each (IsWithinReach class) row.1.fields) rows r w)
+
+each_within : (class : Class) (rows : List Row) → All (λ (row : Row). All (IsWithinReach class) row.1.fields) rows → Each (λ (row : Row). Each (IsWithinReach class) row.1.fields) rows
+each_within class rows w =
+    each_weaker (λ (row : Row). All (IsWithinReach class) row.1.fields) (λ (row : Row). Each (IsWithinReach class) row.1.fields)
+    (λ row a. recursion_from_All (IsWithinReach class) row.1.fields a) rows (recursion_from_All (λ (row : Row). All (IsWithinReach class) row.1.fields) rows w)
+
+pub record AreDropRows (d : Dropping) (key : Key) (all : List Linkable) (class : Class) (rows : List Row) : Type 0 where
+  pub rows_are : All (IsRow class) rows
+  pub ties : All (λ (row : Row). All (IsTiedButTo key all class) row.1.fields) rows
+  pub spared : All (λ (row : Row). All (IsSparedRightly d key all class) row.1.fields) rows
+  pub room : All (HasRoom class) rows
+  pub within : All (λ (row : Row). All (IsWithinReach class) row.1.fields) rows
+
+drop_rows_are : (d : Dropping) (key : Key) (all : List Linkable) (class : Class) (rows : List Row) → Each (IsDropRow d key all class) rows → AreDropRows d key all class rows
+drop_rows_are d key all class rows a =
+    let M = IsDropRow d key all class in
+    record {
+      rows_are = All-from_recursion (IsRow class) rows (each_weaker M (IsRow class) (λ row x. x.row_is) rows a);
+      ties = all_fields (IsTiedButTo key all class) rows (each_weaker M (λ (row : Row). Each (IsTiedButTo key all class) row.1.fields) (λ row x. x.ties) rows a);
+      spared = all_fields (IsSparedRightly d key all class) rows (each_weaker M (λ (row : Row). Each (IsSparedRightly d key all class) row.1.fields) (λ row x. x.spared) rows a);
+      room = All-from_recursion (HasRoom class) rows (each_weaker M (HasRoom class) (λ row x. x.room) rows a);
+      within = all_fields (IsWithinReach class) rows (each_weaker M (λ (row : Row). Each (IsWithinReach class) row.1.fields) (λ row x. x.within) rows a);
+    }
+
+-- with the record of an admitted authority in its place a valid state can drop its links to the key
+pub can_drop : (s : State) (e : Entry) → IsCommit Authority s e → CanDrop (turned s e) e.key (placed_by Authority s e)
+can_drop s e c =
+    let a = arrival_of e in
+    let fit = fit_entry e c.admitted in
+    let ready = valid_ready s c.valid in
+    let middle = valid_middle s c.valid in
+    let now = authorities_behind s e in
+    let fits = placed_fit Authority a s c.class_is fit ready in
+    let first = drop_rows_are (turned s e) e.key now Authority (place a s.authorities)
+    (each_place (IsDropRow (turned s e) e.key now Authority) a s.authorities
+    (loose_drop (turned s e) e.key now Authority (a.key, new_record a.leader a.fields) (new_loose Authority a s c.class_is fit)
+    (new_spared (turned s e) e.key now Authority a.fields) (new_within now Authority fits a.fields))
+    (old_rows s e Authority s.authorities ready.authorities (each_within Authority s.authorities middle.within.0))) in
+    let second = drop_rows_are (turned s e) e.key now Bibliographic s.bibliographic
+    (old_rows s e Bibliographic s.bibliographic ready.bibliographic (each_within Bibliographic s.bibliographic middle.within.1)) in
+    record {
+      authorities_ascend = ascend_place a s.authorities c.valid.authorities_ascend;
+      bibliographic_ascend = c.valid.bibliographic_ascend;
+      rows = (first.rows_are, second.rows_are);
+      ties = (first.ties, second.ties);
+      spared = (first.spared, second.spared);
+      room = (first.room, second.room);
+      within = (first.within, second.within);
+    }

@@ -88,7 +88,7 @@ sound_bibliographic s v = sound_rows (linkable_authorities s) Bibliographic s.bi
 
 -- ---- the authorities before and now
 
-before_fit : (s : State) → IsValid s → Each (IsFit (linkable_authorities s)) (linkable_authorities s)
+pub before_fit : (s : State) → IsValid s → Each (IsFit (linkable_authorities s)) (linkable_authorities s)
 before_fit s v = all_fit s.authorities v.authorities_ascend (recursion_from_All (IsRow Authority) s.authorities v.rows.0)
 
 pub turn_of : (a : Arrival) (s : State) → a.class ≡ Authority → IsFitArrival a → IsValid s → IsTurn a.key (successor_in a) (linkable_authorities s) (linkable_authorities (placed_in Authority a s))

@@ -24,6 +24,7 @@ use Rattle.catalogue_rules.specs.Settle.{Arrival, place, settle_field}
 use Rattle.catalogue_rules.specs.Settle.{arrival_of}
 use Rattle.catalogue_rules.specs.Valid.{IsAscending}
 use Rattle.catalogue_rules.proofs.Elements.{Each, each_weaker}
+use Rattle.catalogue_rules.proofs.Fit.{IsFit}
 use Rattle.catalogue_rules.proofs.Once.{field_once}
 use Rattle.catalogue_rules.proofs.States.{fit_entry}
 use Rattle.linking_laws.specs.Behind.{placed_in}
@@ -31,9 +32,9 @@ use Rattle.linking_laws.specs.Waiting.{forms_touched}
 use Rattle.linking_laws.specs.Commits.{IsCommit, IsSound, authorities_behind}
 use Rattle.linking_laws.specs.Stages.{dropping_by, successor_in, drop_by, carry_by, in_own_row, settle_own}
 use Rattle.linking_laws.specs.Weights.{touched_weight, sum_row, own_weight, arrival_weight, state_weight}
-use Rattle.linking_laws.specs.Visits.{drop_visits_by, carry_visits, own_visits, choose_visits, own_row_visits, stage_visits, commit_visits, commit_weight}
+use Rattle.linking_laws.specs.Visits.{drop_visits_by, carry_visits, own_visits, choose_visits, own_row_visits, stage_visits, commit_visits, commit_weight, own_commit_visits}
 use Rattle.linking_laws.proofs.Others.{own_key, above, below_equal, successor_deletes}
-use Rattle.linking_laws.proofs.Staged.{turn_of, sound_authorities, sound_bibliographic}
+use Rattle.linking_laws.proofs.Staged.{turn_of, sound_authorities, sound_bibliographic, before_fit}
 use Rattle.linking_laws.proofs.Touched.{IsTurn, carry_off, not_awaiting}
 use Rattle.linking_laws.proofs.Visited.{visits, drop_by_none, carry_none, field_within, new_within}
 
@@ -280,3 +281,48 @@ pub visits_within : (s : State) (e : Entry) → IsCommit Authority s e → commi
 visits_within s e c =
     stages_within (arrival_of e) s (linkable_authorities s) (authorities_behind s e) c.class_is (turn_of (arrival_of e) s c.class_is (fit_entry e c.admitted) c.valid)
     c.valid.authorities_ascend (sound_authorities s c.valid) (sound_bibliographic s c.valid)
+
+-- ---- a bibliographic commit
+
+sum_zero : {A : Type 0} (xs : List A) → sum_by (λ (x : A). 0) xs ≡ 0
+sum_zero [] = refl
+sum_zero (x ∷ xs) = let one = sum_by-cons (λ y. 0) x xs in let rest = sum_zero xs in omega arith
+
+no_turn : (key : Key) (all : List Linkable) → Each (IsFit all) all → IsTurn key None all all
+no_turn key all fits = record { before_fit = fits; now_fit = fits; others = refl; gone = λ e. cc }
+
+own_field_within : (key : Key) (all : List Linkable) (class : Class) → Each (IsFit all) all → (f : Field) → own_visits all class (new_field f) ≤ own_weight class (new_field f)
+own_field_within key all class fits f =
+    let most = new_within key None all all (no_turn key all fits) class (new_field f) refl (field_once all class fits (new_field f)) in omega arith
+
+own_fields_within : (key : Key) (all : List Linkable) (class : Class) → Each (IsFit all) all → (fs : List Field) → Each (λ h. own_visits all class h ≤ own_weight class h) (map new_field fs)
+own_fields_within key all class fits [] = tt
+own_fields_within key all class fits (f ∷ fs) = (own_field_within key all class fits f, own_fields_within key all class fits fs)
+
+own_record_within : (a : Arrival) (all : List Linkable) (class : Class) → Each (IsFit all) all →
+    own_row_visits all class a.key (a.key, new_record a.leader a.fields) ≤ sum_by (own_weight class) (map new_field a.fields)
+own_record_within a all class fits =
+    let row : Row = (a.key, new_record a.leader a.fields) in
+    let own = ap (λ (b : Bool). if b then sum_row (own_visits all class) row else 0) (own_key a.key) in
+    let most = sum_least (own_visits all class) (own_weight class) (map new_field a.fields) (own_fields_within a.key all class fits a.fields) in
+    omega arith
+
+none_at : (key : Key) (all : List Linkable) (class : Class) (row : Row) → same_key key row.0 ≡ false → own_row_visits all class key row ≤ 0
+none_at key all class row apart = let none = ap (λ (b : Bool). if b then sum_row (own_visits all class) row else 0) apart in omega arith
+
+all_of : {P : Row → Type 0} → ((row : Row) → P row) → (rows : List Row) → Each P rows
+all_of f [] = tt
+all_of f (row ∷ rows) = (f row, all_of f rows)
+
+-- the visits of a bibliographic commit are within what it brings
+pub own_visits_within : (s : State) (e : Entry) → IsCommit Bibliographic s e → own_commit_visits s e ≤ arrival_weight (arrival_of e)
+own_visits_within s e c =
+    let a = arrival_of e in
+    let all = linkable_authorities s in
+    let fits = before_fit s c.valid in
+    let most = placed_within a (own_row_visits all Bibliographic a.key) (λ row. 0) s.bibliographic c.valid.bibliographic_ascend
+    (λ living. subst (λ (k : Class). own_row_visits all Bibliographic a.key (a.key, new_record a.leader a.fields) ≤ sum_by (own_weight k) (map new_field a.fields)) (sym c.class_is)
+    (own_record_within a all Bibliographic fits))
+    (all_of (none_at a.key all Bibliographic) s.bibliographic) in
+    let none = sum_zero s.bibliographic in
+    omega arith

@@ -1,19 +1,20 @@
 -- The commit of an authority over a valid state: the authorities before and behind it, and what each field becomes. The rules are
 -- this project's own.
-use Rattle.std.specs.Prelude.{◌≡◌, false, List, None}
+use Rattle.std.specs.Prelude.{◌≡◌, false, List, None, find}
 use Rattle.marc_types.specs.declared.key.Class.{Class}
 use Rattle.marc_types.specs.declared.key.Class.TheVariants.{Authority}
 use Rattle.marc_types.specs.declared.entry.Entry.{Entry}
 use Rattle.marc_types.specs.declared.form.Form.{Form}
 use Rattle.entry_record.specs.Authority.{Linkable}
 use Rattle.catalogue_rules.specs.State.{KeptField, State, linkable_authorities}
+use Rattle.catalogue_rules.specs.Choice.{has_key}
 use Rattle.catalogue_rules.specs.Settle.{loosen, settle_unlinked, settle_field}
 use Rattle.entry_record.specs.History.{IsAdmitted}
 use Rattle.catalogue_rules.specs.Settle.{arrival_of}
 use Rattle.catalogue_rules.specs.Valid.{IsTied, IsValid}
 use Rattle.linking_laws.specs.Behind.{placed_in}
 use Rattle.linking_laws.specs.Waiting.{is_waiting_for, is_touched, forms_touched}
-use Rattle.linking_laws.specs.Stages.{successor_in, by_stages, field_by_stages}
+use Rattle.linking_laws.specs.Stages.{Dropping, dropping_by, successor_in, by_stages, field_by_stages}
 
 -- an entry that was admitted comes to a valid state
 pub record IsCommit (class : Class) (s : State) (e : Entry) : Type 0 where
@@ -60,3 +61,7 @@ IsChosenAlike s e class h =
 -- a field of which nothing is touched stays
 abbrev pub StaysUntouched : State → Entry → Class → KeptField → Type 0
 StaysUntouched s e class h = is_touched (forms_of_commit s e) e.key class h ≡ false → field_behind s e class h ≡ h
+
+-- which links to the key end with the commit
+abbrev pub dropping_of : State → Entry → Dropping
+dropping_of s e = dropping_by (find (has_key e.key) (linkable_authorities s)) (find (has_key e.key) (authorities_behind s e))

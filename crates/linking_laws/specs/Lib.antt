@@ -4,6 +4,7 @@ pub mod Middle
 pub mod Partway
 pub mod Receipts
 pub mod Stages
+pub mod Tables
 pub mod Visits
 pub mod Waiting
 pub mod Weights

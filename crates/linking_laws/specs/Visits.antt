@@ -4,7 +4,7 @@ use Rattle.std.specs.Prelude.{ℕ, ◌+◌, Bool, true, false, ◌&&◌, not, Li
 use Rattle.std.specs.List.{sum_by}
 use Rattle.std.specs.Option.{option_map_or}
 use Rattle.marc_types.specs.declared.key.Class.{Class}
-use Rattle.marc_types.specs.declared.key.Class.TheVariants.{Authority}
+use Rattle.marc_types.specs.declared.key.Class.TheVariants.{Authority, Bibliographic}
 use Rattle.marc_types.specs.declared.key.Key.{Key}
 use Rattle.marc_types.specs.declared.form.Form.{Form}
 use Rattle.marc_types.specs.Order.{same_key}
@@ -80,3 +80,8 @@ commit_visits s e = stage_visits (arrival_of e) (linkable_authorities s) (author
 -- what an authority's commit touches: the entry's own heading fields, and fields of the state before it
 abbrev pub commit_weight : State → Entry → ℕ
 commit_weight s e = arrival_weight (arrival_of e) + state_weight (arrival_of e) (linkable_authorities s) (authorities_behind s e) s
+
+-- the visits of a bibliographic commit over a state: those of its own fields
+abbrev pub own_commit_visits : State → Entry → ℕ
+own_commit_visits s e =
+    sum_by (own_row_visits (linkable_authorities s) Bibliographic e.key) (placed_by Bibliographic s e).bibliographic

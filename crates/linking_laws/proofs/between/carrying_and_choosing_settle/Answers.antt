@@ -1,5 +1,5 @@
-use Rattle.linking_laws.proofs.Between.{carry_either, choose_either}
-use Rattle.linking_laws.proofs.laws.carrying_and_choosing_settle.Goals as goal
+use Rattle.linking_laws.proofs.Settling.{carry_either, choose_either}
+use Rattle.linking_laws.proofs.between.carrying_and_choosing_settle.Goals as goal
 
 pub returns-clause-carry : goal.returns-clause-carry
 returns-clause-carry c = carry_either

@@ -97,7 +97,7 @@ module _ (all : List Linkable) (class : Class) (fits : Each (IsFit all) all) whe
         within = each_map P (IsWithinReach class) change (λ h d. d.within) row.1.fields done;
       }
 
-steady_at : (all : List Linkable) (h g : KeptField) → IsLeftOrSettled all Authority h g → IsTied all Authority h → steady.IsSteady h.field g.field
+pub steady_at : (all : List Linkable) (h g : KeptField) → IsLeftOrSettled all Authority h g → IsTied all Authority h → steady.IsSteady h.field g.field
 steady_at all h g (inl e) t = inl (ap (λ (x : KeptField). x.field) (sym e))
 steady_at all h g (inr e) t =
     subst (λ (x : KeptField). steady.IsSteady h.field x.field) (sym e) (steady_field all h (link_of_heading all Authority h t))
