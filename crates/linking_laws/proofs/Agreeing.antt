@@ -1,5 +1,5 @@
 -- The tables still agree once a field and its rows are exchanged, and carrying changes no table.
-use Rattle.std.proofs.Common.{◌≡◌, Bool, true, false, ◌&&◌, ◌||◌, not, List, [], ◌∷◌, map, Option, Some, None, is_some, refl, sym, ap, ◌∙◌, if◌then◌else◌, cond}
+use Rattle.std.proofs.Common.{◌≡◌, Bool, true, false, ◌&&◌, ◌||◌, not, List, [], ◌∷◌, map, Option, Some, None, is_some, refl, sym, ap, ◌∙◌, if◌then◌else◌, cond, ◌++◌}
 use Rattle.std.specs.Prelude.{filter, find, unwrap_or}
 use Rattle.std.specs.List.{list_any}
 use Rattle.std.specs.Option.{option_map, option_map_or, option_or, option_and_then}
@@ -20,12 +20,12 @@ use Rattle.record_store.specs.Store.{field_under, field_at}
 use Rattle.linking_laws.specs.Waiting.{is_form_among, asked_forms, names_key, is_named, is_waiting_for}
 use Rattle.linking_laws.specs.Stages.{carry_field, carry_by}
 use Rattle.linking_laws.specs.Visits.{waits_for_key}
-use Rattle.linking_laws.specs.Partway.{same_place, swapped}
+use Rattle.linking_laws.specs.Partway.{same_place, swapped, AreOrdered, IsPartway, IsSteadyChange, IsNext}
 use Rattle.linking_laws.specs.Middle.{IsMiddleWith, IsMiddle}
 use Rattle.linking_laws.specs.Tables.{Tables, index_row, asks_at, linked_at, holds_at, Agree, IsRelisted, is_waiting_by, IndexRow, IsReplaced, choice_by_keys, keys_with, has_established, has_traced, form_by_index, choice_by_index}
 use Rattle.linking_laws.proofs.Settling.{stage_ready, carry_either}
 use Rattle.linking_laws.proofs.Exchanges.{field_swapped, field_each}
-use Rattle.linking_laws.proofs.Partial.{place_is}
+use Rattle.linking_laws.proofs.Partial.{place_is, partway_more, linkables_partway}
 use Rattle.linking_laws.proofs.Touched.{carry_off, linked_to, unlinked_to}
 use Rattle.std.proofs.lemmas.List.Elements.{recursion_from_All}
 use Rattle.marc_types.specs.declared.key.Class.TheVariants.{Authority}
@@ -64,6 +64,15 @@ agree_swapped t u s p old h a there r stay = record {
   naming = λ key q. exchanged (waits_for_key key) p q old h s (u.naming key q) (t.naming key q) there (r.naming key q) (a.naming key q);
   linked = λ key q. exchanged (linked_at key) p q old h s (u.linked key q) (t.linked key q) there (r.linked key q) (a.linked key q);
 }
+
+-- one turn of a stage: a field is exchanged for what the change makes of it, and its rows with it
+pub agree_turned : (change : Class → KeptField → KeptField) (done : List Place) (before now : State) (p : Place) (h : KeptField) (t u : Tables) →
+    AreOrdered before → IsPartway change done before now → IsSteadyChange change before → IsNext done p h now → Agree t now → IsRelisted p (change p.class h) t u →
+    Agree u (swapped p (change p.class h) now)
+agree_turned change done before now p h t u order part steady next a r =
+    let more = partway_more change done before now p h part next.is_new next.stands in
+    agree_swapped t u now p h (change p.class h) a next.stands r
+    (linkables_partway change (done ++ p ∷ []) before (swapped p (change p.class h) now) order more steady ∙ sym (linkables_partway change done before now order part steady))
 
 -- ---- carrying
 

@@ -14,3 +14,4 @@ pub mod Steadily
 pub mod Sums
 pub mod Touched
 pub mod Visited
+pub mod Walked

@@ -12,19 +12,21 @@ use Rattle.marc_types.specs.Fields.{subfields_of}
 use Rattle.marc_types.specs.Order.{same_key}
 use Rattle.entry_record.specs.Authority.{Linkable, is_heading_field}
 use Rattle.catalogue_rules.specs.State.{KeptField, State, linkable_authorities}
-use Rattle.catalogue_rules.specs.Settle.{is_linked_to, awaits_key, await, settle_unlinked}
+use Rattle.catalogue_rules.specs.Settle.{is_linked_to, awaits_key, await, settle_unlinked, settle_field}
 use Rattle.catalogue_rules.specs.Valid.{EachField}
 use Rattle.record_store.specs.Store.{field_under}
 use Rattle.linking_laws.specs.Middle.{IsTiedButTo, CanDrop}
 use Rattle.linking_laws.specs.Partway.{same_place, is_place_among, IsWhole}
-use Rattle.linking_laws.specs.Stages.{Dropping, DropNone, DropBases, DropAll, drop_field, drop_by, carry_by, choose_field}
+use Rattle.linking_laws.specs.Stages.{Dropping, DropNone, DropBases, DropAll, drop_field, drop_by, carry_by, choose_field, carry_field}
 use Rattle.linking_laws.specs.Tables.{linked_at, holds_at, AreOnce, IsListing, dropped_at}
 use Rattle.linking_laws.specs.Visits.{waits_for_key}
 use Rattle.linking_laws.specs.Waiting.{names_key, is_waiting_for}
 use Rattle.linking_laws.proofs.Heart.{or_false, any_append}
 use Rattle.linking_laws.proofs.Partial.{place_is, own_place}
 use Rattle.linking_laws.proofs.Steadily.{field_of_authority, field_of_bibliographic}
-use Rattle.linking_laws.proofs.Touched.{drop_off, carry_off, choose_off}
+use Rattle.linking_laws.proofs.Touched.{drop_off, carry_off, choose_off, carried_settled}
+use Rattle.catalogue_rules.specs.Choice.{has_key}
+use Rattle.std.specs.Prelude.{find}
 
 -- a place outside the listing doesn't pass
 not_listed : (test : Class → KeptField → Bool) (s : State) (places : List Place) (q : Place) (h : KeptField) → IsListing (holds_at test s) places → is_place_among places q ≡ false →
@@ -111,3 +113,11 @@ next_is_new (x ∷ done) p rest once =
     let apart = or_middle (is_place_among done x) (same_place p x) (is_place_among rest x) (sym (any_append (λ y. same_place y x) done (p ∷ rest)) ∙ once.0) in
     let here = place_turned p x (same_place x p) refl apart in
     ap (λ (b : Bool). b || is_place_among done p) here ∙ next_is_new done p rest once.1
+
+-- ---- the same heading
+
+-- carrying the heading that the key's authority has leaves a settled field
+pub carry_idle : (all : List Linkable) (key : Key) (c : Linkable) (class : Class) (h : KeptField) → settle_field all class h ≡ h → find (has_key key) all ≡ Some c →
+    carry_field key c.heading c.kind class h ≡ h
+carry_idle all key c class h settled found =
+    ap (λ (o : Option Linkable). carry_by key o class h) (sym found) ∙ carried_settled key all class h settled

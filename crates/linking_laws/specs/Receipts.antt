@@ -42,7 +42,8 @@ pub record AreChanged (a : Arrival) (before now : State) (class : Class) (keys :
   pub distinct : AreDistinct keys
   pub other : (key : Key) → is_key_among keys key ≡ true → is_committed a class key ≡ false
   pub changed : (key : Key) → is_key_among keys key ≡ true → (i : ℕ) × IsExchanged (place_in class key i) before now
-  pub all : (key : Key) (i : ℕ) → is_committed a class key ≡ false → IsExchanged (place_in class key i) before now → is_key_among keys key ≡ true
+  pub all : (key : Key) (i : ℕ) → is_committed a class key ≡ false → IsExchanged (place_in class key i) before now →
+      is_key_among keys key ≡ true
 
 -- how many fields a record has
 abbrev pub count_fields : KeptRecord → ℕ

@@ -1,5 +1,5 @@
--- What the tables of a catalogue tell of its state, as tests: which fields ask for a form, which name a key, which are linked to it,
--- and two indexes of the linkable authorities. The rules are this project's own.
+-- What the tables of a catalogue tell of its state, as tests: which fields ask for a form, which name a key, which are linked
+-- to it; and two indexes of the linkable authorities. The rules are this project's own.
 use Rattle.std.specs.Prelude.{◌≡◌, Bool, true, false, ◌||◌, List, [], ◌∷◌, map, filter, find, Option, Some, None, unwrap_or, is_some, if◌then◌else◌}
 use Rattle.std.specs.List.{list_any}
 use Rattle.std.specs.Option.{option_map_or, option_map, option_or}
@@ -53,8 +53,8 @@ dropped_at key class h = is_linked_to key h || waits_for_key key class h
 abbrev pub holds_at : (Class → KeptField → Bool) → State → Place → Bool
 holds_at test s p = option_map_or (test p.class) (field_under p s) false
 
--- The tables agree with a state: the indexes list its linkable authorities in key order, all and those with a bare heading, and the
--- other tables list exactly the places that they should.
+-- The tables agree with a state: the indexes list its linkable authorities in key order, all and those with a bare heading,
+-- and the other tables list exactly the places that they should.
 pub record Agree (t : Tables) (s : State) : Type 0 where
   pub forms : t.forms ≡ map index_row (linkable_authorities s)
   pub bare : t.bare ≡ map index_row (filter is_bare (linkable_authorities s))
@@ -75,15 +75,19 @@ pub record IsListing (members : Place → Bool) (places : List Place) : Type 0 w
 pub record IsRelisted (p : Place) (h : KeptField) (before after : Tables) : Type 0 where
   pub forms : after.forms ≡ before.forms
   pub bare : after.bare ≡ before.bare
-  pub asking : (form : Form) (q : Place) → after.asking form q ≡ (if same_place p q then asks_at form p.class h else before.asking form q)
-  pub naming : (key : Key) (q : Place) → after.naming key q ≡ (if same_place p q then waits_for_key key p.class h else before.naming key q)
-  pub linked : (key : Key) (q : Place) → after.linked key q ≡ (if same_place p q then linked_at key p.class h else before.linked key q)
+  pub asking : (form : Form) (q : Place) →
+      after.asking form q ≡ (if same_place p q then asks_at form p.class h else before.asking form q)
+  pub naming : (key : Key) (q : Place) →
+      after.naming key q ≡ (if same_place p q then waits_for_key key p.class h else before.naming key q)
+  pub linked : (key : Key) (q : Place) →
+      after.linked key q ≡ (if same_place p q then linked_at key p.class h else before.linked key q)
 
 -- what the tables say of the places that wait for the key or for one of the forms
 abbrev pub is_waiting_by : Tables → List Form → Key → Place → Bool
 is_waiting_by t forms key p = list_any (λ form. t.asking form p) forms || t.naming key p
 
--- the committed record's rows are those of the record that is now there, if any, and the indexes are those of the state; all else stays
+-- the committed record's rows are those of the record that is now there, if any, and the indexes are those of the state; all
+-- else stays
 pub record IsReplaced (a : Arrival) (placed : State) (before after : Tables) : Type 0 where
   pub forms : after.forms ≡ map index_row (linkable_authorities placed)
   pub bare : after.bare ≡ map index_row (filter is_bare (linkable_authorities placed))
@@ -117,8 +121,8 @@ form_by_index authorities rows link_whole form =
     option_or (choice_by_keys authorities link_whole (keys_with (has_established form) rows))
     (choice_by_keys authorities link_whole (keys_with (has_traced form) rows))
 
--- The choice of an unlinked heading field of this kind: by number, else by its full form in the one index, else by its base form in
--- the other. Of the authorities only those are looked up that a key names.
+-- The choice of an unlinked heading field of this kind: by number, else by its full form in the one index, else by its base
+-- form in the other. Of the authorities only those are looked up that a key names.
 abbrev pub choice_by_index : Tables → List Linkable → Class → Kind → KeptField → Choice
 choice_by_index t authorities class kind h =
     unwrap_or

@@ -2,6 +2,9 @@
 -- project's own.
 use Rattle.std.specs.Prelude.{ℕ, ◌+◌, ◌*◌, ◌==◌, Bool, ◌&&◌, ◌||◌, List, filter, length, map, Option, is_some, if◌then◌else◌}
 use Rattle.std.specs.List.{sum_by}
+use Rattle.std.specs.Option.{option_map_or}
+use Rattle.marc_types.specs.declared.key.Place.{Place}
+use Rattle.record_store.specs.Store.{field_under}
 use Rattle.marc_types.specs.declared.field.Subfield.{Subfield}
 use Rattle.marc_types.specs.declared.key.Class.{Class}
 use Rattle.marc_types.specs.declared.key.Class.TheVariants.{Authority, Bibliographic}
@@ -30,8 +33,8 @@ weight h = 1 + count_numbers h + one_if (is_some h.tie.awaits)
 unfoldable pub linked_weight : Option Key → KeptField → ℕ
 linked_weight successor h = 1 + count_numbers h + one_if (is_some h.tie.awaits || is_some successor)
 
--- What a field adds to the bound: twice where it is linked to the key, or where it names the key and the entry has a successor;
--- once where it waits for the key or for one of the forms otherwise. The one beside the weight is for the record that holds it.
+-- What a field adds to the bound: twice where it is linked to the key, or where it names the key and the entry has a
+-- successor; once where it waits for the key or for one of the forms otherwise. The one beside the weight is for its record.
 unfoldable pub touched_weight : List Form → Key → Option Key → Class → KeptField → ℕ
 touched_weight forms key successor class h =
     if is_linked_to key h then 2 * (1 + linked_weight successor h)
@@ -45,6 +48,10 @@ sum_row f row = sum_by f row.1.fields
 -- the sum over the fields of a state
 abbrev pub sum_fields : (Class → KeptField → ℕ) → State → ℕ
 sum_fields f s = sum_by (sum_row (f Authority)) s.authorities + sum_by (sum_row (f Bibliographic)) s.bibliographic
+
+-- the number of the field at a place, or none
+abbrev pub number_at : (Class → KeptField → ℕ) → State → Place → ℕ
+number_at f s p = option_map_or (f p.class) (field_under p s) 0
 
 -- the weight of a field that comes in, where it is a heading field
 abbrev pub own_weight : Class → KeptField → ℕ

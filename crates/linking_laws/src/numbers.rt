@@ -9,7 +9,17 @@ ghost use Rattle.linking_laws.specs.Receipts.{AreChangedBy, AreOwnCounts, receip
 ghost use Rattle.linking_laws.specs.Visits.{commit_visits, commit_weight, own_commit_visits};
 ghost use Rattle.linking_laws.specs.Commits.{IsCommit};
 ghost use Rattle.catalogue_rules.specs.Settle.{arrival_of};
-ghost use Rattle.linking_laws.specs.Weights.{arrival_weight};
+ghost use Rattle.linking_laws.specs.Weights.{arrival_weight, number_at, sum_fields};
+ghost use Rattle.catalogue_rules.specs.State.{KeptField};
+ghost use Rattle.linking_laws.specs.Tables.{AreOnce};
+ghost use Rattle.marc_types.specs.declared.key.Place.{Place};
+ghost use Rattle.std.specs.List.{sum_by};
+
+/// The numbers at places that are named once are together within the sum over the state.
+pub fn places_named_once_are_within_the_sum()
+    ensures { (number : Class → KeptField → ℕ) (s : State) (places : List Place) → AreOnce places
+        → sum_by (number_at number s) places ≤ sum_fields number s }
+{}
 
 /// The stages of an authority's commit make at most as many visits to kept records as what it touches weighs.
 #[tactic(auto, using(crate::proofs::Sums::visits_within))]

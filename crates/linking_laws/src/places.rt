@@ -1,5 +1,5 @@
 //! Laws of a change of many fields, place by place.
-ghost use Rattle.std.specs.Prelude.{◌≡◌, List, [], ◌∷◌, ◌++◌, Option, false};
+ghost use Rattle.std.specs.Prelude.{◌≡◌, List, [], ◌∷◌, ◌++◌, Option, false, find, Some};
 ghost use Rattle.marc_types.specs.declared.key.Class.{Class};
 ghost use Rattle.marc_types.specs.declared.key.Place.{Place};
 ghost use Rattle.catalogue_rules.specs.State.{KeptField, State, linkable_authorities, each_field};
@@ -8,9 +8,11 @@ ghost use Rattle.marc_types.specs.declared.key.Key.{Key};
 ghost use Rattle.marc_types.specs.declared.form.Form.{Form};
 ghost use Rattle.entry_record.specs.Authority.{Linkable};
 ghost use Rattle.linking_laws.specs.Middle.{CanDrop};
-ghost use Rattle.linking_laws.specs.Stages.{Dropping, drop_by, carry_by, choose_field};
+ghost use Rattle.linking_laws.specs.Stages.{Dropping, drop_by, carry_by, carry_field, choose_field};
 ghost use Rattle.linking_laws.specs.Tables.{AreOnce, IsListing, dropped_at, holds_at, linked_at};
 ghost use Rattle.linking_laws.specs.Waiting.{is_waiting_for};
+ghost use Rattle.catalogue_rules.specs.Choice.{has_key};
+ghost use Rattle.catalogue_rules.specs.Settle.{settle_field};
 
 /// Before its first place a change of many fields has changed nothing.
 #[tactic(auto, using(crate::proofs::Partial::partway_none))]
@@ -62,4 +64,10 @@ pub fn choosing_is_whole()
 pub fn dropping_is_whole()
     ensures { (d : Dropping) (key : Key) (successor : Option Key) (s : State) (places : List Place) → CanDrop d key s
         → IsListing (holds_at (dropped_at key) s) places → IsWhole (drop_by d (linkable_authorities s) key successor) places s }
+{}
+
+/// Carrying the heading that the key's authority has leaves a settled field: where it is the same as before, nothing changes.
+pub fn carrying_the_same_heading_changes_nothing()
+    ensures { (all : List Linkable) (key : Key) (c : Linkable) (class : Class) (h : KeptField)
+        → settle_field all class h ≡ h → find (has_key key) all ≡ Some c → carry_field key c.heading c.kind class h ≡ h }
 {}

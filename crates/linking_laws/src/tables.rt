@@ -10,7 +10,7 @@ ghost use Rattle.catalogue_rules.specs.Choice.{choice, has_key};
 ghost use Rattle.catalogue_rules.specs.Settle.{Arrival};
 ghost use Rattle.linking_laws.specs.Behind.{placed_in};
 ghost use Rattle.linking_laws.specs.Waiting.{is_waiting_for};
-ghost use Rattle.linking_laws.specs.Partway.{swapped};
+ghost use Rattle.linking_laws.specs.Partway.{AreOrdered, IsNext, IsPartway, IsSteadyChange, swapped};
 ghost use Rattle.linking_laws.specs.Middle.{IsMiddle, IsMiddleWith};
 ghost use Rattle.linking_laws.specs.Stages.{carry_by};
 ghost use Rattle.marc_types.specs.declared.form.Form.{Form};
@@ -22,6 +22,13 @@ pub fn tables_follow_an_exchange()
     ensures { (t u : Tables) (s : State) (p : Place) (old h : KeptField)
         → Agree t s → field_under p s ≡ Some old → IsRelisted p h t u
         → linkable_authorities (swapped p h s) ≡ linkable_authorities s → Agree u (swapped p h s) }
+{}
+
+/// In one turn of a stage a field is exchanged for what the change makes of it, and its rows with it: the tables still agree.
+pub fn tables_follow_a_turn()
+    ensures { (change : Class → KeptField → KeptField) (done : List Place) (before now : State) (p : Place) (h : KeptField) (t u : Tables)
+        → AreOrdered before → IsPartway change done before now → IsSteadyChange change before → IsNext done p h now
+        → Agree t now → IsRelisted p (change p.class h) t u → Agree u (swapped p (change p.class h) now) }
 {}
 
 /// Tables that agree with a state agree with the state with a record in its place, once its old rows are out and its new ones in.
