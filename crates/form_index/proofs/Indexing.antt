@@ -89,11 +89,13 @@ module _ (n : ℕ) (r : Forms) (step : Listed → Listed) (old new : Listing) (t
         ends false e =
             ap (λ t. if t then option_map_or (belongs a b f) s false else has m (listed a b f old).live) e ∙ fits a b f m
             ∙ ap (λ o. option_map_or (belongs a b f) o false) (sym (slots m ∙ ap (λ t. if t then s else slot_at rows m) e))
+
         same : belongs a b f r ≡ false → (d : Bool) → (m == n) ≡ d → has m (listed a b f old).live ≡ (if m == n then option_map_or (belongs a b f) s false else has m (listed a b f old).live)
         same out true e =
             ap (λ k. has k (listed a b f old).live) (eqb-true m n e) ∙ outside a b f out
             ∙ sym (ap (λ t. if t then option_map_or (belongs a b f) s false else has m (listed a b f old).live) e)
         same out false e = sym (ap (λ t. if t then option_map_or (belongs a b f) s false else has m (listed a b f old).live) e)
+
         by : (t : Bool) → belongs a b f r ≡ t → has m (listed a b f new).live ≡ option_map_or (belongs a b f) (slot_at more m) false
         by true e = ap (λ l. has m l.live) (took_in a b f e) ∙ inside a b f e m ∙ ends (m == n) refl
         by false e = ap (λ l. has m l.live) (took_out a b f e) ∙ same e (m == n) refl ∙ ends (m == n) refl
@@ -105,6 +107,7 @@ module _ (n : ℕ) (r : Forms) (step : Listed → Listed) (old new : Listing) (t
       where_from : (m ≡ n) ⊎ (has m (listed All Established f old).held ≡ true) → m < length more
       where_from (inl e) = subst (λ k. k < length more) (sym e) known
       where_from (inr h) = let low : m < length rows = slots f m h in omega arith
+
       by : (t : Bool) → belongs All Established f r ≡ t → m < length more
       by true e = where_from (held (listed All Established f old) m (sym (ap (λ l. has m l.held) (took_in All Established f e)) ∙ there))
       by false e = where_from (inr (sym (ap (λ l. has m l.held) (took_out All Established f e)) ∙ there))
@@ -142,6 +145,7 @@ module _ (keys : List Key) (n : ℕ) (r : Forms) (rows more : List (Option Forms
     where
       took_seat : Took r (seated keys n) new (listing_step r (seated keys n) new)
       took_seat = listing_took r (seated keys n) new refl
+
       by : (a : Among) (b : By) (f : ℕ) (t : Bool) → belongs a b f r ≡ t → listed a b f (listing_step r (seated keys n) new) ≡ listed a b f old
       by a b f true e =
           took_in n r (seated keys n) new (listing_step r (seated keys n) new) took_seat a b f e
@@ -260,15 +264,18 @@ module _ (keys : List Key) (n : ℕ) (r : Forms) (rows more : List (Option Forms
     where
       seat : Took r (seated keys n) mid new
       seat = subst (Took r (seated keys n) mid) (sym is) (listing_took r (seated keys n) mid refl)
+
       out : Took r (unseated n) new (listing_step r (unseated n) new)
       out = listing_took r (unseated n) new refl
+
       go : Took r (released n) (listing_step r (unseated n) new) (listing_step r (released n) (listing_step r (unseated n) new))
       go = listing_took r (released n) (listing_step r (unseated n) new) refl
+
       by : (a : Among) (b : By) (f : ℕ) (t : Bool) → belongs a b f r ≡ t → listed a b f (listing_step r (released n) (listing_step r (unseated n) new)) ≡ listed a b f old
       by a b f true e =
           took_in n r (released n) (listing_step r (unseated n) new) (listing_step r (released n) (listing_step r (unseated n) new)) go a b f e
           ∙ ap (released n) (took_in n r (unseated n) new (listing_step r (unseated n) new) out a b f e
-            ∙ ap (unseated n) (took_in n r (seated keys n) mid new seat a b f e ∙ ap (seated keys n) (took_in n r (with_held n) old mid held a b f e)))
+          ∙ ap (unseated n) (took_in n r (seated keys n) mid new seat a b f e ∙ ap (seated keys n) (took_in n r (with_held n) old mid held a b f e)))
           ∙ put_undone n (listed a b f old) keys (stands.fits a b f n ∙ ap (λ o. option_map_or (belongs a b f) o false) free)
       by a b f false e =
           took_out n r (released n) (listing_step r (unseated n) new) (listing_step r (released n) (listing_step r (unseated n) new)) go a b f e

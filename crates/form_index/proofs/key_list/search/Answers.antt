@@ -23,7 +23,7 @@ returns-in-Equal-clause-found c =
     let within : middle < length c.args.numbers.now = omega arith in
     slice_get-get_or c.args.numbers.now middle 0 within
     ∙ ap Some (same_number c.args.keys.now (get_or c.args.numbers.now middle 0) c.args.number c.len-distinct.ensures.unique
-      (all_at (λ n. n < length c.args.keys.now) c.args.numbers.now middle 0 c.requires.ascends.known within) c.requires.known (sym c.order.ensures ∙ c.in-Equal.is))
+    (all_at (λ n. n < length c.args.keys.now) c.args.numbers.now middle 0 c.requires.ascends.known within) c.requires.known (sym c.order.ensures ∙ c.in-Equal.is))
 
 pub loop-low-preserved : goal.loop-low-preserved
 loop-low-preserved c = record {

@@ -41,4 +41,4 @@ returns-clause-some c =
     let ordered = subst (λ x. ListingInOrder c.args.keys.now x.lists) (sym c.self.view_is) c.requires.ordered in
     subst (λ x. TakesOut c.args.keys.now (taken c.args.number c.in-Some.forms) x (shown c.empty_slot.new.rows.items c.step.new.self)) c.self.view_is
     (take_takes c.args.keys.now c.args.number c.in-Some.forms c.self.inside.rows.items c.empty_slot.new.rows.items c.self.inside.lists c.step.new.self c.self.invariant at
-      c.empty_slot.ensures.slots ordered c.step.ensures.stepped)
+    c.empty_slot.ensures.slots ordered c.step.ensures.stepped)

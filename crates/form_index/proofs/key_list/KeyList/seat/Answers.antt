@@ -51,4 +51,4 @@ returns-in_default-search-clause-seated c =
     let live : c.live.result.now ≡ take c.self.inside.live c.self.inside.numbers.items = c.live.ensures ∙ ap (λ l. l.live) (sym c.self.view_is) in
     subst (λ l. l ≡ seated c.args.keys.now c.args.number l) c.self.view_is
     (seated_there c.self.inside.numbers.items c.self.inside.live c.self.invariant c.args.number c.args.keys.now c.in_default-search.field-0
-      (ap (λ l. slice_get l c.in_default-search.field-0) (sym live) ∙ c.in_default-search.ensures.found))
+    (ap (λ l. slice_get l c.in_default-search.field-0) (sym live) ∙ c.in_default-search.ensures.found))
