@@ -1,5 +1,5 @@
 -- An index in order stays in order while the numbering of the keys grows.
-use Rattle.std.proofs.Common.{◌≡◌, ◌∙◌, sym, ap, subst, ℕ, ◌<◌, ◌≤◌, arith, List, [], ◌∷◌, length, slice_get, slice_index_or, Some, IfSome}
+use Rattle.std.proofs.Common.{◌≡◌, ◌∙◌, sym, ap, subst, ℕ, ◌<◌, arith, List, [], ◌∷◌, length, slice_get, slice_index_or, Some, IfSome}
 use Rattle.std.specs.Prelude.{true}
 use Rattle.std.specs.List.{AllByRecursion, IsDistinct}
 use Rattle.std.specs.List.Sorted.{IsStrictlySortedBy}

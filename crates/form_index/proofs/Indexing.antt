@@ -1,15 +1,15 @@
 -- The index as rows and lists: what each change leaves of them.
-use Rattle.std.proofs.Common.{◌≡◌, ◌≢◌, ◌⊎◌, inl, inr, ◌∙◌, sym, ap, subst, refl, ℕ, zero, suc, ◌<◌, ◌≤◌, arith, List, [], ◌∷◌, ◌++◌, length, Option, Some, None, Result, Ok, Err, OnErr, get_or, eq-eqb}
-use Rattle.std.specs.Prelude.{Bool, true, false, not, ◌||◌, ◌&&◌, ◌==◌, is_none, if◌then◌else◌}
-use Rattle.std.specs.Option.{option_map_or, is_some}
+use Rattle.std.proofs.Common.{◌≡◌, ◌≢◌, ◌⊎◌, inl, inr, ◌∙◌, sym, ap, subst, refl, ℕ, zero, suc, ◌<◌, ◌≤◌, arith, List, [], ◌∷◌, ◌++◌, length, Option, Some, None, Result, Ok, Err, OnErr, eq-eqb}
+use Rattle.std.specs.Prelude.{Bool, true, false, ◌||◌, ◌==◌, is_none, if◌then◌else◌}
+use Rattle.std.specs.Option.{option_map_or}
 use Rattle.std.specs.List.Sorted.{IsStrictlySortedBy}
 use Rattle.std.proofs.lemmas.Bool.{true≢false, eqb-true}
 use Rattle.marc_types.specs.declared.key.Key.{Key}
-use Rattle.form_index.specs.Order.{Ascends, has, placed}
+use Rattle.form_index.specs.Order.{Ascends, has}
 use Rattle.form_index.specs.Trimmed.{trimmed, with_at}
-use Rattle.form_index.specs.Listed.{Listed, no_list, released, seated, unseated, with_held}
+use Rattle.form_index.specs.Listed.{Listed, released, seated, unseated, with_held}
 use Rattle.form_index.specs.Forms.{Forms, belongs}
-use Rattle.form_index.specs.Index.{ExchangesRow, Indexed, IsBlankScan, IsHeld, IsInOrder, IsScan, IsShortListing, Listing, ListingInOrder, Puts, PutsBack, Taken, TakesOut, Took, let_go, listed, listing_step, no_index, put_back, row_under, slot_at, taken, taken_out, with_slot}
+use Rattle.form_index.specs.Index.{ExchangesRow, Indexed, IsBlankScan, IsHeld, IsScan, IsShortListing, Listing, ListingInOrder, Puts, PutsBack, TakesOut, Took, listed, listing_step, no_index, slot_at, taken, with_slot}
 use Rattle.form_index.specs.Stands.{Fits, HasSlots, Stands}
 use Rattle.form_index.specs.declared.among.Among.{Among}
 use Rattle.form_index.specs.declared.among.Among.TheVariants.{All, Bare}

@@ -4,13 +4,12 @@ use Rattle.std.specs.Prelude.{Bool, true, false, not, ◌||◌, ◌&&◌, ◌==�
 use Rattle.std.specs.List.{AllByRecursion}
 use Rattle.std.specs.List.Sorted.{IsStrictlySortedBy}
 use Rattle.std.specs.Ordering.{is_lt}
-use Rattle.std.specs.declared.cmp.Ordering.{Ordering}
-use Rattle.std.specs.declared.cmp.Ordering.TheVariants.{Less, Equal, Greater}
+use Rattle.std.specs.declared.cmp.Ordering.TheVariants.{Less, Greater}
 use Rattle.std.proofs.lemmas.Bool.{true≢false, both_ways, eqb-true}
 use Rattle.marc_types.specs.declared.key.Key.{Key}
 use Rattle.form_index.specs.Order.{Ascends, has, number_cmp, placed, without}
 use Rattle.form_index.specs.Listed.{Listed, released, seated, unseated, with_held}
-use Rattle.form_index.proofs.Ordered.{greater_differs, less_back, less_differs, number_total}
+use Rattle.form_index.proofs.Ordered.{greater_differs, less_back, number_total}
 
 itself : (n : ℕ) → (n == n) ≡ true
 itself n = eq-eqb n n refl

@@ -1,7 +1,7 @@
 -- A step at the lists of several forms, one after another.
-use Rattle.std.proofs.Common.{◌≡◌, ◌⊎◌, inl, inr, ◌∙◌, sym, ap, subst, refl, ℕ, zero, suc, ◌+◌, ◌<◌, ◌≤◌, arith, List, [], ◌∷◌, ◌++◌, length, take, get_or, eq-eqb, ne_eqb}
-use Rattle.std.specs.Prelude.{Bool, true, false, not, ◌||◌, ◌&&◌, ◌==◌, if◌then◌else◌}
-use Rattle.std.proofs.lemmas.Bool.{true≢false, both_ways, eqb-true, eqb-false, and_parts, and_from, not-true, or_parts}
+use Rattle.std.proofs.Common.{◌≡◌, ◌∙◌, sym, ap, subst, refl, ℕ, zero, suc, ◌+◌, ◌<◌, ◌≤◌, arith, List, [], ◌∷◌, ◌++◌, length, take, get_or, eq-eqb, ne_eqb}
+use Rattle.std.specs.Prelude.{Bool, true, false, not, ◌||◌, ◌==◌, if◌then◌else◌}
+use Rattle.std.proofs.lemmas.Bool.{both_ways, eqb-true, and_parts, and_from, not-true, or_parts}
 use Rattle.std.proofs.lemmas.List.{take_all, take_more}
 use Rattle.marc_types.specs.declared.key.Key.{Key}
 use Rattle.form_index.specs.declared.key_list.Step.{Step}

@@ -1,4 +1,4 @@
-use Rattle.std.proofs.Common.{◌∙◌, sym, ap, subst}
+use Rattle.std.proofs.Common.{subst}
 use Rattle.form_index.specs.Index.{IsBlankScan, IsScan}
 use Rattle.form_index.specs.declared.among.By.TheVariants.{Established, SeeFrom}
 use Rattle.form_index.proofs.Indexing.{empty_is, filled_is, scans, scans_none}

@@ -1,4 +1,4 @@
-use Rattle.std.proofs.Common.{◌≡◌, ◌==◌, ◌∙◌, ◌≤◌, ◌<◌, ℕ, sym, ap, subst, arith, length, Some, None}
+use Rattle.std.proofs.Common.{◌≡◌, ◌==◌, ◌∙◌, ◌<◌, sym, ap, subst, arith, length, Some, None}
 use Rattle.std.specs.Prelude.{if◌then◌else◌}
 use Rattle.form_index.specs.Index.{ListingInOrder, Puts, row_under, slot_at, taken}
 use Rattle.form_index.proofs.Indexing.{hold_fits, hold_held, hold_ordered, hold_slots, on_err, put_puts, rows_same, seat_stands, shown, slots_at}

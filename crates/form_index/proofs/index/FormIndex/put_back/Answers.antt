@@ -1,4 +1,4 @@
-use Rattle.std.proofs.Common.{◌≡◌, ◌∙◌, ◌≤◌, ◌<◌, sym, ap, subst, arith, length, None}
+use Rattle.std.proofs.Common.{◌≡◌, ◌∙◌, ◌<◌, sym, ap, subst, arith, length, None}
 use Rattle.form_index.specs.Index.{IsHeld, ListingInOrder, PutsBack, Taken, row_under, slot_at, taken}
 use Rattle.form_index.proofs.Indexing.{held_slot, seat_puts_back, seat_stands, shown, slots_at}
 use Rattle.form_index.proofs.index.FormIndex.put_back.Goals as goal

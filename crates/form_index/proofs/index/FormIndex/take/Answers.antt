@@ -1,6 +1,6 @@
 use Rattle.std.proofs.Common.{◌≡◌, ◌∙◌, sym, ap, subst, Some, None}
 use Rattle.std.specs.Option.{option_map}
-use Rattle.form_index.specs.Index.{Indexed, ListingInOrder, TakesOut, row_under, slot_at, taken}
+use Rattle.form_index.specs.Index.{ListingInOrder, TakesOut, row_under, slot_at, taken}
 use Rattle.form_index.proofs.Indexing.{none_taken, rows_same, shown, slots_at, take_stands, take_takes}
 use Rattle.form_index.proofs.index.FormIndex.take.Goals as goal
 

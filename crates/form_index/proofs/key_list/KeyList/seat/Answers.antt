@@ -1,9 +1,9 @@
-use Rattle.std.proofs.Common.{◌≡◌, ◌==◌, ◌∙◌, ◌+◌, ◌-◌, ◌≤◌, ◌<◌, sym, ap, subst, arith, position, Some, None, drop, take, length, insert, remove, slice_get}
+use Rattle.std.proofs.Common.{◌≡◌, ◌==◌, ◌∙◌, ◌+◌, ◌≤◌, sym, ap, subst, arith, position, Some, None, drop, take, length, insert, remove, slice_get}
 use Rattle.std.specs.declared.cmp.Ordering.TheVariants.{Less, Greater}
 use Rattle.std.specs.List.Sorted.{IsPartitionPoint}
 use Rattle.std.proofs.lemmas.List.{length-take-le}
 use Rattle.form_index.specs.Order.{Ascends, number_cmp}
-use Rattle.form_index.specs.Listed.{seated, unseated}
+use Rattle.form_index.specs.Listed.{seated}
 use Rattle.form_index.proofs.Moved.{ascends_into, moves_held, seated_moved, seated_none, seated_there}
 use Rattle.form_index.proofs.key_list.KeyList.seat.Goals as goal
 
