@@ -1,15 +1,15 @@
 -- The index as rows and lists: what each change leaves of them.
-use Rattle.std.proofs.Common.{◌≡◌, ◌≢◌, ◌⊎◌, inl, inr, ◌∙◌, sym, ap, subst, refl, ℕ, zero, suc, ◌<◌, ◌≤◌, arith, List, [], ◌∷◌, ◌++◌, length, Option, Some, None, Result, Ok, Err, OnErr, get_or, eq-eqb}
-use Rattle.std.specs.Prelude.{Bool, true, false, not, ◌||◌, ◌&&◌, ◌==◌, is_none, if◌then◌else◌}
-use Rattle.std.specs.Option.{option_map_or, is_some}
+use Rattle.std.proofs.Common.{◌≡◌, ◌≢◌, ◌⊎◌, inl, inr, ◌∙◌, sym, ap, subst, refl, ℕ, zero, suc, ◌<◌, ◌≤◌, arith, List, [], ◌∷◌, ◌++◌, length, Option, Some, None, Result, Ok, Err, OnErr, eq-eqb}
+use Rattle.std.specs.Prelude.{Bool, true, false, ◌||◌, ◌==◌, is_none, if◌then◌else◌}
+use Rattle.std.specs.Option.{option_map_or}
 use Rattle.std.specs.List.Sorted.{IsStrictlySortedBy}
 use Rattle.std.proofs.lemmas.Bool.{true≢false, eqb-true}
 use Rattle.marc_types.specs.declared.key.Key.{Key}
-use Rattle.form_index.specs.Order.{Ascends, has, placed}
+use Rattle.form_index.specs.Order.{Ascends, has}
 use Rattle.form_index.specs.Trimmed.{trimmed, with_at}
-use Rattle.form_index.specs.Listed.{Listed, no_list, released, seated, unseated, with_held}
+use Rattle.form_index.specs.Listed.{Listed, released, seated, unseated, with_held}
 use Rattle.form_index.specs.Forms.{Forms, belongs}
-use Rattle.form_index.specs.Index.{ExchangesRow, Indexed, IsBlankScan, IsHeld, IsInOrder, IsScan, IsShortListing, Listing, ListingInOrder, Puts, PutsBack, Taken, TakesOut, Took, let_go, listed, listing_step, no_index, put_back, row_under, slot_at, taken, taken_out, with_slot}
+use Rattle.form_index.specs.Index.{ExchangesRow, Indexed, IsBlankScan, IsHeld, IsScan, IsShortListing, Listing, ListingInOrder, Puts, PutsBack, TakesOut, Took, listed, listing_step, no_index, slot_at, taken, with_slot}
 use Rattle.form_index.specs.Stands.{Fits, HasSlots, Stands}
 use Rattle.form_index.specs.declared.among.Among.{Among}
 use Rattle.form_index.specs.declared.among.Among.TheVariants.{All, Bare}
@@ -89,11 +89,13 @@ module _ (n : ℕ) (r : Forms) (step : Listed → Listed) (old new : Listing) (t
         ends false e =
             ap (λ t. if t then option_map_or (belongs a b f) s false else has m (listed a b f old).live) e ∙ fits a b f m
             ∙ ap (λ o. option_map_or (belongs a b f) o false) (sym (slots m ∙ ap (λ t. if t then s else slot_at rows m) e))
+
         same : belongs a b f r ≡ false → (d : Bool) → (m == n) ≡ d → has m (listed a b f old).live ≡ (if m == n then option_map_or (belongs a b f) s false else has m (listed a b f old).live)
         same out true e =
             ap (λ k. has k (listed a b f old).live) (eqb-true m n e) ∙ outside a b f out
             ∙ sym (ap (λ t. if t then option_map_or (belongs a b f) s false else has m (listed a b f old).live) e)
         same out false e = sym (ap (λ t. if t then option_map_or (belongs a b f) s false else has m (listed a b f old).live) e)
+
         by : (t : Bool) → belongs a b f r ≡ t → has m (listed a b f new).live ≡ option_map_or (belongs a b f) (slot_at more m) false
         by true e = ap (λ l. has m l.live) (took_in a b f e) ∙ inside a b f e m ∙ ends (m == n) refl
         by false e = ap (λ l. has m l.live) (took_out a b f e) ∙ same e (m == n) refl ∙ ends (m == n) refl
@@ -105,6 +107,7 @@ module _ (n : ℕ) (r : Forms) (step : Listed → Listed) (old new : Listing) (t
       where_from : (m ≡ n) ⊎ (has m (listed All Established f old).held ≡ true) → m < length more
       where_from (inl e) = subst (λ k. k < length more) (sym e) known
       where_from (inr h) = let low : m < length rows = slots f m h in omega arith
+
       by : (t : Bool) → belongs All Established f r ≡ t → m < length more
       by true e = where_from (held (listed All Established f old) m (sym (ap (λ l. has m l.held) (took_in All Established f e)) ∙ there))
       by false e = where_from (inr (sym (ap (λ l. has m l.held) (took_out All Established f e)) ∙ there))
@@ -142,6 +145,7 @@ module _ (keys : List Key) (n : ℕ) (r : Forms) (rows more : List (Option Forms
     where
       took_seat : Took r (seated keys n) new (listing_step r (seated keys n) new)
       took_seat = listing_took r (seated keys n) new refl
+
       by : (a : Among) (b : By) (f : ℕ) (t : Bool) → belongs a b f r ≡ t → listed a b f (listing_step r (seated keys n) new) ≡ listed a b f old
       by a b f true e =
           took_in n r (seated keys n) new (listing_step r (seated keys n) new) took_seat a b f e
@@ -260,15 +264,18 @@ module _ (keys : List Key) (n : ℕ) (r : Forms) (rows more : List (Option Forms
     where
       seat : Took r (seated keys n) mid new
       seat = subst (Took r (seated keys n) mid) (sym is) (listing_took r (seated keys n) mid refl)
+
       out : Took r (unseated n) new (listing_step r (unseated n) new)
       out = listing_took r (unseated n) new refl
+
       go : Took r (released n) (listing_step r (unseated n) new) (listing_step r (released n) (listing_step r (unseated n) new))
       go = listing_took r (released n) (listing_step r (unseated n) new) refl
+
       by : (a : Among) (b : By) (f : ℕ) (t : Bool) → belongs a b f r ≡ t → listed a b f (listing_step r (released n) (listing_step r (unseated n) new)) ≡ listed a b f old
       by a b f true e =
           took_in n r (released n) (listing_step r (unseated n) new) (listing_step r (released n) (listing_step r (unseated n) new)) go a b f e
           ∙ ap (released n) (took_in n r (unseated n) new (listing_step r (unseated n) new) out a b f e
-            ∙ ap (unseated n) (took_in n r (seated keys n) mid new seat a b f e ∙ ap (seated keys n) (took_in n r (with_held n) old mid held a b f e)))
+          ∙ ap (unseated n) (took_in n r (seated keys n) mid new seat a b f e ∙ ap (seated keys n) (took_in n r (with_held n) old mid held a b f e)))
           ∙ put_undone n (listed a b f old) keys (stands.fits a b f n ∙ ap (λ o. option_map_or (belongs a b f) o false) free)
       by a b f false e =
           took_out n r (released n) (listing_step r (unseated n) new) (listing_step r (released n) (listing_step r (unseated n) new)) go a b f e

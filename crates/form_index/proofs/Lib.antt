@@ -1,3 +1,4 @@
+pub mod Growing
 pub mod Indexing
 pub mod Listing
 pub mod Moved

@@ -2,10 +2,10 @@
 use Rattle.std.proofs.Common.{◌≡◌, ◌∙◌, sym, ap, subst, refl, ℕ, List, [], ◌∷◌}
 use Rattle.std.specs.Prelude.{Bool, true, false, ◌&&◌, if◌then◌else◌}
 use Rattle.marc_types.specs.declared.key.Key.{Key}
-use Rattle.form_index.specs.Order.{Ascends, has}
-use Rattle.form_index.specs.Listed.{InOrder, IsShort, Listed, Stepped, each_of, list_at, no_list, released, with_held}
-use Rattle.form_index.specs.Forms.{Forms, belongs, forms_by, is_among}
-use Rattle.form_index.specs.Index.{Headed, HeadedInOrder, IsShortHeaded, IsShortListing, Listing, ListingInOrder, Took, TookHeaded, headed_step, listed, listing_step, lists_by}
+use Rattle.form_index.specs.Order.{has}
+use Rattle.form_index.specs.Listed.{IsShort, Listed, Stepped, each_of, list_at, no_list, released, with_held}
+use Rattle.form_index.specs.Forms.{Forms, forms_by}
+use Rattle.form_index.specs.Index.{Headed, HeadedInOrder, IsShortHeaded, IsShortListing, Listing, ListingInOrder, Took, TookHeaded, headed_step, listed, listing_step}
 use Rattle.form_index.specs.declared.among.Among.{Among}
 use Rattle.form_index.specs.declared.among.Among.TheVariants.{All, Bare}
 use Rattle.form_index.specs.declared.among.By.{By}

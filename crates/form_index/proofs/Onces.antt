@@ -1,6 +1,6 @@
 -- Numbers that were sorted, of which equal neighbours went, stand there once each.
-use Rattle.std.proofs.Common.{◌≡◌, ◌∙◌, sym, ap, refl, ℕ, suc, ◌+◌, ◌<◌, arith, List, [], ◌∷◌, sum_by, IsPermutation, IsSorted, eq-eqb}
-use Rattle.std.specs.Prelude.{Bool, true, false, not, ◌||◌, ◌&&◌, ◌==◌, cond, nat_lt, nat_eq}
+use Rattle.std.proofs.Common.{◌≡◌, ◌∙◌, sym, ap, refl, ℕ, ◌+◌, arith, List, [], ◌∷◌, sum_by, IsPermutation, IsSorted}
+use Rattle.std.specs.Prelude.{Bool, true, false, not, ◌||◌, ◌==◌, cond, nat_lt, nat_eq}
 use Rattle.std.specs.List.{AllByRecursion, dedup}
 use Rattle.std.specs.List.Retain.{DiffersFromLast, IsFiltered}
 use Rattle.std.specs.List.Sorted.{IsStrictlySortedBy}

@@ -4,13 +4,12 @@ use Rattle.std.specs.Prelude.{Bool, true, false, not, ◌||◌, ◌&&◌, ◌==�
 use Rattle.std.specs.List.{AllByRecursion}
 use Rattle.std.specs.List.Sorted.{IsStrictlySortedBy}
 use Rattle.std.specs.Ordering.{is_lt}
-use Rattle.std.specs.declared.cmp.Ordering.{Ordering}
-use Rattle.std.specs.declared.cmp.Ordering.TheVariants.{Less, Equal, Greater}
+use Rattle.std.specs.declared.cmp.Ordering.TheVariants.{Less, Greater}
 use Rattle.std.proofs.lemmas.Bool.{true≢false, both_ways, eqb-true}
 use Rattle.marc_types.specs.declared.key.Key.{Key}
 use Rattle.form_index.specs.Order.{Ascends, has, number_cmp, placed, without}
 use Rattle.form_index.specs.Listed.{Listed, released, seated, unseated, with_held}
-use Rattle.form_index.proofs.Ordered.{greater_differs, less_back, less_differs, number_total}
+use Rattle.form_index.proofs.Ordered.{greater_differs, less_back, number_total}
 
 itself : (n : ℕ) → (n == n) ≡ true
 itself n = eq-eqb n n refl
@@ -155,16 +154,16 @@ module _ (n : ℕ) (l : Listed) where
   reseated keys ascends there =
       ap (seated keys n) (unseated_is there)
       ∙ seated_back
-      where
-        seated_back : seated keys n (record { live = without n l.live; held = n ∷ l.held }) ≡ l
-        seated_back =
-            let held : has n (n ∷ l.held) ≡ true = ap (λ b. b || has n l.held) (itself n) in
-            let gone_from : has n (without n l.live) ≡ false = gone keys n l.live ascends.rising in
-            let live : placed keys n (without n l.live) ≡ l.live = placed_without keys n l.live ascends.rising there in
-            let rest : without n (n ∷ l.held) ≡ l.held = ap (λ b. if b then l.held else n ∷ without n l.held) (itself n) in
-            ap (λ b. if b && not (has n (without n l.live)) then record { live = placed keys n (without n l.live); held = without n (n ∷ l.held) } else record { live = without n l.live; held = n ∷ l.held }) held
-            ∙ ap (λ b. if true && not b then record { live = placed keys n (without n l.live); held = without n (n ∷ l.held) } else record { live = without n l.live; held = n ∷ l.held }) gone_from
-            ∙ (λ i. record { live = live i; held = rest i })
+    where
+      seated_back : seated keys n (record { live = without n l.live; held = n ∷ l.held }) ≡ l
+      seated_back =
+          let held : has n (n ∷ l.held) ≡ true = ap (λ b. b || has n l.held) (itself n) in
+          let gone_from : has n (without n l.live) ≡ false = gone keys n l.live ascends.rising in
+          let live : placed keys n (without n l.live) ≡ l.live = placed_without keys n l.live ascends.rising there in
+          let rest : without n (n ∷ l.held) ≡ l.held = ap (λ b. if b then l.held else n ∷ without n l.held) (itself n) in
+          ap (λ b. if b && not (has n (without n l.live)) then record { live = placed keys n (without n l.live); held = without n (n ∷ l.held) } else record { live = without n l.live; held = n ∷ l.held }) held
+          ∙ ap (λ b. if true && not b then record { live = placed keys n (without n l.live); held = without n (n ∷ l.held) } else record { live = without n l.live; held = n ∷ l.held }) gone_from
+          ∙ (λ i. record { live = live i; held = rest i })
 
   pub reseated_held : (keys : List Key) → has n l.live ≡ false → seated keys n (with_held n l) ≡ record { live = placed keys n l.live; held = l.held }
   reseated_held keys out =

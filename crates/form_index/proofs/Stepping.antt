@@ -1,7 +1,7 @@
 -- A step at the lists of several forms, one after another.
-use Rattle.std.proofs.Common.{◌≡◌, ◌⊎◌, inl, inr, ◌∙◌, sym, ap, subst, refl, ℕ, zero, suc, ◌+◌, ◌<◌, ◌≤◌, arith, List, [], ◌∷◌, ◌++◌, length, take, get_or, eq-eqb, ne_eqb}
-use Rattle.std.specs.Prelude.{Bool, true, false, not, ◌||◌, ◌&&◌, ◌==◌, if◌then◌else◌}
-use Rattle.std.proofs.lemmas.Bool.{true≢false, both_ways, eqb-true, eqb-false, and_parts, and_from, not-true, or_parts}
+use Rattle.std.proofs.Common.{◌≡◌, ◌∙◌, sym, ap, subst, refl, ℕ, zero, suc, ◌+◌, ◌<◌, ◌≤◌, arith, List, [], ◌∷◌, ◌++◌, length, take, get_or, eq-eqb, ne_eqb}
+use Rattle.std.specs.Prelude.{Bool, true, false, not, ◌||◌, ◌==◌, if◌then◌else◌}
+use Rattle.std.proofs.lemmas.Bool.{both_ways, eqb-true, and_parts, and_from, not-true, or_parts}
 use Rattle.std.proofs.lemmas.List.{take_all, take_more}
 use Rattle.marc_types.specs.declared.key.Key.{Key}
 use Rattle.form_index.specs.declared.key_list.Step.{Step}
@@ -70,9 +70,9 @@ pub each_of_is : (forms : List ℕ) (step : Listed → Listed) (old new : List L
 each_of_is forms step old new stays stepped =
     short_same (each_of forms step (trimmed is_no_list old)) (trimmed is_no_list new) (each_of_short forms step (trimmed is_no_list old)) (short_lists new)
     (λ form.
-      lists_at new form ∙ stepped form
-      ∙ ap (λ l. if has form forms then step l else l) (sym (lists_at old form))
-      ∙ sym (each_of_at forms step (trimmed is_no_list old) stays form))
+    lists_at new form ∙ stepped form
+    ∙ ap (λ l. if has form forms then step l else l) (sym (lists_at old form))
+    ∙ sym (each_of_at forms step (trimmed is_no_list old) stays form))
 
 -- one more blank list
 pub blank_more : (lists : List Listed) → SameLists lists (lists ++ no_list ∷ [])
@@ -162,6 +162,7 @@ module _ (forms : List ℕ) (step : Listed → Listed) (first old new : List Lis
     where
       next : list_at new form ≡ (if get_or forms i 0 == form then step (list_at old form) else list_at old form)
       next = last form ∙ ap (λ k. if k == form then step (list_at old form) else list_at old form) is
+
       by : (b : Bool) → (get_or forms i 0 == form) ≡ b → list_at new form ≡ (if has form (take (i + 1) forms) then step (list_at first form) else list_at first form)
       by true e =
           let same : get_or forms i 0 ≡ form = eqb-true (get_or forms i 0) form e in

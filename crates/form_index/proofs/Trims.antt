@@ -1,5 +1,5 @@
 -- Lists without the blanks at their ends are told apart by what they have at each number.
-use Rattle.std.proofs.Common.{◌≡◌, ◌⊎◌, inl, inr, ◌∙◌, sym, ap, refl, ℕ, zero, suc, ◌+◌, ◌<◌, arith, List, [], ◌∷◌, get_or, eq-eqb, ne_eqb}
+use Rattle.std.proofs.Common.{◌≡◌, ◌∙◌, sym, ap, refl, ℕ, zero, suc, arith, List, [], ◌∷◌, get_or, eq-eqb, ne_eqb}
 use Rattle.std.specs.Prelude.{Bool, true, false, ◌==◌, if◌then◌else◌}
 use Rattle.std.proofs.lemmas.Bool.{both_ways, eqb-true}
 use Rattle.form_index.specs.Trimmed.{prepend, trimmed, with_at}

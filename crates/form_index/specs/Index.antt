@@ -1,11 +1,11 @@
 -- What clauses see of the index: its rows by key number, and the list of each form.
-use Rattle.std.specs.Prelude.{◌≡◌, ◌≢◌, ℕ, ◌<◌, ◌==◌, Bool, true, false, ◌&&◌, List, [], ◌∷◌, length, Option, Some, None, is_none, slice_index_or, if◌then◌else◌}
+use Rattle.std.specs.Prelude.{◌≡◌, ℕ, ◌==◌, true, false, List, [], Option, Some, None, is_none, slice_index_or, if◌then◌else◌}
 use Rattle.std.specs.Option.{option_map_or}
 use Rattle.marc_types.specs.declared.key.Key.{Key}
 use Rattle.form_index.specs.Order.{Ascends, has}
 use Rattle.form_index.specs.Trimmed.{trimmed, with_at}
 use Rattle.form_index.specs.Listed.{InOrder, IsShort, Listed, Stepped, each_of, list_at, released, seated, unseated}
-use Rattle.form_index.specs.Forms.{Forms, belongs, forms_by, is_among}
+use Rattle.form_index.specs.Forms.{Forms, belongs, forms_by}
 use Rattle.form_index.specs.declared.among.Among.{Among}
 use Rattle.form_index.specs.declared.among.Among.TheVariants.{All, Bare}
 use Rattle.form_index.specs.declared.among.By.{By}

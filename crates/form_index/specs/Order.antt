@@ -1,8 +1,9 @@
 -- Numbers of keys in the order of the keys that they stand for.
-use Rattle.std.specs.Prelude.{ℕ, ◌<◌, Bool, ◌==◌, List, [], ◌∷◌, length, slice_index_or, if◌then◌else◌}
+use Rattle.std.specs.Prelude.{◌≡◌, ℕ, ◌<◌, Bool, ◌==◌, List, [], ◌∷◌, length, slice_index_or, if◌then◌else◌}
 use Rattle.std.specs.List.{AllByRecursion, list_any}
-use Rattle.std.specs.List.Sorted.{IsStrictlySortedBy}
+use Rattle.std.specs.List.Sorted.{IsPartitionPoint, IsStrictlySortedBy}
 use Rattle.std.specs.Ordering.{is_lt}
+use Rattle.std.specs.declared.cmp.Ordering.TheVariants.{Less, Greater}
 use Rattle.std.specs.declared.cmp.Ordering.{Ordering}
 use Rattle.marc_types.specs.Order.{key_cmp}
 use Rattle.marc_types.specs.declared.key.Key.{Key}
@@ -26,6 +27,10 @@ has n numbers = list_any (λ m. m == n) numbers
 pub record Ascends (keys : List Key) (numbers : List ℕ) : Type 0 where
   pub known : AllByRecursion (λ n. n < length keys) numbers
   pub rising : IsStrictlySortedBy (number_cmp keys) numbers
+
+-- the place in a list where a number belongs: below it the keys are less, and from it on they are greater
+abbrev pub IsGap : List Key → List ℕ → ℕ → ℕ → Type 0
+IsGap keys numbers n place = IsPartitionPoint (λ m. number_cmp keys m n ≡ Less) (λ m. number_cmp keys m n ≡ Greater) numbers place
 
 -- the numbers with one more, put before the first whose key is greater
 abbrev pub placed : List Key → ℕ → List ℕ → List ℕ

@@ -1,6 +1,6 @@
 ghost use Rattle.std.specs.Prelude.{◌≡◌, ℕ, ◌<◌, ◌≤◌, ◌==◌, [], List, length, None, Some, IfSome, IfNone, OnOk, OnErr, if◌then◌else◌};
 ghost use Rattle.std.specs.Option.{option_copied, option_map};
-ghost use Rattle.form_index.specs.Index.{Indexed, IsHeld, IsInOrder, Puts, PutsBack, TakesOut, let_go, no_index, row_under, slot_at, taken};
+ghost use Rattle.form_index.specs.Index.{IsHeld, IsInOrder, Puts, PutsBack, TakesOut, let_go, no_index, row_under, slot_at, taken};
 ghost use Rattle.form_index.specs.Candidates.{IsAnswer};
 
 use crate::among::{Among, By};

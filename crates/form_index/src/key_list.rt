@@ -1,8 +1,6 @@
-ghost use Rattle.std.specs.Prelude.{◌≡◌, ◌==◌, ◌<◌, ◌≤◌, length, true, MatchResult, OnOk, OnErr, IfOk, IfErr, slice_get, insert, remove, Some, take, drop, All, slice_index_or};
+ghost use Rattle.std.specs.Prelude.{◌≡◌, ◌==◌, ◌<◌, ◌≤◌, length, MatchResult, OnOk, OnErr, IfOk, IfErr, slice_get, insert, remove, Some, slice_index_or};
 ghost use Rattle.std.specs.List.{position};
-ghost use Rattle.std.specs.declared.cmp.Ordering.TheVariants.{Less, Greater};
-ghost use Rattle.std.specs.List.Sorted.{IsPartitionPoint};
-ghost use Rattle.form_index.specs.Order.{Ascends, key_at, number_cmp, has};
+ghost use Rattle.form_index.specs.Order.{Ascends, IsGap, number_cmp};
 ghost use Rattle.form_index.specs.Listed.{no_list, with_held, released, seated, stepped, unseated};
 
 use marc_types::{Key, NoMemory};
@@ -148,7 +146,7 @@ fn search(keys: &Numbering<Key>, numbers: &[u32], number: u32) -> Result<usize, 
     requires ascends { Ascends keys.now numbers.now }
     ensures bound { MatchResult result (λ i. i < length numbers.now) (λ i. i ≤ length numbers.now) }
     ensures found { IfOk result (λ i. slice_get numbers.now i ≡ Some number) }
-    ensures absent { IfErr result (λ i. IsPartitionPoint (λ m. number_cmp keys.now m number ≡ Less) (λ m. number_cmp keys.now m number ≡ Greater) numbers.now i) }
+    ensures absent { IfErr result (IsGap keys.now numbers.now number) }
 {
     // no key has two numbers
     let _distinct = keys.len();

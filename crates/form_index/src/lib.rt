@@ -10,6 +10,9 @@ mod among;
 mod candidates;
 mod index;
 mod key_list;
+pub mod laws;
 mod listings;
 mod lists;
 mod row;
+#[cfg(test)]
+mod tests;

@@ -1,4 +1,4 @@
-ghost use Rattle.std.specs.Prelude.{◌≡◌, ◌<◌, length, OnOk, OnErr, if◌then◌else◌};
+ghost use Rattle.std.specs.Prelude.{◌≡◌, ◌<◌, length, OnOk, OnErr};
 ghost use Rattle.form_index.specs.Listed.{released, stepped, with_held};
 ghost use Rattle.form_index.specs.Index.{HeadedInOrder, IsShortHeaded, IsShortListing, ListingInOrder, Took, TookHeaded, headed_by, headed_step, listed, listing_step, no_headed};
 

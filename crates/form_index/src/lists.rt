@@ -40,12 +40,7 @@ impl Lists {
     }
 
     /// Makes a place for the number in the list of each of these forms.
-    pub(crate) fn hold(
-        &mut self,
-        alloc: Global,
-        number: u32,
-        forms: &[u32],
-    ) -> Result<(), NoMemory>
+    pub(crate) fn hold(&mut self, alloc: Global, number: u32, forms: &[u32]) -> Result<(), NoMemory>
         requires { is_once forms.now ≡ true }
         ensures ok { OnOk result (Stepped forms.now (with_held number) self.old self.new) }
         ensures err { OnErr result (self.new ≡ self.old) }
@@ -63,13 +58,7 @@ impl Lists {
     }
 
     /// Moves the number into the order of each of these lists, or out of it.
-    pub(crate) fn step(
-        &mut self,
-        step: Step,
-        keys: &Numbering<Key>,
-        number: u32,
-        forms: &[u32],
-    )
+    pub(crate) fn step(&mut self, step: Step, keys: &Numbering<Key>, number: u32, forms: &[u32])
         requires known { number < length keys.now }
         requires once { is_once forms.now ≡ true }
         requires ordered { InOrder keys.now self.old }
@@ -107,13 +96,7 @@ fn step_each(
     }
 }
 
-fn step_at(
-    lists: &mut Vec<KeyList>,
-    step: Step,
-    keys: &Numbering<Key>,
-    number: u32,
-    form: u32,
-)
+fn step_at(lists: &mut Vec<KeyList>, step: Step, keys: &Numbering<Key>, number: u32, form: u32)
     requires known { number < length keys.now }
     requires ordered { InOrder keys.now lists.old.items }
     ensures stepped { SteppedAt form (stepped keys.now number step) lists.old.items lists.new.items }
@@ -161,12 +144,7 @@ fn hold_each(
     Ok(())
 }
 
-fn hold_at(
-    lists: &mut Vec<KeyList>,
-    alloc: Global,
-    number: u32,
-    form: u32,
-) -> Result<(), NoMemory>
+fn hold_at(lists: &mut Vec<KeyList>, alloc: Global, number: u32, form: u32) -> Result<(), NoMemory>
     ensures ok { OnOk result (SteppedAt form (with_held number) lists.old.items lists.new.items) }
     ensures err { OnErr result (SameLists lists.old.items lists.new.items) }
 {

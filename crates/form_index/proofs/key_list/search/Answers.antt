@@ -1,5 +1,4 @@
-use Rattle.std.proofs.Common.{◌≡◌, ◌∙◌, sym, ap, arith, ℕ, ◌+◌, ◌-◌, ◌/◌, ◌<◌, length, get_or, slice_get, Some}
-use Rattle.std.specs.declared.cmp.Ordering.TheVariants.{Less, Equal, Greater}
+use Rattle.std.proofs.Common.{◌∙◌, sym, ap, arith, ◌+◌, ◌-◌, ◌/◌, ◌<◌, length, get_or, Some}
 use Rattle.std.proofs.lemmas.List.{get_or_default}
 use Rattle.std.proofs.lemmas.Option.{slice_get-get_or}
 use Rattle.form_index.specs.Order.{number_cmp}
@@ -23,7 +22,7 @@ returns-in-Equal-clause-found c =
     let within : middle < length c.args.numbers.now = omega arith in
     slice_get-get_or c.args.numbers.now middle 0 within
     ∙ ap Some (same_number c.args.keys.now (get_or c.args.numbers.now middle 0) c.args.number c.len-distinct.ensures.unique
-      (all_at (λ n. n < length c.args.keys.now) c.args.numbers.now middle 0 c.requires.ascends.known within) c.requires.known (sym c.order.ensures ∙ c.in-Equal.is))
+    (all_at (λ n. n < length c.args.keys.now) c.args.numbers.now middle 0 c.requires.ascends.known within) c.requires.known (sym c.order.ensures ∙ c.in-Equal.is))
 
 pub loop-low-preserved : goal.loop-low-preserved
 loop-low-preserved c = record {

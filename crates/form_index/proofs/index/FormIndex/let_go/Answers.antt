@@ -1,4 +1,4 @@
-use Rattle.std.proofs.Common.{◌∙◌, sym, ap, subst}
+use Rattle.std.proofs.Common.{sym, subst}
 use Rattle.form_index.specs.Index.{ListingInOrder}
 use Rattle.form_index.proofs.Indexing.{release_ordered, release_stands}
 use Rattle.form_index.proofs.index.FormIndex.let_go.Goals as goal

@@ -1,4 +1,4 @@
-use Rattle.std.proofs.Common.{◌≡◌, ◌==◌, ◌∙◌, ◌≤◌, ◌<◌, ℕ, sym, ap, subst, arith, length, Some, None}
+use Rattle.std.proofs.Common.{◌≡◌, ◌==◌, ◌∙◌, ◌<◌, sym, ap, subst, arith, length, Some, None}
 use Rattle.std.specs.Prelude.{if◌then◌else◌}
 use Rattle.form_index.specs.Index.{ListingInOrder, Puts, row_under, slot_at, taken}
 use Rattle.form_index.proofs.Indexing.{hold_fits, hold_held, hold_ordered, hold_slots, on_err, put_puts, rows_same, seat_stands, shown, slots_at}
@@ -45,4 +45,4 @@ returns-clause-ok c =
     sym (slots_at c.self.inside.rows.items c.args.number) ∙ ap (row_under c.args.number) c.self.view_is ∙ c.requires.free in
     subst (λ x. Puts (taken c.args.number c.args.forms) x (shown c.set_slot.new.rows.items c.step.new.self)) c.self.view_is
     (put_puts c.args.keys.now c.args.number c.args.forms c.self.inside.rows.items c.set_slot.new.rows.items c.self.inside.lists c.hold.new.self c.step.new.self c.self.invariant free
-      (λ m. c.set_slot.ensures.slots m ∙ ap (λ z. if m == c.args.number then Some c.args.forms else z) (c.reach.ensures.same m)) c.in_ok-hold.ensures.ok c.step.ensures.stepped c.in_ok-hold.ensures.short)
+    (λ m. c.set_slot.ensures.slots m ∙ ap (λ z. if m == c.args.number then Some c.args.forms else z) (c.reach.ensures.same m)) c.in_ok-hold.ensures.ok c.step.ensures.stepped c.in_ok-hold.ensures.short)

@@ -1,6 +1,6 @@
 use Rattle.std.proofs.Common.{◌≡◌, ◌∙◌, sym, ap, subst, Some, None}
 use Rattle.std.specs.Option.{option_map}
-use Rattle.form_index.specs.Index.{Indexed, ListingInOrder, TakesOut, row_under, slot_at, taken}
+use Rattle.form_index.specs.Index.{ListingInOrder, TakesOut, row_under, slot_at, taken}
 use Rattle.form_index.proofs.Indexing.{none_taken, rows_same, shown, slots_at, take_stands, take_takes}
 use Rattle.form_index.proofs.index.FormIndex.take.Goals as goal
 
@@ -41,4 +41,4 @@ returns-clause-some c =
     let ordered = subst (λ x. ListingInOrder c.args.keys.now x.lists) (sym c.self.view_is) c.requires.ordered in
     subst (λ x. TakesOut c.args.keys.now (taken c.args.number c.in-Some.forms) x (shown c.empty_slot.new.rows.items c.step.new.self)) c.self.view_is
     (take_takes c.args.keys.now c.args.number c.in-Some.forms c.self.inside.rows.items c.empty_slot.new.rows.items c.self.inside.lists c.step.new.self c.self.invariant at
-      c.empty_slot.ensures.slots ordered c.step.ensures.stepped)
+    c.empty_slot.ensures.slots ordered c.step.ensures.stepped)

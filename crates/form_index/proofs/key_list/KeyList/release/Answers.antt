@@ -1,6 +1,5 @@
-use Rattle.std.proofs.Common.{◌≡◌, ◌==◌, ◌∙◌, sym, ap, subst, arith, position, Some, None, drop, take, IsSome, slice_get}
-use Rattle.form_index.specs.Order.{Ascends}
-use Rattle.form_index.specs.Listed.{released, seated, unseated}
+use Rattle.std.proofs.Common.{◌≡◌, ◌==◌, ◌∙◌, sym, ap, subst, position, Some, None, drop}
+use Rattle.form_index.specs.Listed.{released}
 use Rattle.form_index.proofs.Moved.{released_none, released_some}
 use Rattle.form_index.proofs.key_list.KeyList.release.Goals as goal
 

@@ -1,9 +1,9 @@
-use Rattle.std.proofs.Common.{◌≡◌, ◌==◌, ◌∙◌, ◌+◌, ◌-◌, ◌≤◌, ◌<◌, sym, ap, subst, arith, position, Some, None, drop, take, length, insert, remove, slice_get}
+use Rattle.std.proofs.Common.{◌≡◌, ◌==◌, ◌∙◌, ◌+◌, ◌≤◌, sym, ap, subst, arith, position, Some, None, drop, take, length, insert, remove, slice_get}
 use Rattle.std.specs.declared.cmp.Ordering.TheVariants.{Less, Greater}
 use Rattle.std.specs.List.Sorted.{IsPartitionPoint}
 use Rattle.std.proofs.lemmas.List.{length-take-le}
 use Rattle.form_index.specs.Order.{Ascends, number_cmp}
-use Rattle.form_index.specs.Listed.{seated, unseated}
+use Rattle.form_index.specs.Listed.{seated}
 use Rattle.form_index.proofs.Moved.{ascends_into, moves_held, seated_moved, seated_none, seated_there}
 use Rattle.form_index.proofs.key_list.KeyList.seat.Goals as goal
 
@@ -51,4 +51,4 @@ returns-in_default-search-clause-seated c =
     let live : c.live.result.now ≡ take c.self.inside.live c.self.inside.numbers.items = c.live.ensures ∙ ap (λ l. l.live) (sym c.self.view_is) in
     subst (λ l. l ≡ seated c.args.keys.now c.args.number l) c.self.view_is
     (seated_there c.self.inside.numbers.items c.self.inside.live c.self.invariant c.args.number c.args.keys.now c.in_default-search.field-0
-      (ap (λ l. slice_get l c.in_default-search.field-0) (sym live) ∙ c.in_default-search.ensures.found))
+    (ap (λ l. slice_get l c.in_default-search.field-0) (sym live) ∙ c.in_default-search.ensures.found))

@@ -1,9 +1,9 @@
-use Rattle.std.proofs.Common.{◌≡◌, ◌==◌, ◌∙◌, ◌+◌, ◌-◌, ◌≤◌, ◌<◌, sym, ap, subst, arith, position, Some, None, drop, take, length, insert, remove, slice_get}
+use Rattle.std.proofs.Common.{◌≡◌, ◌∙◌, ◌-◌, ◌<◌, sym, ap, subst, arith, Some, take, length, insert, remove, slice_get}
 use Rattle.std.specs.declared.cmp.Ordering.TheVariants.{Less, Greater}
 use Rattle.std.specs.List.Sorted.{IsPartitionPoint}
 use Rattle.std.proofs.lemmas.List.{length-take-le}
 use Rattle.form_index.specs.Order.{Ascends, number_cmp}
-use Rattle.form_index.specs.Listed.{seated, unseated}
+use Rattle.form_index.specs.Listed.{unseated}
 use Rattle.form_index.proofs.Moved.{ascends_out, moves_live, unseated_moved, unseated_none}
 use Rattle.form_index.proofs.key_list.KeyList.unseat.Goals as goal
 

@@ -1,6 +1,6 @@
-use Rattle.std.proofs.Common.{◌≡◌, ◌∙◌, sym, subst}
+use Rattle.std.proofs.Common.{◌∙◌, sym, subst}
 use Rattle.form_index.specs.Listed.{IsShort}
-use Rattle.form_index.specs.Index.{Headed, IsShortHeaded}
+use Rattle.form_index.specs.Index.{Headed}
 use Rattle.form_index.proofs.Listing.{established_given_up}
 use Rattle.form_index.proofs.listings.Headings.hold.Goals as goal
 

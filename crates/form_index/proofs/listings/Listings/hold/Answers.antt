@@ -1,5 +1,5 @@
-use Rattle.std.proofs.Common.{◌≡◌, ◌∙◌, sym, subst}
-use Rattle.form_index.specs.Index.{IsShortHeaded, IsShortListing}
+use Rattle.std.proofs.Common.{◌∙◌, sym, subst}
+use Rattle.form_index.specs.Index.{IsShortListing}
 use Rattle.form_index.proofs.Listing.{headed_given_up, short_all, short_bare, short_both}
 use Rattle.form_index.proofs.listings.Listings.hold.Goals as goal
 

@@ -1,5 +1,5 @@
-use Rattle.std.proofs.Common.{◌≡◌, ◌∙◌, sym, subst}
-use Rattle.form_index.specs.Index.{HeadedInOrder, ListingInOrder}
+use Rattle.std.proofs.Common.{sym, subst}
+use Rattle.form_index.specs.Index.{ListingInOrder}
 use Rattle.form_index.proofs.Listing.{order_all, order_bare, order_both}
 use Rattle.form_index.proofs.listings.Listings.step.Goals as goal
 

@@ -1,4 +1,4 @@
-use Rattle.std.proofs.Common.{◌∙◌, sym, subst, ap}
+use Rattle.std.proofs.Common.{◌∙◌, subst}
 use Rattle.std.proofs.lemmas.Result.{on_ok_weaker, on_err_weaker}
 use Rattle.form_index.specs.Trimmed.{trimmed}
 use Rattle.form_index.specs.Listed.{Stepped, is_no_list, with_held}
