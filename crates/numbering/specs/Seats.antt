@@ -7,12 +7,8 @@ use Rattle.std.specs.Hash as fed
 use Rattle.std.proofs.Common.{ap, subst, ◌∙◌}
 use Rattle.marc_types.specs.declared.key.Class.{Class}
 use Rattle.marc_types.specs.declared.key.Class.TheVariants.{Authority, Bibliographic}
+use Rattle.marc_types.specs.Order.{class_rank}
 use Rattle.numbering.specs.declared.seat.Seat.{Seat}
-
--- classes as numbers
-abbrev pub class_rank : Class → ℕ
-class_rank Authority = 0
-class_rank Bibliographic = 1
 
 class_rank_same : (x y : Class) → class_rank x ≡ class_rank y → x ≡ y
 class_rank_same Authority Authority e = refl

@@ -1,5 +1,5 @@
 ghost use Rattle.std.specs.Prelude.{◌≡◌};
-ghost use Rattle.numbering.specs.Seats.{class_rank};
+ghost use Rattle.marc_types.specs.Order.{class_rank};
 
 use marc_types::{Class, NoMemory, TryCopy};
 use std::alloc::Global;
