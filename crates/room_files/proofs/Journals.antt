@@ -1,5 +1,5 @@
 -- A journal as it is opened and closed again.
-use Rattle.std.proofs.Common.{◌≡◌, inr, ◌∙◌, ℕ, true, List, Option, Some, is_some, refl, sym, ap, subst, arith, []}
+use Rattle.std.proofs.Common.{◌≡◌, inr, ◌∙◌, ℕ, true, List, Option, Some, is_some, sym, ap, subst, arith, []}
 use Rattle.marc_types.specs.declared.entry.Entry.{Entry}
 use Rattle.outside.specs.Disk.{DiskView, SameDisk}
 use Rattle.outside.specs.Room.{RoomView, SameBut, bytes_or_none}
