@@ -179,5 +179,6 @@ recovered_since frames place version old mid new content is = record {
   was = λ log told. is.was log (content ∙ told);
   named = λ log told. is.named log (content ∙ told);
   is = is.is;
+  ordered = λ log told. is.ordered log (content ∙ told);
   settled = is.settled;
 }

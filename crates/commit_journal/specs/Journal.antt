@@ -1,12 +1,12 @@
 -- What a journal keeps of its log, and what a crash leaves of it.
-use Rattle.std.specs.Prelude.{◌≡◌, ◌≢◌, ◌⊎◌, ℕ, ◌+◌, ◌<◌, ◌≤◌, max, true, List, [], ◌∷◌, ◌++◌, length, Some, None, is_some, Result, Ok, Err, IfErr, IsErrOf}
+use Rattle.std.specs.Prelude.{◌≡◌, ◌≢◌, ◌⊎◌, ℕ, ◌+◌, ◌<◌, ◌≤◌, max, true, List, [], ◌∷◌, ◌++◌, length, take, nat_le, if◌then◌else◌, Some, None, is_some, Result, Ok, Err, IfErr, IsErrOf}
 use Rattle.std.specs.Int.{w32, to_be_bytes}
 use Rattle.outside.specs.Disk.{DiskView, OnlyContent, Unchanged, NoNewImage}
 use Rattle.outside.specs.Fault.{Rose}
 use Rattle.commit_journal.specs.declared.fault.JournalFault.{JournalFault}
 use Rattle.commit_journal.specs.declared.fault.JournalFault.TheVariants.{DeviceFault, NotAJournal}
 use Rattle.commit_journal.specs.declared.frame.Frame.{Frame}
-use Rattle.commit_journal.specs.declared.format.TheConstants.{BLANK_LENGTH, CLOSED_GATE, LENGTH_BYTES}
+use Rattle.commit_journal.specs.declared.format.TheConstants.{BLANK_LENGTH, CLOSED_GATE, EMPTY_LOG, LENGTH_BYTES}
 use Rattle.commit_journal.specs.Log.{header_fault, walk_of, version_of_header, frames_of, version_of}
 
 -- the length of a payload, the payload, and a closed gate
@@ -44,6 +44,19 @@ pub record SameLog (log image : List ℕ) : Type 0 where
   pub version : BLANK_LENGTH < length image → version_of image ≡ version_of log
   pub no_longer : length image ≤ max BLANK_LENGTH (length log)
 
+-- What an opening leaves of a log, whatever it answers: the same log. One that is no journal at a place is as it was, byte for byte.
+pub record LeavesLog (log now : List ℕ) : Type 0 where
+  pub same : SameLog log now
+  pub lost : (place : ℕ) → frames_of log ≡ Err place → now ≡ log
+
+-- so it is where the disk tells its content
+abbrev pub LeavesContent : DiskView → DiskView → Type 0
+LeavesContent old new = (log now : List ℕ) → old.content ≡ Some log → new.content ≡ Some now → LeavesLog log now
+
+-- a log that is brought into order: a blank one is written anew, and of a longer one what stands behind its first closed gate is cut off
+unfoldable pub in_order : List ℕ → List ℕ
+in_order log = if nat_le (length log) BLANK_LENGTH then EMPTY_LOG else take ((walk_of log).place + 1) log
+
 -- time goes on: what a crash might have left it still may, a first sync stays the first, and whether the disk tells stays
 pub record Continues (old new : DiskView) : Type 0 where
   pub later : old.moment ≤ new.moment
@@ -67,11 +80,12 @@ pub record Keeps (P : List ℕ → Type 0) (old new : DiskView) : Type 0 where
   pub since : (t : ℕ) (c : List ℕ) → t ≤ old.moment → new.left t c → old.left t c ⊎ P c
   pub now : (c : List ℕ) → new.image c → P c
 
--- a told log is recovered: these are its frames, before and after, and it ends with its closed gate
+-- a told log is recovered: these are its frames, before and after, it is brought into order, and it ends with its closed gate
 pub record IsRecovered (frames : List Frame) (place version : ℕ) (old new : DiskView) : Type 0 where
   pub was : (log : List ℕ) → old.content ≡ Some log → frames_of log ≡ Ok frames
   pub named : (log : List ℕ) → old.content ≡ Some log → version_of log ≡ version
   pub is : (log : List ℕ) → new.content ≡ Some log → frames_of log ≡ Ok frames
+  pub ordered : (log : List ℕ) → old.content ≡ Some log → new.content ≡ Some (in_order log)
   pub settled : IsSettled place version new
 
 -- an opening: each image since its first sync that succeeded is the same log, and where none did the content is as it was

@@ -4,7 +4,7 @@ ghost use Rattle.outside.specs.Disk.{OnlyContent, LeavesOnly, patch, Torn};
 ghost use Rattle.outside.specs.Fault.{HasCause};
 ghost use Rattle.commit_journal.specs.declared.format.TheConstants.{FRAME_ROOM};
 ghost use Rattle.commit_journal.specs.Log.{frames_of};
-ghost use Rattle.commit_journal.specs.Journal.{frame_text, and_frame, IsSettled, HasFrameOrNot, Steps, Continues, IsRecovered, Opens, HasOpenCause};
+ghost use Rattle.commit_journal.specs.Journal.{frame_text, and_frame, IsSettled, HasFrameOrNot, Steps, Continues, IsRecovered, LeavesContent, Opens, HasOpenCause};
 
 use crate::format::{CLOSED_GATE, FRAME_ROOM, LARGEST_PAYLOAD, LENGTH_BYTES, OPEN_GATE};
 use crate::frame::Frames;
@@ -55,6 +55,7 @@ fn prepare<D: Disk>(alloc: Global, disk: &mut D) -> Result<(Vec<u8>, Log), Journ
     ensures room { IfOk result (λ r. vec_len r.0 ≡ FRAME_ROOM) }
     ensures recovered { IfOk result (λ r. IsRecovered r.1.frames.items r.1.place r.1.version (D.seen disk.old) (D.seen disk.new)) }
     ensures crash { Opens (D.seen disk.old) (D.seen disk.new) }
+    ensures content { LeavesContent (D.seen disk.old) (D.seen disk.new) }
     ensures synced { OnOk result ((D.seen disk.old).dated ≡ true → is_some ((D.seen disk.new).synced (D.seen disk.old).moment) ≡ true) }
     ensures later { (D.seen disk.old).faults ≤ (D.seen disk.new).faults }
     ensures fault { IfErr result (HasOpenCause (D.seen disk.old) (D.seen disk.new)) }
@@ -88,8 +89,10 @@ impl<D: Disk> Journal<D> {
         ensures recovered { IfOk result (λ r. IsRecovered r.1 r.0.place r.0.version (D.seen disk) (D.seen r.0.disk)) }
         ensures whole { IfOk result (λ r. r.0.broken ≡ false) }
 
-        // Each image since the first sync is the same log; where that sync didn't succeed, the content is as it was.
+        // Each image since the first sync is the same log; where that sync didn't succeed, the content is as it was. The content
+        // is the same log, whatever the opening answers.
         ensures crash { MatchResult result (λ r. Opens (D.seen disk) (D.seen r.0.disk)) (λ e. Opens (D.seen disk) (D.seen e.0)) }
+        ensures content { MatchResult result (λ r. LeavesContent (D.seen disk) (D.seen r.0.disk)) (λ e. LeavesContent (D.seen disk) (D.seen e.0)) }
         ensures synced { IfOk result (λ r. (D.seen disk).dated ≡ true
             → is_some ((D.seen r.0.disk).synced (D.seen disk).moment) ≡ true) }
         ensures later { MatchResult result (λ r. (D.seen disk).faults ≤ (D.seen r.0.disk).faults) (λ e. (D.seen disk).faults ≤ (D.seen e.0).faults) }

@@ -2,7 +2,7 @@ ghost use Rattle.std.specs.Prelude.{◌≡◌, ℕ, ◌+◌, ◌<◌, ◌≤◌,
 ghost use Rattle.std.specs.Option.{option_map};
 ghost use Rattle.outside.specs.Disk.{OnlyContent, TornCut, Unchanged};
 ghost use Rattle.outside.specs.Fault.{HasCause};
-ghost use Rattle.commit_journal.specs.Journal.{Steps, StaysShort, Continues, Keeps, SameLog, IsRecovered, HasFaultCause};
+ghost use Rattle.commit_journal.specs.Journal.{Steps, StaysShort, Continues, Keeps, SameLog, IsRecovered, LeavesContent, HasFaultCause};
 
 use crate::format::{BLANK_LENGTH, EMPTY_LOG, FIRST_GATE};
 use crate::reading::{Log, read_log};
@@ -45,6 +45,7 @@ fn recover_blank<D: Disk>(alloc: Global, disk: &mut D) -> Result<Log, JournalFau
     ensures recovered { IfOk result (λ log. IsRecovered log.frames.items log.place log.version (D.seen disk.old) (D.seen disk.new)) }
     ensures continues { Continues (D.seen disk.old) (D.seen disk.new) }
     ensures crash { (log : List ℕ) → (D.seen disk.old).content ≡ Some log → Keeps (SameLog log) (D.seen disk.old) (D.seen disk.new) }
+    ensures content { LeavesContent (D.seen disk.old) (D.seen disk.new) }
     ensures fault { HasFaultCause (D.seen disk.old) (D.seen disk.new) result }
 {
     write_empty(disk)?;
@@ -62,6 +63,7 @@ fn recover_journal<D: Disk>(alloc: Global, disk: &mut D) -> Result<Log, JournalF
     ensures recovered { IfOk result (λ log. IsRecovered log.frames.items log.place log.version (D.seen disk.old) (D.seen disk.new)) }
     ensures continues { Continues (D.seen disk.old) (D.seen disk.new) }
     ensures crash { (log : List ℕ) → (D.seen disk.old).content ≡ Some log → Keeps (SameLog log) (D.seen disk.old) (D.seen disk.new) }
+    ensures content { LeavesContent (D.seen disk.old) (D.seen disk.new) }
     ensures fault { HasFaultCause (D.seen disk.old) (D.seen disk.new) result }
 {
     let log = read_log(alloc, disk)?;
@@ -75,6 +77,7 @@ pub fn recover<D: Disk>(alloc: Global, disk: &mut D) -> Result<Log, JournalFault
     ensures recovered { IfOk result (λ log. IsRecovered log.frames.items log.place log.version (D.seen disk.old) (D.seen disk.new)) }
     ensures continues { Continues (D.seen disk.old) (D.seen disk.new) }
     ensures crash { (log : List ℕ) → (D.seen disk.old).content ≡ Some log → Keeps (SameLog log) (D.seen disk.old) (D.seen disk.new) }
+    ensures content { LeavesContent (D.seen disk.old) (D.seen disk.new) }
     ensures fault { HasFaultCause (D.seen disk.old) (D.seen disk.new) result }
 {
     if disk.len() <= BLANK_LENGTH {

@@ -6,6 +6,7 @@ pub mod Keeping
 pub mod Loads
 pub mod Opened
 pub mod Readings
+pub mod Refused
 pub mod Replies
 pub mod Stages
 pub mod Within

@@ -78,17 +78,6 @@ opening_of old new opens = record {
   tells = opens.continues.tells;
 }
 
--- a log that is recovered has the same frames, and is blank or of the same version
-pub recovered_content : (frames : List Frame) (place version : ℕ) (old new : DiskView) → IsRecovered frames place version old new → KeepsContent old new
-recovered_content frames place version old new r log c entries was is has =
-    ∥∥₁_map has (λ of. like_reading entries log c (r.is c is ∙ sym (r.was log was)) (λ long. version_long c long ∙ (r.settled.header c is ∙ sym (r.named log was))) of)
-
--- a fault that isn't a device's wrote nothing
-pub unopened_content : (old new : DiskView) (fault : JournalFault) → HasOpenCause old new fault → open_fault fault ≢ DeviceFault → KeepsContent old new
-unopened_content old new fault cause other log c entries was is has =
-    let same = (cause.unwritten (λ device. other (ap open_fault device))).content in
-    subst (HasHistory entries) (cc (was, is, same)) has
-
 -- a log's version is 1 or 2
 version_one : (log : List ℕ) → version_of_header log ≢ 2 → version_of_header log ≡ 1
 unfolding version_of_header

@@ -1,5 +1,6 @@
 -- Entries that are staged one after the other.
 use Rattle.std.proofs.Common.{◌≡◌, List, [], ◌∷◌, ◌++◌, refl, sym, ap, ◌∙◌, append_assoc}
+use Rattle.std.specs.Prelude.{◌≢◌}
 use Rattle.std.proofs.lemmas.List.{append-nil}
 use Rattle.marc_types.specs.declared.entry.Entry.{Entry}
 use Rattle.marc_types.specs.declared.entry.Receipt.{Receipt}
@@ -14,6 +15,11 @@ none_behind history = refl
 first_behind : (history : List Entry) (e : Entry) (es : List Entry) → receipts_behind history (e ∷ es) ≡ receipt_behind history e ∷ receipts_behind (history ++ e ∷ []) es
 unfolding receipts_behind
 first_behind history e es = refl
+
+-- each entry has its receipt
+pub some_receipt : (history entries : List Entry) → entries ≢ [] → receipts_behind history entries ≢ []
+some_receipt history [] some none = some refl
+some_receipt history (e ∷ es) some none = let first = first_behind history e es in absurd cc
 
 pub last_behind : (history entries : List Entry) (e : Entry)
     → receipts_behind history (entries ++ e ∷ []) ≡ receipts_behind history entries ++ receipt_behind (history ++ entries) e ∷ []

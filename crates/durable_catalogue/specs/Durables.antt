@@ -1,5 +1,5 @@
 -- What a catalogue over a journal keeps. The rules are this project's own.
-use Rattle.std.specs.Prelude.{◌≡◌, ℕ, ◌≤◌, Bool, true, false, List, [], ◌∷◌, ◌++◌, length, Option, Some, None, is_some}
+use Rattle.std.specs.Prelude.{◌≡◌, ◌≢◌, ℕ, ◌≤◌, Bool, true, false, List, [], ◌∷◌, ◌++◌, length, Option, Some, None, is_some}
 use Rattle.std.specs.Option.{option_map}
 use Rattle.std.specs.declared.snapshot.Snapshot.{Snapshot}
 use Rattle.marc_types.specs.declared.entry.Entry.{Entry}
@@ -10,6 +10,7 @@ use Rattle.outside.specs.Disk.{DiskView}
 use Rattle.entry_history.specs.Commits.{Origin}
 use Rattle.entry_history.specs.Events.{committed}
 use Rattle.entry_history.specs.declared.event.Event.{Event}
+use Rattle.entry_history.specs.declared.reply.BatchReply.{BatchReply}
 use Rattle.entry_history.specs.declared.event.Event.TheVariants.{Broke}
 use Rattle.durable_catalogue.specs.Images.{Holds}
 
@@ -37,6 +38,10 @@ is_taken (Some Full) = true
 is_taken (Some NoMemory) = false
 is_taken (Some DeviceFault) = false
 is_taken (Some Broken) = false
+
+-- a commit that took no entry, though no device failed in it: Broken, want of memory, or Full with no receipt
+abbrev pub TookNothing : BatchReply → Type 0
+TookNothing reply = (reply.receipts ≡ []) × (reply.end ≢ Some DeviceFault)
 
 -- what an opening leaves and no commit changes: the limits and the run; how many entries there were; whether the disk told its
 -- content and its moments, when it was handed over, and how many faults it had had; and the moment of the first sync since then,

@@ -4,4 +4,5 @@ pub mod Images
 pub mod Logs
 pub mod Openings
 pub mod Questions
+pub mod Refused
 pub mod Staged

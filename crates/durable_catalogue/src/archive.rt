@@ -5,6 +5,7 @@ ghost use Rattle.commit_journal.specs.Log.{version_of};
 ghost use Rattle.durable_catalogue.specs.declared.fault.OpenFault.TheVariants.{DeviceFault, OldVersion};
 ghost use Rattle.durable_catalogue.specs.Logs.{HasHistory};
 ghost use Rattle.durable_catalogue.specs.Openings.{IsUnopened, IsOpening, KeepsContent};
+ghost use Rattle.durable_catalogue.specs.Refused.{LeavesDiskAlone, IsPutInOrder};
 ghost use Rattle.entry_record.specs.History.{IsWithin};
 
 use crate::OpenFault;
@@ -33,7 +34,9 @@ impl<D: Disk> Archive<D> {
         ensures within { IfOk result (λ a. IsWithin limits a.core.history) }
         ensures crash { MatchResult result (λ a. IsOpening (D.seen disk) (D.seen a.journal.disk)) (λ e. IsOpening (D.seen disk) (D.seen e.0)) }
         ensures content { MatchResult result (λ a. KeepsContent (D.seen disk) (D.seen a.journal.disk))
-            (λ e. e.1 ≢ DeviceFault → KeepsContent (D.seen disk) (D.seen e.0)) }
+            (λ e. KeepsContent (D.seen disk) (D.seen e.0)) }
+        ensures in_order { IfOk result (λ a. IsPutInOrder (D.seen disk) (D.seen a.journal.disk)) }
+        ensures left_alone { IfErr result (λ e. LeavesDiskAlone (e.1 ≡ DeviceFault) (D.seen disk) (D.seen e.0)) }
         ensures later { MatchResult result (λ a. (D.seen disk).faults ≤ (D.seen a.journal.disk).faults) (λ e. (D.seen disk).faults ≤ (D.seen e.0).faults) }
         ensures fault { IfErr result (λ e. (log : List ℕ) → (D.seen disk).content ≡ Some log → IsUnopened limits log e.1) }
         ensures current { IfErr result (λ e. e.1 ≢ OldVersion) }

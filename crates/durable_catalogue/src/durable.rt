@@ -13,8 +13,9 @@ ghost use Rattle.entry_history.specs.declared.event.Event.{Event};
 ghost use Rattle.durable_catalogue.specs.Logs.{HasHistory};
 ghost use Rattle.durable_catalogue.specs.declared.fault.OpenFault.{OpenFault};
 ghost use Rattle.durable_catalogue.specs.Openings.{IsUnopened, IsOpening, KeepsContent};
-ghost use Rattle.durable_catalogue.specs.Images.{HasFrameOrNot};
-ghost use Rattle.durable_catalogue.specs.Durables.{mark_of, marked, events, is_taken, opening, IsKept, IsLeft, IsLostBy, IsSameOpening};
+ghost use Rattle.durable_catalogue.specs.Refused.{LeavesDiskAlone, IsPutInOrder};
+ghost use Rattle.durable_catalogue.specs.Images.{Holds, HasFrameOrNot};
+ghost use Rattle.durable_catalogue.specs.Durables.{mark_of, marked, events, is_taken, TookNothing, opening, IsKept, IsLeft, IsLostBy, IsSameOpening};
 
 use crate::OpenFault;
 use crate::fault::open_fault;
@@ -89,11 +90,15 @@ impl<D: Disk> Durable<D> {
         ensures synced { IfOk result (λ d. (D.seen disk).dated ≡ true → is_some ((D.seen d.first.value.disk).synced (D.seen disk).moment) ≡ true) }
 
         // Each image since the first sync has the log's history; where that sync didn't succeed, the content is as it was. So
-        // has the content, whatever the opening answers but a device fault.
+        // has the content, whatever the opening answers.
         ensures crash { MatchResult result (λ d. IsOpening (D.seen disk) (D.seen d.journal.disk)) (λ e. IsOpening (D.seen disk) (D.seen e.0)) }
         ensures content { MatchResult result (λ d. KeepsContent (D.seen disk) (D.seen d.journal.disk))
-            (λ e. e.1 ≢ OpenFault.DeviceFault → KeepsContent (D.seen disk) (D.seen e.0)) }
+            (λ e. KeepsContent (D.seen disk) (D.seen e.0)) }
         ensures later { MatchResult result (λ d. (D.seen disk).faults ≤ (D.seen d.journal.disk).faults) (λ e. (D.seen disk).faults ≤ (D.seen e.0).faults) }
+
+        // The log is in order, or it was refused, and is left alone.
+        ensures in_order { IfOk result (λ d. IsPutInOrder (D.seen disk) (D.seen d.journal.disk)) }
+        ensures left_alone { IfErr result (λ e. LeavesDiskAlone (e.1 ≡ OpenFault.DeviceFault) (D.seen disk) (D.seen e.0)) }
 
         // Each fault comes only where the log is so, and Full only where it is of version 2; a device fault only where the count
         // of faults rose.
@@ -171,6 +176,7 @@ impl<D: Disk> Durable<D> {
         ensures fault { IfErr result (λ fault. IsLostBy fault (mark_of self.new.mark) frame) }
         ensures crash { (log : List ℕ) → (D.seen self.old.journal.disk).content ≡ Some log → LeavesOnly (D.seen self.old.journal.disk) (D.seen self.new.journal.disk)
             (HasFrameOrNot self.old.core.history frame log) }
+        ensures quiet { IfErr result (λ fault. fault ≢ DeviceFault → self.new.journal ≡ self.old.journal) }
         ensures cause { IfErr result (λ fault. fault ≡ DeviceFault → Rose (D.seen self.old.journal.disk).faults (D.seen self.new.journal.disk).faults) }
         ensures stays { IsSameOpening self.old.limits self.old.run self.old.opened self.new.limits self.new.run self.new.opened }
         ensures before { self.new.before ≡ self.old.before }
@@ -213,6 +219,13 @@ impl<D: Disk> Durable<D> {
             (HasFrameOrNot self.old.core.history (fitting self.old.limits self.old.core.history (with_run self.old.run batch)) log) }
         ensures all { (log c : List ℕ) → is_taken result.end ≡ true → (D.seen self.new.journal.disk).content ≡ Some log
             → (D.seen self.new.journal.disk).image c → HasHistory self.new.core.history c }
+
+        // Each image at the end of the call has all that was committed by then, whatever this call and those before it answered.
+        ensures held { (c : List ℕ) → is_some (D.seen self.new.before.value).content ≡ true → (D.seen self.new.journal.disk).image c
+            → Holds (length self.new.core.history) self.new.core.history (marked (mark_of self.new.mark)) c }
+
+        // A commit that took nothing made no call on the disk, unless a device failed in it.
+        ensures quiet { TookNothing result → self.new.journal ≡ self.old.journal }
 
         // A device fault comes only where the count of faults rose; what the opening left stays.
         ensures cause { result.end ≡ Some DeviceFault → Rose (D.seen self.old.journal.disk).faults (D.seen self.new.journal.disk).faults }

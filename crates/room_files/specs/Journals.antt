@@ -5,9 +5,11 @@ use Rattle.marc_types.specs.declared.entry.Limits.{Limits}
 use Rattle.outside.specs.Disk.{DiskView, SameDisk}
 use Rattle.outside.specs.Room.{RoomView, bytes_or_none}
 use Rattle.commit_journal.specs.Log.{version_of}
+use Rattle.commit_journal.specs.Journal.{LeavesLog, in_order}
 use Rattle.entry_record.specs.History.{next_run, IsWithin}
 use Rattle.durable_catalogue.specs.Logs.{HasHistory}
 use Rattle.durable_catalogue.specs.Images.{Holds}
+use Rattle.durable_catalogue.specs.Refused.{LeavesAlone}
 use Rattle.durable_catalogue.specs.Durables.{Opening, IsLeft, marked}
 
 -- the most that a history has: entries, and bytes
@@ -49,17 +51,21 @@ pub record IsUntouched (old new : RoomView) (name : List ℕ) : Type 0 where
   pub is_log : new.has_log name ≡ old.has_log name
   pub log : old.has_log name ≡ true → SameDisk (old.log name) (new.log name)
 
--- The log of that name has the history that it had: it was not opened, and is as it was; or it was, and its file has that history,
--- and so has each image since the first sync. Where a device failed, its file has it if the log tells its moments.
+-- The log of that name keeps its history: it was not opened, and is as it was; or it was, and its file is left alone, with the
+-- history that it had, and so has each image since the first sync. Where a device failed, the file still has the frames that it had.
 pub data KeepsHistory (failed : Type 0) (old new : RoomView) (name : List ℕ) : Type 0 where
   Unopened : IsUntouched old new name → KeepsHistory failed old new name
-  Opened : ((entries : List Entry) → HasHistory entries (log_bytes old name) → (failed → (new.log name).dated ≡ true) → HasHistory entries (log_bytes new name))
+  Opened : LeavesAlone failed (log_bytes old name) (log_bytes new name)
+      → ((entries : List Entry) → HasHistory entries (log_bytes old name) → HasHistory entries (log_bytes new name))
       → ((entries : List Entry) (s : ℕ) (c : List ℕ) → HasHistory entries (log_bytes old name) → (new.log name).synced 0 ≡ Some s → (new.log name).left s c
       → HasHistory entries c)
       → KeepsHistory failed old new name
 
--- a log that was opened keeps the history that its bytes had: its content has it, and so has each image since the first sync
+-- A log that was opened is in order, and has the frames that it had. It keeps the history that its bytes had: its content has it,
+-- and so has each image since the first sync.
 pub record KeepsLog (log : List ℕ) (disk : DiskView) : Type 0 where
+  pub leaves : LeavesLog log (bytes_or_none disk.content)
+  pub bytes : bytes_or_none disk.content ≡ in_order log
   pub content : (entries : List Entry) → HasHistory entries log → HasHistory entries (bytes_or_none disk.content)
   pub images : (entries : List Entry) (s : ℕ) (c : List ℕ) → HasHistory entries log → disk.synced 0 ≡ Some s → disk.left s c
       → HasHistory entries c

@@ -1,5 +1,6 @@
 use Rattle.std.proofs.lemmas.Result.{err_from_is_err_and}
 use Rattle.commit_journal.proofs.Faults.{open_cause}
+use Rattle.commit_journal.proofs.Recoveries.{leaves_from}
 use Rattle.commit_journal.proofs.Steps.{continues, syncs_now, no_sync_yet, opens_synced, synced_once}
 use Rattle.commit_journal.proofs.journal.prepare.Goals as goal
 
@@ -36,3 +37,9 @@ returns-clause-synced g c =
     let seen = g.D.Disk.seen in
     let synced = c.in_ok-sync.ensures in
     synced_once (seen c.args.disk.now) (seen c.sync.new.self) (seen c.recover.new.disk) synced.synced c.recover.ensures.continues synced.time.later
+
+pub returns-in_err-log-clause-content : goal.returns-in_err-log-clause-content
+returns-in_err-log-clause-content g c = leaves_from (g.D.Disk.seen c.args.disk.now) (g.D.Disk.seen c.sync.new.self) (g.D.Disk.seen c.recover.new.disk) c.in_ok-sync.ensures.content c.recover.ensures.content
+
+pub returns-clause-content : goal.returns-clause-content
+returns-clause-content g c = leaves_from (g.D.Disk.seen c.args.disk.now) (g.D.Disk.seen c.sync.new.self) (g.D.Disk.seen c.recover.new.disk) c.in_ok-sync.ensures.content c.recover.ensures.content

@@ -1,9 +1,12 @@
-use Rattle.std.proofs.Common.{[], sym, subst, ◌∙◌}
+use Rattle.std.proofs.Common.{◌≡◌, [], sym, subst, ◌∙◌}
 use Rattle.entry_history.specs.Readers.{IsVersion}
 use Rattle.entry_history.specs.Payloads.{IsHistory}
 use Rattle.durable_catalogue.specs.Logs.{payloads_of}
 use Rattle.durable_catalogue.specs.Openings.{IsOpening, IsUnloaded, IsUnopened, KeepsContent}
-use Rattle.durable_catalogue.proofs.Opened.{reading, opening_of, recovered_content, unopened_content, either_version, unloaded, unopened}
+use Rattle.durable_catalogue.proofs.Opened.{reading, opening_of, either_version, unloaded, unopened}
+use Rattle.durable_catalogue.specs.declared.fault.OpenFault.TheVariants.{DeviceFault}
+use Rattle.durable_catalogue.specs.Refused.{LeavesDiskAlone}
+use Rattle.durable_catalogue.proofs.Refused.{leaves_history, recovered_order, recovered_alone, unwritten_alone}
 use Rattle.durable_catalogue.proofs.archive.Archive.open.Goals as goal
 
 pub returns-in-Ok-load_either-clause-history : goal.returns-in-Ok-load_either-clause-history
@@ -19,17 +22,25 @@ pub returns-in-Ok-load_either-clause-crash : goal.returns-in-Ok-load_either-clau
 returns-in-Ok-load_either-clause-crash g c = opening_of (g.D.Disk.seen c.args.disk) (g.D.Disk.seen c.in-Ok.journal.disk) c.in-Ok.ensures.crash
 
 pub returns-in-Ok-load_either-clause-content : goal.returns-in-Ok-load_either-clause-content
-returns-in-Ok-load_either-clause-content g c =
-    let seen = g.D.Disk.seen in
+returns-in-Ok-load_either-clause-content g c = leaves_history (g.D.Disk.seen c.args.disk) (g.D.Disk.seen c.in-Ok.journal.disk) c.in-Ok.ensures.content
+
+pub returns-in-Ok-load_either-clause-in_order : goal.returns-in-Ok-load_either-clause-in_order
+returns-in-Ok-load_either-clause-in_order g c =
     let journal = c.in-Ok.journal in
-    recovered_content c.in-Ok.frames journal.place journal.version (seen c.args.disk) (seen journal.disk) c.in-Ok.ensures.recovered
+    recovered_order (g.D.Disk.seen c.args.disk) (g.D.Disk.seen journal.disk) c.in-Ok.ensures.content c.in-Ok.frames journal.place journal.version c.in-Ok.ensures.recovered
 
 pub returns-in-Ok-clause-content : goal.returns-in-Ok-clause-content
-returns-in-Ok-clause-content g c other =
+returns-in-Ok-clause-content g c =
+    let seen = g.D.Disk.seen in
+    subst (λ d. KeepsContent (seen c.args.disk) (seen d)) (sym c.close.ensures) (leaves_history (seen c.args.disk) (seen c.in-Ok.journal.disk) c.in-Ok.ensures.content)
+
+pub returns-in-Ok-clause-left_alone : goal.returns-in-Ok-clause-left_alone
+returns-in-Ok-clause-left_alone g c =
     let seen = g.D.Disk.seen in
     let journal = c.in-Ok.journal in
-    subst (λ d. KeepsContent (seen c.args.disk) (seen d)) (sym c.close.ensures)
-    (recovered_content c.in-Ok.frames journal.place journal.version (seen c.args.disk) (seen journal.disk) c.in-Ok.ensures.recovered)
+    let failed = c.in-Err-load_either.fault ≡ DeviceFault in
+    subst (λ d. LeavesDiskAlone failed (seen c.args.disk) (seen d)) (sym c.close.ensures)
+    (recovered_alone (seen c.args.disk) (seen journal.disk) c.in-Ok.ensures.content c.in-Ok.frames journal.place journal.version c.in-Ok.ensures.recovered failed)
 
 pub returns-in-Ok-clause-crash : goal.returns-in-Ok-clause-crash
 returns-in-Ok-clause-crash g c =
@@ -47,9 +58,13 @@ returns-in-Ok-clause-fault g c log told =
     unloaded c.in-Ok.frames journal.place journal.version (seen c.args.disk) (seen journal.disk) c.args.limits fault recovered why log told
 
 pub returns-clause-content : goal.returns-clause-content
-returns-clause-content g c other =
+returns-clause-content g c = leaves_history (g.D.Disk.seen c.args.disk) (g.D.Disk.seen c.in-Err.failed.0) c.in-Err.ensures.content
+
+pub returns-clause-left_alone : goal.returns-clause-left_alone
+returns-clause-left_alone g c =
     let seen = g.D.Disk.seen in
-    unopened_content (seen c.args.disk) (seen c.in-Err.failed.0) c.in-Err.failed.1 c.in-Err.ensures.fault (λ device. other (c.open_fault.ensures ∙ device))
+    unwritten_alone (seen c.args.disk) (seen c.in-Err.failed.0) c.in-Err.ensures.content (c.open_fault.result ≡ DeviceFault) c.in-Err.failed.1 c.in-Err.ensures.fault
+    (λ device. c.open_fault.ensures ∙ device)
 
 pub returns-clause-crash : goal.returns-clause-crash
 returns-clause-crash g c = opening_of (g.D.Disk.seen c.args.disk) (g.D.Disk.seen c.in-Err.failed.0) c.in-Err.ensures.crash

@@ -9,6 +9,7 @@ use Rattle.durable_catalogue.specs.Durables.{mark_of, marked, events, IsKept}
 use Rattle.durable_catalogue.proofs.Fits.{runs_fit, with_run_runs}
 use Rattle.durable_catalogue.proofs.Frames.{no_mark, none_marked}
 use Rattle.durable_catalogue.proofs.Keeping.{IsDisk, still_only, each_image}
+use Rattle.durable_catalogue.proofs.Stages.{some_receipt}
 use Rattle.durable_catalogue.proofs.Replies.{IsTaken, adds, broken_reply, none_fits, part_is, whole_reply, part_reply, lost_reply}
 use Rattle.durable_catalogue.proofs.durable.Durable.commit.Goals.{then-len, else-len}
 use Rattle.durable_catalogue.proofs.durable.Durable.commit.Goals as goal
@@ -96,3 +97,21 @@ returns-in-Err-clause-reply g c =
     let frame = c.in-Some.frame in
     lost_reply o self.core.history now.core.history c.args.batch frame (mark_of self.mark) (mark_of now.mark) c.in-Err.fault c.nothing-in-Err.result (no_mark self.mark whole) c.in-Err.ensures.nothing
     (part_is o self.core c.args.batch c.set_run.new.self frame self.unstaged c.set_run.ensures c.in-Some.ensures.part) c.in-Some.ensures.some c.in-Err.ensures.fault c.nothing-in-Err.ensures.receipts c.nothing-in-Err.ensures.end
+
+pub returns-in-Ok-clause-quiet : goal.returns-in-Ok-clause-quiet
+returns-in-Ok-clause-quiet g c took = absurd (some_receipt c.args.self.now.core.history c.in-Some.frame c.in-Some.ensures.some (sym c.in-Ok.ensures.receipts ∙ took.0))
+
+pub returns-in-Err-clause-quiet : goal.returns-in-Err-clause-quiet
+returns-in-Err-clause-quiet g c took = c.in-Err.ensures.quiet (λ device. took.1 (c.nothing-in-Err.ensures.end ∙ ap Some device))
+
+pub returns-then-is_broken-clause-held : goal.returns-then-is_broken-clause-held
+returns-then-is_broken-clause-held g c image told is = c.args.self.now.kept.images image told is
+
+pub returns-in_default-clause-held : goal.returns-in_default-clause-held
+returns-in_default-clause-held g c image told is = c.args.self.now.kept.images image told is
+
+pub returns-in-Ok-clause-held : goal.returns-in-Ok-clause-held
+returns-in-Ok-clause-held g c image told is = c.commit_frame.new.self.kept.images image told is
+
+pub returns-in-Err-clause-held : goal.returns-in-Err-clause-held
+returns-in-Err-clause-held g c image told is = c.commit_frame.new.self.kept.images image told is

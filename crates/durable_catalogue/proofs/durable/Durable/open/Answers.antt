@@ -1,4 +1,4 @@
-use Rattle.std.proofs.Common.{◌++◌, [], length, sym, ap, subst, ◌∙◌}
+use Rattle.std.proofs.Common.{◌≡◌, ◌++◌, [], length, sym, ap, subst, ◌∙◌}
 use Rattle.std.proofs.lemmas.List.{append-nil}
 use Rattle.commit_journal.specs.Journal.{IsRecovered}
 use Rattle.entry_history.specs.Readers.{IsVersion}
@@ -6,7 +6,10 @@ use Rattle.entry_history.specs.Payloads.{IsHistory, CanFollow}
 use Rattle.durable_catalogue.specs.Logs.{payloads_of}
 use Rattle.durable_catalogue.specs.Durables.{IsKept}
 use Rattle.durable_catalogue.specs.Openings.{IsOpening, IsUnloaded, IsUnopened, KeepsContent}
-use Rattle.durable_catalogue.proofs.Opened.{next_follows, was_reading, opened_kept, opening_of, recovered_content, unopened_content, unloaded, unopened, never_full, either_version}
+use Rattle.durable_catalogue.proofs.Opened.{next_follows, was_reading, opened_kept, opening_of, unloaded, unopened, never_full, either_version}
+use Rattle.durable_catalogue.specs.declared.fault.OpenFault.TheVariants.{DeviceFault}
+use Rattle.durable_catalogue.specs.Refused.{LeavesDiskAlone}
+use Rattle.durable_catalogue.proofs.Refused.{leaves_history, recovered_order, recovered_alone, unwritten_alone}
 use Rattle.durable_catalogue.proofs.durable.Durable.open.Goals as goal
 
 pub invariant_of-result : goal.invariant_of-result
@@ -48,17 +51,25 @@ pub returns-in-Ok-load-clause-crash : goal.returns-in-Ok-load-clause-crash
 returns-in-Ok-load-clause-crash g c = opening_of (g.D.Disk.seen c.args.disk) (g.D.Disk.seen c.in-Ok.journal.disk) c.in-Ok.ensures.crash
 
 pub returns-in-Ok-load-clause-content : goal.returns-in-Ok-load-clause-content
-returns-in-Ok-load-clause-content g c =
-    let seen = g.D.Disk.seen in
+returns-in-Ok-load-clause-content g c = leaves_history (g.D.Disk.seen c.args.disk) (g.D.Disk.seen c.in-Ok.journal.disk) c.in-Ok.ensures.content
+
+pub returns-in-Ok-load-clause-in_order : goal.returns-in-Ok-load-clause-in_order
+returns-in-Ok-load-clause-in_order g c =
     let journal = c.in-Ok.journal in
-    recovered_content c.in-Ok.frames journal.place journal.version (seen c.args.disk) (seen journal.disk) c.in-Ok.ensures.recovered
+    recovered_order (g.D.Disk.seen c.args.disk) (g.D.Disk.seen journal.disk) c.in-Ok.ensures.content c.in-Ok.frames journal.place journal.version c.in-Ok.ensures.recovered
 
 pub returns-in-Err-load-clause-content : goal.returns-in-Err-load-clause-content
-returns-in-Err-load-clause-content g c other =
+returns-in-Err-load-clause-content g c =
+    let seen = g.D.Disk.seen in
+    subst (λ d. KeepsContent (seen c.args.disk) (seen d)) (sym c.close.ensures) (leaves_history (seen c.args.disk) (seen c.in-Ok.journal.disk) c.in-Ok.ensures.content)
+
+pub returns-in-Err-load-clause-left_alone : goal.returns-in-Err-load-clause-left_alone
+returns-in-Err-load-clause-left_alone g c =
     let seen = g.D.Disk.seen in
     let journal = c.in-Ok.journal in
-    subst (λ d. KeepsContent (seen c.args.disk) (seen d)) (sym c.close.ensures)
-    (recovered_content c.in-Ok.frames journal.place journal.version (seen c.args.disk) (seen journal.disk) c.in-Ok.ensures.recovered)
+    let failed = c.in-Err-load.fault ≡ DeviceFault in
+    subst (λ d. LeavesDiskAlone failed (seen c.args.disk) (seen d)) (sym c.close.ensures)
+    (recovered_alone (seen c.args.disk) (seen journal.disk) c.in-Ok.ensures.content c.in-Ok.frames journal.place journal.version c.in-Ok.ensures.recovered failed)
 
 pub returns-in-Err-load-clause-crash : goal.returns-in-Err-load-clause-crash
 returns-in-Err-load-clause-crash g c =
@@ -82,9 +93,13 @@ pub returns-in-Err-clause-old_first : goal.returns-in-Err-clause-old_first
 returns-in-Err-clause-old_first g c full log told = absurd (never_full c.in-Err.failed.1 (sym c.open_fault.ensures ∙ full))
 
 pub returns-in-Err-clause-content : goal.returns-in-Err-clause-content
-returns-in-Err-clause-content g c other =
+returns-in-Err-clause-content g c = leaves_history (g.D.Disk.seen c.args.disk) (g.D.Disk.seen c.in-Err.failed.0) c.in-Err.ensures.content
+
+pub returns-in-Err-clause-left_alone : goal.returns-in-Err-clause-left_alone
+returns-in-Err-clause-left_alone g c =
     let seen = g.D.Disk.seen in
-    unopened_content (seen c.args.disk) (seen c.in-Err.failed.0) c.in-Err.failed.1 c.in-Err.ensures.fault (λ device. other (c.open_fault.ensures ∙ device))
+    unwritten_alone (seen c.args.disk) (seen c.in-Err.failed.0) c.in-Err.ensures.content (c.open_fault.result ≡ DeviceFault) c.in-Err.failed.1 c.in-Err.ensures.fault
+    (λ device. c.open_fault.ensures ∙ device)
 
 pub returns-in-Err-clause-crash : goal.returns-in-Err-clause-crash
 returns-in-Err-clause-crash g c = opening_of (g.D.Disk.seen c.args.disk) (g.D.Disk.seen c.in-Err.failed.0) c.in-Err.ensures.crash
