@@ -1,5 +1,5 @@
 -- How a command ends, and what it did. The statuses are this project's own.
-use Rattle.std.specs.Prelude.{ℕ, List, Option}
+use Rattle.std.specs.Prelude.{ℕ, Bool, List, Option, Unit, if◌then◌else◌}
 use Rattle.outside.specs.Room.{RoomView}
 use Rattle.console_lines.specs.Faults.{fault_status, fault_line, IsFaultTold}
 use Rattle.console_lines.specs.declared.fault.Fault.{Fault}
@@ -11,6 +11,24 @@ end_status Done = 0
 end_status Refused = 1
 end_status OutputFault = 4
 end_status (Told fault) = fault_status fault
+
+-- the end where all was done: whether something was refused
+abbrev pub end_of : Bool → End
+end_of refused = if refused then Refused else Done
+
+-- all was done, and something was refused or nothing was
+abbrev pub IsAllDone : End → Type 0
+IsAllDone Done = Unit {0}
+IsAllDone Refused = Unit {0}
+IsAllDone OutputFault = ⊥
+IsAllDone (Told fault) = ⊥
+
+-- no fault was told
+abbrev pub IsUntold : End → Type 0
+IsUntold Done = Unit {0}
+IsUntold Refused = Unit {0}
+IsUntold OutputFault = Unit {0}
+IsUntold (Told fault) = ⊥
 
 -- What a command did: the room before and after, what the console had been told and is told now, its faults, and the end.
 pub record Outcome : Type 1 where

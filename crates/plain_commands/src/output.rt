@@ -9,9 +9,6 @@ use crate::exporting::write_all_records;
 use catalogue_core::Catalogue;
 use outside::{Failed, Room};
 
-/// The exit status where a file or the console could not be written.
-pub(crate) const OUTPUT_FAULT: u8 = 4;
-
 /// Writes the export of a catalogue into the file of that name, which is closed again on every path.
 #[tactic(auto, using(crate::proofs::Parts::part_of_closed))]
 pub fn write_out<R: Room>(room: &mut R, name: &str, core: &Catalogue) -> Result<(), Failed>
