@@ -4,11 +4,6 @@ ghost use Rattle.archive_commands.specs.Archives.{opening_fault};
 use console_lines::Fault;
 use durable_catalogue::OpenFault;
 
-/// The exit statuses of a command that opened its journal and wrote its output, or could not write it.
-pub(crate) const WRITTEN: u8 = 0;
-
-pub(crate) const OUTPUT_FAULT: u8 = 4;
-
 /// An opening's fault, as the console tells it.
 pub(crate) fn opening_fault(fault: OpenFault) -> Fault
     ensures { result ≡ opening_fault fault }

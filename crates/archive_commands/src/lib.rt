@@ -1,9 +1,10 @@
 //! The commands on a journal that is only read: its export and its report.
 #![tactic(auto)]
 
-pub use exporting::export;
-pub use reporting::report;
+pub use due::Due;
+pub use reading::read;
 
-mod exporting;
+mod due;
 mod fault;
-mod reporting;
+mod reading;
+mod writing;

@@ -1,5 +1,5 @@
 -- How a command ends, and what it did. The statuses are this project's own.
-use Rattle.std.specs.Prelude.{ℕ, Bool, List, Option, Unit, if◌then◌else◌}
+use Rattle.std.specs.Prelude.{ℕ, Bool, List, Option, if◌then◌else◌}
 use Rattle.outside.specs.Room.{RoomView}
 use Rattle.console_lines.specs.Faults.{fault_status, fault_line, IsFaultTold}
 use Rattle.console_lines.specs.declared.fault.Fault.{Fault}

@@ -5,3 +5,4 @@ pub mod Logs
 pub mod Openings
 pub mod Questions
 pub mod Staged
+pub mod Views

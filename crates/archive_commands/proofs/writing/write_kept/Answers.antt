@@ -2,7 +2,7 @@ use Rattle.std.proofs.Common.{rules, Bool}
 use Rattle.std.specs.Str.{bytes_eq}
 use Rattle.marc_types.specs.declared.key.Key.{Key}
 use Rattle.entry_record.specs.Output.{all_keys}
-use Rattle.archive_commands.proofs.exporting.write_kept.Goals as goal
+use Rattle.archive_commands.proofs.writing.write_kept.Goals as goal
 
 pub returns-in-None-clause-part : goal.returns-in-None-clause-part
 returns-in-None-clause-part g c told =
