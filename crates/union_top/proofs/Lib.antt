@@ -9,4 +9,4 @@ mod Crowded
 mod Unopened
 mod Remaining
 mod Complete
-mod Libraries
+mod Asked

@@ -1,10 +1,9 @@
 //! The outputs of a run.
-ghost use Rattle.std.specs.Prelude.{◌≡◌, ◌≢◌, ◌⊎◌, ℕ, List, [], ◌∷◌, true, Some, None, OnOk, IfErr};
+ghost use Rattle.std.specs.Prelude.{◌≡◌, ◌≢◌, ◌⊎◌, [], ◌∷◌, true, None, OnOk, IfErr};
 ghost use Rattle.outside.specs.Fault.{Rose};
 ghost use Rattle.outside.specs.declared.fault.WriteFault.TheVariants.{OutputFault};
-ghost use Rattle.entry_record.specs.History.{state_of};
-ghost use Rattle.entry_record.specs.Output.{export_of, all_keys, report_of};
-ghost use Rattle.room_files.specs.Rooms.{ApartFrom, IsPartWritten};
+ghost use Rattle.room_files.specs.Rooms.{ApartFrom};
+ghost use Rattle.union_top.specs.Runs.{AreOutputs, AreInPart};
 
 use catalogue_core::Catalogue;
 use marc_types::Key;
@@ -31,13 +30,9 @@ pub fn write_outputs<R: Room>(
     ensures cause { IfErr result (λ fault. fault ≡ OutputFault →
         Rose ((R.seen room.old).out_faults out.now) ((R.seen room.new).out_faults out.now)
         ⊎ Rose ((R.seen room.old).out_faults report.now) ((R.seen room.new).out_faults report.now)) }
-    ensures export { OnOk result ((R.seen room.old).tells ≡ true →
-        (R.seen room.new).file out.now ≡ Some (export_of all_keys (state_of core.now.history))) }
-    ensures report { OnOk result ((R.seen room.old).tells ≡ true → (R.seen room.new).file report.now ≡ Some (report_of (state_of core.now.history))) }
-    ensures export_part { (R.seen room.old).tells ≡ true →
-        IsPartWritten ((R.seen room.old).file out.now) ((R.seen room.new).file out.now) (export_of all_keys (state_of core.now.history)) }
-    ensures report_part { (R.seen room.old).tells ≡ true →
-        IsPartWritten ((R.seen room.old).file report.now) ((R.seen room.new).file report.now) (report_of (state_of core.now.history)) }
+    ensures whole { OnOk result ((R.seen room.old).tells ≡ true → AreOutputs (R.seen room.new) out.now report.now core.now.history) }
+    ensures part { (R.seen room.old).tells ≡ true →
+        AreInPart (R.seen room.old) (R.seen room.new) out.now report.now core.now.history }
 {
     let everything = Selection::new(|_key: &Key| true);
     match write_export(room, out, core, &everything) {
