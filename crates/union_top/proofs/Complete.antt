@@ -158,3 +158,19 @@ module _ (o : Outcome) where
   pub complete : (words : List (List ℕ)) (command : Command) → Ends words command o → o.old.tells ≡ true → IsUnhindered words command seen
       → (end_status o.end ≤ 1) ⊎ (end_status o.end ≡ 8)
   complete words command ends tells u = well_status o.end (ends_well words command ends tells u)
+
+-- the status of words that are no command is that of no other end
+pub two_is_usage : (end : End) → end_status end ≡ 2 → end ≡ Told fault.Usage
+two_is_usage Done two = cc
+two_is_usage Refused two = cc
+two_is_usage OutputFault two = cc
+two_is_usage (Told fault.Usage) two = refl
+two_is_usage (Told fault.Input) two = cc
+two_is_usage (Told fault.Device) two = cc
+two_is_usage (Told (fault.NotAJournal place)) two = cc
+two_is_usage (Told fault.Full) two = cc
+two_is_usage (Told fault.Memory) two = cc
+two_is_usage (Told fault.OldVersion) two = cc
+
+pub same_command : (one other : Command) → Some one ≡ Some other → one ≡ other
+same_command one other is = cc

@@ -98,9 +98,8 @@ pub fn run<H: Threads + Wait + Sync, R: Room, G: Gate + Sync>(
         IsUnhindered words.now command (around R.seen R.Out.faults room.old room.new console.old console.new) →
         (result ≤ 1) ⊎ (result ≡ 8) }
 {
-    let end = match request(words) {
-        None => tell(console, Fault::Usage),
-        Some(asked) => carry_out(rt, alloc, words, asked, room, console, gate),
-    };
-    end.status()
+    match request(words) {
+        None => tell(console, Fault::Usage).status(),
+        Some(asked) => carry_out(rt, alloc, words, asked, room, console, gate).status(),
+    }
 }
