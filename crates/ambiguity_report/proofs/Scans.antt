@@ -2,7 +2,7 @@
 use Rattle.std.proofs.Common.{◌≡◌, ℕ, ◌+◌, ◌<◌, List, ◌++◌, length, drop, get_or, ap}
 use Rattle.std.specs.Borrow.{Bor}
 use Rattle.std.specs.List.{flat_map}
-use Rattle.iso2709_record.proofs.Progress.{drop_next}
+use Rattle.outside.proofs.Fronts.{drop_next}
 use Rattle.entry_record.specs.Authority.{Linkable}
 use Rattle.entry_record.specs.Output.{keys_sharing_form_of, shared_line, cross_line}
 use Rattle.catalogue_core.specs.Views.{linkables}

@@ -57,7 +57,7 @@ fn write_field<K: Sink>(
     Ok(())
 }
 
-#[tactic(auto, using(iso2709_record::proofs::Progress::writing_begun, iso2709_record::proofs::Progress::writing_more, iso2709_record::proofs::Progress::writing_failed, iso2709_record::proofs::Progress::writing_done))]
+#[tactic(auto, using(outside::proofs::Fronts::writing_begun, outside::proofs::Fronts::writing_more, outside::proofs::Fronts::writing_failed, outside::proofs::Fronts::writing_done))]
 fn write_record<K: Sink>(
     class: Class,
     key: &Key,
@@ -83,7 +83,7 @@ fn write_record<K: Sink>(
 }
 
 /// Writes the line of each ambiguous field of the class, records in key order, fields ascending.
-#[tactic(auto, using(iso2709_record::proofs::Progress::writing_begun, iso2709_record::proofs::Progress::writing_more, iso2709_record::proofs::Progress::writing_failed, iso2709_record::proofs::Progress::writing_done))]
+#[tactic(auto, using(outside::proofs::Fronts::writing_begun, outside::proofs::Fronts::writing_more, outside::proofs::Fronts::writing_failed, outside::proofs::Fronts::writing_done))]
 pub(crate) fn write_ambiguous<K: Sink>(
     engine: &Engine,
     class: Class,

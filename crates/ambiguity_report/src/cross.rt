@@ -55,7 +55,7 @@ fn write_pair<K: Sink>(
     Ok(())
 }
 
-#[tactic(auto, using(iso2709_record::proofs::Progress::writing_begun, iso2709_record::proofs::Progress::writing_more, iso2709_record::proofs::Progress::writing_failed, iso2709_record::proofs::Progress::writing_done))]
+#[tactic(auto, using(outside::proofs::Fronts::writing_begun, outside::proofs::Fronts::writing_more, outside::proofs::Fronts::writing_failed, outside::proofs::Fronts::writing_done))]
 fn write_pairs<K: Sink>(
     first: &Authority,
     authorities: &[&Authority],
@@ -77,7 +77,7 @@ fn write_pairs<K: Sink>(
 
 /// Writes a line for each pair of authorities of which the first is found under the other's established form, in the order of
 /// the first keys, then of the second.
-#[tactic(auto, using(iso2709_record::proofs::Progress::writing_begun, iso2709_record::proofs::Progress::writing_more, iso2709_record::proofs::Progress::writing_failed, iso2709_record::proofs::Progress::writing_done))]
+#[tactic(auto, using(outside::proofs::Fronts::writing_begun, outside::proofs::Fronts::writing_more, outside::proofs::Fronts::writing_failed, outside::proofs::Fronts::writing_done))]
 pub(crate) fn write_cross<K: Sink>(
     authorities: &[&Authority],
     text: &mut Vec<u8>,

@@ -73,7 +73,7 @@ fn write_group<K: Sink>(
 }
 
 /// Writes a line for each established form that two or more authorities share, the groups in the order of their least keys.
-#[tactic(auto, using(iso2709_record::proofs::Progress::writing_begun, iso2709_record::proofs::Progress::writing_more, iso2709_record::proofs::Progress::writing_failed, iso2709_record::proofs::Progress::writing_done))]
+#[tactic(auto, using(outside::proofs::Fronts::writing_begun, outside::proofs::Fronts::writing_more, outside::proofs::Fronts::writing_failed, outside::proofs::Fronts::writing_done))]
 pub(crate) fn write_shared<K: Sink>(
     alloc: Global,
     authorities: &[&Authority],

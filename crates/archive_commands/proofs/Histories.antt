@@ -9,7 +9,7 @@ use Rattle.entry_history.proofs.Histories.{history_once}
 use Rattle.durable_catalogue.specs.Logs.{payloads_of, IsLogOf, HasHistory}
 use Rattle.durable_catalogue.specs.Openings.{IsWithin}
 use Rattle.room_files.specs.Journals.{journal_limits}
-use Rattle.room_files.specs.Rooms.{IsPartWritten}
+use Rattle.output_files.specs.Outputs.{IsPartWritten}
 use Rattle.archive_commands.specs.Archives.{HasFittingHistory}
 
 reading_once : (entries others : List Entry) (log : List ℕ) → IsLogOf entries log → IsLogOf others log → entries ≡ others

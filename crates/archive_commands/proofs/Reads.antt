@@ -3,7 +3,7 @@ use Rattle.std.proofs.Common.{◌≡◌, ◌≢◌, ◌∙◌, ◌⊎◌, inl, i
 use Rattle.marc_types.specs.declared.entry.Entry.{Entry}
 use Rattle.outside.specs.Disk.{DiskView, SameDisk}
 use Rattle.outside.specs.Fault.{Rose}
-use Rattle.outside.specs.Room.{RoomView, Apart}
+use Rattle.outside.specs.Room.{RoomView, SameBut}
 use Rattle.durable_catalogue.specs.Logs.{HasHistory}
 use Rattle.durable_catalogue.specs.Openings.{IsWithin, IsUnopened}
 use Rattle.durable_catalogue.specs.declared.fault.OpenFault.{OpenFault}
@@ -15,23 +15,23 @@ use Rattle.console_lines.specs.declared.fault.Fault.{Fault}
 use Rattle.console_lines.specs.declared.fault.Fault.TheVariants.{Device, Memory}
 use Rattle.console_lines.proofs.Ends.{told_once, told_no_output, never_told}
 use Rattle.room_files.specs.Journals.{journal_limits, log_bytes, KeepsHistory, KeepsLog}
-use Rattle.room_files.specs.Rooms.{ApartFrom, IsPartWritten, AsItWas}
+use Rattle.output_files.specs.Outputs.{IsPartWritten, AsItWas}
 use Rattle.room_files.proofs.Journals.{closed_keeps, keeps_where}
-use Rattle.room_files.proofs.Rooms.{apart_from_one}
-use Rattle.archive_commands.specs.Archives.{opening_fault, WhyUnopened}
+use Rattle.room_files.specs.Faults.{fault_of_opening}
+use Rattle.archive_commands.specs.Archives.{WhyUnopened}
 use Rattle.archive_commands.specs.Reads.{DueView, due_of, IsReport, EndsReading, Reads}
 use Rattle.archive_commands.proofs.Rooms.{part_opened}
 use Rattle.archive_commands.proofs.Histories.{whole_of_any, part_of_any, fitting_history}
 
 -- an opening's fault that is one of reading
-ends_unopened : (reason : OpenFault) → reason ≢ opening.OldVersion → EndsReading (Told (opening_fault reason))
+ends_unopened : (reason : OpenFault) → reason ≢ opening.OldVersion → EndsReading (Told (fault_of_opening reason))
 ends_unopened opening.DeviceFault current = tt
 ends_unopened (opening.NotAJournal place) current = tt
 ends_unopened opening.OldVersion current = absurd (current refl)
 ends_unopened opening.Full current = tt
 ends_unopened opening.NoMemory current = tt
 
-is_device : (reason : OpenFault) → opening_fault reason ≡ Device → reason ≡ opening.DeviceFault
+is_device : (reason : OpenFault) → fault_of_opening reason ≡ Device → reason ≡ opening.DeviceFault
 is_device opening.DeviceFault is = refl
 is_device (opening.NotAJournal place) is = cc
 is_device opening.OldVersion is = cc
@@ -46,25 +46,25 @@ done_no_fault end is also = let both : Done ≡ OutputFault = sym is ∙ also in
 
 module _ (journal out : List ℕ) (due : DueView) (o : Outcome) where
   -- the journal was not opened
-  pub reads_unopened : (reason : OpenFault) → journal ≢ out → o.end ≡ Told (opening_fault reason) → IsTold (opening_fault reason) o
-      → Apart o.old o.new journal → reason ≢ opening.OldVersion
+  pub reads_unopened : (reason : OpenFault) → journal ≢ out → o.end ≡ Told (fault_of_opening reason) → IsTold (fault_of_opening reason) o
+      → SameBut o.old o.new (journal ∷ []) → reason ≢ opening.OldVersion
       → (o.old.tells ≡ true → IsUnopened journal_limits (log_bytes o.old journal) reason)
       → (o.old.tells ≡ true → KeepsHistory (reason ≡ opening.DeviceFault) o.old o.new journal)
       → (reason ≡ opening.DeviceFault → Rose (o.old.log_faults journal) (o.new.log_faults journal)) → Reads journal out due o
   reads_unopened reason differ is told apart current so keeps cause = record {
     ends = subst EndsReading (sym is) (ends_unopened reason current);
     keeps = λ tells.
-        keeps_where (reason ≡ opening.DeviceFault) (o.end ≡ Told Device) o.old o.new journal (λ device. is ∙ ap (λ r. Told (opening_fault r)) device) (keeps tells);
-    told = λ why also. subst (λ w. IsTold w o × WhyUnopened o.old journal w) (told_once o.end (opening_fault reason) why is also)
+        keeps_where (reason ≡ opening.DeviceFault) (o.end ≡ Told Device) o.old o.new journal (λ device. is ∙ ap (λ r. Told (fault_of_opening r)) device) (keeps tells);
+    told = λ why also. subst (λ w. IsTold w o × WhyUnopened o.old journal w) (told_once o.end (fault_of_opening reason) why is also)
         (told, record { reason = reason; is = refl; so = so });
-    untouched = λ why also some. apart_from_one o.old o.new journal apart;
-    unread = λ also tells. inl (apart_from_one o.old o.new journal apart);
-    silent = λ untold. absurd (never_told o.end (opening_fault reason) untold is);
-    device = λ also. cause (is_device reason (told_once o.end (opening_fault reason) Device is also));
-    output = λ also. absurd (told_no_output o.end (opening_fault reason) is also);
-    history = λ untold. absurd (never_told o.end (opening_fault reason) untold is);
-    whole = λ entries also. absurd (told_not_done o.end (opening_fault reason) is also);
-    part = λ entries either tells has. AsItWas (apart.files out (λ same. differ (sym same)));
+    untouched = λ why also some. apart;
+    unread = λ also tells. inl apart;
+    silent = λ untold. absurd (never_told o.end (fault_of_opening reason) untold is);
+    device = λ also. cause (is_device reason (told_once o.end (fault_of_opening reason) Device is also));
+    output = λ also. absurd (told_no_output o.end (fault_of_opening reason) is also);
+    history = λ untold. absurd (never_told o.end (fault_of_opening reason) untold is);
+    whole = λ entries also. absurd (told_not_done o.end (fault_of_opening reason) is also);
+    part = λ entries either tells has. AsItWas (apart.files out ((λ same. differ (sym same)), tt));
   }
 
   -- what is due of the history of a journal that was opened, written so far as it could be
@@ -74,7 +74,7 @@ module _ (journal out : List ℕ) (due : DueView) (o : Outcome) where
     pub within : IsWithin journal_limits history
     pub part : o.old.tells ≡ true → IsPartWritten (o.old.file out) (o.new.file out) (due_of due history)
 
-  pub was_read : (mid : RoomView) (disk : DiskView) (history : List Entry) → journal ≢ out → Apart o.old mid journal
+  pub was_read : (mid : RoomView) (disk : DiskView) (history : List Entry) → journal ≢ out → SameBut o.old mid (journal ∷ [])
       → (mid.tells ≡ true → o.new.file journal ≡ disk.content) → (mid.tells ≡ true → SameDisk disk (o.new.log journal))
       → (o.old.tells ≡ true → HasHistory history (log_bytes o.old journal)) → IsWithin journal_limits history
       → (o.old.tells ≡ true → KeepsLog (log_bytes o.old journal) disk)

@@ -2,9 +2,9 @@
 use Rattle.std.proofs.Common.{◌≡◌, ◌≢◌, ◌∙◌, ◌⊎◌, inl, inr, ℕ, Bool, true, false, true≢false, List, ◌∷◌, [], refl, sym, ap, subst, Some, None}
 use Rattle.std.specs.Str.{bytes_eq}
 use Rattle.marc_types.specs.Order.{text_Decides}
-use Rattle.outside.specs.Room.{RoomView, Apart, AsLog}
-use Rattle.room_files.specs.Rooms.{ApartFrom, IsPartWritten}
-use Rattle.room_files.proofs.Rooms.{apart_from_first, apart_from_then}
+use Rattle.outside.specs.Room.{RoomView, AsLog, SameBut}
+use Rattle.output_files.specs.Outputs.{IsPartWritten}
+use Rattle.outside.proofs.Rooms.{same_but_first, same_but_then}
 
 same_or_not : (a b : List ℕ) → (a ≡ b) ⊎ (a ≢ b)
 same_or_not a b = let same = text_Decides a b in decided (bytes_eq a b) same.0 same.1
@@ -14,7 +14,7 @@ same_or_not a b = let same = text_Decides a b in decided (bytes_eq a b) same.0 s
     decided false is back = inr (λ e. absurd (true≢false (sym (back e))))
 
 -- where no name was open, and two names alone were used and closed again, no name is open
-closed_everywhere : (old new : RoomView) (journal out : List ℕ) → ApartFrom old new (journal ∷ out ∷ []) → new.open_as journal ≡ None
+closed_everywhere : (old new : RoomView) (journal out : List ℕ) → SameBut old new (journal ∷ out ∷ []) → new.open_as journal ≡ None
     → new.open_as out ≡ None → ((name : List ℕ) → old.open_as name ≡ None) → (name : List ℕ) → new.open_as name ≡ None
 closed_everywhere old new journal out apart closed out_closed free name = decided (same_or_not name journal) (same_or_not name out)
   where
@@ -24,13 +24,13 @@ closed_everywhere old new journal out apart closed out_closed free name = decide
     decided (inr other) (inr others) = apart.open_names name (other, (others, tt)) ∙ free name
 
 -- one name opened, and then both used
-pub apart_opened : (old opened new : RoomView) (journal out : List ℕ) → Apart old opened journal → ApartFrom opened new (journal ∷ out ∷ [])
-    → ApartFrom old new (journal ∷ out ∷ [])
+pub apart_opened : (old opened new : RoomView) (journal out : List ℕ) → SameBut old opened (journal ∷ []) → SameBut opened new (journal ∷ out ∷ [])
+    → SameBut old new (journal ∷ out ∷ [])
 apart_opened old opened new journal out first second =
-    apart_from_then old opened new (journal ∷ out ∷ []) (apart_from_first old opened journal (out ∷ []) first) second
+    same_but_then old opened new (journal ∷ out ∷ []) (same_but_first old opened journal (out ∷ []) first) second
 
 -- the same where the log was opened first
-pub closed_opened : (old opened new : RoomView) (journal out : List ℕ) → Apart old opened journal → ApartFrom opened new (journal ∷ out ∷ [])
+pub closed_opened : (old opened new : RoomView) (journal out : List ℕ) → SameBut old opened (journal ∷ []) → SameBut opened new (journal ∷ out ∷ [])
     → new.open_as journal ≡ None → new.open_as out ≡ None → ((name : List ℕ) → old.open_as name ≡ None) → (name : List ℕ) → new.open_as name ≡ None
 closed_opened old opened new journal out first second closed out_closed free =
     closed_everywhere old new journal out (apart_opened old opened new journal out first second) closed out_closed free
@@ -41,12 +41,12 @@ other_name room journal out opened free e = let same = ap room.open_as e in cc
 
 -- the log's closing leaves the output
 pub part_closed : (old written new : RoomView) (journal out due : List ℕ) → old.open_as journal ≡ Some AsLog → old.open_as out ≡ None
-    → Apart written new journal → IsPartWritten (old.file out) (written.file out) due → IsPartWritten (old.file out) (new.file out) due
+    → SameBut written new (journal ∷ []) → IsPartWritten (old.file out) (written.file out) due → IsPartWritten (old.file out) (new.file out) due
 part_closed old written new journal out due opened free apart part =
-    subst (λ file. IsPartWritten (old.file out) file due) (sym (apart.files out (other_name old journal out opened free))) part
+    subst (λ file. IsPartWritten (old.file out) file due) (sym (apart.files out (other_name old journal out opened free, tt))) part
 
 -- the log's opening leaves the output
-pub part_opened : (old opened new : RoomView) (journal out due : List ℕ) → journal ≢ out → Apart old opened journal
+pub part_opened : (old opened new : RoomView) (journal out due : List ℕ) → journal ≢ out → SameBut old opened (journal ∷ [])
     → IsPartWritten (opened.file out) (new.file out) due → IsPartWritten (old.file out) (new.file out) due
 part_opened old opened new journal out due differ apart part =
-    subst (λ file. IsPartWritten file (new.file out) due) (apart.files out (λ e. differ (sym e))) part
+    subst (λ file. IsPartWritten file (new.file out) due) (apart.files out ((λ e. differ (sym e)), tt)) part

@@ -5,25 +5,16 @@ use Rattle.marc_types.specs.declared.key.Key.{Key}
 use Rattle.outside.specs.Room.{RoomView}
 use Rattle.entry_record.specs.Output.{all_keys}
 use Rattle.durable_catalogue.specs.declared.fault.OpenFault.{OpenFault}
-use Rattle.durable_catalogue.specs.declared.fault.OpenFault.TheVariants as opening
 use Rattle.durable_catalogue.specs.Logs.{IsLogOf}
 use Rattle.durable_catalogue.specs.Openings.{IsWithin, IsUnopened}
 use Rattle.console_lines.specs.declared.fault.Fault.{Fault}
-use Rattle.console_lines.specs.declared.fault.Fault.TheVariants as fault
+use Rattle.room_files.specs.Faults.{fault_of_opening}
 use Rattle.room_files.specs.Journals.{journal_limits, log_bytes}
-
--- an opening's fault, as the console tells it
-abbrev pub opening_fault : OpenFault → Fault
-opening_fault opening.DeviceFault = fault.Device
-opening_fault (opening.NotAJournal place) = fault.NotAJournal place
-opening_fault opening.OldVersion = fault.OldVersion
-opening_fault opening.Full = fault.Full
-opening_fault opening.NoMemory = fault.Memory
 
 -- the fault is why the log of that name was not opened; where the room tells its bytes, they are so
 pub record WhyUnopened (room : RoomView) (name : List ℕ) (fault : Fault) : Type 0 where
   pub reason : OpenFault
-  pub is : fault ≡ opening_fault reason
+  pub is : fault ≡ fault_of_opening reason
   pub so : room.tells ≡ true → IsUnopened journal_limits (log_bytes room name) reason
 
 -- the keys that an export keeps: all, or those with a code

@@ -11,7 +11,8 @@ use Rattle.console_lines.specs.declared.end.End.{End}
 use Rattle.console_lines.specs.declared.end.End.TheVariants.{Done, Refused, OutputFault, Told}
 use Rattle.console_lines.specs.declared.fault.Fault.{Fault}
 use Rattle.console_lines.specs.declared.fault.Fault.TheVariants.{Usage, Input, Device, NotAJournal, Full, Memory, OldVersion}
-use Rattle.room_files.specs.Rooms.{ApartFrom, IsPartWritten}
+use Rattle.output_files.specs.Outputs.{IsPartWritten}
+use Rattle.outside.specs.Room.{SameBut}
 use Rattle.room_files.specs.Journals.{log_bytes, KeepsHistory}
 use Rattle.archive_commands.specs.Archives.{WhyUnopened, kept_keys, HasFittingHistory}
 use Rattle.archive_commands.specs.declared.due.Due.{Due}
@@ -53,9 +54,9 @@ pub record Reads (journal out : List ℕ) (due : DueView) (o : Outcome) : Type 0
   pub keeps : o.old.tells ≡ true → KeepsHistory (o.end ≡ Told Device) o.old o.new journal
   -- a fault is told for its reason, and the output is untouched, unless the report ran out of memory
   pub told : (why : Fault) → o.end ≡ Told why → IsTold why o × WhyUnopened o.old journal why
-  pub untouched : (why : Fault) → o.end ≡ Told why → ((why ≡ Memory) × IsReport due → ⊥) → ApartFrom o.old o.new (journal ∷ [])
+  pub untouched : (why : Fault) → o.end ≡ Told why → ((why ≡ Memory) × IsReport due → ⊥) → SameBut o.old o.new (journal ∷ [])
   pub unread : o.end ≡ Told Memory → o.old.tells ≡ true
-      → ApartFrom o.old o.new (journal ∷ []) ⊎ HasFittingHistory (log_bytes o.old journal)
+      → SameBut o.old o.new (journal ∷ []) ⊎ HasFittingHistory (log_bytes o.old journal)
   -- without one the console is as it was
   pub silent : IsUntold o.end → (o.now ≡ o.told) × (o.faults_now ≡ o.faults)
   -- the outside's faults have their cause

@@ -5,6 +5,5 @@ pub use due::Due;
 pub use reading::read;
 
 mod due;
-mod fault;
 mod reading;
 mod writing;

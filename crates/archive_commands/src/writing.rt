@@ -3,10 +3,10 @@ ghost use Rattle.std.specs.Prelude.{◌≡◌, ◌∷◌, [], true, Some, None, 
 ghost use Rattle.std.specs.Option.{option_copied};
 ghost use Rattle.outside.specs.Disk.{SameDisk};
 ghost use Rattle.outside.specs.Fault.{HasCause, HasWriteCause};
-ghost use Rattle.outside.specs.Room.{AsLog, Apart};
+ghost use Rattle.outside.specs.Room.{AsLog, SameBut};
 ghost use Rattle.entry_record.specs.History.{state_of};
 ghost use Rattle.entry_record.specs.Output.{export_of};
-ghost use Rattle.room_files.specs.Rooms.{ApartFrom, IsPartWritten};
+ghost use Rattle.output_files.specs.Outputs.{IsPartWritten};
 ghost use Rattle.archive_commands.specs.Archives.{kept_keys};
 ghost use Rattle.archive_commands.specs.Reads.{due_view, due_of, IsReport};
 
@@ -14,8 +14,9 @@ use crate::due::Due;
 use catalogue_core::Catalogue;
 use durable_catalogue::Archive;
 use marc_types::Key;
+use output_files::{write_all_records, write_export, write_report_file};
 use outside::{Failed, Room, WriteFault};
-use room_files::{close_archive, write_export, write_report_file};
+use room_files::close_archive;
 use selection::Selection;
 use std::alloc::Global;
 
@@ -28,7 +29,7 @@ fn write_kept<R: Room>(
 ) -> Result<(), Failed>
     requires free { (R.seen room.old).open_as out.now ≡ None }
     requires staged { core.now.staged ≡ [] }
-    ensures apart { Apart (R.seen room.old) (R.seen room.new) out.now }
+    ensures apart { SameBut (R.seen room.old) (R.seen room.new) (out.now ∷ []) }
     ensures closed { (R.seen room.new).open_as out.now ≡ None }
     ensures cause { HasCause ((R.seen room.old).out_faults out.now) ((R.seen room.new).out_faults out.now) result }
     ensures bytes { OnOk result ((R.seen room.old).tells ≡ true →
@@ -37,10 +38,7 @@ fn write_kept<R: Room>(
         (export_of (kept_keys (option_copied code.entry)) (state_of core.now.history)) }
 {
     match code {
-        None => {
-            let everything = Selection::new(|_key: &Key| true);
-            write_export(room, out, core, &everything)
-        }
+        None => write_all_records(room, out, core),
         Some(code) => {
             let coded = Selection::new(|key: &Key| key.code.as_str() == code);
             write_export(room, out, core, &coded)
@@ -58,7 +56,7 @@ fn write_due<R: Room>(
 ) -> Result<(), WriteFault>
     requires free { (R.seen room.old).open_as out.now ≡ None }
     requires staged { core.now.staged ≡ [] }
-    ensures apart { Apart (R.seen room.old) (R.seen room.new) out.now }
+    ensures apart { SameBut (R.seen room.old) (R.seen room.new) (out.now ∷ []) }
     ensures closed { (R.seen room.new).open_as out.now ≡ None }
     ensures cause { HasWriteCause ((R.seen room.old).out_faults out.now) ((R.seen room.new).out_faults out.now) result }
     ensures memory { IfErr result (λ fault. fault ≡ WriteFault.NoMemory → IsReport (due_view due.entry)) }
@@ -89,7 +87,7 @@ pub fn write_archive<R: Room>(
     requires free { (R.seen room.old).open_as out.now ≡ None }
 
     // The room: nothing but these two changes, and both are closed.
-    ensures apart { ApartFrom (R.seen room.old) (R.seen room.new) (journal.now ∷ out.now ∷ []) }
+    ensures apart { SameBut (R.seen room.old) (R.seen room.new) (journal.now ∷ out.now ∷ []) }
     ensures closed { (R.seen room.new).open_as journal.now ≡ None }
     ensures out_closed { (R.seen room.new).open_as out.now ≡ None }
 

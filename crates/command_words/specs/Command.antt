@@ -4,6 +4,7 @@ use Rattle.std.specs.List.{before_first, after_first, position_or_len, list_all}
 use Rattle.std.specs.Str.{bytes_eq}
 use Rattle.std.specs.Str.Parse.{digits_value}
 use Rattle.marc_types.specs.Valid.{is_code, is_digit}
+use Rattle.outside.specs.Room.{IsNoneOf}
 pub use Rattle.command_words.specs.declared.library.Library.{Library}
 
 -- what a command asks for; the names are those of the words
@@ -152,10 +153,6 @@ names_of (Load journal files) = journal ∷ []
 names_of (Export journal out code) = journal ∷ out ∷ []
 names_of (Report journal out) = journal ∷ out ∷ []
 names_of (Make seed count out) = out ∷ []
-
-abbrev pub IsNoneOf : List ℕ → List (List ℕ) → Type 0
-IsNoneOf name [] = Unit {0}
-IsNoneOf name (other ∷ others) = (name ≢ other) × IsNoneOf name others
 
 -- names that aren't empty, and differ from one another
 abbrev pub AreNames : List (List ℕ) → Type 0

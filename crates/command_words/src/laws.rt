@@ -1,7 +1,8 @@
 //! Laws of the words: each is the contract of a function that does nothing.
 ghost use Rattle.std.specs.Prelude.{◌≡◌, Some, IsTrue, All, length};
 ghost use Rattle.marc_types.specs.Valid.{is_code};
-ghost use Rattle.command_words.specs.Command.{Command, command_of, libraries_of, file_count, names_of, IsNoneOf, AreNames, IsBounded};
+ghost use Rattle.outside.specs.Room.{IsNoneOf};
+ghost use Rattle.command_words.specs.Command.{Command, command_of, libraries_of, file_count, names_of, AreNames, IsBounded};
 
 use crate::words::Words;
 

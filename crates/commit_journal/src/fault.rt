@@ -3,20 +3,12 @@ ghost use Rattle.commit_journal.specs.declared.fault.JournalFault.TheVariants.{D
 
 use outside::Failed;
 use std::alloc::{AllocError, AllocFailed};
-use std::error::Error;
-use std::fmt;
+use thiserror::Error;
 
 /// A call on the disk failed, and its count of faults rose.
-#[derive(Clone, Copy, Debug, PartialEq, Eq, Hash)]
+#[derive(Clone, Copy, Debug, PartialEq, Eq, Hash, Error)]
+#[error("the journal's disk failed")]
 pub struct DeviceFault;
-
-impl fmt::Display for DeviceFault {
-    fn fmt<W: fmt::Write>(&self, f: &mut fmt::Formatter<W>) -> fmt::Result {
-        f.write_str("the journal's disk failed")
-    }
-}
-
-impl Error for DeviceFault {}
 
 impl From<Failed> for DeviceFault {
     fn from(_failed: Failed) -> DeviceFault {
@@ -25,27 +17,18 @@ impl From<Failed> for DeviceFault {
 }
 
 /// Why a disk could not be opened as a journal.
-#[derive(Clone, Copy, Debug, PartialEq, Eq, Hash)]
+#[derive(Clone, Copy, Debug, PartialEq, Eq, Hash, Error)]
 pub enum JournalFault {
     /// A call on the disk failed, and its count of faults rose.
+    #[error("the journal's disk failed")]
     DeviceFault,
     /// What stands at that place is no part of a journal. Nothing was written.
+    #[error("not a journal at byte {0}")]
     NotAJournal(u64),
     /// There was no memory. Nothing was written.
+    #[error("out of memory")]
     NoMemory,
 }
-
-impl fmt::Display for JournalFault {
-    fn fmt<W: fmt::Write>(&self, f: &mut fmt::Formatter<W>) -> fmt::Result {
-        match self {
-            JournalFault::DeviceFault => f.write_str("the journal's disk failed"),
-            JournalFault::NotAJournal(place) => write!(f, "not a journal at byte {place}"),
-            JournalFault::NoMemory => f.write_str("out of memory"),
-        }
-    }
-}
-
-impl Error for JournalFault {}
 
 impl From<Failed> for JournalFault {
     ghost from_gives = { λ _ fault. fault ≡ DeviceFault };

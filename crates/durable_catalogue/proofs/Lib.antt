@@ -8,3 +8,4 @@ pub mod Opened
 pub mod Readings
 pub mod Replies
 pub mod Stages
+pub mod Within

@@ -139,6 +139,13 @@ impl<D: Disk> Durable<D> {
         &self.core
     }
 
+    /// The history is within the limits. This is a law for proofs; the call only looks at the catalogue.
+    pub fn is_within_limits(&self)
+        ensures { IsWithin self.now.limits self.now.core.history }
+    {
+        self.core().is_within_limits();
+    }
+
     /// Gives the disk back, with all that was committed.
     #[tactic(auto, using(crate::proofs::Keeping::left_of))]
     pub fn close(self) -> D

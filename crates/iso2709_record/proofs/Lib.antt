@@ -2,7 +2,6 @@ pub mod Digits
 pub mod Each
 pub mod Lengths
 pub mod Places
-pub mod Progress
 pub mod Numbers
 pub mod Endings
 pub mod Directory

@@ -10,7 +10,14 @@ use Rattle.marc_types.specs.declared.field.Field.{Field}
 use Rattle.iso2709_record.specs.Written.{field_terminator, record_terminator, field_bytes, field_length, fields_length, entry_bytes, directory_bytes, leader_bytes, record_bytes, base_address}
 use Rattle.iso2709_record.proofs.Lengths.{length-leader_bytes, length-entry_bytes, length-directory_bytes, length-fields}
 use Rattle.iso2709_record.proofs.Each.{fields_length-take}
-use Rattle.iso2709_record.proofs.Progress.{entry_next, piece_next}
+use Rattle.outside.proofs.Fronts.{drop_next, piece_next}
+
+-- the next directory entry
+pub entry_next : (start n : ℕ) (fields : List Field) (i : ℕ) (f : Field) → i < length fields → f ≡ get_or fields i f → n ≡ field_length f
+    → directory_bytes start (drop i fields) ≡ entry_bytes start f ++ directory_bytes (start + n) (drop (i + 1) fields)
+entry_next start n fields i f h is len =
+    ap (directory_bytes start) (drop_next fields i f h is)
+    ∙ ap (λ m. entry_bytes start f ++ directory_bytes (start + m) (drop (i + 1) fields)) (sym len)
 
 -- the part of so many bytes that stands behind another
 pub part_place : (front part rest : List ℕ) (from size : ℕ) → length front ≡ from → length part ≡ size

@@ -6,7 +6,7 @@ ghost use Rattle.iso2709_record.specs.Faults.{ends_once, is_control_data, starts
 
 use crate::blocks::DELIMITER;
 use crate::subfields::{code_and_rest, text_len};
-use marc_types::{is_alphanumeric_byte, is_graphic_byte, is_printable_byte};
+use marc_types::is_printable_byte;
 use memchr::memchr;
 
 pub(crate) fn are_printable(bytes: &[u8]) -> bool
@@ -18,7 +18,7 @@ pub(crate) fn are_printable(bytes: &[u8]) -> bool
 pub(crate) fn are_alphanumeric(bytes: &[u8]) -> bool
     ensures { result ≡ list_all is_alphanumeric bytes.now }
 {
-    bytes.iter().all(|byte| is_alphanumeric_byte(*byte))
+    bytes.iter().all(|byte| byte.is_ascii_alphanumeric())
 }
 
 /// Whether the last byte is the mark, and no earlier byte is.
@@ -65,7 +65,7 @@ fn codes_follow(bytes: &[u8]) -> bool
 {
     let mut rest = behind_text(bytes);
     while let Some((code, after)) = code_and_rest(rest) {
-        if !is_graphic_byte(code) {
+        if !code.is_ascii_graphic() {
             return false;
         }
         rest = behind_text(after);

@@ -4,29 +4,16 @@ use Rattle.std.specs.Prelude.{All}
 use Rattle.std.proofs.lemmas.Bool.Decides.{nat_tests}
 use Rattle.std.proofs.lemmas.List.Elements.{All-head, All-tail}
 use Rattle.outside.specs.Fault.{Rose}
-use Rattle.outside.specs.Room.{RoomView, Stays, Apart}
-use Rattle.outside.proofs.Disks.{same_disk}
+use Rattle.outside.specs.Room.{RoomView, SameBut}
 use Rattle.command_words.specs.Command.{Library}
 use Rattle.parallel_loading.specs.declared.input.InputFile.{InputFile}
 use Rattle.journal_loading.specs.Inputs.{IsInputFault, IsInputOf, AreInputs, NoInput, OneInput, RisesFrom}
-
-pub stays_same : (room : RoomView) → Stays room room
-stays_same room = record {
-  tells = refl;
-  files = λ n. refl;
-  open_names = λ n. refl;
-  log_names = λ n. refl;
-  logs = λ n is. same_disk (room.log n);
-  ins = λ n. omega arith;
-  outs = λ n. omega arith;
-  log_counts = λ n. omega arith;
-}
 
 some_same : {A : Type 0} {x y : A} → Some x ≡ Some y → x ≡ y
 some_same is = cc
 
 -- a fault of a later opening is one since an earlier moment
-pub fault_since : (libraries : List Library) (old now new : RoomView) → Stays old now → IsInputFault libraries now new → IsInputFault libraries old new
+pub fault_since : (libraries : List Library) (old now new : RoomView) → SameBut old now [] → IsInputFault libraries now new → IsInputFault libraries old new
 fault_since libraries old now new stays is = record {
   index = is.index;
   library = is.library;
@@ -36,23 +23,23 @@ fault_since libraries old now new stays is = record {
 
 module _ {S : Type 0} (left : S → Option (List ℕ)) where
   -- what was opened in a room is what would have been before calls that change no file
-  pub input_before : (old now : RoomView) (library : Library) (input : InputFile S) → Stays old now → IsInputOf left now library input → IsInputOf left old library input
+  pub input_before : (old now : RoomView) (library : Library) (input : InputFile S) → SameBut old now [] → IsInputOf left now library input → IsInputOf left old library input
   input_before old now library input stays is = record {
-    there = λ tells. subst IsSome (stays.files library.file) (is.there (stays.tells ∙ tells));
-    bytes = λ tells. is.bytes (stays.tells ∙ tells) ∙ stays.files library.file;
+    there = λ tells. subst IsSome (stays.files library.file tt) (is.there (stays.tells ∙ tells));
+    bytes = λ tells. is.bytes (stays.tells ∙ tells) ∙ stays.files library.file tt;
     code = is.code;
   }
 
   -- the same before calls that change one file alone, which is none of these
-  pub input_apart : (old now : RoomView) (name : List ℕ) (library : Library) (input : InputFile S) → Apart old now name → library.file ≢ name
+  pub input_apart : (old now : RoomView) (name : List ℕ) (library : Library) (input : InputFile S) → SameBut old now (name ∷ []) → library.file ≢ name
       → IsInputOf left now library input → IsInputOf left old library input
   input_apart old now name library input apart other is = record {
-    there = λ tells. subst IsSome (apart.files library.file other) (is.there (apart.tells ∙ tells));
-    bytes = λ tells. is.bytes (apart.tells ∙ tells) ∙ apart.files library.file other;
+    there = λ tells. subst IsSome (apart.files library.file (other, tt)) (is.there (apart.tells ∙ tells));
+    bytes = λ tells. is.bytes (apart.tells ∙ tells) ∙ apart.files library.file (other, tt);
     code = is.code;
   }
 
-  pub inputs_after : (old now : RoomView) (name : List ℕ) → Apart old now name → (libraries : List Library) (inputs : List (InputFile S))
+  pub inputs_after : (old now : RoomView) (name : List ℕ) → SameBut old now (name ∷ []) → (libraries : List Library) (inputs : List (InputFile S))
       → All (λ (l : Library). l.file ≢ name) libraries → AreInputs left now libraries inputs → AreInputs left old libraries inputs
   inputs_after old now name apart _ _ others NoInput = NoInput
   inputs_after old now name apart _ _ others (OneInput ls is l i one are) =
@@ -85,7 +72,7 @@ module _ {A : Type 0} where
 
 -- the last of the inputs that are left is closed
 pub closed_more : {S : Type 0} (faults : S → ℕ) (libraries : List Library) (all left : List (InputFile S)) (this : Library) (last : InputFile S) (old now new : RoomView)
-    → RisesFrom faults (length left + 1) libraries all old now → Stays old now → Stays now new → slice_get libraries (length left) ≡ Some this
+    → RisesFrom faults (length left + 1) libraries all old now → SameBut old now [] → SameBut now new [] → slice_get libraries (length left) ≡ Some this
     → (Rose 0 (faults last.source) → Rose (now.in_faults this.file) (new.in_faults this.file)) → slice_get all (length left) ≡ Some last
     → RisesFrom faults (length left) libraries all old new
 closed_more faults libraries all left this last old now new rises before stays of rose at index library input from named is had = decided (nat_eq index (length left)) refl

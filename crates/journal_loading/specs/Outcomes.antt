@@ -19,6 +19,7 @@ use Rattle.loader_workers.specs.declared.file_end.FileEnd.TheVariants as end
 use Rattle.loader_workers.specs.declared.result.FileResult.{FileResult}
 use Rattle.parallel_loading.specs.Files.{IsFileLoaded, AreOfOneFile}
 use Rattle.parallel_loading.specs.declared.input.InputFile.{InputFile}
+use Rattle.room_files.specs.Faults.{fault_of_opening}
 use Rattle.room_files.specs.Journals.{journal_limits, log_bytes, IsOpenedFrom, IsOpenedAs, IsClosedTo, KeepsHistory}
 use Rattle.journal_loading.specs.Inputs.{IsInputFault, AreInputs, IsFresh}
 
@@ -61,14 +62,6 @@ loading_fault results =
     else if any_ends end.ReadFault results then Some fault.Input
     else if any_ends end.NoMemory results then Some fault.Memory
     else None
-
--- an opening's fault, as the console tells it
-abbrev pub fault_of_opening : OpenFault → Fault
-fault_of_opening opening.DeviceFault = fault.Device
-fault_of_opening (opening.NotAJournal place) = fault.NotAJournal place
-fault_of_opening opening.OldVersion = fault.OldVersion
-fault_of_opening opening.Full = fault.Full
-fault_of_opening opening.NoMemory = fault.Memory
 
 -- Files were loaded whole into the journal of that name, over which the catalogue is still open: it had `before`, and has `added`
 -- behind that.

@@ -1,22 +1,9 @@
-//! The faults of an opening and of loading, as the console tells them.
+//! The fault of loading, as the console tells it.
 ghost use Rattle.std.specs.Prelude.{◌≡◌, ◌↔◌, IsTrue};
-ghost use Rattle.journal_loading.specs.Outcomes.{ends_so, any_ends, loading_fault, fault_of_opening};
+ghost use Rattle.journal_loading.specs.Outcomes.{ends_so, any_ends, loading_fault};
 
 use console_lines::Fault;
-use durable_catalogue::OpenFault;
 use loader_workers::{FileEnd, FileResult};
-
-pub fn fault_of_opening(fault: OpenFault) -> Fault
-    ensures { result ≡ fault_of_opening fault }
-{
-    match fault {
-        OpenFault::DeviceFault => Fault::Device,
-        OpenFault::NotAJournal(place) => Fault::NotAJournal(place),
-        OpenFault::OldVersion => Fault::OldVersion,
-        OpenFault::Full => Fault::Full,
-        OpenFault::NoMemory => Fault::Memory,
-    }
-}
 
 fn ends_so(end: FileEnd, is: FileEnd) -> bool
     ensures { result ≡ ends_so end is }

@@ -2,7 +2,7 @@
 ghost use Rattle.std.specs.Prelude.{◌≡◌, ◌≢◌, ◌≤◌, None, All, IsTrue, IfOk, IfErr, IfSome, length, take};
 ghost use Rattle.marc_types.specs.Valid.{is_code};
 ghost use Rattle.outside.specs.Fault.{Rose};
-ghost use Rattle.outside.specs.Room.{Stays};
+ghost use Rattle.outside.specs.Room.{SameBut};
 ghost use Rattle.journal_loading.specs.Inputs.{AreProper, IsInputFault, IsInputOf, AreInputs, IsFresh, RisesFrom};
 
 use command_words::Library;
@@ -20,7 +20,7 @@ fn open_input<R: Room>(
 ) -> Result<InputFile<R::In>, Fault>
     requires free { (R.seen room.old).open_as library.now.file ≡ None }
     requires proper { IsTrue (is_code library.now.code) }
-    ensures stays { Stays (R.seen room.old) (R.seen room.new) }
+    ensures stays { SameBut (R.seen room.old) (R.seen room.new) [] }
     ensures input { IfOk result (λ input. IsInputOf R.In.left (R.seen room.old) library.now input) }
     ensures fresh { IfOk result (λ input. IsFresh R.In.faults input) }
     ensures cause { IfErr result (λ fault. fault ≡ Fault.Input →
@@ -44,7 +44,7 @@ pub fn open_inputs<R: Room>(
 ) -> (Vec<InputFile<R::In>>, Option<Fault>)
     requires free { All (λ library. (R.seen room.old).open_as library.file ≡ None) libraries.now }
     requires proper { AreProper libraries.now }
-    ensures stays { Stays (R.seen room.old) (R.seen room.new) }
+    ensures stays { SameBut (R.seen room.old) (R.seen room.new) [] }
 
     // What was opened: all files, where there is no fault.
     ensures inputs { AreInputs R.In.left (R.seen room.old) (take (length result.0.items) libraries.now) result.0.items }
@@ -68,7 +68,7 @@ pub fn open_inputs<R: Room>(
 
 /// Closes the file of a library.
 fn close_input<R: Room>(room: &mut R, library: &Library, input: InputFile<R::In>)
-    ensures stays { Stays (R.seen room.old) (R.seen room.new) }
+    ensures stays { SameBut (R.seen room.old) (R.seen room.new) [] }
     ensures rose { Rose 0 (R.In.faults input.source) →
         Rose ((R.seen room.old).in_faults library.now.file) ((R.seen room.new).in_faults library.now.file) }
 {
@@ -79,7 +79,7 @@ fn close_input<R: Room>(room: &mut R, library: &Library, input: InputFile<R::In>
 /// Closes the files of the first of these libraries, from the last to the first.
 pub fn close_inputs<R: Room>(room: &mut R, libraries: &[Library], inputs: InputFiles<R::In>)
     requires { length inputs ≤ length libraries.now }
-    ensures stays { Stays (R.seen room.old) (R.seen room.new) }
+    ensures stays { SameBut (R.seen room.old) (R.seen room.new) [] }
     ensures rose { RisesFrom R.In.faults 0 libraries.now inputs (R.seen room.old) (R.seen room.new) }
 {
     let mut inputs = inputs.into_vec();

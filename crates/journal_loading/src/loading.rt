@@ -1,14 +1,14 @@
 //! A command's files, loaded into a journal.
 ghost use Rattle.std.specs.Prelude.{◌≡◌, ℕ, List, true, Some, None, is_some, ◌∷◌, [], IfOk, IfErr, OnOk, OnErr};
 ghost use Rattle.outside.specs.Fault.{Rose};
-ghost use Rattle.outside.specs.Room.{Apart, AsLog};
+ghost use Rattle.outside.specs.Room.{AsLog, SameBut};
 ghost use Rattle.durable_catalogue.specs.Durables.{mark_of};
 ghost use Rattle.durable_catalogue.specs.Views.{durable_view};
 ghost use Rattle.room_files.specs.Journals.{IsClosedAs};
 ghost use Rattle.journal_loading.specs.Inputs.{AreLoadable};
 ghost use Rattle.journal_loading.specs.Outcomes.{IsUnbegun, IsLoadingFault, IsFinished, IsStopped, HasBegun, HasLoaded, Fails};
 
-use crate::faults::{fault_of_opening, loading_fault};
+use crate::faults::loading_fault;
 use crate::inputs::{close_inputs, open_inputs};
 use command_words::Library;
 use console_lines::Fault;
@@ -17,7 +17,7 @@ use loader_workers::Results;
 use marc_types::NoMemory;
 use outside::{Disk, Gate, Room};
 use parallel_loading::{InputFiles, load_files};
-use room_files::{close_journal, open_journal};
+use room_files::{close_journal, fault_of_opening, open_journal};
 use std::alloc::Global;
 use std::sync::Wait;
 use std::thread::Threads;
@@ -37,7 +37,7 @@ fn begin<R: Room>(
 ) -> Result<(Durable<R::Log>, InputFiles<R::In>), Fault>
     requires free { (name : List ℕ) → (R.seen room.old).open_as name ≡ None }
     requires loadable { AreLoadable journal.now libraries.now }
-    ensures apart { Apart (R.seen room.old) (R.seen room.new) journal.now }
+    ensures apart { SameBut (R.seen room.old) (R.seen room.new) (journal.now ∷ []) }
     ensures begun { IfOk result (λ r.
         HasBegun R.In.left R.In.faults (R.seen room.old) (R.seen room.new) journal.now libraries.now (durable_view r.0) r.1) }
     ensures failed { IfErr result (λ why. Fails (R.seen room.old) (R.seen room.new) journal.now libraries.now why
@@ -67,7 +67,7 @@ fn finish<R: Room>(
     results: Result<Results, NoMemory>,
 ) -> Result<LoadedJournal<R::Log>, Fault>
     requires { (R.seen room.old).open_as journal.now ≡ Some AsLog }
-    ensures apart { Apart (R.seen room.old) (R.seen room.new) journal.now }
+    ensures apart { SameBut (R.seen room.old) (R.seen room.new) (journal.now ∷ []) }
     ensures opened { OnOk result ((R.seen room.new).open_as journal.now ≡ Some AsLog) }
     ensures closed { OnErr result ((R.seen room.new).open_as journal.now ≡ None) }
     ensures loaded { IfOk result (λ l. l.durable ≡ durable) }
@@ -107,7 +107,7 @@ pub fn load_journal<H: Threads + Wait + Sync, R: Room, G: Gate + Sync>(
 ) -> Result<LoadedJournal<R::Log>, Fault>
     requires free { (name : List ℕ) → (R.seen room.old).open_as name ≡ None }
     requires loadable { AreLoadable journal.now libraries.now }
-    ensures apart { Apart (R.seen room.old) (R.seen room.new) journal.now }
+    ensures apart { SameBut (R.seen room.old) (R.seen room.new) (journal.now ∷ []) }
     ensures loaded { IfOk result (λ l.
         HasLoaded (R.seen room.old) (R.seen room.new) journal.now libraries.now (durable_view l.durable) l.results) }
     ensures failed { IfErr result (λ why. Fails (R.seen room.old) (R.seen room.new) journal.now libraries.now why

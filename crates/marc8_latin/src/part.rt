@@ -4,7 +4,7 @@ ghost use Rattle.marc8_latin.specs.Parts.{other_set, multibyte_set, designation_
 
 use crate::charset::{Charset, character};
 use crate::fault::Marc8Fault;
-use marc_types::{Set, is_graphic_byte};
+use marc_types::Set;
 
 /// Begins an escape sequence.
 pub const ESCAPE: u8 = 0x1b;
@@ -89,7 +89,7 @@ fn delimiter(after: &[u8]) -> Result<Front, Marc8Fault>
 {
     match after {
         [] => Err(Marc8Fault::BadByte(0)),
-        [code, ..] if is_graphic_byte(*code) => Ok(Front {
+        [code, ..] if code.is_ascii_graphic() => Ok(Front {
             meaning: Meaning::Subfield(*code),
             len: 2,
         }),

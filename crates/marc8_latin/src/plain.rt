@@ -3,7 +3,6 @@ ghost use Rattle.std.specs.List.{list_all};
 ghost use Rattle.marc8_latin.specs.Progress.{is_plain, stand_as_themselves};
 
 use crate::part::{DELIMITER, ESCAPE};
-use marc_types::is_graphic_byte;
 
 /// Whether a byte stands as itself wherever G0 is Basic Latin.
 fn is_plain(byte: u8) -> bool
@@ -33,7 +32,7 @@ pub fn stand_as_themselves(bytes: &[u8]) -> bool
     let mut delimited = false;
     for byte in bytes {
         if delimited {
-            if !is_graphic_byte(*byte) {
+            if !byte.is_ascii_graphic() {
                 return false;
             }
         } else if *byte >= 0x80 || *byte == ESCAPE {

@@ -1,3 +1,5 @@
+pub mod Fields
+pub mod Limits
 pub mod Order
 pub mod Refusals
 pub mod Valid

@@ -1,4 +1,4 @@
--- The order of keys and forms, by which sorted containers keep them, and what a hash table reads of them.
+-- The order of keys, places and forms, by which sorted containers keep them, and what a hash table reads of them.
 use Rattle.std.specs.Prelude.{◌≡◌, ℕ, Bool, true, false, ◌&&◌, ◌==◌, List, ◌++◌, cond, refl}
 use Rattle.std.specs.Bool.{Decides}
 use Rattle.std.specs.declared.cmp.Ordering.{Ordering}
@@ -9,7 +9,10 @@ use Rattle.std.specs.Hash.{HashWrites}
 use Rattle.std.specs.Hash as fed
 use Rattle.std.specs.Str.{bytes_eq}
 use Rattle.std.proofs.Common.{sym, ◌∙◌, ◌≢◌, ap, subst, ne_eqb}
+use Rattle.marc_types.specs.declared.key.Class.{Class}
+use Rattle.marc_types.specs.declared.key.Class.TheVariants.{Authority, Bibliographic}
 use Rattle.marc_types.specs.declared.key.Key.{Key}
+use Rattle.marc_types.specs.declared.key.Place.{Place}
 use Rattle.marc_types.specs.declared.form.Kind.{Kind}
 use Rattle.marc_types.specs.declared.form.Kind.TheVariants.{Personal, Corporate, Meeting, Title, Chronological, Topical, Geographic, Genre}
 use Rattle.marc_types.specs.declared.form.Item.{Item}
@@ -39,6 +42,9 @@ split_second a b h = second_so (is_eq a) (is_eq b) (tied_then a b ∙ h)
 -- by the bytes of the code, then by those of the number
 unfoldable pub key_cmp : Key → Key → Ordering
 key_cmp = then_cmp (on (λ k. k.code) (slice_cmp nat_cmp)) (on (λ k. k.number) (slice_cmp nat_cmp))
+
+abbrev pub same_key : Key → Key → Bool
+same_key = eq_by_cmp key_cmp
 
 pub key_cmp_total : IsTotalOrder key_cmp
 unfolding key_cmp
@@ -74,6 +80,58 @@ key_writes k = fed.str k.code ++ fed.str k.number
 
 pub key_writes_alike : (x y : Key) → eq_by_cmp key_cmp x y ≡ true → key_writes x ≡ key_writes y
 key_writes_alike x y h = ap key_writes ((key_Decides x y).0 h)
+
+-- authorities stand before publications
+abbrev pub class_rank : Class → ℕ
+class_rank Authority = 0
+class_rank Bibliographic = 1
+
+class_at : ℕ → Class
+class_at n = cond (n == 0) Authority Bibliographic
+
+class_at-rank : (c : Class) → class_at (class_rank c) ≡ c
+unfolding class_at
+class_at-rank Authority = refl
+class_at-rank Bibliographic = refl
+
+class_rank_same : (c d : Class) → class_rank c ≡ class_rank d → c ≡ d
+class_rank_same c d e = sym (class_at-rank c) ∙ ap class_at e ∙ class_at-rank d
+
+-- by the class, then by the key, then by the field
+unfoldable pub place_cmp : Place → Place → Ordering
+place_cmp = then_cmp (on (λ p. class_rank p.class) nat_cmp) (then_cmp (on (λ p. p.key) key_cmp) (on (λ p. p.field) nat_cmp))
+
+abbrev pub same_place : Place → Place → Bool
+same_place = eq_by_cmp place_cmp
+
+pub place_cmp_total : IsTotalOrder place_cmp
+unfolding place_cmp
+place_cmp_total = then_total (on_total (λ p. class_rank p.class) nat_cmp_total) (then_total (on_total (λ p. p.key) key_cmp_total) (on_total (λ p. p.field) nat_cmp_total))
+
+-- two numbers tie only where they are the same
+number_same : (m n : ℕ) → is_eq (nat_cmp m n) ≡ true → m ≡ n
+number_same m n h = (unsigned_Decides m n).0 (unsigned_ties m n ∙ h)
+
+pub place_ties_same : TiesOnlySame place_cmp
+unfolding place_cmp
+place_ties_same = record {
+  same = λ x y h.
+      let behind = λ (p q : Place). ordering_then (key_cmp p.key q.key) (nat_cmp p.field q.field) in
+      let class : x.class ≡ y.class = class_rank_same x.class y.class (number_same (class_rank x.class) (class_rank y.class) (split_first (nat_cmp (class_rank x.class) (class_rank y.class)) (behind x y) h)) in
+      let rest = split_second (nat_cmp (class_rank x.class) (class_rank y.class)) (behind x y) h in
+      let key : x.key ≡ y.key = key_ties_same.same x.key y.key (split_first (key_cmp x.key y.key) (nat_cmp x.field y.field) rest) in
+      let field : x.field ≡ y.field = number_same x.field y.field (split_second (key_cmp x.key y.key) (nat_cmp x.field y.field) rest) in
+      λ i. record { class = class i; key = key i; field = field i };
+}
+
+pub place_Decides : (x y : Place) → Decides (eq_by_cmp place_cmp x y) (x ≡ y)
+place_Decides = decided_by place_cmp_total place_ties_same
+
+unfoldable pub place_writes : Place → HashWrites
+place_writes p = fed.u8 (class_rank p.class) ++ key_writes p.key ++ fed.u32 p.field
+
+pub place_writes_alike : (x y : Place) → eq_by_cmp place_cmp x y ≡ true → place_writes x ≡ place_writes y
+place_writes_alike x y h = ap place_writes ((place_Decides x y).0 h)
 
 -- the place of a kind in the order of its tags
 abbrev pub kind_rank : Kind → ℕ
@@ -127,6 +185,9 @@ items_same xs ys h = (pointwise_decides item_Decides xs ys).0 (lists_ties item_c
 -- by the kind, then by the items in turn
 unfoldable pub form_cmp : Form → Form → Ordering
 form_cmp = then_cmp (on (λ f. kind_rank f.kind) nat_cmp) (on (λ f. f.items) (slice_cmp item_cmp))
+
+abbrev pub same_form : Form → Form → Bool
+same_form = eq_by_cmp form_cmp
 
 pub form_cmp_total : IsTotalOrder form_cmp
 unfolding form_cmp

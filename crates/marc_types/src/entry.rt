@@ -68,6 +68,14 @@ pub struct Limits {
     pub bytes: u64,
 }
 
+impl Limits {
+    /// The most that any catalogue takes: 1,048,576 entries, of 536,870,912 bytes in all.
+    pub const GREATEST: Limits = Limits {
+        entries: 1_048_576,
+        bytes: 536_870_912,
+    };
+}
+
 /// Why a durable commit answers no receipt.
 #[derive(Clone, Copy, Debug, PartialEq, Eq)]
 pub enum CommitFault {

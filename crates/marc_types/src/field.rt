@@ -1,3 +1,6 @@
+ghost use Rattle.std.specs.Prelude.{◌≡◌};
+ghost use Rattle.marc_types.specs.Fields.{tag_of, subfields_of};
+
 use crate::copying::{NoMemory, TryCopy};
 use crate::sequence::Sequence;
 use crate::text::Text;
@@ -47,6 +50,26 @@ pub enum Field {
 }
 
 pub type Fields = Sequence<Field>;
+
+impl Field {
+    pub fn tag(&self) -> &Tag
+        ensures { result.now ≡ tag_of self.now }
+    {
+        match self {
+            Field::Control { tag, .. } | Field::Variable { tag, .. } => tag,
+        }
+    }
+
+    /// The subfields; a control field has none.
+    pub fn subfields(&self) -> &[Subfield]
+        ensures { result.now ≡ subfields_of self.now }
+    {
+        match self {
+            Field::Control { .. } => &[],
+            Field::Variable { subs, .. } => subs.as_slice(),
+        }
+    }
+}
 
 impl TryCopy for Subfield {
     fn copy(&self, alloc: Global) -> Result<Self, NoMemory> {

@@ -13,10 +13,7 @@ pub use record::Record;
 pub use refusal::{RecordFault, Refusal, Set};
 pub use sequence::Sequence;
 pub use text::Text;
-pub use valid::{
-    can_be_code, can_be_number, is_alphanumeric_byte, is_data_byte, is_graphic_byte,
-    is_printable_byte, makes_record,
-};
+pub use valid::{can_be_code, can_be_number, is_data_byte, is_printable_byte, makes_record};
 
 mod copying;
 mod entry;

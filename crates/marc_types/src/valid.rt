@@ -11,13 +11,6 @@ pub fn is_printable_byte(byte: u8) -> bool
     (0x20..=0x7e).contains(&byte)
 }
 
-/// A graphic ASCII character, as subfield codes are.
-pub fn is_graphic_byte(byte: u8) -> bool
-    ensures { result ≡ is_graphic byte }
-{
-    (0x21..=0x7e).contains(&byte)
-}
-
 /// No record terminator, field terminator or subfield delimiter.
 pub fn is_data_byte(byte: u8) -> bool
     ensures { result ≡ is_data byte }
@@ -25,17 +18,13 @@ pub fn is_data_byte(byte: u8) -> bool
     !(0x1d..=0x1f).contains(&byte)
 }
 
-pub fn is_alphanumeric_byte(byte: u8) -> bool
-    ensures { result ≡ is_alphanumeric byte }
-{
-    matches!(byte, b'0'..=b'9' | b'A'..=b'Z' | b'a'..=b'z')
-}
-
 impl Tag {
     pub fn is_valid(self) -> bool
         ensures { result ≡ is_tag self }
     {
-        is_alphanumeric_byte(self.a) && is_alphanumeric_byte(self.b) && is_alphanumeric_byte(self.c)
+        self.a.is_ascii_alphanumeric()
+            && self.b.is_ascii_alphanumeric()
+            && self.c.is_ascii_alphanumeric()
     }
 
     /// Whether the tag begins with `00`.
@@ -75,7 +64,7 @@ fn text_is_valid(text: &[u8]) -> bool
 fn subfield_is_valid(subfield: &Subfield) -> bool
     ensures { result ≡ is_subfield subfield.now }
 {
-    is_graphic_byte(subfield.code) && text_is_valid(subfield.text.as_bytes())
+    subfield.code.is_ascii_graphic() && text_is_valid(subfield.text.as_bytes())
 }
 
 fn subfields_are_valid(subfields: &[Subfield]) -> bool
@@ -172,7 +161,7 @@ pub fn makes_record(leader: &Leader, fields: &[Field]) -> bool
 fn is_code_byte_of(byte: u8) -> bool
     ensures { result ≡ is_code_byte byte }
 {
-    is_graphic_byte(byte) && byte != b'(' && byte != b')'
+    byte.is_ascii_graphic() && byte != b'(' && byte != b')'
 }
 
 fn all_code_bytes(text: &[u8]) -> bool
@@ -192,7 +181,7 @@ pub fn can_be_code(text: &[u8]) -> bool
 fn all_graphic(text: &[u8]) -> bool
     ensures { result ≡ list_all is_graphic text.now }
 {
-    text.iter().all(|byte| is_graphic_byte(*byte))
+    text.iter().all(|byte| byte.is_ascii_graphic())
 }
 
 /// Whether a text can be the number of a key: 1 to 64 graphic ASCII characters.

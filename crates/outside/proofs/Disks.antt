@@ -1,6 +1,7 @@
 -- How calls on a disk go on, one after the other.
-use Rattle.std.proofs.Common.{inl, inr, ⊎_elim, ℕ, ◌≤◌, List, refl, sym, ◌∙◌, arith}
-use Rattle.outside.specs.Disk.{DiskView, OnlyContent, Elapses, Unchanged, SameDisk, LeavesOnly}
+use Rattle.std.proofs.Common.{◌≡◌, inl, inr, ⊎_elim, ℕ, ◌+◌, ◌≤◌, max, List, ◌++◌, length, take, drop, Some, refl, sym, ap, ◌∙◌, arith, append_assoc, length-append, length-drop}
+use Rattle.std.proofs.lemmas.List.{length-take-le, take_at, drop_at, take_all}
+use Rattle.outside.specs.Disk.{DiskView, OnlyContent, Elapses, Unchanged, SameDisk, LeavesOnly, Torn, TornCut, patch}
 
 pub unchanged_then : (a b c : DiskView) → Unchanged a b → Unchanged b c → Unchanged a c
 unchanged_then a b c first second = record {
@@ -53,3 +54,37 @@ leaves_both a b c P later first second = record {
   each = λ i left. ⊎_elim (first.each i) (λ has. has) (second.since a.moment i later left);
   since = λ t i le left. ⊎_elim (first.since t i le) (λ has. inr has) (second.since t i (omega (arith, le, later)) left);
 }
+
+-- a write or a cut that did nothing
+pub torn_self : (at n : ℕ) (d : List ℕ) → Torn at n d d
+torn_self at n d = record { before = refl; behind = refl; no_shorter = omega arith; no_longer = omega arith }
+
+pub cut_self : (n : ℕ) (d : List ℕ) → TornCut n d d
+cut_self n d = record { front = refl; no_shorter = omega arith; no_longer = omega arith }
+
+-- how long a patched list is
+pub length-patch : (at : ℕ) (bytes d : List ℕ) → at ≤ length d → length (patch at bytes d) ≡ max (length d) (at + length bytes)
+length-patch at bytes d within =
+    let front = length-take-le at d within in
+    omega (arith, front, length-append (take at d ++ bytes) (drop (at + length bytes) d), length-append (take at d) bytes, length-drop (at + length bytes) d)
+
+-- and one that did all
+pub torn_patch : (at : ℕ) (bytes d : List ℕ) → at ≤ length d → Torn at (length bytes) d (patch at bytes d)
+torn_patch at bytes d within =
+    let len = length-patch at bytes d within in
+    let front = length-take-le at d within in
+    record {
+      before = ap (take at) (append_assoc (take at d) bytes (drop (at + length bytes) d)) ∙ take_at (take at d) (bytes ++ drop (at + length bytes) d) at front;
+      behind = drop_at (take at d ++ bytes) (drop (at + length bytes) d) (at + length bytes) (omega (arith, front, length-append (take at d) bytes));
+      no_shorter = omega (arith, len);
+      no_longer = omega (arith, len);
+    }
+
+pub torn_cut : (n : ℕ) (d : List ℕ) → n ≤ length d → TornCut n d (take n d)
+torn_cut n d within =
+    let len = length-take-le n d within in
+    record { front = take_all n (take n d) (omega (arith, len)); no_shorter = omega (arith, len); no_longer = omega (arith, len) }
+
+-- what is told is as long as the bytes
+pub told_len : (bytes b : List ℕ) → Some bytes ≡ Some b → length b ≡ length bytes
+told_len bytes b told = let same : b ≡ bytes = cc in ap length same

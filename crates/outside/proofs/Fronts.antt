@@ -1,10 +1,10 @@
--- What several writes wrote, one after the other.
-use Rattle.std.proofs.Common.{◌≡◌, ℕ, List, [], ◌++◌, Option, Some, None, refl, sym, ap, ◌∙◌, append_assoc, append-nil, ◌<◌, ◌+◌, length, take, drop, get_or, arith, take-append-drop, drop-cons}
+-- What several writes wrote, one after the other, and what is left to write.
+use Rattle.std.proofs.Common.{◌≡◌, ℕ, List, [], ◌++◌, Option, Some, None, refl, sym, ap, ◌∙◌, append_assoc, append-nil, ◌<◌, ◌+◌, length, take, drop, get_or, arith, subst, ◌∷◌, take-append-drop, drop-cons}
 use Rattle.std.specs.Io.KnownBytes.{Appends, Consumes, IsAtEnd}
 use Rattle.std.proofs.KnownBytes.{Appends-trans, Appends-nil, Consumes-trans}
 use Rattle.std.specs.List.{flat_map}
-use Rattle.std.proofs.lemmas.Grind.{common_steps}
-use Rattle.std.proofs.lemmas.Grind.{flat_map-append}
+use Rattle.std.proofs.lemmas.Grind.{common_steps, flat_map-append}
+use Rattle.std.proofs.lemmas.List.{drop_more}
 use Rattle.outside.specs.Sink.{WritesFront}
 
 -- nothing was written
@@ -75,3 +75,45 @@ pub front_item : {X : Type 0} (f : X → List ℕ) (a b c : Option (List ℕ)) (
 front_item f a b c xs i x before item within is =
     let split : flat_map f xs ≡ flat_map f (take i xs) ++ f x ++ flat_map f (drop (i + 1) xs) = grind (arith, common_steps, flat_map-append f (take i xs) (drop i xs), take-append-drop i xs, drop-cons xs i x within) in
     rw split (front_second a b c (flat_map f (take i xs)) (f x) (flat_map f (drop (i + 1) xs)) before item)
+
+-- of the whole, the first bytes were written, and the rest is left
+pub record IsWriting (old now : Option (List ℕ)) (whole rest : List ℕ) : Type 0 where
+  pub done : List ℕ
+  pub split : whole ≡ done ++ rest
+  pub wrote : Appends old now done
+
+pub writing_begun : (a : Option (List ℕ)) (whole : List ℕ) → IsWriting a a whole whole
+writing_begun a whole = record { done = []; split = refl; wrote = Appends-nil a }
+
+-- the next piece was written
+pub writing_more : (a b c : Option (List ℕ)) (whole left piece rest : List ℕ)
+    → IsWriting a b whole left → left ≡ piece ++ rest → Appends b c piece → IsWriting a c whole rest
+writing_more a b c whole left piece rest w e wrote = record {
+  done = w.done ++ piece;
+  split = w.split ∙ ap (λ l. w.done ++ l) e ∙ sym (append_assoc w.done piece rest);
+  wrote = appends_then a b c w.done piece w.wrote wrote;
+}
+
+-- of the next piece some front was written
+pub writing_failed : (a b c : Option (List ℕ)) (whole left piece rest : List ℕ)
+    → IsWriting a b whole left → left ≡ piece ++ rest → WritesFront b c piece → WritesFront a c whole
+writing_failed a b c whole left piece rest w e front =
+    subst (WritesFront a c) (sym (w.split ∙ ap (λ l. w.done ++ l) e))
+    (front_then a b c w.done (piece ++ rest) w.wrote (front_more b c piece rest front))
+
+-- nothing is left
+pub writing_done : (a b : Option (List ℕ)) (whole : List ℕ) → IsWriting a b whole [] → Appends a b whole
+writing_done a b whole w = subst (Appends a b) (sym (w.split ∙ append-nil w.done)) w.wrote
+
+-- what was written so far is a front of the whole
+pub writing_stopped : (a b : Option (List ℕ)) (whole rest : List ℕ) → IsWriting a b whole rest → WritesFront a b whole
+writing_stopped a b whole rest w = record { front = w.done; rest = rest; split = w.split; wrote = w.wrote }
+
+-- the next element of a list that a loop goes over
+pub drop_next : {X : Type 0} (xs : List X) (i : ℕ) (x : X) → i < length xs → x ≡ get_or xs i x → drop i xs ≡ x ∷ drop (i + 1) xs
+drop_next xs i x h is = drop_more xs i x h ∙ ap (λ y. y ∷ drop (i + 1) xs) (sym is)
+
+-- the next piece, where each element has one
+pub piece_next : {X : Type 0} (f : X → List ℕ) (xs : List X) (i : ℕ) (x : X) → i < length xs → x ≡ get_or xs i x
+    → flat_map f (drop i xs) ≡ f x ++ flat_map f (drop (i + 1) xs)
+piece_next f xs i x h is = ap (flat_map f) (drop_next xs i x h is)

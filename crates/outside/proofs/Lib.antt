@@ -1,4 +1,6 @@
 pub mod Counts
 pub mod Disks
 pub mod Fronts
+pub mod MovedBytes
+pub mod Places
 pub mod Rooms

@@ -1,34 +1,24 @@
--- What stays over several calls on a room.
-use Rattle.std.proofs.Common.{ℕ, List, ◌∙◌, arith}
-use Rattle.outside.proofs.Disks.{same_disk_then}
-use Rattle.outside.specs.Room.{RoomView, Stays, Apart}
+-- What several calls on a room leave the same.
+use Rattle.std.proofs.Common.{ℕ, List, [], ◌∷◌, refl, ◌∙◌, arith}
+use Rattle.outside.proofs.Disks.{same_disk, same_disk_then}
+use Rattle.outside.specs.Room.{RoomView, IsNoneOf, SameBut}
 
-pub stays_then : (a b c : RoomView) → Stays a b → Stays b c → Stays a c
-stays_then a b c first second = record {
-  tells = second.tells ∙ first.tells;
-  files = λ n. second.files n ∙ first.files n;
-  open_names = λ n. second.open_names n ∙ first.open_names n;
-  log_names = λ n. second.log_names n ∙ first.log_names n;
-  logs = λ n is. same_disk_then (a.log n) (b.log n) (c.log n) (first.logs n is) (second.logs n (first.log_names n ∙ is));
-  ins = λ n. omega (arith, first.ins n, second.ins n);
-  outs = λ n. omega (arith, first.outs n, second.outs n);
-  log_counts = λ n. omega (arith, first.log_counts n, second.log_counts n);
+-- before the first call
+pub same_but_itself : (a : RoomView) (names : List (List ℕ)) → SameBut a a names
+same_but_itself a names = record {
+  tells = refl;
+  files = λ n _. refl;
+  open_names = λ n _. refl;
+  log_names = λ n _. refl;
+  logs = λ n _ _. same_disk (a.log n);
+  ins = λ n. omega arith;
+  outs = λ n. omega arith;
+  log_counts = λ n. omega arith;
 }
 
-pub stays_apart : (a b : RoomView) (name : List ℕ) → Stays a b → Apart a b name
-stays_apart a b name stays = record {
-  tells = stays.tells;
-  files = λ n _. stays.files n;
-  open_names = λ n _. stays.open_names n;
-  log_names = λ n _. stays.log_names n;
-  logs = λ n _. stays.logs n;
-  ins = stays.ins;
-  outs = stays.outs;
-  log_counts = stays.log_counts;
-}
-
-pub apart_then : (a b c : RoomView) (name : List ℕ) → Apart a b name → Apart b c name → Apart a c name
-apart_then a b c name first second = record {
+-- one call after the other
+pub same_but_then : (a b c : RoomView) (names : List (List ℕ)) → SameBut a b names → SameBut b c names → SameBut a c names
+same_but_then a b c names first second = record {
   tells = second.tells ∙ first.tells;
   files = λ n other. second.files n other ∙ first.files n other;
   open_names = λ n other. second.open_names n other ∙ first.open_names n other;
@@ -38,3 +28,25 @@ apart_then a b c name first second = record {
   outs = λ n. omega (arith, first.outs n, second.outs n);
   log_counts = λ n. omega (arith, first.log_counts n, second.log_counts n);
 }
+
+-- the same but for names that are all among these
+pub same_but_more : (a b : RoomView) (names more : List (List ℕ)) → ((n : List ℕ) → IsNoneOf n more → IsNoneOf n names)
+    → SameBut a b names → SameBut a b more
+same_but_more a b names more fewer same = record {
+  tells = same.tells;
+  files = λ n other. same.files n (fewer n other);
+  open_names = λ n other. same.open_names n (fewer n other);
+  log_names = λ n other. same.log_names n (fewer n other);
+  logs = λ n other. same.logs n (fewer n other);
+  ins = same.ins;
+  outs = same.outs;
+  log_counts = same.log_counts;
+}
+
+-- where nothing changed
+pub same_but_none : (a b : RoomView) (names : List (List ℕ)) → SameBut a b [] → SameBut a b names
+same_but_none a b names same = same_but_more a b [] names (λ n other. tt) same
+
+-- the same but for the first of these names
+pub same_but_first : (a b : RoomView) (name : List ℕ) (names : List (List ℕ)) → SameBut a b (name ∷ []) → SameBut a b (name ∷ names)
+same_but_first a b name names same = same_but_more a b (name ∷ []) (name ∷ names) (λ n other. (other.0, tt)) same

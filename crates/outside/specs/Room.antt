@@ -1,5 +1,5 @@
 -- What clauses see of a room.
-use Rattle.std.specs.Prelude.{◌≡◌, ◌≢◌, ℕ, ◌≤◌, List, [], Option, Some, None, Bool, true}
+use Rattle.std.specs.Prelude.{◌≡◌, ◌≢◌, ℕ, ◌≤◌, List, [], ◌∷◌, Option, Some, None, Bool, true}
 use Rattle.outside.specs.Disk.{DiskView, SameDisk}
 
 -- how a name is open, other than as input
@@ -31,24 +31,18 @@ abbrev pub bytes_or_none : Option (List ℕ) → List ℕ
 bytes_or_none None = []
 bytes_or_none (Some bytes) = bytes
 
--- no file, closed log or open name changes, and no count falls
-pub record Stays (old new : RoomView) : Type 0 where
-  pub tells : new.tells ≡ old.tells
-  pub files : (n : List ℕ) → new.file n ≡ old.file n
-  pub open_names : (n : List ℕ) → new.open_as n ≡ old.open_as n
-  pub log_names : (n : List ℕ) → new.has_log n ≡ old.has_log n
-  pub logs : (n : List ℕ) → old.has_log n ≡ true → SameDisk (old.log n) (new.log n)
-  pub ins : (n : List ℕ) → old.in_faults n ≤ new.in_faults n
-  pub outs : (n : List ℕ) → old.out_faults n ≤ new.out_faults n
-  pub log_counts : (n : List ℕ) → old.log_faults n ≤ new.log_faults n
+-- a name that differs from each of these
+abbrev pub IsNoneOf : List ℕ → List (List ℕ) → Type 0
+IsNoneOf name [] = Unit {0}
+IsNoneOf name (other ∷ others) = (name ≢ other) × IsNoneOf name others
 
--- no file, closed log or open name but this one changes, and no count falls
-pub record Apart (old new : RoomView) (name : List ℕ) : Type 0 where
+-- no file, closed log or open name but of these names changes, and no count falls
+pub record SameBut (old new : RoomView) (names : List (List ℕ)) : Type 0 where
   pub tells : new.tells ≡ old.tells
-  pub files : (n : List ℕ) → n ≢ name → new.file n ≡ old.file n
-  pub open_names : (n : List ℕ) → n ≢ name → new.open_as n ≡ old.open_as n
-  pub log_names : (n : List ℕ) → n ≢ name → new.has_log n ≡ old.has_log n
-  pub logs : (n : List ℕ) → n ≢ name → old.has_log n ≡ true → SameDisk (old.log n) (new.log n)
+  pub files : (n : List ℕ) → IsNoneOf n names → new.file n ≡ old.file n
+  pub open_names : (n : List ℕ) → IsNoneOf n names → new.open_as n ≡ old.open_as n
+  pub log_names : (n : List ℕ) → IsNoneOf n names → new.has_log n ≡ old.has_log n
+  pub logs : (n : List ℕ) → IsNoneOf n names → old.has_log n ≡ true → SameDisk (old.log n) (new.log n)
   pub ins : (n : List ℕ) → old.in_faults n ≤ new.in_faults n
   pub outs : (n : List ℕ) → old.out_faults n ≤ new.out_faults n
   pub log_counts : (n : List ℕ) → old.log_faults n ≤ new.log_faults n

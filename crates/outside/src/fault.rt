@@ -2,40 +2,23 @@ ghost use Rattle.std.specs.Prelude.{◌≡◌};
 ghost use Rattle.outside.specs.declared.fault.WriteFault.TheVariants.{OutputFault, NoMemory};
 
 use std::alloc::{AllocError, AllocFailed};
-use std::error::Error;
-use std::fmt;
+use thiserror::Error;
 
 /// The answer of a call on the outside that didn't do what it was asked for. Its cause is in the object's count of faults.
-#[derive(Clone, Copy, Debug, PartialEq, Eq, Hash)]
+#[derive(Clone, Copy, Debug, PartialEq, Eq, Hash, Error)]
+#[error("a call on the outside failed")]
 pub struct Failed;
 
-impl fmt::Display for Failed {
-    fn fmt<W: fmt::Write>(&self, f: &mut fmt::Formatter<W>) -> fmt::Result {
-        f.write_str("a call on the outside failed")
-    }
-}
-
-impl Error for Failed {}
-
 /// Why something could not be written to a [`Sink`](crate::Sink).
-#[derive(Clone, Copy, Debug, PartialEq, Eq, Hash)]
+#[derive(Clone, Copy, Debug, PartialEq, Eq, Hash, Error)]
 pub enum WriteFault {
     /// The sink failed; its count of faults rose.
+    #[error("the output failed")]
     OutputFault,
     /// There was no memory for what was to be written.
+    #[error("out of memory")]
     NoMemory,
 }
-
-impl fmt::Display for WriteFault {
-    fn fmt<W: fmt::Write>(&self, f: &mut fmt::Formatter<W>) -> fmt::Result {
-        f.write_str(match self {
-            WriteFault::OutputFault => "the output failed",
-            WriteFault::NoMemory => "out of memory",
-        })
-    }
-}
-
-impl Error for WriteFault {}
 
 impl From<Failed> for WriteFault {
     ghost from_gives = { λ _ fault. fault ≡ OutputFault };

@@ -1,7 +1,7 @@
-ghost use Rattle.std.specs.Prelude.{◌≡◌, ℕ, List, [], Option, true, false, Some, None, IsSome, IfOk, OnOk, OnErr};
+ghost use Rattle.std.specs.Prelude.{◌≡◌, ℕ, List, [], Option, true, false, Some, None, IsSome, IfOk, OnOk, OnErr, ◌∷◌};
 ghost use Rattle.outside.specs.Fault.{HasCause, count_sum};
 ghost use Rattle.outside.specs.Disk.{SameDisk};
-ghost use Rattle.outside.specs.Room.{RoomView, AsOutput, AsLog, bytes_or_none, Stays, Apart};
+ghost use Rattle.outside.specs.Room.{RoomView, AsOutput, AsLog, bytes_or_none, SameBut};
 
 use crate::{Disk, Failed, Sink, Source};
 
@@ -19,7 +19,7 @@ pub trait Room {
     /// Opens the file of that name to be read. It fails where there is no such file.
     fn open_in(&mut self, name: &str) -> Result<Self::In, Failed>
         requires { (seen self.old).open_as name.now ≡ None }
-        ensures stays { Stays (seen self.old) (seen self.new) }
+        ensures stays { SameBut (seen self.old) (seen self.new) [] }
         ensures cause { HasCause ((seen self.old).in_faults name.now) ((seen self.new).in_faults name.now) result }
 
         // The object has no fault yet, and gives the file's bytes.
@@ -31,9 +31,9 @@ pub trait Room {
     /// Starts an empty file of that name, which is open as output until it is closed.
     fn open_out(&mut self, name: &str) -> Result<Self::Out, Failed>
         requires { (seen self.old).open_as name.now ≡ None }
-        ensures apart { Apart (seen self.old) (seen self.new) name.now }
+        ensures apart { SameBut (seen self.old) (seen self.new) (name.now ∷ []) }
         ensures opened { OnOk result ((seen self.new).open_as name.now ≡ Some AsOutput) }
-        ensures failed { OnErr result (Stays (seen self.old) (seen self.new)) }
+        ensures failed { OnErr result (SameBut (seen self.old) (seen self.new) []) }
         ensures cause { HasCause ((seen self.old).out_faults name.now) ((seen self.new).out_faults name.now) result }
 
         // The object has no fault yet, and nothing is written to it.
@@ -45,9 +45,9 @@ pub trait Room {
     /// where there is no such file. It fails where the file is longer than a disk can be.
     fn open_log(&mut self, name: &str) -> Result<Self::Log, Failed>
         requires { (seen self.old).open_as name.now ≡ None }
-        ensures apart { Apart (seen self.old) (seen self.new) name.now }
+        ensures apart { SameBut (seen self.old) (seen self.new) (name.now ∷ []) }
         ensures opened { OnOk result ((seen self.new).open_as name.now ≡ Some AsLog) }
-        ensures failed { OnErr result (Stays (seen self.old) (seen self.new)) }
+        ensures failed { OnErr result (SameBut (seen self.old) (seen self.new) []) }
         ensures cause { HasCause ((seen self.old).log_faults name.now) ((seen self.new).log_faults name.now) result }
 
         // The object has no fault yet, its time begins, and it has the file's bytes.
@@ -58,14 +58,14 @@ pub trait Room {
 
     /// Takes an input back, and adds its faults to the count of that name's inputs.
     fn close_in(&mut self, name: &str, object: Self::In)
-        ensures stays { Stays (seen self.old) (seen self.new) }
+        ensures stays { SameBut (seen self.old) (seen self.new) [] }
         ensures counted { (seen self.new).in_faults name.now
             ≡ count_sum ((seen self.old).in_faults name.now) (Self.In.faults object) };
 
     /// Takes an output back as the file of that name, and adds its faults to the count of that name's outputs.
     fn close_out(&mut self, name: &str, object: Self::Out) -> Result<(), Failed>
         requires { (seen self.old).open_as name.now ≡ Some AsOutput }
-        ensures apart { Apart (seen self.old) (seen self.new) name.now }
+        ensures apart { SameBut (seen self.old) (seen self.new) (name.now ∷ []) }
         ensures closed { (seen self.new).open_as name.now ≡ None }
         ensures bytes { (seen self.old).tells ≡ true → (seen self.new).file name.now ≡ Self.Out.written object }
         ensures no_log { (seen self.new).has_log name.now ≡ false }
@@ -80,7 +80,7 @@ pub trait Room {
     /// to the count of that name's logs.
     fn close_log(&mut self, name: &str, object: Self::Log)
         requires { (seen self.old).open_as name.now ≡ Some AsLog }
-        ensures apart { Apart (seen self.old) (seen self.new) name.now }
+        ensures apart { SameBut (seen self.old) (seen self.new) (name.now ∷ []) }
         ensures closed { (seen self.new).open_as name.now ≡ None }
         ensures bytes { (seen self.old).tells ≡ true → (seen self.new).file name.now ≡ (Self.Log.seen object).content }
         ensures log { (seen self.old).tells ≡ true → (seen self.new).has_log name.now ≡ true }

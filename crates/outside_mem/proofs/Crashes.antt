@@ -4,10 +4,11 @@ use Rattle.std.specs.Prelude.{if◌then◌else◌}
 use Rattle.std.proofs.lemmas.List.{length-replicate, length-take-le, take_at, drop_at, take_more, reverse-append, length-reverse, take-append-drop}
 use Rattle.std.proofs.lemmas.Bool.Decides.{nat_tests}
 use Rattle.outside.specs.Disk.{patch, Torn, TornCut}
+use Rattle.outside.proofs.Disks.{torn_self, cut_self, length-patch, torn_patch, torn_cut}
 use Rattle.outside_mem.specs.declared.change.Change.{Change}
 use Rattle.outside_mem.specs.declared.change.Change.TheVariants.{Write, Cut, Sync}
 use Rattle.outside_mem.specs.Disk.{content_after, next_content, IsImageAfter, are_within, IsRun, image_after, next_image, chosen, synced_content}
-use Rattle.outside_mem.specs.DiskLaws.{torn_self, cut_self, length-patch, torn_patch, torn_cut, both, at_most}
+use Rattle.outside_mem.specs.DiskLaws.{both, at_most}
 
 -- what a crash leaves by a choice is an image, and no shorter than the content where it keeps what was written
 pub record Chosen (choice : ℕ) (first : List ℕ) (changes : List Change) : Type 0 where

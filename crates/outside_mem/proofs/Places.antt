@@ -9,23 +9,9 @@ use Rattle.std.proofs.lemmas.Grind.{common_steps}
 use Rattle.std.proofs.lemmas.List.Folds.{find-set, find_past, find-append, find_at, position_or_len_push}
 use Rattle.std.proofs.lemmas.List.Sums.{prefix_len-le-length, passes_at_first}
 use Rattle.std.proofs.lemmas.Slice.Eq.{bytes_eq-Decides}
+use Rattle.outside.proofs.Places.{found_at, missing_at, not_both, slice_get_past}
 use Rattle.outside_mem.specs.declared.files.MemFile.{MemFile}
 use Rattle.outside_mem.specs.Files.{is_named, without_name, file_in, IsPlaceOf, IsNameless, IsBlank, ChangesFile}
-
-abbrev pub first_of : ℕ → ℕ → Bool → Option ℕ
-first_of k len within = cond within (Some k) None
-
-pub found_at : (k len : ℕ) (b : Bool) (r : Option ℕ) → nat_lt k len ≡ b → r ≡ first_of k len b → IfSome r (λ i. (i ≡ k) × (i < len))
-found_at k len true None test e = cc
-found_at k len true (Some i) test e = let same : i ≡ k = cc in (same, grind (arith, common_steps))
-found_at k len false None test e = tt
-found_at k len false (Some i) test e = cc
-
-pub missing_at : (k len : ℕ) (b : Bool) (r : Option ℕ) → k ≤ len → nat_lt k len ≡ b → r ≡ first_of k len b → IfNone r (k ≡ len)
-missing_at k len true None most test e = cc
-missing_at k len true (Some i) most test e = tt
-missing_at k len false None most test e = grind (arith, common_steps)
-missing_at k len false (Some i) most test e = tt
 
 pub place_found : (files : List MemFile) (name : List ℕ) (r : Option ℕ) → r ≡ position (is_named name) files → IfSome r (IsPlaceOf files name)
 place_found files name None e = tt
@@ -46,10 +32,6 @@ place_is_named files name place d at =
 -- an entry of one name hasn't another
 named_apart : (name other : List ℕ) (file : MemFile) → other ≢ name → is_named name file ≡ true → is_named other file ≡ false
 named_apart name other file differ named = not_both (string_bytes file.name) name other (is_named other file) refl differ ((bytes_eq-Decides (string_bytes file.name) name).0 named)
-  where
-    not_both : (own name other : List ℕ) (b : Bool) → bytes_eq own other ≡ b → other ≢ name → own ≡ name → b ≡ false
-    not_both own name other true test differ same = absurd (differ (sym ((bytes_eq-Decides own other).0 test) ∙ same))
-    not_both own name other false test differ same = refl
 
 -- what is under the name whose place it is
 pub file_in_place : (files : List MemFile) (name : List ℕ) (place : ℕ) (d : MemFile) → IsPlaceOf files name place → file_in files name ≡ without_name (Some (get_or files place d))
@@ -123,9 +105,6 @@ on_err (Err e) P holds = holds
 pub file_in_none : (name : List ℕ) → file_in [] name ≡ without_name None
 unfolding file_in
 file_in_none name = refl
-
-slice_get_past : (files : List MemFile) (i : ℕ) → length files ≤ i → slice_get files i ≡ None
-slice_get_past files i past = elim (slice_get_cases files i).1 [ inl w ↦ absurd (omega (arith, past, w.1)) | inr w ↦ w.1 ]
 
 -- where no entry has a name, nothing is under it
 pub file_in_nameless : (files : List MemFile) (name : List ℕ) → IsNameless files name → file_in files name ≡ without_name None

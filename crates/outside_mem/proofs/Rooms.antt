@@ -1,9 +1,9 @@
 -- A room in memory, seen as any room is, after what stands under its names changed or stayed.
-use Rattle.std.proofs.Common.{◌≡◌, ◌≤◌, List, ℕ, refl, sym, ap, subst}
+use Rattle.std.proofs.Common.{◌≡◌, ◌≤◌, List, ℕ, refl, sym, ap, subst, ◌∷◌, []}
 use Rattle.outside.specs.Disk.{SameDisk}
-use Rattle.outside.specs.Room.{Stays, Apart}
+use Rattle.outside.specs.Room.{SameBut}
 use Rattle.outside.proofs.Disks.{same_disk}
-use Rattle.outside.proofs.Rooms.{stays_apart}
+use Rattle.outside.proofs.Rooms.{same_but_none}
 use Rattle.outside_mem.specs.declared.disk.MemDisk.{MemDisk}
 use Rattle.outside_mem.specs.declared.files.FileState.{FileState}
 use Rattle.outside_mem.specs.declared.files.FileState.TheVariants.{ClosedLog}
@@ -20,31 +20,31 @@ state_of a b same = ap (λ (f : NamedFile). f.state) same
 
 -- what stands under each name stays
 pub stays_same : (old new : MemRoom) → SameFiles old new → in_count old ≤ in_count new → out_count old ≤ out_count new → log_count old ≤ log_count new
-    → Stays (room_view old) (room_view new)
+    → SameBut (room_view old) (room_view new) []
 stays_same old new same ins outs logs = record {
   tells = refl;
-  files = λ n. ap told_file (state_of (file_under new n) (file_under old n) (same.under n));
-  open_names = λ n. ap open_sort (state_of (file_under new n) (file_under old n) (same.under n));
-  log_names = λ n. ap is_closed_log (state_of (file_under new n) (file_under old n) (same.under n));
-  logs = λ n _. same_log (file_under old n).state (file_under new n).state (state_of (file_under new n) (file_under old n) (same.under n));
+  files = λ n _. ap told_file (state_of (file_under new n) (file_under old n) (same.under n));
+  open_names = λ n _. ap open_sort (state_of (file_under new n) (file_under old n) (same.under n));
+  log_names = λ n _. ap is_closed_log (state_of (file_under new n) (file_under old n) (same.under n));
+  logs = λ n _ _. same_log (file_under old n).state (file_under new n).state (state_of (file_under new n) (file_under old n) (same.under n));
   ins = λ n. ins;
   outs = λ n. outs;
   log_counts = λ n. logs;
 }
 
 pub apart_same : (old new : MemRoom) (name : List ℕ) → SameFiles old new → in_count old ≤ in_count new → out_count old ≤ out_count new → log_count old ≤ log_count new
-    → Apart (room_view old) (room_view new) name
-apart_same old new name same ins outs logs = stays_apart (room_view old) (room_view new) name (stays_same old new same ins outs logs)
+    → SameBut (room_view old) (room_view new) (name ∷ [])
+apart_same old new name same ins outs logs = same_but_none (room_view old) (room_view new) (name ∷ []) (stays_same old new same ins outs logs)
 
 -- something else stands under one name
 pub apart_changed : (old new : MemRoom) (name : List ℕ) (file : NamedFile) → ChangesUnder old new name file
-    → in_count old ≤ in_count new → out_count old ≤ out_count new → log_count old ≤ log_count new → Apart (room_view old) (room_view new) name
+    → in_count old ≤ in_count new → out_count old ≤ out_count new → log_count old ≤ log_count new → SameBut (room_view old) (room_view new) (name ∷ [])
 apart_changed old new name file changed ins outs logs = record {
   tells = refl;
-  files = λ n other. ap told_file (state_of (file_under new n) (file_under old n) (changed.others n other));
-  open_names = λ n other. ap open_sort (state_of (file_under new n) (file_under old n) (changed.others n other));
-  log_names = λ n other. ap is_closed_log (state_of (file_under new n) (file_under old n) (changed.others n other));
-  logs = λ n other _. same_log (file_under old n).state (file_under new n).state (state_of (file_under new n) (file_under old n) (changed.others n other));
+  files = λ n other. ap told_file (state_of (file_under new n) (file_under old n) (changed.others n other.0));
+  open_names = λ n other. ap open_sort (state_of (file_under new n) (file_under old n) (changed.others n other.0));
+  log_names = λ n other. ap is_closed_log (state_of (file_under new n) (file_under old n) (changed.others n other.0));
+  logs = λ n other _. same_log (file_under old n).state (file_under new n).state (state_of (file_under new n) (file_under old n) (changed.others n other.0));
   ins = λ n. ins;
   outs = λ n. outs;
   log_counts = λ n. logs;

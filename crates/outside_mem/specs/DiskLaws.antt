@@ -5,37 +5,10 @@ use Rattle.std.proofs.lemmas.List.{length-take-le, take_at, drop_at, take_all}
 use Rattle.std.proofs.lemmas.Bool.Decides.{nat_tests}
 use Rattle.std.specs.Option.{option_or}
 use Rattle.outside.specs.Disk.{patch, Torn, TornCut, longest_disk}
+use Rattle.outside.proofs.Disks.{torn_self, cut_self, length-patch, torn_patch, torn_cut}
 use Rattle.outside_mem.specs.declared.change.Change.{Change}
 use Rattle.outside_mem.specs.declared.change.Change.TheVariants.{Write, Cut, Sync}
 use Rattle.outside_mem.specs.Disk.{content_after, IsImageAfter, LeavesSince, synced_since, are_within, IsRun, TapeState}
-
-pub torn_self : (at n : ℕ) (d : List ℕ) → Torn at n d d
-torn_self at n d = record { before = refl; behind = refl; no_shorter = omega arith; no_longer = omega arith }
-
-pub cut_self : (n : ℕ) (d : List ℕ) → TornCut n d d
-cut_self n d = record { front = refl; no_shorter = omega arith; no_longer = omega arith }
-
--- how long a patched list is
-pub length-patch : (at : ℕ) (bytes d : List ℕ) → at ≤ length d → length (patch at bytes d) ≡ max (length d) (at + length bytes)
-length-patch at bytes d within =
-    let front = length-take-le at d within in
-    omega (arith, front, length-append (take at d ++ bytes) (drop (at + length bytes) d), length-append (take at d) bytes, length-drop (at + length bytes) d)
-
-pub torn_patch : (at : ℕ) (bytes d : List ℕ) → at ≤ length d → Torn at (length bytes) d (patch at bytes d)
-torn_patch at bytes d within =
-    let len = length-patch at bytes d within in
-    let front = length-take-le at d within in
-    record {
-      before = ap (take at) (append_assoc (take at d) bytes (drop (at + length bytes) d)) ∙ take_at (take at d) (bytes ++ drop (at + length bytes) d) at front;
-      behind = drop_at (take at d ++ bytes) (drop (at + length bytes) d) (at + length bytes) (omega (arith, front, length-append (take at d) bytes));
-      no_shorter = omega (arith, len);
-      no_longer = omega (arith, len);
-    }
-
-pub torn_cut : (n : ℕ) (d : List ℕ) → n ≤ length d → TornCut n d (take n d)
-torn_cut n d within =
-    let len = length-take-le n d within in
-    record { front = take_all n (take n d) (omega (arith, len)); no_shorter = omega (arith, len); no_longer = omega (arith, len) }
 
 pub both : (a b : Bool) → (a && b) ≡ true → (a ≡ true) × (b ≡ true)
 both true true is = (refl, refl)
@@ -183,9 +156,6 @@ pub run_sync : (first : List ℕ) (changes : List Change) (bytes : List ℕ) (do
 run_sync first changes bytes done run = record { content = run.content; within = run.within; short = run.short }
 
 -- what is told is the bytes
-pub told_len : (bytes b : List ℕ) → Some bytes ≡ Some b → length b ≡ length bytes
-told_len bytes b told = let same : b ≡ bytes = cc in ap length same
-
 pub told_image : (first : List ℕ) (changes : List Change) (bytes b : List ℕ) → IsRun first changes bytes → Some bytes ≡ Some b → IsImageAfter first changes b
 told_image first changes bytes b run told =
     let same : content_after first changes ≡ b = (let is = run.content in cc) in

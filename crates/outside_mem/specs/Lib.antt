@@ -1,9 +1,4 @@
 pub mod Calls
-pub mod SureStates
-pub mod SureDisk
-pub mod SureLaws
-pub mod SureFiles
-pub mod SureRoom
 pub mod Objects
 pub mod Files
 pub mod MemDisk

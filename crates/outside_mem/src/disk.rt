@@ -5,13 +5,13 @@ ghost use Rattle.outside_mem.specs.Calls.{is_next_listed, after_call, fresh_call
 ghost use Rattle.outside_mem.specs.Disk.{IsRun, IsImageAfter, image_after, synced_content, after_change, FailsWith};
 ghost use Rattle.outside_mem.specs.declared.change.Change.TheVariants.{Write, Cut, Sync};
 ghost use Rattle.outside_mem.specs.DiskLaws as laws;
+ghost use Rattle.outside.proofs.Disks.{told_len};
 
-use crate::NoMemory;
 use crate::calls::Calls;
 use crate::change::Change;
 use crate::crash::patched;
 use crate::tape::Tape;
-use outside::{Bytes, Disk, Failed, LONGEST_DISK};
+use outside::{Bytes, Disk, Failed, LONGEST_DISK, NoMemory, copy_front};
 use std::alloc::{AllocError, Global};
 
 /// A disk in memory, which tells its bytes and its moments. Each write, cut and sync adds the moment after it, also one
@@ -251,7 +251,7 @@ impl Disk for MemDisk {
 
     ghost bounded = { λ d. d.run.short };
 
-    ghost content_len = { λ d b told. laws.told_len d.tape.bytes b told };
+    ghost content_len = { λ d b told. told_len d.tape.bytes b told };
 
     ghost content_is_image = { λ d b told. laws.told_image d.tape.first d.tape.changes d.tape.bytes b d.run told };
 
@@ -270,14 +270,4 @@ impl Disk for MemDisk {
     ghost synced_by_now = { λ d t s is. laws.synced_by_now d.tape.changes t s is };
 
     ghost synced_first = { λ d t u r le is. laws.synced_first d.tape.changes t u r le is };
-}
-
-/// Copies the front of `bytes` into the front of `buf`, and answers how many.
-pub fn copy_front(bytes: &[u8], buf: &mut [u8]) -> usize
-    ensures count { result ≡ min (length buf.old) (length bytes.now) }
-    ensures front { take result buf.new ≡ take result bytes.now }
-{
-    let count = buf.len().min(bytes.len());
-    buf[..count].copy_from_slice(&bytes[..count]);
-    count
 }

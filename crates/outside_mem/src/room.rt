@@ -2,7 +2,7 @@ ghost use Rattle.std.specs.Prelude.{◌≡◌, ◌≢◌, ℕ, ◌≤◌, List, 
 ghost use Rattle.std.specs.Option.{option_copied};
 ghost use Rattle.outside.specs.Disk.{SameDisk, longest_disk};
 ghost use Rattle.outside.specs.Fault.{HasCause, count_sum, counted};
-ghost use Rattle.outside.specs.Room.{AsOutput, AsLog, bytes_or_none, Stays, Apart};
+ghost use Rattle.outside.specs.Room.{AsOutput, AsLog, bytes_or_none, SameBut};
 ghost use Rattle.outside_mem.specs.Calls.{fresh_calls};
 ghost use Rattle.outside_mem.specs.Files.{NamedFile, file_in, told_file};
 ghost use Rattle.outside_mem.specs.Room.{file_under, room_view, open_sort, is_closed_log, SameFiles, SameCounts, HasCounts, in_count, out_count, ChangesUnder, IsSourceOf, IsSinkOf, IsLogOf, log_count, log_view};
@@ -10,8 +10,8 @@ ghost use Rattle.outside_mem.specs.MemDisk.{disk_view};
 ghost use Rattle.outside_mem.specs.declared.files.FileState.TheVariants.{Absent, Closed, ClosedLog, OpenOutput, OpenLog};
 
 use crate::files::{self, FileState, MemFile};
-use crate::{MemDisk, MemSink, MemSource, NoMemory};
-use outside::{Bytes, Failed, LONGEST_DISK, Room};
+use crate::{MemDisk, MemSink, MemSource};
+use outside::{Bytes, Failed, LONGEST_DISK, NoMemory, Room};
 use std::alloc::Global;
 
 /// A room in memory, which tells its files and closed logs. It keeps one count of faults per sort, which stands for every name.
@@ -191,7 +191,7 @@ impl Room for MemRoom {
     #[tactic(auto, using(crate::proofs::Rooms::stays_same))]
     fn open_in(&mut self, name: &str) -> Result<MemSource, Failed>
         requires { (room_view self.old).open_as name.now ≡ None }
-        ensures stays { Stays (room_view self.old) (room_view self.new) }
+        ensures stays { SameBut (room_view self.old) (room_view self.new) [] }
         ensures cause { HasCause ((room_view self.old).in_faults name.now) ((room_view self.new).in_faults name.now) result }
 
         // It gives the closed file. A fault counts once, and all else stays.
@@ -211,8 +211,8 @@ impl Room for MemRoom {
     #[tactic(auto, using(crate::proofs::Rooms::stays_same, crate::proofs::Rooms::apart_changed, crate::proofs::Rooms::apart_same))]
     fn open_out(&mut self, name: &str) -> Result<MemSink, Failed>
         requires { (room_view self.old).open_as name.now ≡ None }
-        ensures apart { Apart (room_view self.old) (room_view self.new) name.now }
-        ensures stays { OnErr result (Stays (room_view self.old) (room_view self.new)) }
+        ensures apart { SameBut (room_view self.old) (room_view self.new) (name.now ∷ []) }
+        ensures stays { OnErr result (SameBut (room_view self.old) (room_view self.new) []) }
         ensures cause { HasCause ((room_view self.old).out_faults name.now) ((room_view self.new).out_faults name.now) result }
 
         // It gives an empty sink, and the name is open. A fault counts once, and all else stays.
@@ -234,8 +234,8 @@ impl Room for MemRoom {
     #[tactic(auto, using(crate::proofs::Rooms::stays_same, crate::proofs::Rooms::apart_changed, crate::proofs::Rooms::apart_same))]
     fn open_log(&mut self, name: &str) -> Result<MemDisk, Failed>
         requires { (room_view self.old).open_as name.now ≡ None }
-        ensures apart { Apart (room_view self.old) (room_view self.new) name.now }
-        ensures stays { OnErr result (Stays (room_view self.old) (room_view self.new)) }
+        ensures apart { SameBut (room_view self.old) (room_view self.new) (name.now ∷ []) }
+        ensures stays { OnErr result (SameBut (room_view self.old) (room_view self.new) []) }
         ensures cause { HasCause ((room_view self.old).log_faults name.now) ((room_view self.new).log_faults name.now) result }
 
         // It gives a disk with the file's bytes, and the name is open. A fault counts once, and all else stays.
@@ -256,7 +256,7 @@ impl Room for MemRoom {
 
     #[tactic(auto, using(crate::proofs::Rooms::stays_same))]
     fn close_in(&mut self, _name: &str, object: MemSource)
-        ensures stays { Stays (room_view self.old) (room_view self.new) }
+        ensures stays { SameBut (room_view self.old) (room_view self.new) [] }
         ensures files { SameFiles self.old self.new }
         ensures counts { HasCounts self.new (count_sum (in_count self.old) object.calls.faults) (out_count self.old) (log_count self.old) }
     {
@@ -266,7 +266,7 @@ impl Room for MemRoom {
     #[tactic(auto, using(crate::proofs::Places::file_in_nameless, crate::proofs::Rooms::apart_changed))]
     fn close_out(&mut self, name: &str, object: MemSink) -> Result<(), Failed>
         requires { (room_view self.old).open_as name.now ≡ Some AsOutput }
-        ensures apart { Apart (room_view self.old) (room_view self.new) name.now }
+        ensures apart { SameBut (room_view self.old) (room_view self.new) (name.now ∷ []) }
 
         // It never fails, and the name has a file of what was written.
         ensures ok { IsOk result }
@@ -285,7 +285,7 @@ impl Room for MemRoom {
     #[tactic(auto, using(crate::proofs::Places::file_in_nameless, crate::proofs::Rooms::apart_changed, crate::proofs::Rooms::closed_log))]
     fn close_log(&mut self, name: &str, object: MemDisk)
         requires { (room_view self.old).open_as name.now ≡ Some AsLog }
-        ensures apart { Apart (room_view self.old) (room_view self.new) name.now }
+        ensures apart { SameBut (room_view self.old) (room_view self.new) (name.now ∷ []) }
 
         // The name has the disk as its closed log.
         ensures moments { SameDisk (disk_view object) (log_view (file_under self.new name.now).state) }

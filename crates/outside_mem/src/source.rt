@@ -6,7 +6,7 @@ ghost use Rattle.outside_mem.specs.Calls.{is_next_listed, after_call, fresh_call
 ghost use Rattle.outside_mem.specs.Objects.{SourceState, read_length};
 
 use crate::calls::Calls;
-use outside::{Failed, Source};
+use outside::{Failed, Source, copy_front};
 use std::marker::Model;
 
 /// A source in memory, which tells its bytes.
@@ -53,8 +53,8 @@ impl MemSource {
 }
 
 /// Copies the front of `bytes`, at most `chunk` of them, into the front of `buf`, and answers how many.
-#[tactic(auto, using(crate::proofs::MovedBytes::moved_front, crate::proofs::MovedBytes::no_length))]
-pub fn copy_front(bytes: &[u8], buf: &mut [u8], chunk: usize) -> usize
+#[tactic(auto, using(outside::proofs::MovedBytes::moved_front, outside::proofs::MovedBytes::no_length))]
+fn copy_chunk(bytes: &[u8], buf: &mut [u8], chunk: usize) -> usize
     requires some_chunk { 1 ≤ chunk }
     requires some_room { 0 < length buf.old }
     ensures count { result ≡ min (min (length buf.old) chunk) (length bytes.now) }
@@ -62,9 +62,7 @@ pub fn copy_front(bytes: &[u8], buf: &mut [u8], chunk: usize) -> usize
     ensures front { bytes.now ≡ take result buf.new ++ drop result bytes.now }
     ensures end { result ≡ 0 → bytes.now ≡ [] }
 {
-    let count = buf.len().min(chunk).min(bytes.len());
-    buf[..count].copy_from_slice(&bytes[..count]);
-    count
+    copy_front(&bytes[..bytes.len().min(chunk)], buf)
 }
 
 impl Source for MemSource {
@@ -97,7 +95,7 @@ impl Source for MemSource {
             self.calls.count_fault();
             return Err(Failed);
         }
-        let count = copy_front(&self.bytes[self.position..], buf, self.chunk);
+        let count = copy_chunk(&self.bytes[self.position..], buf, self.chunk);
         self.position += count;
         self.calls.count_success();
         Ok(count)

@@ -1,6 +1,6 @@
-ghost use Rattle.std.specs.Prelude.{◌≡◌, ◌≢◌, ℕ, List, Some, None, IfOk, OnOk, OnErr};
+ghost use Rattle.std.specs.Prelude.{◌≡◌, ◌≢◌, ℕ, List, Some, None, IfOk, OnOk, OnErr, ◌∷◌, []};
 ghost use Rattle.outside.specs.Fault.{HasCause, count_sum, counted};
-ghost use Rattle.outside.specs.Room.{AsOutput, AsLog, Stays, Apart};
+ghost use Rattle.outside.specs.Room.{AsOutput, AsLog, SameBut};
 ghost use Rattle.outside_real.specs.View.{file_room_view, HasCounts};
 
 use crate::count::{added, raised};
@@ -100,7 +100,7 @@ impl<R: Files<File = File> + Print + Clone + Drop> Room for FileRoom<R> {
 
     fn open_in(&mut self, name: &str) -> Result<FileSource<File>, Failed>
         requires { (file_room_view self.old).open_as name.now ≡ None }
-        ensures stays { Stays (file_room_view self.old) (file_room_view self.new) }
+        ensures stays { SameBut (file_room_view self.old) (file_room_view self.new) [] }
         ensures cause { HasCause self.old.ins self.new.ins result }
         ensures fresh { IfOk result (λ object. ⟦<FileSource<File> as Source>⟧.faults object ≡ 0) }
 
@@ -118,9 +118,9 @@ impl<R: Files<File = File> + Print + Clone + Drop> Room for FileRoom<R> {
 
     fn open_out(&mut self, name: &str) -> Result<FileSink<Target<R>>, Failed>
         requires { (file_room_view self.old).open_as name.now ≡ None }
-        ensures apart { Apart (file_room_view self.old) (file_room_view self.new) name.now }
+        ensures apart { SameBut (file_room_view self.old) (file_room_view self.new) (name.now ∷ []) }
         ensures opened { OnOk result ((file_room_view self.new).open_as name.now ≡ Some AsOutput) }
-        ensures failed { OnErr result (Stays (file_room_view self.old) (file_room_view self.new)) }
+        ensures failed { OnErr result (SameBut (file_room_view self.old) (file_room_view self.new) []) }
         ensures cause { HasCause self.old.outs self.new.outs result }
         ensures fresh { IfOk result (λ object. ⟦<FileSink<Target<R>> as Sink>⟧.faults object ≡ 0) }
 
@@ -140,9 +140,9 @@ impl<R: Files<File = File> + Print + Clone + Drop> Room for FileRoom<R> {
 
     fn open_log(&mut self, name: &str) -> Result<FileDisk, Failed>
         requires { (file_room_view self.old).open_as name.now ≡ None }
-        ensures apart { Apart (file_room_view self.old) (file_room_view self.new) name.now }
+        ensures apart { SameBut (file_room_view self.old) (file_room_view self.new) (name.now ∷ []) }
         ensures opened { OnOk result ((file_room_view self.new).open_as name.now ≡ Some AsLog) }
-        ensures failed { OnErr result (Stays (file_room_view self.old) (file_room_view self.new)) }
+        ensures failed { OnErr result (SameBut (file_room_view self.old) (file_room_view self.new) []) }
         ensures cause { HasCause self.old.logs self.new.logs result }
         ensures fresh { IfOk result (λ object. (⟦<FileDisk as Disk>⟧.seen object).faults ≡ 0) }
 
@@ -160,7 +160,7 @@ impl<R: Files<File = File> + Print + Clone + Drop> Room for FileRoom<R> {
     }
 
     fn close_in(&mut self, _name: &str, object: FileSource<File>)
-        ensures stays { Stays (file_room_view self.old) (file_room_view self.new) }
+        ensures stays { SameBut (file_room_view self.old) (file_room_view self.new) [] }
         ensures counts { HasCounts self.new (count_sum self.old.ins (⟦<FileSource<File> as Source>⟧.faults object)) self.old.outs self.old.logs }
     {
         self.ins = added(self.ins, object.faults());
@@ -168,7 +168,7 @@ impl<R: Files<File = File> + Print + Clone + Drop> Room for FileRoom<R> {
 
     fn close_out(&mut self, name: &str, mut object: FileSink<Target<R>>) -> Result<(), Failed>
         requires { (file_room_view self.old).open_as name.now ≡ Some AsOutput }
-        ensures apart { Apart (file_room_view self.old) (file_room_view self.new) name.now }
+        ensures apart { SameBut (file_room_view self.old) (file_room_view self.new) (name.now ∷ []) }
         ensures closed { (file_room_view self.new).open_as name.now ≡ None }
         ensures cause { HasCause (count_sum self.old.outs (⟦<FileSink<Target<R>> as Sink>⟧.faults object)) self.new.outs result }
 
@@ -184,7 +184,7 @@ impl<R: Files<File = File> + Print + Clone + Drop> Room for FileRoom<R> {
 
     fn close_log(&mut self, name: &str, object: FileDisk)
         requires { (file_room_view self.old).open_as name.now ≡ Some AsLog }
-        ensures apart { Apart (file_room_view self.old) (file_room_view self.new) name.now }
+        ensures apart { SameBut (file_room_view self.old) (file_room_view self.new) (name.now ∷ []) }
         ensures closed { (file_room_view self.new).open_as name.now ≡ None }
         ensures counts { HasCounts self.new self.old.ins self.old.outs
             (count_sum self.old.logs (⟦<FileDisk as Disk>⟧.seen object).faults) }

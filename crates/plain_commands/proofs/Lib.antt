@@ -1,7 +1,6 @@
 pub mod FewRows
 pub mod Summed
 pub mod Loads
-pub mod Parts
 pub mod Passes
 pub mod Ends
 pub mod Committed

@@ -9,7 +9,7 @@ use Rattle.console_lines.specs.declared.end.End.{End}
 use Rattle.console_lines.specs.declared.end.End.TheVariants.{Done, Refused, OutputFault, Told}
 use Rattle.console_lines.specs.declared.fault.Fault.TheVariants.{Memory}
 use Rattle.console_lines.proofs.Ends.{told_no_output}
-use Rattle.plain_commands.specs.Files.{IsPartWritten}
+use Rattle.output_files.specs.Outputs.{IsPartWritten}
 use Rattle.plain_commands.specs.Making.{workload_line, EndsMake, Makes}
 
 no_made : (end : End) → end ≡ Told Memory → end ≡ Done → ⊥

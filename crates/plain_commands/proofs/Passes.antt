@@ -4,7 +4,7 @@ use Rattle.std.specs.Prelude.{string_bytes, nat_lt, IsSomeAnd}
 use Rattle.std.proofs.lemmas.Bool.{eqb-true, eqb-false, lt-ltb}
 use Rattle.std.specs.Io.KnownBytes.{Appends}
 use Rattle.outside.specs.Fault.{Rose}
-use Rattle.outside.specs.Room.{RoomView, Stays}
+use Rattle.outside.specs.Room.{RoomView, SameBut}
 use Rattle.outside.specs.Sink.{WritesFront}
 use Rattle.marc_stream.specs.Pieces.{items}
 use Rattle.command_words.specs.Command.{Library}
@@ -16,7 +16,7 @@ use Rattle.console_lines.specs.declared.fault.Fault.{Fault}
 use Rattle.console_lines.specs.declared.fault.Fault.TheVariants.{Input, Full}
 use Rattle.console_lines.proofs.Ends.{told_once, told_no_output, never_told, told_not_all}
 use Rattle.plain_commands.specs.Totals.{holding}
-use Rattle.plain_commands.specs.Files.{IsPartWritten}
+use Rattle.output_files.specs.Outputs.{IsPartWritten}
 use Rattle.plain_commands.specs.Loading.{EndsLoading, IsFullAt}
 use Rattle.plain_commands.specs.Passing.{exported, IsReady, IsPassed, IsPassedInPart, Passes}
 use Rattle.plain_commands.proofs.There.{there_more}
@@ -64,12 +64,12 @@ end_of_some items refused same some =
 
 module _ (library : Library) (out : List ℕ) (o : Outcome) where
   -- a fault was told before anything was written
-  pub passes_told : (why : Fault) → o.end ≡ Told why → IsTold why o → EndsLoading why → Stays o.old o.new
+  pub passes_told : (why : Fault) → o.end ≡ Told why → IsTold why o → EndsLoading why → SameBut o.old o.new []
       → (why ≡ Input → Rose (o.old.in_faults library.file) (o.new.in_faults library.file))
       → (why ≡ Full → o.old.tells ≡ true → IsSomeAnd (o.old.file library.file) (λ bytes. IsFullAt library.code (items bytes)))
       → Passes library out o
   passes_told why is told kind stays input full = record {
-    told = λ other also. subst (λ w. IsTold w o × EndsLoading w × Stays o.old o.new) (told_once o.end why other is also) (told, kind, stays);
+    told = λ other also. subst (λ w. IsTold w o × EndsLoading w × SameBut o.old o.new []) (told_once o.end why other is also) (told, kind, stays);
     input = λ also. input (told_once o.end why Input is also);
     output = λ also. absurd (told_no_output o.end why is also);
     full = λ also. full (told_once o.end why Full is also);
@@ -78,7 +78,7 @@ module _ (library : Library) (out : List ℕ) (o : Outcome) where
   }
 
   -- what was made ready was delivered, into a room where the file had been read
-  pub passes_delivered : (mid : RoomView) (ready : Ready) → Stays o.old mid → IsUntold o.end
+  pub passes_delivered : (mid : RoomView) (ready : Ready) → SameBut o.old mid [] → IsUntold o.end
       → (o.end ≡ OutputFault → Rose (mid.out_faults out) (o.new.out_faults out) ⊎ Rose o.faults o.faults_now)
       → (o.old.tells ≡ true → IsSomeAnd (o.old.file library.file) (λ bytes. IsReady library bytes ready))
       → ((l : Library) (bytes : List ℕ) → mid.tells ≡ true → IsReady l bytes ready → IsAllDone o.end
@@ -93,7 +93,7 @@ module _ (library : Library) (out : List ℕ) (o : Outcome) where
     full = λ also. absurd (never_told o.end Full untold also);
     whole = λ all tells. there_more (o.old.file library.file) (λ bytes ready_is. whole library bytes (stays.tells ∙ tells) ready_is all) (is tells);
     part = λ also tells. there_more (o.old.file library.file)
-        (λ bytes ready_is. subst (λ f. IsPassedInPart library bytes f (o.new.file out) o.told o.now) (stays.files out)
+        (λ bytes ready_is. subst (λ f. IsPassedInPart library bytes f (o.new.file out) o.told o.now) (stays.files out tt)
         (part library bytes (stays.tells ∙ tells) ready_is also)) (is tells);
   }
     where

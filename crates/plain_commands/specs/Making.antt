@@ -13,7 +13,7 @@ use Rattle.console_lines.specs.declared.end.End.TheVariants.{Done, Refused, Outp
 use Rattle.console_lines.specs.declared.fault.Fault.TheVariants.{Memory}
 use Rattle.console_lines.specs.Totals.{sums_of}
 use Rattle.console_lines.specs.declared.totals.Sums.{Sums}
-use Rattle.plain_commands.specs.Files.{IsPartWritten}
+use Rattle.output_files.specs.Outputs.{IsPartWritten}
 
 -- the sums over the receipts of a workload's entries in an empty catalogue
 abbrev pub workload_sums : ℕ → ℕ → Sums

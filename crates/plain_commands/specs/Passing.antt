@@ -2,7 +2,7 @@
 use Rattle.std.specs.Prelude.{◌≡◌, ◌⊎◌, ℕ, true, List, ◌++◌, length, nat_lt, Option, Some, IsSomeAnd, string_bytes}
 use Rattle.std.specs.Io.KnownBytes.{Appends}
 use Rattle.outside.specs.Fault.{Rose}
-use Rattle.outside.specs.Room.{Stays}
+use Rattle.outside.specs.Room.{SameBut}
 use Rattle.outside.specs.Sink.{WritesFront}
 use Rattle.marc_types.specs.declared.entry.Entry.{Entry}
 use Rattle.marc_stream.specs.Pieces.{items}
@@ -17,7 +17,7 @@ use Rattle.console_lines.specs.declared.end.End.{End}
 use Rattle.console_lines.specs.declared.end.End.TheVariants.{OutputFault, Told}
 use Rattle.console_lines.specs.declared.fault.Fault.{Fault}
 use Rattle.console_lines.specs.declared.fault.Fault.TheVariants.{Input, Full}
-use Rattle.plain_commands.specs.Files.{IsPartWritten}
+use Rattle.output_files.specs.Outputs.{IsPartWritten}
 use Rattle.plain_commands.specs.Totals.{totals_of, IsWithinLimits}
 use Rattle.plain_commands.specs.Loading.{EndsLoading, IsLoaded, IsFullAt}
 use Rattle.plain_commands.specs.declared.ready.Ready.{Ready}
@@ -58,7 +58,7 @@ pub record IsPassedInPart (library : Library) (bytes : List ℕ) (old new told n
 -- The command `pass`: one file through an empty catalogue, into the file OUT.
 pub record Passes (library : Library) (out : List ℕ) (o : Outcome) : Type 0 where
   -- a fault that is told is one of loading, and leaves the room as it was
-  pub told : (why : Fault) → o.end ≡ Told why → IsTold why o × EndsLoading why × Stays o.old o.new
+  pub told : (why : Fault) → o.end ≡ Told why → IsTold why o × EndsLoading why × SameBut o.old o.new []
   -- each fault has its cause
   pub input : o.end ≡ Told Input → Rose (o.old.in_faults library.file) (o.new.in_faults library.file)
   pub output : o.end ≡ OutputFault → Rose (o.old.out_faults out) (o.new.out_faults out) ⊎ Rose o.faults o.faults_now

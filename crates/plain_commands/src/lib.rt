@@ -4,11 +4,9 @@
 pub use making::make;
 pub use passing::pass;
 
-mod exporting;
 mod loaded;
 mod loading;
 mod making;
-mod output;
 mod passing;
 mod ready;
 mod summing;

@@ -1,7 +1,7 @@
 ghost use Rattle.std.specs.Prelude.{◌≡◌, ◌<◌, ◌≤◌, ℕ, List, true, false, Some, None, IsSomeAnd, IsTrue, IfOk, IfErr};
 ghost use Rattle.marc_types.specs.Valid.{is_code};
 ghost use Rattle.outside.specs.Fault.{Rose};
-ghost use Rattle.outside.specs.Room.{Stays};
+ghost use Rattle.outside.specs.Room.{SameBut};
 ghost use Rattle.marc_stream.specs.Pieces.{items};
 ghost use Rattle.plain_commands.specs.Loading.{EndsLoading, IsLoaded, IsFullAt};
 
@@ -102,7 +102,7 @@ pub fn load_file<R: Room>(
 ) -> Result<Loaded, Fault>
     requires free { (R.seen room.old).open_as name.now ≡ None }
     requires library { IsTrue (is_code library) }
-    ensures stays { Stays (R.seen room.old) (R.seen room.new) }
+    ensures stays { SameBut (R.seen room.old) (R.seen room.new) [] }
     ensures loaded { IfOk result (λ loaded. (R.seen room.old).tells ≡ true →
         IsSomeAnd ((R.seen room.old).file name.now) (λ bytes. IsLoaded library (items bytes) loaded)) }
     ensures full { IfErr result (λ fault. fault ≡ Fault.Full → (R.seen room.old).tells ≡ true →

@@ -1,9 +1,9 @@
 ghost use Rattle.std.specs.Prelude.{◌≡◌, ◌≤◌, ℕ, List, true, Some, None, OnOk};
 ghost use Rattle.outside.specs.Fault.{HasWriteCause};
-ghost use Rattle.outside.specs.Room.{Apart};
+ghost use Rattle.outside.specs.Room.{SameBut};
 ghost use Rattle.workload.specs.Workload.{workload_bytes};
 ghost use Rattle.console_lines.specs.Ends.{outcome};
-ghost use Rattle.plain_commands.specs.Files.{IsPartWritten};
+ghost use Rattle.output_files.specs.Outputs.{IsPartWritten};
 ghost use Rattle.plain_commands.specs.Making.{Makes};
 
 use crate::summing::workload_text;
@@ -22,7 +22,7 @@ fn write_workload<R: Room>(
 ) -> Result<(), WriteFault>
     requires few { count ≤ 1048576 }
     requires free { (R.seen room.old).open_as name.now ≡ None }
-    ensures apart { Apart (R.seen room.old) (R.seen room.new) name.now }
+    ensures apart { SameBut (R.seen room.old) (R.seen room.new) (name.now ∷ []) }
     ensures closed { (R.seen room.new).open_as name.now ≡ None }
     ensures cause { HasWriteCause ((R.seen room.old).out_faults name.now) ((R.seen room.new).out_faults name.now) result }
     ensures bytes { OnOk result ((R.seen room.old).tells ≡ true → (R.seen room.new).file name.now ≡ Some (workload_bytes seed count)) }
@@ -51,7 +51,7 @@ pub fn make<R: Room>(
     requires few { count ≤ 1048576 }
     requires closed { (name : List ℕ) → (R.seen room.old).open_as name ≡ None }
     ensures closed { (name : List ℕ) → (R.seen room.new).open_as name ≡ None }
-    ensures apart { Apart (R.seen room.old) (R.seen room.new) out.now }
+    ensures apart { SameBut (R.seen room.old) (R.seen room.new) (out.now ∷ []) }
     ensures ends { Makes seed count out.now
         (outcome R.seen R.Out.written R.Out.faults room.old room.new console.old console.new result) }
 {

@@ -1,22 +1,22 @@
 ghost use Rattle.std.specs.Prelude.{◌≡◌, ◌⊎◌, ℕ, List, true, None, IsTrue};
 ghost use Rattle.marc_types.specs.Valid.{is_code};
 ghost use Rattle.outside.specs.Fault.{Rose};
-ghost use Rattle.outside.specs.Room.{Apart};
+ghost use Rattle.outside.specs.Room.{SameBut};
 ghost use Rattle.command_words.specs.Command.{Library};
 ghost use Rattle.console_lines.specs.Ends.{outcome, IsAllDone, IsUntold};
 ghost use Rattle.plain_commands.specs.Passing.{IsReady, IsPassed, IsPassedInPart, Passes};
 
-use crate::output::write_out;
 use crate::ready::{Ready, prepare};
 use command_words::Library;
 use console_lines::{End, tell};
+use output_files::write_all_records;
 use outside::{Room, Sink};
 use std::alloc::Global;
 
 /// Writes the export into the file `out`, and then tells the console.
 fn deliver<R: Room>(room: &mut R, console: &mut R::Out, out: &str, ready: &Ready) -> End
     requires free { (R.seen room.old).open_as out.now ≡ None }
-    ensures apart { Apart (R.seen room.old) (R.seen room.new) out.now }
+    ensures apart { SameBut (R.seen room.old) (R.seen room.new) (out.now ∷ []) }
     ensures closed { (R.seen room.new).open_as out.now ≡ None }
     ensures untold { IsUntold result }
     ensures output { result ≡ End.OutputFault → Rose ((R.seen room.old).out_faults out.now) ((R.seen room.new).out_faults out.now)
@@ -28,7 +28,7 @@ fn deliver<R: Room>(room: &mut R, console: &mut R::Out, out: &str, ready: &Ready
         result ≡ End.OutputFault → IsPassedInPart library bytes ((R.seen room.old).file out.now) ((R.seen room.new).file out.now)
         (R.Out.written console.old) (R.Out.written console.new) }
 {
-    match write_out(room, out, ready.loaded.core()) {
+    match write_all_records(room, out, ready.loaded.core()) {
         Ok(()) => {}
         Err(_) => return End::OutputFault,
     }
@@ -56,7 +56,7 @@ pub fn pass<R: Room>(
     requires closed { (name : List ℕ) → (R.seen room.old).open_as name ≡ None }
     requires proper { IsTrue (is_code library.now.code) }
     ensures closed { (name : List ℕ) → (R.seen room.new).open_as name ≡ None }
-    ensures apart { Apart (R.seen room.old) (R.seen room.new) out.now }
+    ensures apart { SameBut (R.seen room.old) (R.seen room.new) (out.now ∷ []) }
     ensures ends { Passes library.now out.now
         (outcome R.seen R.Out.written R.Out.faults room.old room.new console.old console.new result) }
 {

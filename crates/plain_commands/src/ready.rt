@@ -1,7 +1,7 @@
 ghost use Rattle.std.specs.Prelude.{◌≡◌, ℕ, List, true, None, IsSomeAnd, IsTrue, IfOk, IfErr};
 ghost use Rattle.marc_types.specs.Valid.{is_code};
 ghost use Rattle.outside.specs.Fault.{Rose};
-ghost use Rattle.outside.specs.Room.{Stays};
+ghost use Rattle.outside.specs.Room.{SameBut};
 ghost use Rattle.marc_stream.specs.Pieces.{items};
 ghost use Rattle.plain_commands.specs.Loading.{EndsLoading, IsLoaded, IsFullAt};
 ghost use Rattle.plain_commands.specs.Passing.{IsReady};
@@ -33,7 +33,7 @@ fn ready_of(alloc: Global, library: &Library, loaded: Loaded) -> Result<Ready, N
 pub fn prepare<R: Room>(alloc: Global, room: &mut R, library: &Library) -> Result<Ready, Fault>
     requires free { (R.seen room.old).open_as library.now.file ≡ None }
     requires proper { IsTrue (is_code library.now.code) }
-    ensures stays { Stays (R.seen room.old) (R.seen room.new) }
+    ensures stays { SameBut (R.seen room.old) (R.seen room.new) [] }
     ensures ready { IfOk result (λ ready. (R.seen room.old).tells ≡ true →
         IsSomeAnd ((R.seen room.old).file library.now.file) (λ bytes. IsReady library.now bytes ready)) }
     ensures full { IfErr result (λ fault. fault ≡ Fault.Full → (R.seen room.old).tells ≡ true →

@@ -1,9 +1,9 @@
 -- A journal as it is opened and closed again.
-use Rattle.std.proofs.Common.{◌≡◌, ◌⊎◌, inl, inr, ◌∙◌, ℕ, ◌≤◌, true, List, Option, Some, None, is_some, refl, sym, ap, subst, arith}
+use Rattle.std.proofs.Common.{◌≡◌, ◌⊎◌, inl, inr, ◌∙◌, ℕ, ◌≤◌, true, List, Option, Some, None, is_some, refl, sym, ap, subst, arith, []}
 use Rattle.std.specs.Prelude.{◌≢◌}
 use Rattle.marc_types.specs.declared.entry.Entry.{Entry}
 use Rattle.outside.specs.Disk.{DiskView, SameDisk}
-use Rattle.outside.specs.Room.{RoomView, Stays, bytes_or_none}
+use Rattle.outside.specs.Room.{RoomView, SameBut, bytes_or_none}
 use Rattle.durable_catalogue.specs.declared.fault.OpenFault.{OpenFault}
 use Rattle.durable_catalogue.specs.declared.fault.OpenFault.TheVariants.{DeviceFault, NotAJournal, OldVersion, Full, NoMemory}
 use Rattle.durable_catalogue.specs.Logs.{HasHistory}
@@ -83,8 +83,8 @@ module _ (old new : RoomView) (name : List ℕ) (disk : DiskView) (file : new.fi
   closed_keeps failed keeps = closed_history failed (λ entries has dated. keeps.content entries has) keeps.images
 
 -- a log that isn't opened is as it was
-pub unopened_keeps : (failed : Type 0) (old new : RoomView) (name : List ℕ) → Stays old new → KeepsHistory failed old new name
-unopened_keeps failed old new name stays = Unopened (record { file = stays.files name; is_log = stays.log_names name; log = stays.logs name })
+pub unopened_keeps : (failed : Type 0) (old new : RoomView) (name : List ℕ) → SameBut old new [] → KeepsHistory failed old new name
+unopened_keeps failed old new name stays = Unopened (record { file = stays.files name tt; is_log = stays.log_names name tt; log = stays.logs name tt })
 
 -- what is kept where one thing failed is kept where another did that comes with it
 pub keeps_where : (failed also : Type 0) (old new : RoomView) (name : List ℕ) → (failed → also) → KeepsHistory failed old new name → KeepsHistory also old new name

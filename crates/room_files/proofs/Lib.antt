@@ -1,3 +1,1 @@
-pub mod Rooms
-pub mod Parts
 pub mod Journals

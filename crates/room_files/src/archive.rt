@@ -1,8 +1,8 @@
 //! Journals that are only read.
-ghost use Rattle.std.specs.Prelude.{◌≡◌, ◌≢◌, true, Some, None, IfOk, IfErr, OnOk, OnErr};
+ghost use Rattle.std.specs.Prelude.{◌≡◌, ◌≢◌, true, Some, None, IfOk, IfErr, OnOk, OnErr, ◌∷◌, []};
 ghost use Rattle.outside.specs.Disk.{SameDisk};
 ghost use Rattle.outside.specs.Fault.{Rose};
-ghost use Rattle.outside.specs.Room.{AsLog, Apart};
+ghost use Rattle.outside.specs.Room.{AsLog, SameBut};
 ghost use Rattle.durable_catalogue.specs.declared.fault.OpenFault.TheVariants.{DeviceFault, OldVersion};
 ghost use Rattle.durable_catalogue.specs.Logs.{HasHistory};
 ghost use Rattle.durable_catalogue.specs.Openings.{IsWithin, IsUnopened};
@@ -21,7 +21,7 @@ pub fn open_archive<R: Room>(
     name: &str,
 ) -> Result<Archive<R::Log>, OpenFault>
     requires { (R.seen room.old).open_as name.now ≡ None }
-    ensures apart { Apart (R.seen room.old) (R.seen room.new) name.now }
+    ensures apart { SameBut (R.seen room.old) (R.seen room.new) (name.now ∷ []) }
     ensures opened { OnOk result ((R.seen room.new).open_as name.now ≡ Some AsLog) }
     ensures closed { OnErr result ((R.seen room.new).open_as name.now ≡ None) }
 
@@ -56,7 +56,7 @@ pub fn open_archive<R: Room>(
 /// Closes an archive's log as the file of that name.
 pub fn close_archive<R: Room>(room: &mut R, name: &str, archive: Archive<R::Log>)
     requires { (R.seen room.old).open_as name.now ≡ Some AsLog }
-    ensures apart { Apart (R.seen room.old) (R.seen room.new) name.now }
+    ensures apart { SameBut (R.seen room.old) (R.seen room.new) (name.now ∷ []) }
     ensures closed { (R.seen room.new).open_as name.now ≡ None }
 
     // The log and its file are what the archive left.

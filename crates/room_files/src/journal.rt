@@ -1,7 +1,7 @@
 //! Journals that are appended to.
-ghost use Rattle.std.specs.Prelude.{◌≡◌, true, Some, None, is_some, IfOk, IfErr, OnOk, OnErr};
+ghost use Rattle.std.specs.Prelude.{◌≡◌, true, Some, None, is_some, IfOk, IfErr, OnOk, OnErr, ◌∷◌, []};
 ghost use Rattle.outside.specs.Fault.{Rose};
-ghost use Rattle.outside.specs.Room.{AsLog, Apart};
+ghost use Rattle.outside.specs.Room.{AsLog, SameBut};
 ghost use Rattle.durable_catalogue.specs.declared.fault.OpenFault.TheVariants.{DeviceFault, Full};
 ghost use Rattle.commit_journal.specs.Log.{version_of};
 ghost use Rattle.durable_catalogue.specs.Durables.{mark_of};
@@ -28,7 +28,7 @@ pub fn open_journal<R: Room>(
     name: &str,
 ) -> Result<Durable<R::Log>, OpenFault>
     requires { (R.seen room.old).open_as name.now ≡ None }
-    ensures apart { Apart (R.seen room.old) (R.seen room.new) name.now }
+    ensures apart { SameBut (R.seen room.old) (R.seen room.new) (name.now ∷ []) }
     ensures opened { OnOk result ((R.seen room.new).open_as name.now ≡ Some AsLog) }
     ensures closed { OnErr result ((R.seen room.new).open_as name.now ≡ None) }
     ensures catalogue { IfOk result (λ d. IsOpenedAs (R.seen room.old) name.now (durable_view d)) }
@@ -60,7 +60,7 @@ pub fn open_journal<R: Room>(
 /// Closes a catalogue's log as the file of that name, with all that was committed.
 pub fn close_journal<R: Room>(room: &mut R, name: &str, durable: Durable<R::Log>)
     requires { (R.seen room.old).open_as name.now ≡ Some AsLog }
-    ensures apart { Apart (R.seen room.old) (R.seen room.new) name.now }
+    ensures apart { SameBut (R.seen room.old) (R.seen room.new) (name.now ∷ []) }
     ensures closed { (R.seen room.new).open_as name.now ≡ None }
 
     // The file and the closed log, where the room tells and the log told when it was opened.

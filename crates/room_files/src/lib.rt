@@ -1,10 +1,10 @@
-//! What the commands do with the files of a room: they open and close journals, and write exports and reports.
+//! What the commands do with the journals of a room: they open and close them.
 #![tactic(auto)]
 
 pub use archive::{close_archive, open_archive};
+pub use fault::fault_of_opening;
 pub use journal::{JOURNAL_LIMITS, close_journal, open_journal};
-pub use output::{write_export, write_report_file};
 
 mod archive;
+mod fault;
 mod journal;
-mod output;

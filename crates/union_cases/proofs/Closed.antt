@@ -4,10 +4,10 @@ use Rattle.std.specs.Str.{bytes_eq}
 use Rattle.marc_types.specs.Order.{text_Decides}
 use Rattle.outside_mem.specs.Files.{NamedFile}
 use Rattle.outside_mem.specs.Room.{file_under, open_sort, ChangesUnder}
-use Rattle.outside_mem.specs.SureRoom.{kept_under, kept_sort, KeepsUnder}
+use Rattle.outside_sure.specs.SureRoom.{kept_under, kept_sort, KeepsUnder}
 use Rattle.outside_mem.specs.declared.room.MemRoom.{MemRoom}
-use Rattle.outside_mem.specs.declared.sure_files.Kept.{Kept}
-use Rattle.outside_mem.specs.declared.sure_room.SureRoom.{SureRoom}
+use Rattle.outside_sure.specs.declared.sure_files.Kept.{Kept}
+use Rattle.outside_sure.specs.declared.sure_room.SureRoom.{SureRoom}
 
 closed_at : (b : Bool) (old new : MemRoom) (name n : List ℕ) (file : NamedFile) → (b ≡ true → n ≡ name) → (n ≡ name → b ≡ true)
     → open_sort file.state ≡ None → ChangesUnder old new name file → open_sort (file_under old n).state ≡ None

@@ -1,7 +1,8 @@
 ghost use Rattle.std.specs.Prelude.{◌≡◌, ℕ, List, None, IfOk};
 ghost use Rattle.outside_mem.specs.Room.{room_view};
 
-use outside_mem::{MemRoom, NoMemory};
+use outside::NoMemory;
+use outside_mem::MemRoom;
 use std::alloc::Global;
 
 /// Puts a file of these bytes into a room.

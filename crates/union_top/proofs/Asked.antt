@@ -2,9 +2,8 @@
 use Rattle.std.proofs.Common.{◌≡◌, ◌≢◌, ℕ, ◌<◌, ◌≤◌, List, [], ◌∷◌, length, get_or, None, refl, ap, ◌∙◌, arith}
 use Rattle.std.specs.Prelude.{All, IsTrue}
 use Rattle.marc_types.specs.Valid.{is_code}
-use Rattle.outside.specs.Room.{RoomView, Stays}
-use Rattle.outside.proofs.Disks.{same_disk}
-use Rattle.outside.proofs.Rooms.{stays_apart}
+use Rattle.outside.specs.Room.{RoomView, SameBut}
+use Rattle.outside.proofs.Rooms.{same_but_none}
 use Rattle.command_words.specs.Command.{Library, Command, Pass, Run, Load, Export, Report, Make, libraries_of, names_of, AreNames, IsNoneOf}
 use Rattle.console_lines.specs.Ends.{Outcome, IsTold}
 use Rattle.console_lines.specs.declared.end.End.TheVariants.{Told}
@@ -15,24 +14,12 @@ use Rattle.archive_commands.specs.Reads.{DueView, Reads}
 use Rattle.archive_commands.proofs.Reads.{reads_unopened}
 use Rattle.plain_commands.proofs.Passes.{passes_told}
 use Rattle.plain_commands.proofs.Made.{makes_no_memory}
-use Rattle.plain_commands.specs.Files as files
+use Rattle.output_files.specs.Outputs as files
 use Rattle.journal_loading.specs.Outcomes.{Fails, IsLoadingFault, NotBegun, Unopened}
 use Rattle.journal_loading.specs.Inputs.{AreLoadable}
 use Rattle.union_top.specs.Commands.{Ends}
 use Rattle.union_top.specs.Runs as runs
 use Rattle.union_top.proofs.Ended.{loads_failed, runs_failed, no_memory}
-
-pub room_itself : (room : RoomView) → Stays room room
-room_itself room = record {
-  tells = refl;
-  files = λ n. refl;
-  open_names = λ n. refl;
-  log_names = λ n. refl;
-  logs = λ n is. same_disk (room.log n);
-  ins = λ n. omega arith;
-  outs = λ n. omega arith;
-  log_counts = λ n. omega arith;
-}
 
 -- the libraries of a command's files can be loaded into its journal, the first of its names
 pub loadable : (libraries : List Library) (journal : List ℕ) (names : List (List ℕ)) (files : ℕ) → length libraries ≡ files → 1 ≤ files → files ≤ 64
@@ -48,17 +35,17 @@ loadable libraries journal names files count some few proper apart = record {
 pub only : (library first : Library) (libraries : List Library) → libraries ≡ library ∷ [] → first ≡ get_or libraries 0 first → first ≡ library
 only library first libraries is read = read ∙ ap (λ ls. get_or ls 0 first) is
 
-module _ (o : Outcome) (told : o.end ≡ Told fault.Memory) (tells : IsTold fault.Memory o) (stays : Stays o.old o.new)
+module _ (o : Outcome) (told : o.end ≡ Told fault.Memory) (tells : IsTold fault.Memory o) (stays : SameBut o.old o.new [])
     (free : (name : List ℕ) → o.old.open_as name ≡ None) where
   unbegun : (journal : List ℕ) (libraries : List Library) → IsLoadingFault o.old o.new journal libraries fault.Memory
   unbegun journal libraries = NotBegun (Unopened opening.NoMemory refl tt (λ full. cc) (unopened_keeps _ o.old o.new journal stays))
 
   closed : (journal : List ℕ) → o.new.open_as journal ≡ None
-  closed journal = stays.open_names journal ∙ free journal
+  closed journal = stays.open_names journal tt ∙ free journal
 
   reads : (journal out : List ℕ) (due : DueView) → journal ≢ out → Reads journal out due o
   reads journal out due differ =
-      reads_unopened journal out due o opening.NoMemory differ told tells (stays_apart o.old o.new journal stays) (λ old. cc) (λ room. tt)
+      reads_unopened journal out due o opening.NoMemory differ told tells (same_but_none o.old o.new (journal ∷ []) stays) (λ old. cc) (λ room. tt)
       (λ room. unopened_keeps _ o.old o.new journal stays) (λ device. cc)
 
   pub unasked : (words : List (List ℕ)) (command : Command) → AreNames (names_of command) → Ends words command o
@@ -66,10 +53,10 @@ module _ (o : Outcome) (told : o.end ≡ Told fault.Memory) (tells : IsTold faul
   unasked words (Run journal out report files) names =
       runs_failed (libraries_of words) journal o out report fault.Memory told tells (λ other. absurd (other refl))
       (no_memory o.old o.new journal (libraries_of words) _ (closed journal)
-      (λ room. runs.NotLoaded (unbegun journal (libraries_of words)) (stays.files out) (stays.files report)))
+      (λ room. runs.NotLoaded (unbegun journal (libraries_of words)) (stays.files out tt) (stays.files report tt)))
   unasked words (Load journal files) names =
       loads_failed (libraries_of words) journal o fault.Memory told tells
       (no_memory o.old o.new journal (libraries_of words) _ (closed journal) (λ room. runs.NotLoaded (unbegun journal (libraries_of words))))
   unasked words (Export journal out code) names = reads journal out _ names.1.0
   unasked words (Report journal out) names = reads journal out _ names.1.0
-  unasked words (Make seed count out) names = makes_no_memory seed count out o told tells (λ room. files.AsItWas (stays.files out))
+  unasked words (Make seed count out) names = makes_no_memory seed count out o told tells (λ room. files.AsItWas (stays.files out tt))

@@ -19,8 +19,9 @@ use Rattle.console_lines.specs.declared.fault.Fault.{Fault}
 use Rattle.console_lines.specs.declared.fault.Fault.TheVariants as fault
 use Rattle.durable_catalogue.specs.declared.fault.OpenFault.{OpenFault}
 use Rattle.durable_catalogue.specs.declared.fault.OpenFault.TheVariants as opening
+use Rattle.room_files.specs.Faults.{fault_of_opening}
 use Rattle.room_files.specs.Journals.{log_bytes}
-use Rattle.archive_commands.specs.Archives.{HasFittingHistory, WhyUnopened, opening_fault}
+use Rattle.archive_commands.specs.Archives.{HasFittingHistory, WhyUnopened}
 use Rattle.archive_commands.specs.Reads.{DueView, Reads, EndsReading}
 use Rattle.plain_commands.specs.Loading.{IsFullAt, EndsLoading}
 use Rattle.plain_commands.specs.Making.{Makes, EndsMake}
@@ -75,7 +76,7 @@ load_why fault.Memory remains usage input device = refl
 load_why fault.OldVersion remains usage input device = absurd remains
 
 -- one of an opening that does, where an old version is read too
-read_why : (log : List ℕ) (of : OpenFault) → MayBe log of → EndsReading (Told (opening_fault of)) → (opening_fault of ≡ fault.Device → ⊥) → opening_fault of ≡ fault.Memory
+read_why : (log : List ℕ) (of : OpenFault) → MayBe log of → EndsReading (Told (fault_of_opening of)) → (fault_of_opening of ≡ fault.Device → ⊥) → fault_of_opening of ≡ fault.Memory
 read_why log opening.DeviceFault may ends device = absurd (device refl)
 read_why log (opening.NotAJournal place) may ends device = absurd may
 read_why log opening.OldVersion may ends device = absurd ends

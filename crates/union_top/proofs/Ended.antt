@@ -5,7 +5,7 @@ use Rattle.std.specs.Str.{bytes_eq}
 use Rattle.std.proofs.lemmas.Slice.Eq.{bytes_eq-Decides}
 use Rattle.marc_types.specs.declared.entry.Entry.{Entry}
 use Rattle.outside.specs.Fault.{Rose}
-use Rattle.outside.specs.Room.{RoomView, Apart}
+use Rattle.outside.specs.Room.{RoomView, SameBut}
 use Rattle.outside.specs.Sink.{WritesFront}
 use Rattle.command_words.specs.Command.{Library, AreNames}
 use Rattle.entry_record.specs.History.{state_of}
@@ -16,7 +16,7 @@ use Rattle.console_lines.specs.declared.fault.Fault.{Fault}
 use Rattle.console_lines.specs.declared.fault.Fault.TheVariants as fault
 use Rattle.console_lines.proofs.Ends.{told_once, told_no_output, never_told, told_not_all}
 use Rattle.loader_workers.specs.declared.result.FileResult.{FileResult}
-use Rattle.room_files.specs.Rooms.{ApartFrom, IsPartWritten, AsItWas}
+use Rattle.output_files.specs.Outputs.{IsPartWritten, AsItWas}
 use Rattle.journal_loading.specs.Outcomes.{Fails}
 use Rattle.union_top.specs.Texts.{files_text, has_refused}
 use Rattle.union_top.specs.Runs.{AreOutputs, AreInPart, WhyNotLoad, WhyNotRun}
@@ -31,14 +31,14 @@ decide_name {P} a b same other = decided (bytes_eq a b) refl
     decided false is = other (λ eq. true≢false (sym ((bytes_eq-Decides a b).1 eq) ∙ is))
 
 -- a journal was opened in a room, outputs were written and closed, and it was closed: no name is open
-pub closed_run : (old mid out_room new : RoomView) (journal out report : List ℕ) → ((n : List ℕ) → old.open_as n ≡ None) → Apart old mid journal
-    → ApartFrom mid out_room (out ∷ report ∷ []) → out_room.open_as out ≡ None → out_room.open_as report ≡ None → Apart out_room new journal → new.open_as journal ≡ None
+pub closed_run : (old mid out_room new : RoomView) (journal out report : List ℕ) → ((n : List ℕ) → old.open_as n ≡ None) → SameBut old mid (journal ∷ [])
+    → SameBut mid out_room (out ∷ report ∷ []) → out_room.open_as out ≡ None → out_room.open_as report ≡ None → SameBut out_room new (journal ∷ []) → new.open_as journal ≡ None
     → (n : List ℕ) → new.open_as n ≡ None
 closed_run old mid out_room new journal out report free opened wrote out_closed report_closed closing closed n =
-    decide_name n journal (λ is. subst (λ m. new.open_as m ≡ None) (sym is) closed) (λ no_journal. closing.open_names n no_journal ∙
+    decide_name n journal (λ is. subst (λ m. new.open_as m ≡ None) (sym is) closed) (λ no_journal. closing.open_names n (no_journal, tt) ∙
     decide_name n out (λ is. subst (λ m. out_room.open_as m ≡ None) (sym is) out_closed) (λ no_out.
     decide_name n report (λ is. subst (λ m. out_room.open_as m ≡ None) (sym is) report_closed) (λ no_report.
-    wrote.open_names n (no_out, (no_report, tt)) ∙ (opened.open_names n no_journal ∙ free n))))
+    wrote.open_names n (no_out, (no_report, tt)) ∙ (opened.open_names n (no_journal, tt) ∙ free n))))
 
 module _ (libraries : List Library) (journal : List ℕ) (o : Outcome) where
   -- what the console is told of files that were loaded whole
@@ -86,7 +86,7 @@ module _ (libraries : List Library) (journal : List ℕ) (o : Outcome) where
   }
 
   module _ (out report : List ℕ) where
-    pub runs_failed : (why : Fault) → o.end ≡ Told why → IsTold why o → (why ≢ fault.Memory → ApartFrom o.old o.new (journal ∷ []))
+    pub runs_failed : (why : Fault) → o.end ≡ Told why → IsTold why o → (why ≢ fault.Memory → SameBut o.old o.new (journal ∷ []))
         → Fails o.old o.new journal libraries why (WhyNotRun o.old o.new journal out report libraries why) → Runs libraries journal out report o
     runs_failed why is told apart f = record {
       told = λ other also. subst (λ w. IsTold w o × (w ≢ fault.Usage)) (told_once o.end why other is also) (told, f.no_usage);
@@ -138,39 +138,39 @@ no_memory old new journal libraries so closed because = record {
 }
 
 -- a journal was opened in a room and closed: no name is open
-pub closed_load : (old mid new : RoomView) (journal : List ℕ) → ((n : List ℕ) → old.open_as n ≡ None) → Apart old mid journal → Apart mid new journal → new.open_as journal ≡ None
+pub closed_load : (old mid new : RoomView) (journal : List ℕ) → ((n : List ℕ) → old.open_as n ≡ None) → SameBut old mid (journal ∷ []) → SameBut mid new (journal ∷ []) → new.open_as journal ≡ None
     → (n : List ℕ) → new.open_as n ≡ None
 closed_load old mid new journal free opened closing closed n =
-    decide_name n journal (λ is. subst (λ m. new.open_as m ≡ None) (sym is) closed) (λ other. closing.open_names n other ∙ (opened.open_names n other ∙ free n))
+    decide_name n journal (λ is. subst (λ m. new.open_as m ≡ None) (sym is) closed) (λ other. closing.open_names n (other, tt) ∙ (opened.open_names n (other, tt) ∙ free n))
 
 -- files that are written between the opening and the closing of a journal
-part_between : (old mid wrote new : RoomView) (journal name due : List ℕ) → name ≢ journal → Apart old mid journal → Apart wrote new journal
+part_between : (old mid wrote new : RoomView) (journal name due : List ℕ) → name ≢ journal → SameBut old mid (journal ∷ []) → SameBut wrote new (journal ∷ [])
     → IsPartWritten (mid.file name) (wrote.file name) due → IsPartWritten (old.file name) (new.file name) due
 part_between old mid wrote new journal name due other opened closing is =
-    subst (λ f. IsPartWritten f (new.file name) due) (opened.files name other) (subst (λ f. IsPartWritten (mid.file name) f due) (sym (closing.files name other)) is)
+    subst (λ f. IsPartWritten f (new.file name) due) (opened.files name (other, tt)) (subst (λ f. IsPartWritten (mid.file name) f due) (sym (closing.files name (other, tt))) is)
 
-pub in_part_between : (old mid wrote new : RoomView) (journal out report : List ℕ) (entries : List Entry) → AreNames (journal ∷ out ∷ report ∷ []) → Apart old mid journal
-    → Apart wrote new journal → AreInPart mid wrote out report entries → AreInPart old new out report entries
+pub in_part_between : (old mid wrote new : RoomView) (journal out report : List ℕ) (entries : List Entry) → AreNames (journal ∷ out ∷ report ∷ []) → SameBut old mid (journal ∷ [])
+    → SameBut wrote new (journal ∷ []) → AreInPart mid wrote out report entries → AreInPart old new out report entries
 in_part_between old mid wrote new journal out report entries names opened closing is = record {
   export = part_between old mid wrote new journal out (export_of all_keys (state_of entries)) (λ same. names.1.0 (sym same)) opened closing is.export;
   report_is = part_between old mid wrote new journal report (report_of (state_of entries)) (λ same. names.1.1.0 (sym same)) opened closing is.report_is;
 }
 
-pub outputs_closed : (wrote new : RoomView) (journal out report : List ℕ) (entries : List Entry) → AreNames (journal ∷ out ∷ report ∷ []) → Apart wrote new journal
+pub outputs_closed : (wrote new : RoomView) (journal out report : List ℕ) (entries : List Entry) → AreNames (journal ∷ out ∷ report ∷ []) → SameBut wrote new (journal ∷ [])
     → AreOutputs wrote out report entries → AreOutputs new out report entries
 outputs_closed wrote new journal out report entries names closing is = record {
-  export = closing.files out (λ same. names.1.0 (sym same)) ∙ is.export;
-  report_is = closing.files report (λ same. names.1.1.0 (sym same)) ∙ is.report_is;
+  export = closing.files out ((λ same. names.1.0 (sym same)), tt) ∙ is.export;
+  report_is = closing.files report ((λ same. names.1.1.0 (sym same)), tt) ∙ is.report_is;
 }
 
 -- where only the journal was used
-pub in_part_apart : (old new : RoomView) (journal out report : List ℕ) (entries : List Entry) → AreNames (journal ∷ out ∷ report ∷ []) → Apart old new journal
+pub in_part_apart : (old new : RoomView) (journal out report : List ℕ) (entries : List Entry) → AreNames (journal ∷ out ∷ report ∷ []) → SameBut old new (journal ∷ [])
     → AreInPart old new out report entries
 in_part_apart old new journal out report entries names apart = record {
-  export = AsItWas (apart.files out (λ same. names.1.0 (sym same)));
-  report_is = AsItWas (apart.files report (λ same. names.1.1.0 (sym same)));
+  export = AsItWas (apart.files out ((λ same. names.1.0 (sym same)), tt));
+  report_is = AsItWas (apart.files report ((λ same. names.1.1.0 (sym same)), tt));
 }
 
-pub rose_between : (old mid wrote new : RoomView) (journal name : List ℕ) → Apart old mid journal → Apart wrote new journal → Rose (mid.out_faults name) (wrote.out_faults name)
+pub rose_between : (old mid wrote new : RoomView) (journal name : List ℕ) → SameBut old mid (journal ∷ []) → SameBut wrote new (journal ∷ []) → Rose (mid.out_faults name) (wrote.out_faults name)
     → Rose (old.out_faults name) (new.out_faults name)
 rose_between old mid wrote new journal name opened closing rose = let first = opened.outs name in let last = closing.outs name in omega (arith, first, rose, last)

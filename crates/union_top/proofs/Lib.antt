@@ -1,6 +1,5 @@
 mod Merging
 mod OneHistory
-mod Within
 mod Textual
 mod Ended
 mod Weights

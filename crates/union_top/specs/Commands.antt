@@ -7,7 +7,7 @@ use Rattle.console_lines.specs.declared.end.End.{End}
 use Rattle.console_lines.specs.declared.end.End.TheVariants.{OutputFault, Told}
 use Rattle.console_lines.specs.declared.fault.Fault.{Fault}
 use Rattle.console_lines.specs.declared.fault.Fault.TheVariants.{Usage, Input, Device, Memory}
-use Rattle.room_files.specs.Rooms.{ApartFrom}
+use Rattle.outside.specs.Room.{SameBut}
 use Rattle.archive_commands.specs.Reads as reads
 use Rattle.archive_commands.specs.Reads.{Reads}
 use Rattle.plain_commands.specs.Passing.{Passes}
@@ -33,7 +33,7 @@ pub record Runs (libraries : List Library) (journal out report : List ℕ) (o : 
   -- a fault that is told is one of loading, and leaves the outputs untouched, unless memory ran out
   pub told : (why : Fault) → o.end ≡ Told why → IsTold why o × (why ≢ Usage)
   pub because : (why : Fault) → o.end ≡ Told why → o.old.tells ≡ true → WhyNotRun o.old o.new journal out report libraries why
-  pub untouched : (why : Fault) → o.end ≡ Told why → why ≢ Memory → ApartFrom o.old o.new (journal ∷ [])
+  pub untouched : (why : Fault) → o.end ≡ Told why → why ≢ Memory → SameBut o.old o.new (journal ∷ [])
   -- the outside's faults have their cause
   pub device : o.end ≡ Told Device → Rose (o.old.log_faults journal) (o.new.log_faults journal)
   pub input : o.end ≡ Told Input → IsInputFault libraries o.old o.new

@@ -12,7 +12,7 @@ use Rattle.console_lines.specs.Ends.{end_of}
 use Rattle.console_lines.specs.declared.end.End.{End}
 use Rattle.console_lines.specs.declared.fault.Fault.{Fault}
 use Rattle.console_lines.specs.declared.fault.Fault.TheVariants.{Memory}
-use Rattle.room_files.specs.Rooms.{IsPartWritten}
+use Rattle.output_files.specs.Outputs.{IsPartWritten}
 use Rattle.journal_loading.specs.Outcomes.{IsLoadingFault}
 use Rattle.union_top.specs.Merged.{IsOneHistory}
 use Rattle.union_top.specs.Console.{console_of, any_refused}

@@ -1,10 +1,9 @@
 ghost use Rattle.std.specs.Prelude.{◌≡◌, ◌≢◌, ◌↔◌, ◌⊎◌, ℕ, ◌≤◌, List, true, Some, None};
-ghost use Rattle.outside.specs.Room.{Stays};
+ghost use Rattle.outside.specs.Room.{SameBut};
 ghost use Rattle.command_words.specs.Command.{Command, command_of, names_of};
 ghost use Rattle.command_words.specs.Asked.{command_asked};
 ghost use Rattle.console_lines.specs.Ends.{outcome};
 ghost use Rattle.console_lines.specs.Faults.{IsFaultTold, fault_line};
-ghost use Rattle.room_files.specs.Rooms.{ApartFrom};
 ghost use Rattle.union_top.specs.Commands.{Ends, EndsWith};
 ghost use Rattle.union_top.specs.Complete.{around, IsUnhindered};
 
@@ -33,7 +32,7 @@ fn carry_out<H: Threads + Wait + Sync, R: Room, G: Gate + Sync>(
     requires asks { command_of words.now ≡ Some (command_asked asked) }
     requires closed { (name : List ℕ) → (R.seen room.old).open_as name ≡ None }
     ensures closed { (name : List ℕ) → (R.seen room.new).open_as name ≡ None }
-    ensures apart { ApartFrom (R.seen room.old) (R.seen room.new) (names_of (command_asked asked.entry)) }
+    ensures apart { SameBut (R.seen room.old) (R.seen room.new) (names_of (command_asked asked.entry)) }
     ensures ends { Ends words.now (command_asked asked.entry)
         (outcome R.seen R.Out.written R.Out.faults room.old room.new console.old console.new result) }
     ensures command { result ≢ End.Told Fault.Usage }
@@ -83,13 +82,13 @@ pub fn run<H: Threads + Wait + Sync, R: Room, G: Gate + Sync>(
 
     // Words that are no command change nothing, and the console is told so.
     ensures usage { result ≡ 2 ↔ command_of words.now ≡ None }
-    ensures unchanged { result ≡ 2 → Stays (R.seen room.old) (R.seen room.new) }
+    ensures unchanged { result ≡ 2 → SameBut (R.seen room.old) (R.seen room.new) [] }
     ensures usage_told { result ≡ 2 → IsFaultTold (R.Out.written console.old) (R.Out.written console.new)
         (R.Out.faults console.old) (R.Out.faults console.new) (fault_line Fault.Usage) }
 
     // A command changes no file but its log and outputs, and ends as it says.
     ensures apart { (command : Command) → command_of words.now ≡ Some command →
-        ApartFrom (R.seen room.old) (R.seen room.new) (names_of command) }
+        SameBut (R.seen room.old) (R.seen room.new) (names_of command) }
     ensures ends { (command : Command) → command_of words.now ≡ Some command → EndsWith words.now command result
         (outcome R.seen R.Out.written R.Out.faults room.old room.new console.old console.new) }
 

@@ -5,8 +5,7 @@ ghost use Rattle.outside.specs.Fault.{Rose};
 ghost use Rattle.outside.specs.Sink.{WritesFront};
 ghost use Rattle.command_words.specs.Command.{AreNames};
 ghost use Rattle.console_lines.specs.Ends.{outcome, end_of, IsAllDone, IsUntold};
-ghost use Rattle.room_files.specs.Rooms.{ApartFrom};
-ghost use Rattle.durable_catalogue.specs.Openings.{IsWithin};
+ghost use Rattle.outside.specs.Room.{SameBut};
 ghost use Rattle.journal_loading.specs.Inputs.{AreLoadable};
 ghost use Rattle.union_top.specs.Commands.{Loads, Runs};
 
@@ -14,10 +13,9 @@ use crate::outputs::write_outputs;
 use crate::texts::{files_text, has_refused};
 use command_words::Library;
 use console_lines::{End, Fault, tell};
-use durable_catalogue::Durable;
 use journal_loading::{LoadedJournal, load_journal};
 use marc_types::NoMemory;
-use outside::{Disk, Gate, Room, Sink, WriteFault};
+use outside::{Gate, Room, Sink, WriteFault};
 use room_files::close_journal;
 use std::alloc::Global;
 use std::sync::Wait;
@@ -38,13 +36,6 @@ fn tell_lines<K: Sink>(console: &mut K, text: &str, refused: bool) -> End
     }
 }
 
-/// A catalogue over a journal is within its limits. This is a law for proofs; the call only looks at the catalogue.
-fn is_within_limits<D: Disk>(durable: &Durable<D>)
-    ensures { IsWithin durable.now.limits durable.now.core.history }
-{
-    durable.core().is_within_limits();
-}
-
 /// The command `load`: loads the files of these libraries into the journal of that name.
 pub fn load<H: Threads + Wait + Sync, R: Room, G: Gate + Sync>(
     rt: &H,
@@ -58,7 +49,7 @@ pub fn load<H: Threads + Wait + Sync, R: Room, G: Gate + Sync>(
     requires free { (name : List ℕ) → (R.seen room.old).open_as name ≡ None }
     requires loadable { AreLoadable journal.now libraries.now }
     ensures closed { (name : List ℕ) → (R.seen room.new).open_as name ≡ None }
-    ensures apart { ApartFrom (R.seen room.old) (R.seen room.new) (journal.now ∷ []) }
+    ensures apart { SameBut (R.seen room.old) (R.seen room.new) (journal.now ∷ []) }
     ensures ends { Loads libraries.now journal.now
         (outcome R.seen R.Out.written R.Out.faults room.old room.new console.old console.new result) }
 {
@@ -67,7 +58,7 @@ pub fn load<H: Threads + Wait + Sync, R: Room, G: Gate + Sync>(
             Ok(loaded) => loaded,
             Err(fault) => return tell(console, fault),
         };
-    is_within_limits(&durable);
+    durable.is_within_limits();
     let text = files_text(alloc, libraries, results.as_slice());
     close_journal(room, journal, durable);
     match text {
@@ -93,7 +84,7 @@ pub fn run_files<H: Threads + Wait + Sync, R: Room, G: Gate + Sync>(
     requires loadable { AreLoadable journal.now libraries.now }
     requires names { AreNames (journal.now ∷ out.now ∷ report.now ∷ []) }
     ensures closed { (name : List ℕ) → (R.seen room.new).open_as name ≡ None }
-    ensures apart { ApartFrom (R.seen room.old) (R.seen room.new) (journal.now ∷ out.now ∷ report.now ∷ []) }
+    ensures apart { SameBut (R.seen room.old) (R.seen room.new) (journal.now ∷ out.now ∷ report.now ∷ []) }
     ensures ends { Runs libraries.now journal.now out.now report.now
         (outcome R.seen R.Out.written R.Out.faults room.old room.new console.old console.new result) }
 {
@@ -102,7 +93,7 @@ pub fn run_files<H: Threads + Wait + Sync, R: Room, G: Gate + Sync>(
             Ok(loaded) => loaded,
             Err(fault) => return tell(console, fault),
         };
-    is_within_limits(&durable);
+    durable.is_within_limits();
     let text = match files_text(alloc, libraries, results.as_slice()) {
         Ok(text) => text,
         Err(NoMemory) => {

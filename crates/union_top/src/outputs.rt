@@ -2,14 +2,12 @@
 ghost use Rattle.std.specs.Prelude.{◌≡◌, ◌≢◌, ◌⊎◌, [], ◌∷◌, true, None, OnOk, IfErr};
 ghost use Rattle.outside.specs.Fault.{Rose};
 ghost use Rattle.outside.specs.declared.fault.WriteFault.TheVariants.{OutputFault};
-ghost use Rattle.room_files.specs.Rooms.{ApartFrom};
+ghost use Rattle.outside.specs.Room.{SameBut};
 ghost use Rattle.union_top.specs.Runs.{AreOutputs, AreInPart};
 
 use catalogue_core::Catalogue;
-use marc_types::Key;
+use output_files::{write_all_records, write_report_file};
 use outside::{Room, WriteFault};
-use room_files::{write_export, write_report_file};
-use selection::Selection;
 use std::alloc::Global;
 
 /// Writes the export of a catalogue into the file `out`, and then its report into the file `report`.
@@ -24,7 +22,7 @@ pub fn write_outputs<R: Room>(
     requires report_free { (R.seen room.old).open_as report.now ≡ None }
     requires differ { report.now ≢ out.now }
     requires staged { core.now.staged ≡ [] }
-    ensures apart { ApartFrom (R.seen room.old) (R.seen room.new) (out.now ∷ report.now ∷ []) }
+    ensures apart { SameBut (R.seen room.old) (R.seen room.new) (out.now ∷ report.now ∷ []) }
     ensures closed { (R.seen room.new).open_as out.now ≡ None }
     ensures report_closed { (R.seen room.new).open_as report.now ≡ None }
     ensures cause { IfErr result (λ fault. fault ≡ OutputFault →
@@ -34,8 +32,7 @@ pub fn write_outputs<R: Room>(
     ensures part { (R.seen room.old).tells ≡ true →
         AreInPart (R.seen room.old) (R.seen room.new) out.now report.now core.now.history }
 {
-    let everything = Selection::new(|_key: &Key| true);
-    match write_export(room, out, core, &everything) {
+    match write_all_records(room, out, core) {
         Ok(()) => write_report_file(alloc, room, report, core),
         Err(_) => Err(WriteFault::OutputFault),
     }

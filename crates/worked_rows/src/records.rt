@@ -6,7 +6,7 @@ use catalogue_core::Catalogue;
 use file_entries::{FileEntries, NextEntry};
 use marc_types::{Limits, NoMemory, Text, can_be_code};
 use outside::{Sink, WriteFault};
-use outside_mem::SureSource;
+use outside_sure::SureSource;
 use record_store::Steps;
 use std::alloc::Global;
 use std::marker::Brand;

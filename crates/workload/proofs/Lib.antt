@@ -2,4 +2,3 @@ pub mod Counts
 pub mod Plain
 pub mod Sound
 pub mod States
-pub mod Writing

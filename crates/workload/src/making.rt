@@ -11,7 +11,7 @@ use std::alloc::Global;
 
 /// Writes the workload of a seed and a count of at most 1,048,576. After a fault some front of it was written, maybe none
 /// or all; want of memory is a fault too.
-#[tactic(auto, using(iso2709_record::proofs::Progress::writing_begun, iso2709_record::proofs::Progress::writing_more, iso2709_record::proofs::Progress::writing_failed, iso2709_record::proofs::Progress::writing_done, crate::proofs::Writing::writing_stopped), unfolding(crate::specs::Workload::workload_bytes))]
+#[tactic(auto, using(outside::proofs::Fronts::writing_begun, outside::proofs::Fronts::writing_more, outside::proofs::Fronts::writing_failed, outside::proofs::Fronts::writing_done, outside::proofs::Fronts::writing_stopped), unfolding(crate::specs::Workload::workload_bytes))]
 pub fn make<K: Sink>(alloc: Global, seed: u64, count: u64, out: &mut K) -> Result<(), WriteFault>
     requires { count ≤ 1048576 }
     ensures bytes { OnOk result

@@ -1,13 +1,13 @@
 //! As many files as a command takes, and a file of more entries than a turn takes.
 ghost use Rattle.std.specs.Prelude.{◌≡◌, ℕ, List, None, IfOk};
-ghost use Rattle.outside_mem.specs.SureRoom.{sure_room_view};
+ghost use Rattle.outside_sure.specs.SureRoom.{sure_room_view};
 
 use super::turns::one_by_one;
 use super::{BOTH, MADE, ORDERED, carried_out, words_of};
 use crate::room_of;
 use command_words::Words;
 use marc_types::{NoMemory, Text};
-use outside_mem::{SureRoom, SureSink};
+use outside_sure::{SureRoom, SureSink};
 use outside_real::OpenGate;
 use std::alloc::Global;
 use std::test::Fail;

@@ -1,6 +1,6 @@
 use Rattle.std.proofs.Common.{◌∙◌, arith}
 use Rattle.entry_record.specs.State.{linkable_authorities}
-use Rattle.iso2709_record.proofs.Progress.{writing_more, writing_failed}
+use Rattle.outside.proofs.Fronts.{writing_more, writing_failed}
 use Rattle.ambiguity_report.proofs.Fields.{ambiguous_next, stood_more}
 use Rattle.ambiguity_report.proofs.ambiguous.write_ambiguous.Goals as goal
 

@@ -1,6 +1,6 @@
 use Rattle.std.proofs.Common.{◌≡◌, ◌≤◌}
 use Rattle.std.specs.Prelude.{is_some}
-use Rattle.iso2709_record.proofs.Progress.{IsWriting}
+use Rattle.outside.proofs.Fronts.{IsWriting}
 use Rattle.entry_record.specs.State.{linkable_authorities, rows_of}
 use Rattle.entry_record.specs.Output.{ambiguous_line}
 use Rattle.catalogue_core.specs.Behind.{standings_rows}

@@ -1,5 +1,5 @@
 use Rattle.std.proofs.Common.{◌∙◌, arith}
-use Rattle.iso2709_record.proofs.Progress.{writing_more, writing_failed}
+use Rattle.outside.proofs.Fronts.{writing_more, writing_failed}
 use Rattle.ambiguity_report.specs.Beside.{ambiguous_text}
 use Rattle.ambiguity_report.proofs.Fields.{beside_next}
 use Rattle.ambiguity_report.proofs.ambiguous.write_record.Goals as goal

@@ -1,5 +1,5 @@
 use Rattle.std.proofs.Common.{◌∙◌, arith}
-use Rattle.iso2709_record.proofs.Progress.{writing_more, writing_failed}
+use Rattle.outside.proofs.Fronts.{writing_more, writing_failed}
 use Rattle.ambiguity_report.proofs.Fields.{awaits_next}
 use Rattle.ambiguity_report.proofs.awaits.write_awaits.Goals as goal
 

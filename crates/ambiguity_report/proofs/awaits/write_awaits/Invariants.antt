@@ -1,6 +1,6 @@
 use Rattle.std.proofs.Common.{◌≡◌, ◌≤◌}
 use Rattle.std.specs.Prelude.{is_some}
-use Rattle.iso2709_record.proofs.Progress.{IsWriting}
+use Rattle.outside.proofs.Fronts.{IsWriting}
 use Rattle.entry_record.specs.State.{rows_of}
 use Rattle.entry_record.specs.Output.{awaits_line}
 use Rattle.ambiguity_report.specs.Beside.{rows_lines}

@@ -1,6 +1,6 @@
 use Rattle.std.proofs.Common.{◌≡◌, ◌≤◌, drop}
 use Rattle.std.specs.Prelude.{is_some}
-use Rattle.iso2709_record.proofs.Progress.{IsWriting}
+use Rattle.outside.proofs.Fronts.{IsWriting}
 use Rattle.ambiguity_report.specs.Beside.{awaits_text, lines_beside}
 use Rattle.ambiguity_report.proofs.awaits.write_record.Given as goal
 

@@ -1,6 +1,6 @@
 use Rattle.std.proofs.Common.{◌∙◌, arith}
 use Rattle.catalogue_core.specs.Views.{linkables}
-use Rattle.iso2709_record.proofs.Progress.{writing_more, writing_failed}
+use Rattle.outside.proofs.Fronts.{writing_more, writing_failed}
 use Rattle.ambiguity_report.proofs.Scans.{authority_next, cross_lines_at}
 use Rattle.ambiguity_report.proofs.cross.write_cross.Goals as goal
 

@@ -1,6 +1,6 @@
 use Rattle.std.proofs.Common.{◌∙◌, arith}
 use Rattle.entry_record.specs.Output.{cross_line}
-use Rattle.iso2709_record.proofs.Progress.{writing_more, writing_failed}
+use Rattle.outside.proofs.Fronts.{writing_more, writing_failed}
 use Rattle.ambiguity_report.proofs.Scans.{authority_next}
 use Rattle.ambiguity_report.proofs.cross.write_pairs.Goals as goal
 

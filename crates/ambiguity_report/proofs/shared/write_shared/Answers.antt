@@ -2,7 +2,7 @@ use Rattle.std.proofs.Common.{◌≡◌, ap, ◌∙◌, arith}
 use Rattle.std.specs.Prelude.{filter}
 use Rattle.entry_record.specs.Choice.{is_established}
 use Rattle.catalogue_core.specs.Views.{linkables}
-use Rattle.iso2709_record.proofs.Progress.{writing_more, writing_failed}
+use Rattle.outside.proofs.Fronts.{writing_more, writing_failed}
 use Rattle.ambiguity_report.proofs.Scans.{authority_next, shared_line_at}
 use Rattle.ambiguity_report.proofs.shared.write_shared.Goals as goal
 

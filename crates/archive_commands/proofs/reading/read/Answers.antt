@@ -8,8 +8,8 @@ use Rattle.archive_commands.proofs.reading.read.Goals as goal
 pub returns-in-Err-clause-ends : goal.returns-in-Err-clause-ends
 returns-in-Err-clause-ends g c =
     let because = c.in-Err.ensures in
-    reads_unopened _ _ _ _ c.in-Err.fault c.requires.differ (c.tell.ensures.end ∙ ap Told c.opening_fault.ensures)
-    (subst (λ f. IsTold f _) c.opening_fault.ensures c.tell.ensures.told) c.open_archive.ensures.apart because.current because.fault because.keeps because.cause
+    reads_unopened _ _ _ _ c.in-Err.fault c.requires.differ (c.tell.ensures.end ∙ ap Told c.fault_of_opening.ensures)
+    (subst (λ f. IsTold f _) c.fault_of_opening.ensures c.tell.ensures.told) c.open_archive.ensures.apart because.current because.fault because.keeps because.cause
 
 pub returns-in-Ok-write_archive-clause-closed : goal.returns-in-Ok-write_archive-clause-closed
 returns-in-Ok-write_archive-clause-closed g c =

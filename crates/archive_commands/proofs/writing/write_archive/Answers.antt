@@ -1,5 +1,5 @@
 use Rattle.std.proofs.Common.{subst}
-use Rattle.room_files.specs.Rooms.{IsPartWritten}
+use Rattle.output_files.specs.Outputs.{IsPartWritten}
 use Rattle.archive_commands.specs.Reads.{due_view, due_of}
 use Rattle.archive_commands.proofs.Rooms.{part_closed}
 use Rattle.archive_commands.proofs.writing.write_archive.Goals as goal

@@ -2,7 +2,7 @@ use Rattle.std.proofs.Common.{◌≡◌, ◌≤◌, drop}
 use Rattle.std.specs.Prelude.{is_some}
 use Rattle.std.specs.List.{flat_map}
 use Rattle.iso2709_record.specs.Written.{field_bytes}
-use Rattle.iso2709_record.proofs.Progress.{IsWriting}
+use Rattle.outside.proofs.Fronts.{IsWriting}
 use Rattle.iso2709_record.proofs.fields.write_fields.Given as goal
 
 abbrev pub invariant-loop-field : goal.invariant-loop-field

@@ -1,5 +1,5 @@
 use Rattle.iso2709_record.specs.Written.{subfield_bytes}
-use Rattle.iso2709_record.proofs.Progress.{writing_more, writing_failed, piece_next}
+use Rattle.outside.proofs.Fronts.{writing_more, writing_failed, piece_next}
 use Rattle.std.proofs.Common.{◌∙◌, arith}
 use Rattle.iso2709_record.proofs.fields.write_subfields.Goals as goal
 

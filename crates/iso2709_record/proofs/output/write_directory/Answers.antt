@@ -2,7 +2,8 @@ use Rattle.std.proofs.Common.{ap, refl, ◌∙◌, arith}
 use Rattle.marc_types.specs.Valid.{fields_size}
 use Rattle.iso2709_record.specs.Written.{fields_length}
 use Rattle.iso2709_record.proofs.Lengths.{fields_length_small}
-use Rattle.iso2709_record.proofs.Progress.{writing_begun, writing_more, writing_failed, drop_next, entry_next}
+use Rattle.outside.proofs.Fronts.{writing_begun, writing_more, writing_failed, drop_next}
+use Rattle.iso2709_record.proofs.Places.{entry_next}
 use Rattle.iso2709_record.proofs.output.write_directory.Goals as goal
 
 pub loop-field-init : goal.loop-field-init

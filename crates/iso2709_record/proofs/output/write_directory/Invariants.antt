@@ -2,7 +2,7 @@ use Rattle.std.proofs.Common.{◌≡◌, ◌+◌, ◌≤◌, drop}
 use Rattle.std.specs.Prelude.{is_some}
 use Rattle.marc_types.specs.Valid.{fields_size}
 use Rattle.iso2709_record.specs.Written.{directory_bytes, fields_length}
-use Rattle.iso2709_record.proofs.Progress.{IsWriting}
+use Rattle.outside.proofs.Fronts.{IsWriting}
 use Rattle.iso2709_record.proofs.output.write_directory.Given as goal
 
 abbrev pub invariant-loop-field : goal.invariant-loop-field

@@ -1,5 +1,5 @@
 use Rattle.std.proofs.Common.{sym, ◌∙◌, arith}
-use Rattle.iso2709_record.proofs.Progress.{writing_begun, writing_more, writing_failed}
+use Rattle.outside.proofs.Fronts.{writing_begun, writing_more, writing_failed}
 use Rattle.iso_export.proofs.Exported.{rows_fit, first_fits, rest_fits, next_written, next_passed}
 use Rattle.iso_export.proofs.export.write_class.Goals as goal
 

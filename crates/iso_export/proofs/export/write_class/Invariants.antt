@@ -2,7 +2,7 @@ use Rattle.std.proofs.Common.{◌≤◌}
 use Rattle.entry_record.proofs.Elements.{Each}
 use Rattle.entry_record.specs.Output.{export_of_rows}
 use Rattle.entry_record.specs.State.{rows_of}
-use Rattle.iso2709_record.proofs.Progress.{IsWriting}
+use Rattle.outside.proofs.Fronts.{IsWriting}
 use Rattle.selection.specs.Selections.{ForSelected}
 use Rattle.iso_export.proofs.Exported.{RowFits}
 use Rattle.iso_export.proofs.export.write_class.Given as goal

@@ -1,5 +1,5 @@
 use Rattle.std.proofs.Common.{rules, ◌≡◌, ◌∷◌, [], ◌+◌, ◌<◌, get_or, length, Some, slice_get, sym, ap, subst, ◌∙◌, arith, length-append}
-use Rattle.outside.proofs.Rooms.{stays_then}
+use Rattle.outside.proofs.Rooms.{same_but_then}
 use Rattle.journal_loading.proofs.Opened.{at_end, at_before, closed_more, got}
 use Rattle.journal_loading.proofs.inputs.close_inputs.Goals as goal
 
@@ -19,7 +19,7 @@ loop-input-preserved g c =
     let many = c.requires in
     let within : length left < length libraries = omega (arith, len, few, many, ap length c.into_vec-inputs.ensures) in
     let of : slice_get libraries (length left) ≡ Some library = got libraries (length left) library within (subst (λ n. library ≡ get_or libraries n library) counted c.index-libraries.is) in (
-      stays_then _ _ _ stays still,
+      same_but_then _ _ _ _ stays still,
       omega (arith, len, few),
       λ index less. sym (at_before left last index less) ∙ ap (λ items. slice_get items index) (sym popped) ∙ same index (omega (arith, len, less)),
       closed_more g.R.In.Source.faults libraries all left library last (g.R.Room.seen c.args.room.now) (g.R.Room.seen c.loop-input.room) (g.R.Room.seen c.close_input.new.room)

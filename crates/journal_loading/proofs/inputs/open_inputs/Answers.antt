@@ -2,22 +2,22 @@ use Rattle.std.proofs.Common.{rules, ◌≡◌, length, take, refl, sym, ap, sub
 use Rattle.std.proofs.lemmas.List.Elements.{All-nil, All-push}
 use Rattle.marc_types.specs.Valid.{is_code}
 use Rattle.outside.specs.Fault.{Rose}
-use Rattle.outside.proofs.Rooms.{stays_then}
+use Rattle.outside.proofs.Rooms.{same_but_itself, same_but_then}
 use Rattle.command_words.specs.Command.{Library}
 use Rattle.journal_loading.specs.Inputs.{AreInputs, NoInput, IsFresh}
-use Rattle.journal_loading.proofs.Opened.{stays_same, got, got_is, fault_since, input_before, input_more}
+use Rattle.journal_loading.proofs.Opened.{got, got_is, fault_since, input_before, input_more}
 use Rattle.journal_loading.proofs.inputs.open_inputs.Goals as goal
 
 pub returns-in_default-clause-inputs : goal.returns-in_default-clause-inputs
 returns-in_default-clause-inputs g c = rw c.new.ensures.items NoInput
 
 pub loop-index-init : goal.loop-index-init
-loop-index-init g c = (stays_same _, ap length c.in-Ok.ensures.items, refl, rw c.in-Ok.ensures.items (All-nil (IsFresh g.R.In.Source.faults)), rw c.in-Ok.ensures.items NoInput)
+loop-index-init g c = (same_but_itself _ _, ap length c.in-Ok.ensures.items, refl, rw c.in-Ok.ensures.items (All-nil (IsFresh g.R.In.Source.faults)), rw c.in-Ok.ensures.items NoInput)
 
 pub open_input-requires-clause-free : goal.open_input-requires-clause-free
 open_input-requires-clause-free g c κs within =
     let library = c.index-libraries-index.result in
-    c.loop-index.invariant.0.open_names library.file
+    c.loop-index.invariant.0.open_names library.file tt
     ∙ got_is (λ (l : Library). (g.R.Room.seen c.args.room.now).open_as l.file ≡ None) c.args.libraries.now c.loop-index.index library c.loop-index-test.true c.index-libraries-index.is c.requires.free
 
 pub open_input-requires-clause-proper : goal.open_input-requires-clause-proper
@@ -28,7 +28,7 @@ pub push_reserved-requires : goal.push_reserved-requires
 push_reserved-requires g c = let (stays, len, room, fresh, are) = c.loop-index.invariant in let has = c.in-Ok.ensures.capacity in let more = c.loop-index-test.true in search rules
 
 pub returns-in-Err-clause-stays : goal.returns-in-Err-clause-stays
-returns-in-Err-clause-stays g c = stays_then _ _ _ c.loop-index.invariant.0 c.in-Err.ensures.stays
+returns-in-Err-clause-stays g c = same_but_then _ _ _ _ c.loop-index.invariant.0 c.in-Err.ensures.stays
 
 pub returns-in-Err-clause-inputs : goal.returns-in-Err-clause-inputs
 returns-in-Err-clause-inputs g c = c.loop-index.invariant.4
@@ -50,7 +50,7 @@ loop-index-preserved g c =
     let library = c.index-libraries-index.result in
     let left = g.R.In.Source.left in
     let old = g.R.Room.seen c.args.room.now in (
-      stays_then _ _ _ stays c.in-Ok-open_input.ensures.stays,
+      same_but_then _ _ _ _ stays c.in-Ok-open_input.ensures.stays,
       search rules,
       search rules,
       rw pushed (All-push (IsFresh g.R.In.Source.faults) c.loop-index.inputs.items c.in-Ok-open_input.input fresh c.in-Ok-open_input.ensures.fresh),

@@ -1,5 +1,5 @@
 use Rattle.std.proofs.Common.{◌≢◌, IfSome, ◌≡◌, All, length, take, refl, sym, ap, subst, ◌∙◌, arith}
-use Rattle.outside.proofs.Rooms.{stays_then, stays_apart, apart_then}
+use Rattle.outside.proofs.Rooms.{same_but_then, same_but_none}
 use Rattle.durable_catalogue.specs.Durables.{mark_of}
 use Rattle.durable_catalogue.specs.Views.{durable_view}
 use Rattle.console_lines.specs.declared.fault.Fault.TheVariants as fault
@@ -23,7 +23,7 @@ returns-in-Err-clause-failed g c =
 
 pub open_inputs-inputs-requires-clause-free : goal.open_inputs-inputs-requires-clause-free
 open_inputs-inputs-requires-clause-free g c κs within k d less =
-    c.open_journal.ensures.apart.open_names _ (c.requires.loadable.apart k d less) ∙ c.requires.free _
+    c.open_journal.ensures.apart.open_names _ (c.requires.loadable.apart k d less, tt) ∙ c.requires.free _
 
 pub close_inputs-requires : goal.close_inputs-requires
 close_inputs-requires g c κs within =
@@ -31,10 +31,10 @@ close_inputs-requires g c κs within =
 
 pub close_journal-requires-after_bounds : goal.close_journal-requires-after_bounds
 close_journal-requires-after_bounds g c κs within =
-    c.close_inputs.ensures.stays.open_names c.args.journal.now ∙ (c.open_inputs-inputs.ensures.stays.open_names c.args.journal.now ∙ c.in-Ok.ensures.opened)
+    c.close_inputs.ensures.stays.open_names c.args.journal.now tt ∙ (c.open_inputs-inputs.ensures.stays.open_names c.args.journal.now tt ∙ c.in-Ok.ensures.opened)
 
 pub returns-in-None-clause-apart : goal.returns-in-None-clause-apart
-returns-in-None-clause-apart g c = apart_then _ _ _ _ c.open_journal.ensures.apart (stays_apart _ _ _ c.open_inputs-inputs.ensures.stays)
+returns-in-None-clause-apart g c = same_but_then _ _ _ _ c.open_journal.ensures.apart (same_but_none _ _ _ c.open_inputs-inputs.ensures.stays)
 
 pub returns-in-None-clause-begun : goal.returns-in-None-clause-begun
 returns-in-None-clause-begun g c =
@@ -46,7 +46,7 @@ returns-in-None-clause-begun g c =
     let all : take (length opened) libraries ≡ libraries = take_all libraries (length opened) whole in
     let now = subst (λ ls. AreInputs left (seen c.open_journal.new.room) ls opened) all c.open_inputs-inputs.ensures.inputs in
     record {
-      is_open = c.open_inputs-inputs.ensures.stays.open_names c.args.journal.now ∙ c.in-Ok.ensures.opened;
+      is_open = c.open_inputs-inputs.ensures.stays.open_names c.args.journal.now tt ∙ c.in-Ok.ensures.opened;
       catalogue = c.in-Ok.ensures.catalogue;
       inputs_are = subst (λ is. AreInputs left (seen c.args.room.now) libraries is) (sym c.from_vec-inputs.ensures)
           (inputs_after left (seen c.args.room.now) (seen c.open_journal.new.room) c.args.journal.now c.open_journal.ensures.apart libraries opened
@@ -56,7 +56,7 @@ returns-in-None-clause-begun g c =
 
 pub returns-in-Some-clause-apart : goal.returns-in-Some-clause-apart
 returns-in-Some-clause-apart g c =
-    apart_then _ _ _ _ c.open_journal.ensures.apart (apart_then _ _ _ _ (stays_apart _ _ _ (stays_then _ _ _ c.open_inputs-inputs.ensures.stays c.close_inputs.ensures.stays)) c.close_journal.ensures.apart)
+    same_but_then _ _ _ _ c.open_journal.ensures.apart (same_but_then _ _ _ _ (same_but_none _ _ _ (same_but_then _ _ _ _ c.open_inputs-inputs.ensures.stays c.close_inputs.ensures.stays)) c.close_journal.ensures.apart)
 
 pub returns-in-Some-clause-failed : goal.returns-in-Some-clause-failed
 returns-in-Some-clause-failed g c =

@@ -1,5 +1,5 @@
 use Rattle.std.proofs.Common.{◌≡◌, ◌<◌, ◌≤◌, length, Some, is_some, sym, ap, subst, ◌∙◌, arith}
-use Rattle.outside.proofs.Rooms.{stays_apart, apart_then}
+use Rattle.outside.proofs.Rooms.{same_but_none, same_but_then}
 use Rattle.durable_catalogue.specs.Durables.{mark_of}
 use Rattle.durable_catalogue.specs.Views.{durable_view}
 use Rattle.room_files.specs.Journals.{IsOpenedFrom}
@@ -56,10 +56,10 @@ close_inputs-requires g c κs within =
     omega (arith, same, count)
 
 pub finish-requires : goal.finish-requires
-finish-requires g c κs within = c.close_inputs.ensures.stays.open_names c.args.journal.now ∙ c.in-Ok.ensures.begun.is_open
+finish-requires g c κs within = c.close_inputs.ensures.stays.open_names c.args.journal.now tt ∙ c.in-Ok.ensures.begun.is_open
 
 pub returns-clause-apart : goal.returns-clause-apart
-returns-clause-apart g c = apart_then _ _ _ _ c.in-Ok.ensures.apart (apart_then _ _ _ _ (stays_apart _ _ _ c.close_inputs.ensures.stays) c.finish.ensures.apart)
+returns-clause-apart g c = same_but_then _ _ _ _ c.in-Ok.ensures.apart (same_but_then _ _ _ _ (same_but_none _ _ _ c.close_inputs.ensures.stays) c.finish.ensures.apart)
 
 pub returns-clause-loaded : goal.returns-clause-loaded
 returns-clause-loaded g c =

@@ -2,7 +2,7 @@ use Rattle.std.proofs.Common.{◌∙◌, inl, inr, refl, subst}
 use Rattle.std.specs.Io.KnownBytes.{Appends}
 use Rattle.outside.specs.Sink.{WritesFront}
 use Rattle.outside.proofs.Fronts.{front_none}
-use Rattle.plain_commands.specs.Files.{AsItWas}
+use Rattle.output_files.specs.Outputs.{AsItWas}
 use Rattle.plain_commands.proofs.Made.{makes_no_memory, makes_failed, makes_all}
 use Rattle.plain_commands.proofs.making.make.Goals as goal
 

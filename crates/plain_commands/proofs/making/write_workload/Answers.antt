@@ -1,5 +1,5 @@
 use Rattle.std.proofs.Common.{◌∙◌}
-use Rattle.plain_commands.proofs.Parts.{part_of_closed}
+use Rattle.output_files.proofs.Parts.{part_of_closed}
 use Rattle.plain_commands.proofs.making.write_workload.Goals as goal
 
 pub returns-in_err-written-clause-part : goal.returns-in_err-written-clause-part

@@ -5,11 +5,11 @@ use Rattle.plain_commands.proofs.passing.deliver.Goals as goal
 
 pub returns-in-Err-clause-part : goal.returns-in-Err-clause-part
 returns-in-Err-clause-part g c library bytes tells is failed =
-    ended_in_part _ _ _ _ _ _ c.args.ready.now _ is c.core.ensures (c.write_out.ensures.part tells) (front_none _ _)
+    ended_in_part _ _ _ _ _ _ c.args.ready.now _ is c.core.ensures (c.write_all_records.ensures.part tells) (front_none _ _)
 
 pub returns-in-Err-write_all-clause-part : goal.returns-in-Err-write_all-clause-part
 returns-in-Err-write_all-clause-part g c library bytes tells is failed =
-    ended_in_part _ _ _ _ _ _ c.args.ready.now _ is c.core.ensures (c.write_out.ensures.part tells) (rw (← c.as_bytes.ensures.value) c.write_all.ensures.front)
+    ended_in_part _ _ _ _ _ _ c.args.ready.now _ is c.core.ensures (c.write_all_records.ensures.part tells) (rw (← c.as_bytes.ensures.value) c.write_all.ensures.front)
 
 pub returns-then-is_empty-clause-whole : goal.returns-then-is_empty-clause-whole
 returns-then-is_empty-clause-whole g c library bytes tells is all =

@@ -2,6 +2,7 @@ use Rattle.std.proofs.Common.{◌≡◌, ◌<◌, ◌≤◌, List, [], ◌∷◌
 use Rattle.std.specs.Prelude.{All, IsTrue}
 use Rattle.std.specs.Option.{option_copied}
 use Rattle.marc_types.specs.Valid.{is_code}
+use Rattle.outside.proofs.Rooms.{same_but_itself}
 use Rattle.command_words.specs.Command as command
 use Rattle.command_words.specs.Command.{Library, command_of, libraries_of}
 use Rattle.command_words.specs.Asked.{command_asked}
@@ -13,12 +14,12 @@ use Rattle.plain_commands.specs.Passing.{Passes}
 use Rattle.archive_commands.specs.Reads.{EndsReading}
 use Rattle.journal_loading.specs.Inputs.{AreLoadable}
 use Rattle.union_top.specs.Commands.{Loads, Runs, Ends}
-use Rattle.union_top.proofs.Asked.{unasked, loadable, only, room_itself}
+use Rattle.union_top.proofs.Asked.{unasked, loadable, only}
 use Rattle.union_top.proofs.command.carry_out.Goals as goal
 
 pub returns-in-Err-clause-ends : goal.returns-in-Err-clause-ends
 returns-in-Err-clause-ends g c =
-    unasked _ c.tell.ensures.end c.tell.ensures.told (room_itself _) c.requires.closed c.args.words.now (command_asked c.args.asked)
+    unasked _ c.tell.ensures.end c.tell.ensures.told (same_but_itself _ []) c.requires.closed c.args.words.now (command_asked c.args.asked)
     (c.names_are_apart.ensures.names (command_asked c.args.asked) c.requires.asks)
 
 pub returns-in-Err-clause-command : goal.returns-in-Err-clause-command

@@ -1,7 +1,6 @@
 use Rattle.std.proofs.Common.{length, refl, sym, ap, ◌∙◌}
 use Rattle.durable_catalogue.specs.Views.{durable_view}
-use Rattle.room_files.proofs.Rooms.{apart_from_one}
-use Rattle.outside.proofs.Rooms.{apart_then}
+use Rattle.outside.proofs.Rooms.{same_but_then}
 use Rattle.union_top.specs.Texts.{files_text, has_refused}
 use Rattle.union_top.specs.Runs.{NotLoaded, NoMemory}
 use Rattle.union_top.proofs.OneHistory.{merged_by}

@@ -2,9 +2,8 @@ use Rattle.std.proofs.Common.{rules, IfErr, Err, string_bytes, ◌≡◌, ◌⊎
 use Rattle.outside.specs.Fault.{Rose}
 use Rattle.outside.specs.declared.fault.WriteFault.TheVariants.{OutputFault}
 use Rattle.outside.proofs.Fronts.{front_none}
-use Rattle.outside.proofs.Rooms.{apart_then}
+use Rattle.outside.proofs.Rooms.{same_but_then}
 use Rattle.durable_catalogue.specs.Views.{durable_view}
-use Rattle.room_files.proofs.Rooms.{apart_from_one}
 use Rattle.union_top.specs.Texts.{files_text, has_refused}
 use Rattle.union_top.specs.Runs.{AreOutputs, AreInPart, NotLoaded, NoMemory}
 use Rattle.union_top.proofs.OneHistory.{merged_by}
@@ -16,9 +15,9 @@ returns-in-Err-clause-ends g c =
     let f = c.in-Err.ensures.failed in
     let apart = c.load_journal.ensures.apart in
     let names = c.requires.names in
-    runs_failed _ _ _ _ _ c.in-Err.fault c.tell.ensures.end c.tell.ensures.told (λ other. apart_from_one _ _ _ apart) (record {
+    runs_failed _ _ _ _ _ c.in-Err.fault c.tell.ensures.end c.tell.ensures.told (λ other. apart) (record {
       closed = f.closed;
-      because = λ tells. NotLoaded (f.because tells) (apart.files c.args.out.now (λ same. names.1.0 (sym same))) (apart.files c.args.report.now (λ same. names.1.1.0 (sym same)));
+      because = λ tells. NotLoaded (f.because tells) (apart.files c.args.out.now ((λ same. names.1.0 (sym same)), tt)) (apart.files c.args.report.now ((λ same. names.1.1.0 (sym same)), tt));
       device = f.device;
       input = f.input;
       no_usage = f.no_usage;
@@ -37,8 +36,8 @@ pub returns-in-Err-files_text-clause-ends : goal.returns-in-Err-files_text-claus
 returns-in-Err-files_text-clause-ends g c =
     let seen = g.R.Room.seen in
     let l = c.in-Ok.ensures.loaded in
-    let apart = apart_then _ _ _ _ c.load_journal.ensures.apart c.close_journal.ensures.apart in
-    runs_failed _ _ _ _ _ _ c.tell-in-Err-files_text.ensures.end c.tell-in-Err-files_text.ensures.told (λ other. apart_from_one _ _ _ apart)
+    let apart = same_but_then _ _ _ _ c.load_journal.ensures.apart c.close_journal.ensures.apart in
+    runs_failed _ _ _ _ _ _ c.tell-in-Err-files_text.ensures.end c.tell-in-Err-files_text.ensures.told (λ other. apart)
     (no_memory _ _ _ _ _ c.close_journal.ensures.closed (λ tells. NoMemory refl (record {
       merged = (
           merged_by (seen c.args.room.now) (seen c.close_journal.new.room) c.args.journal.now c.args.libraries.now (durable_view c.in-Ok.loaded.durable) c.in-Ok.loaded.results

@@ -1,6 +1,6 @@
 use Rattle.std.proofs.Common.{◌≡◌, ◌≤◌, length, is_some}
 use Rattle.std.specs.List.{flat_map}
-use Rattle.iso2709_record.proofs.Progress.{IsWriting}
+use Rattle.outside.proofs.Fronts.{IsWriting}
 use Rattle.workload.specs.Records.{contents_bytes}
 use Rattle.workload.specs.Workload.{workload_bytes}
 use Rattle.workload.proofs.making.make.Given as goal

@@ -1,4 +1,4 @@
-use Rattle.std.proofs.Common.{◌≡◌, ◌∙◌, sym}
+use Rattle.std.proofs.Common.{◌∙◌, sym}
 use Rattle.marc_types.specs.Order.{form_ties_then, form_ties_else}
 use Rattle.marc_types.proofs.form.FormPartialEq.eq.Goals as goal
 

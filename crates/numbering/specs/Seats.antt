@@ -1,0 +1,46 @@
+-- Seats: when two are the same, and what a hash table reads of one.
+use Rattle.std.specs.Prelude.{◌≡◌, ℕ, Bool, true, ◌&&◌, ◌==◌, ◌++◌, refl}
+use Rattle.std.specs.Bool.{Decides}
+use Rattle.std.specs.Cmp.{first_so, second_so, unsigned_Decides}
+use Rattle.std.specs.Hash.{HashWrites}
+use Rattle.std.specs.Hash as fed
+use Rattle.std.proofs.Common.{ap, subst, ◌∙◌}
+use Rattle.marc_types.specs.declared.key.Class.{Class}
+use Rattle.marc_types.specs.declared.key.Class.TheVariants.{Authority, Bibliographic}
+use Rattle.numbering.specs.declared.seat.Seat.{Seat}
+
+-- classes as numbers
+abbrev pub class_rank : Class → ℕ
+class_rank Authority = 0
+class_rank Bibliographic = 1
+
+class_rank_same : (x y : Class) → class_rank x ≡ class_rank y → x ≡ y
+class_rank_same Authority Authority e = refl
+class_rank_same Authority Bibliographic e = cc
+class_rank_same Bibliographic Authority e = cc
+class_rank_same Bibliographic Bibliographic e = refl
+
+-- the same field of the same record
+unfoldable pub same_seat : Seat → Seat → Bool
+same_seat x y = (class_rank x.class == class_rank y.class) && ((x.number == y.number) && (x.field == y.field))
+
+pub seat_Decides : (x y : Seat) → Decides (same_seat x y) (x ≡ y)
+unfolding same_seat
+seat_Decides x y =
+    let to : same_seat x y ≡ true → x ≡ y = λ h.
+    let class : x.class ≡ y.class = class_rank_same x.class y.class ((unsigned_Decides (class_rank x.class) (class_rank y.class)).0 (first_so (class_rank x.class == class_rank y.class) ((x.number == y.number) && (x.field == y.field)) h)) in
+    let numbers : ((x.number == y.number) && (x.field == y.field)) ≡ true = second_so (class_rank x.class == class_rank y.class) ((x.number == y.number) && (x.field == y.field)) h in
+    let number : x.number ≡ y.number = (unsigned_Decides x.number y.number).0 (first_so (x.number == y.number) (x.field == y.field) numbers) in
+    let field : x.field ≡ y.field = (unsigned_Decides x.field y.field).0 (second_so (x.number == y.number) (x.field == y.field) numbers) in
+    λ i. record { class = class i; number = number i; field = field i } in
+    let itself : same_seat x x ≡ true =
+    ap (λ b. b && ((x.number == x.number) && (x.field == x.field))) ((unsigned_Decides (class_rank x.class) (class_rank x.class)).1 refl)
+    ∙ ap (λ b. b && (x.field == x.field)) ((unsigned_Decides x.number x.number).1 refl)
+    ∙ (unsigned_Decides x.field x.field).1 refl in
+    (to, λ e. subst (λ z. same_seat x z ≡ true) e itself)
+
+unfoldable pub seat_writes : Seat → HashWrites
+seat_writes seat = fed.u32 seat.number ++ fed.u32 seat.field
+
+pub seat_writes_alike : (x y : Seat) → same_seat x y ≡ true → seat_writes x ≡ seat_writes y
+seat_writes_alike x y h = ap seat_writes ((seat_Decides x y).0 h)

@@ -1,0 +1,13 @@
+//! Small numbers for keys, forms and other things, and with them the seats of heading fields.
+//!
+//! A numbering only grows, so a number stands for its thing for ever.
+#![tactic(auto)]
+
+pub use numbers::Numbering;
+pub use seat::Seat;
+
+pub mod laws;
+mod numbers;
+mod seat;
+#[cfg(test)]
+mod tests;

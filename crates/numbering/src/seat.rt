@@ -1,0 +1,65 @@
+ghost use Rattle.std.specs.Prelude.{◌≡◌};
+ghost use Rattle.numbering.specs.Seats.{class_rank};
+
+use marc_types::{Class, NoMemory, TryCopy};
+use std::alloc::Global;
+use std::hash::{Hash, Hasher};
+
+/// One field of one record: the record's class, the number of its key, and the field's place in it, from 0.
+#[derive(Clone, Copy, Debug)]
+pub struct Seat {
+    pub class: Class,
+    pub number: u32,
+    pub field: u32,
+}
+
+fn rank(class: Class) -> u8
+    ensures { result ≡ class_rank class }
+{
+    match class {
+        Class::Authority => 0,
+        Class::Bibliographic => 1,
+    }
+}
+
+impl TryCopy for Seat {
+    fn copy(&self, _alloc: Global) -> Result<Seat, NoMemory> {
+        Ok(*self)
+    }
+}
+
+impl PartialEq for Seat {
+    ghost use Rattle.numbering.specs.Seats.{same_seat, seat_Decides};
+    ghost use Rattle.std.specs.Cmp.{decided, partial_equiv_from_equiv};
+
+    ghost eq = { same_seat };
+
+    ghost laws = { partial_equiv_from_equiv (decided same_seat seat_Decides) };
+
+    #[tactic(auto, unfolding(crate::specs::Seats::same_seat))]
+    fn eq(&self, other: &Seat) -> bool {
+        rank(self.class) == rank(other.class)
+            && (self.number == other.number && self.field == other.field)
+    }
+}
+
+impl Eq for Seat {
+    ghost use Rattle.numbering.specs.Seats.{same_seat, seat_Decides};
+    ghost use Rattle.std.specs.Cmp.{decided};
+
+    ghost laws = { decided same_seat seat_Decides };
+}
+
+impl Hash for Seat {
+    ghost use Rattle.numbering.specs.Seats.{seat_writes, seat_writes_alike};
+
+    ghost hash_input = { seat_writes };
+
+    ghost respects_eq = { seat_writes_alike };
+
+    #[tactic(auto, unfolding(crate::specs::Seats::seat_writes))]
+    fn hash<H: Hasher>(&self, state: &mut H) {
+        self.number.hash(state);
+        self.field.hash(state);
+    }
+}

@@ -1,0 +1,7 @@
+//! The outputs of the commands: a catalogue's records and its report, each written into a file of a room, which is closed
+//! again on every path.
+#![tactic(auto)]
+
+pub use output::{write_all_records, write_export, write_report_file};
+
+mod output;

@@ -1,0 +1,3 @@
+pub mod Helds
+pub mod Kepts
+pub mod SureRooms

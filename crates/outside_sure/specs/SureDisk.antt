@@ -1,0 +1,26 @@
+-- What clauses see of a disk in memory that fails for want of room alone.
+use Rattle.std.specs.Prelude.{◌≡◌, ℕ, false, List, length, Some, None}
+use Rattle.outside.specs.Disk.{DiskView}
+use Rattle.outside_sure.specs.SureStates.{SureState}
+use Rattle.outside_sure.specs.declared.sure_disk.SureDisk.{SureDisk}
+
+-- a disk that has these bytes, and tells its content and no moments, as any disk is seen
+abbrev pub sure_view : List ℕ → ℕ → DiskView
+sure_view bytes faults = record {
+  len = length bytes;
+  content = Some bytes;
+  image = λ c. c ≡ bytes;
+  moment = 0;
+  left = λ _ _. ⊥;
+  synced = λ _. None;
+  dated = false;
+  faults = faults;
+}
+
+-- a sure disk's bytes, room and faults
+abbrev pub disk_state : SureDisk → SureState
+disk_state disk = record { bytes = disk.held.bytes; room = disk.held.room; faults = disk.faults }
+
+-- a sure disk as any disk is seen
+abbrev pub sure_disk_view : SureDisk → DiskView
+sure_disk_view disk = sure_view disk.held.bytes disk.faults
