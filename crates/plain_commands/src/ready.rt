@@ -25,7 +25,12 @@ pub struct Ready {
 fn ready_of(alloc: Global, library: &Library, loaded: Loaded) -> Result<Ready, NoMemory>
     ensures { IfOk result (λ ready. (bytes : List ℕ) → IsLoaded library.now.code (items bytes) loaded → IsReady library.now bytes ready) }
 {
-    let text = results_text(alloc, library.file.as_str(), loaded.refused(), &loaded.totals())?;
+    let text = results_text(
+        alloc,
+        library.file.as_str(),
+        loaded.refused(),
+        &loaded.totals(),
+    )?;
     Ok(Ready { loaded, text })
 }
 

@@ -52,9 +52,7 @@ fn carry_out<H: Threads + Wait + Sync, R: Room, G: Gate + Sync>(
             out,
             report,
             ..
-        } => run_files(
-            rt, alloc, files, room, console, journal, out, report, gate,
-        ),
+        } => run_files(rt, alloc, files, room, console, journal, out, report, gate),
         Request::Load { journal, .. } => load(rt, alloc, files, room, console, journal, gate),
         Request::Export { journal, out, code } => {
             read(alloc, room, console, journal, out, Due::Export(code))

@@ -53,11 +53,12 @@ pub fn load<H: Threads + Wait + Sync, R: Room, G: Gate + Sync>(
     ensures ends { Loads libraries.now journal.now
         (outcome R.seen R.Out.written R.Out.faults room.old room.new console.old console.new result) }
 {
-    let LoadedJournal { durable, results } =
-        match load_journal(rt, alloc, room, libraries, journal, gate) {
-            Ok(loaded) => loaded,
-            Err(fault) => return tell(console, fault),
-        };
+    let LoadedJournal { durable, results } = match load_journal(
+        rt, alloc, room, libraries, journal, gate,
+    ) {
+        Ok(loaded) => loaded,
+        Err(fault) => return tell(console, fault),
+    };
     durable.is_within_limits();
     let text = files_text(alloc, libraries, results.as_slice());
     close_journal(room, journal, durable);
@@ -88,11 +89,12 @@ pub fn run_files<H: Threads + Wait + Sync, R: Room, G: Gate + Sync>(
     ensures ends { Runs libraries.now journal.now out.now report.now
         (outcome R.seen R.Out.written R.Out.faults room.old room.new console.old console.new result) }
 {
-    let LoadedJournal { durable, results } =
-        match load_journal(rt, alloc, room, libraries, journal, gate) {
-            Ok(loaded) => loaded,
-            Err(fault) => return tell(console, fault),
-        };
+    let LoadedJournal { durable, results } = match load_journal(
+        rt, alloc, room, libraries, journal, gate,
+    ) {
+        Ok(loaded) => loaded,
+        Err(fault) => return tell(console, fault),
+    };
     durable.is_within_limits();
     let text = match files_text(alloc, libraries, results.as_slice()) {
         Ok(text) => text,

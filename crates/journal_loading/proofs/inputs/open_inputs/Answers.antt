@@ -56,9 +56,9 @@ loop-index-preserved g c =
       rw pushed (All-push (IsFresh g.R.In.Source.faults) c.loop-index.inputs.items c.in-Ok-open_input.input fresh c.in-Ok-open_input.ensures.fresh),
       (
           let at = subst (λ n. slice_get libraries n ≡ Some library) (sym len)
-              (got libraries c.loop-index.index library c.loop-index-test.true c.index-libraries-index.is) in
+          (got libraries c.loop-index.index library c.loop-index-test.true c.index-libraries-index.is) in
           let more = input_more left old libraries c.loop-index.inputs.items library c.in-Ok-open_input.input inputs at
-              (input_before left old (g.R.Room.seen c.loop-index.room) library c.in-Ok-open_input.input stays c.in-Ok-open_input.ensures.input) in
+          (input_before left old (g.R.Room.seen c.loop-index.room) library c.in-Ok-open_input.input stays c.in-Ok-open_input.ensures.input) in
           subst (λ items. AreInputs left old (take (length items) libraries) items) (sym pushed) more),
     )
 
