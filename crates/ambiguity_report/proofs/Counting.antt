@@ -5,9 +5,9 @@ use Rattle.std.proofs.lemmas.List.Sums.{sum_by-cons}
 use Rattle.marc_types.specs.declared.key.Class.{Class}
 use Rattle.marc_types.specs.declared.key.Key.{Key}
 use Rattle.entry_record.specs.Authority.{Linkable}
-use Rattle.entry_record.specs.State.{Row, State, rows_of, linkable_authorities}
-use Rattle.entry_record.specs.Receipt as definition
-use Rattle.entry_record.specs.Receipt.{is_linked, is_ambiguous, is_unlinked, count_standing}
+use Rattle.catalogue_rules.specs.State.{Row, State, rows_of, linkable_authorities}
+use Rattle.catalogue_rules.specs.Receipt as definition
+use Rattle.catalogue_rules.specs.Receipt.{is_linked, is_ambiguous, is_unlinked, count_standing}
 use Rattle.catalogue_core.specs.Stands.{stands_as, standings_of}
 use Rattle.catalogue_core.specs.Behind.{standings_rows}
 use Rattle.catalogue_core.specs.Counted.{is_linked_here, is_ambiguous_here, is_unlinked_here}

@@ -8,10 +8,9 @@ use Rattle.marc_types.specs.declared.key.Key.{Key}
 use Rattle.marc_types.specs.declared.entry.Tie.{Tie}
 use Rattle.marc_types.specs.declared.entry.Kept.{Kept}
 use Rattle.entry_record.specs.Authority.{Linkable}
-use Rattle.entry_record.specs.State.{KeptField, Row}
-use Rattle.entry_record.specs.Receipt as definition
-use Rattle.entry_record.specs.Output.{ambiguous_line, ambiguous_line_by, awaits_line}
-use Rattle.record_store.specs.Store.{kept_fields, kept_record}
+use Rattle.catalogue_rules.specs.State.{KeptField, Row, tied, kept_record}
+use Rattle.catalogue_rules.specs.Receipt as definition
+use Rattle.catalogue_rules.specs.Output.{ambiguous_line, ambiguous_line_by, awaits_line}
 use Rattle.catalogue_core.specs.Stands.{stands_as, field_standing}
 use Rattle.catalogue_core.specs.Behind.{standings_rows}
 use Rattle.catalogue_core.specs.declared.standing.Standing.{Standing}
@@ -34,13 +33,13 @@ stood_line class key place h definition.WithoutLink = refl
 stood_line class key place h definition.WithoutHeading = refl
 
 ambiguous_fields : (all : List Linkable) (class : Class) (key : Key) (place : ℕ) (fields : List Field) (ties : List Tie) →
-    flat_map (λ numbered. ambiguous_line all class key numbered.0 numbered.1) (enumerate_from place (kept_fields fields ties))
-    ≡ lines_beside (ambiguous_text class key) place fields (map (field_standing all class) (kept_fields fields ties))
+    flat_map (λ numbered. ambiguous_line all class key numbered.0 numbered.1) (enumerate_from place (tied fields ties))
+    ≡ lines_beside (ambiguous_text class key) place fields (map (field_standing all class) (tied fields ties))
 ambiguous_fields all class key place [] ties = refl
 ambiguous_fields all class key place (field ∷ fields) [] = refl
 ambiguous_fields all class key place (field ∷ fields) (tie ∷ ties) =
     let h : KeptField = record { field = field; tie = tie } in
-    ap (λ (l : List ℕ). l ++ flat_map (λ numbered. ambiguous_line all class key numbered.0 numbered.1) (enumerate_from (place + 1) (kept_fields fields ties)))
+    ap (λ (l : List ℕ). l ++ flat_map (λ numbered. ambiguous_line all class key numbered.0 numbered.1) (enumerate_from (place + 1) (tied fields ties)))
     (stood_line class key place h (definition.standing_of all class h))
     ∙ ap (λ (l : List ℕ). ambiguous_text class key place field (field_standing all class h) ++ l) (ambiguous_fields all class key (place + 1) fields ties)
 
@@ -86,7 +85,7 @@ ambiguous_next all class rows more stood left key other kept standings is stands
 -- ---- fields that await a key
 
 awaits_fields : (class : Class) (key : Key) (place : ℕ) (fields : List Field) (ties : List Tie) →
-    flat_map (λ numbered. awaits_line class key numbered.0 numbered.1) (enumerate_from place (kept_fields fields ties))
+    flat_map (λ numbered. awaits_line class key numbered.0 numbered.1) (enumerate_from place (tied fields ties))
     ≡ lines_beside (awaits_text class key) place fields ties
 awaits_fields class key place [] ties = refl
 awaits_fields class key place (field ∷ fields) [] = refl

@@ -4,7 +4,7 @@ use Rattle.std.specs.Borrow.{Bor}
 use Rattle.std.specs.List.{flat_map}
 use Rattle.outside.proofs.Fronts.{drop_next}
 use Rattle.entry_record.specs.Authority.{Linkable}
-use Rattle.entry_record.specs.Output.{keys_sharing_form_of, shared_line, cross_line}
+use Rattle.catalogue_rules.specs.Output.{keys_sharing_form_of, shared_line, cross_line}
 use Rattle.catalogue_core.specs.Views.{linkables}
 
 -- the line that stands at an authority, of those that share its established form

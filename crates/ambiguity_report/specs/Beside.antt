@@ -6,10 +6,9 @@ use Rattle.marc_types.specs.declared.key.Class.{Class}
 use Rattle.marc_types.specs.declared.key.Key.{Key}
 use Rattle.marc_types.specs.declared.entry.Tie.{Tie}
 use Rattle.heading_fields.specs.Numbers.{key_text}
-use Rattle.entry_record.specs.State.{KeptField, Row, new_field}
-use Rattle.entry_record.specs.Lines.{line, then_words}
-use Rattle.entry_record.specs.Output.{place_words, awaits_line}
-use Rattle.record_store.specs.Store.{kept_field}
+use Rattle.catalogue_rules.specs.State.{KeptField, Row, new_field, kept_field}
+use Rattle.catalogue_rules.specs.Lines.{line, then_words}
+use Rattle.catalogue_rules.specs.Output.{place_words, awaits_line}
 use Rattle.catalogue_core.specs.declared.standing.Standing.{Standing}
 use Rattle.catalogue_core.specs.declared.standing.Standing.TheVariants.{Linked, Ambiguous, Unlinked, NoHeading}
 

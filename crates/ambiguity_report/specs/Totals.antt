@@ -3,9 +3,9 @@ use Rattle.std.specs.Prelude.{◌≡◌, ℕ, ◌^◌, ◌<◌, Bool, List}
 use Rattle.std.specs.List.{sum_by, count_by}
 use Rattle.marc_types.specs.declared.key.Class.{Class}
 use Rattle.marc_types.specs.declared.key.Key.{Key}
-use Rattle.entry_record.specs.State.{State, rows_of, linkable_authorities}
-use Rattle.entry_record.specs.Receipt as definition
-use Rattle.entry_record.specs.Receipt.{is_linked, is_ambiguous, is_unlinked, count_standing}
+use Rattle.catalogue_rules.specs.State.{State, rows_of, linkable_authorities}
+use Rattle.catalogue_rules.specs.Receipt as definition
+use Rattle.catalogue_rules.specs.Receipt.{is_linked, is_ambiguous, is_unlinked, count_standing}
 use Rattle.catalogue_core.specs.declared.standing.Standing.{Standing}
 use Rattle.ambiguity_report.specs.declared.totals.Totals.{Totals}
 

@@ -4,9 +4,9 @@ ghost use Rattle.std.specs.Io.KnownBytes.{Appends};
 ghost use Rattle.outside.specs.Fault.{HasWriteCause};
 ghost use Rattle.outside.specs.Sink.{WritesFront};
 ghost use Rattle.heading_fields.specs.Numbers.{key_text};
-ghost use Rattle.entry_record.specs.State.{linkable_authorities, new_field, rows_of};
-ghost use Rattle.entry_record.specs.Lines.{line, then_words};
-ghost use Rattle.entry_record.specs.Output.{ambiguous_line, place_words};
+ghost use Rattle.catalogue_rules.specs.State.{linkable_authorities, new_field, rows_of};
+ghost use Rattle.catalogue_rules.specs.Lines.{line, then_words};
+ghost use Rattle.catalogue_rules.specs.Output.{ambiguous_line, place_words};
 ghost use Rattle.ambiguity_report.specs.Beside.{ambiguous_text, lines_beside, rows_lines};
 
 use crate::words::{LINE_FEED, add_key_words, begin_with_place};

@@ -4,9 +4,9 @@ ghost use Rattle.std.specs.Io.KnownBytes.{Appends};
 ghost use Rattle.outside.specs.Fault.{HasWriteCause};
 ghost use Rattle.outside.specs.Sink.{WritesFront};
 ghost use Rattle.heading_fields.specs.Numbers.{key_text};
-ghost use Rattle.entry_record.specs.State.{new_field, rows_of};
-ghost use Rattle.entry_record.specs.Lines.{line, then_word};
-ghost use Rattle.entry_record.specs.Output.{awaits_line, place_words};
+ghost use Rattle.catalogue_rules.specs.State.{new_field, rows_of};
+ghost use Rattle.catalogue_rules.specs.Lines.{line, then_word};
+ghost use Rattle.catalogue_rules.specs.Output.{awaits_line, place_words};
 ghost use Rattle.ambiguity_report.specs.Beside.{awaits_text, lines_beside, rows_lines};
 
 use crate::words::{LINE_FEED, add_key_word, begin_with_place};

@@ -5,9 +5,9 @@ ghost use Rattle.std.specs.Io.KnownBytes.{Appends};
 ghost use Rattle.outside.specs.Fault.{HasWriteCause};
 ghost use Rattle.outside.specs.Sink.{WritesFront};
 ghost use Rattle.heading_fields.specs.Numbers.{key_text};
-ghost use Rattle.entry_record.specs.Choice.{is_see_from_form};
-ghost use Rattle.entry_record.specs.Lines.{line, then_words};
-ghost use Rattle.entry_record.specs.Output.{cross_line, cross_lines};
+ghost use Rattle.catalogue_rules.specs.Choice.{is_see_from_form};
+ghost use Rattle.catalogue_rules.specs.Lines.{line, then_words};
+ghost use Rattle.catalogue_rules.specs.Output.{cross_line, cross_lines};
 ghost use Rattle.catalogue_core.specs.Views.{linkables};
 
 use crate::words::{LINE_FEED, add_key_word};

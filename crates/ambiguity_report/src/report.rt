@@ -3,9 +3,9 @@ ghost use Rattle.std.specs.Prelude.{◌≡◌, [], is_some, OnOk};
 ghost use Rattle.std.specs.Io.KnownBytes.{Appends};
 ghost use Rattle.outside.specs.Fault.{HasWriteCause};
 ghost use Rattle.outside.specs.Sink.{WritesFront};
-ghost use Rattle.entry_record.specs.History.{state_of};
-ghost use Rattle.entry_record.specs.State.{linkable_authorities};
-ghost use Rattle.entry_record.specs.Output.{ambiguous_line, awaits_line, field_lines, report_of};
+ghost use Rattle.catalogue_rules.specs.Settle.{state_of};
+ghost use Rattle.catalogue_rules.specs.State.{linkable_authorities};
+ghost use Rattle.catalogue_rules.specs.Output.{ambiguous_line, awaits_line, field_lines, report_of};
 ghost use Rattle.catalogue_core.specs.Views.{linkables};
 
 use crate::ambiguous::write_ambiguous;
@@ -51,7 +51,7 @@ fn write_all_awaits<K: Sink>(
 }
 
 /// Writes the report over the authorities that fields can be linked to.
-#[tactic(auto, using(outside::proofs::Fronts::front_more, outside::proofs::Fronts::front_then, outside::proofs::Fronts::appends_then), unfolding(entry_record::specs::Output::report_of))]
+#[tactic(auto, using(outside::proofs::Fronts::front_more, outside::proofs::Fronts::front_then, outside::proofs::Fronts::appends_then), unfolding(catalogue_rules::specs::Output::report_of))]
 fn write_parts<K: Sink>(
     alloc: Global,
     engine: &Engine,

@@ -5,8 +5,8 @@ ghost use Rattle.std.specs.Fmt.{decimal};
 ghost use Rattle.std.specs.Io.KnownBytes.{Appends};
 ghost use Rattle.outside.specs.Fault.{HasWriteCause};
 ghost use Rattle.outside.specs.Sink.{WritesFront};
-ghost use Rattle.entry_record.specs.Lines.{line};
-ghost use Rattle.entry_record.specs.Output.{total_line};
+ghost use Rattle.catalogue_rules.specs.Lines.{line};
+ghost use Rattle.catalogue_rules.specs.Output.{total_line};
 ghost use Rattle.catalogue_core.specs.Counted.{is_linked_here, is_ambiguous_here, is_unlinked_here};
 ghost use Rattle.ambiguity_report.specs.Totals.{AreTotals, HaveRoom};
 

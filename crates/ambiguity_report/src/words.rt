@@ -1,14 +1,14 @@
 //! Words that are put behind the bytes of a line.
 ghost use Rattle.std.specs.Prelude.{◌≡◌, ◌++◌, ◌∷◌, [], map, codes, OnOk};
 ghost use Rattle.std.specs.Fmt.{decimal};
-ghost use Rattle.heading_fields.specs.Parts.{tag_of};
+ghost use Rattle.marc_types.specs.Fields.{tag_of};
 ghost use Rattle.heading_fields.specs.Numbers.{key_text};
-ghost use Rattle.entry_record.specs.State.{new_field};
-ghost use Rattle.entry_record.specs.Lines.{then_word, then_words};
-ghost use Rattle.entry_record.specs.Output.{class_letter, place_words, tag_text};
+ghost use Rattle.catalogue_rules.specs.State.{new_field};
+ghost use Rattle.catalogue_rules.specs.Lines.{then_word, then_words};
+ghost use Rattle.catalogue_rules.specs.Output.{class_letter, place_words, tag_text};
 
 use itoa::Buffer;
-use marc_types::{Class, Field, Key, Tag};
+use marc_types::{Class, Field, Key};
 use std::alloc::AllocError;
 
 const BLANK: u8 = b' ';
@@ -45,14 +45,6 @@ pub(crate) fn add_key_words(text: &mut Vec<u8>, keys: &[Key]) -> Result<(), Allo
     Ok(())
 }
 
-fn tag(field: &Field) -> &Tag
-    ensures { result.now ≡ tag_of field.now }
-{
-    match field {
-        Field::Control { tag, .. } | Field::Variable { tag, .. } => tag,
-    }
-}
-
 fn letter(class: Class) -> u8
     ensures { result ∷ [] ≡ class_letter class }
 {
@@ -66,7 +58,7 @@ fn letter(class: Class) -> u8
 fn add_tag_word(text: &mut Vec<u8>, field: &Field) -> Result<(), AllocError>
     ensures { OnOk result (text.new.items ≡ text.old.items ++ then_word (tag_text (tag_of field.now))) }
 {
-    let tag = tag(field);
+    let tag = field.tag();
     text.extend_from_slice(&[BLANK, tag.a, tag.b, tag.c])?;
     Ok(())
 }

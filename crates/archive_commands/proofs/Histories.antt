@@ -7,7 +7,7 @@ use Rattle.commit_journal.specs.Log.{version_of}
 use Rattle.entry_history.specs.Payloads.{IsHistory}
 use Rattle.entry_history.proofs.Histories.{history_once}
 use Rattle.durable_catalogue.specs.Logs.{payloads_of, IsLogOf, HasHistory}
-use Rattle.durable_catalogue.specs.Openings.{IsWithin}
+use Rattle.entry_record.specs.History.{IsWithin}
 use Rattle.room_files.specs.Journals.{journal_limits}
 use Rattle.output_files.specs.Outputs.{IsPartWritten}
 use Rattle.archive_commands.specs.Archives.{HasFittingHistory}

@@ -3,10 +3,11 @@ use Rattle.std.specs.Prelude.{◌≡◌, ℕ, Bool, true, List, bytes_eq, Option
 use Rattle.marc_types.specs.declared.entry.Entry.{Entry}
 use Rattle.marc_types.specs.declared.key.Key.{Key}
 use Rattle.outside.specs.Room.{RoomView}
-use Rattle.entry_record.specs.Output.{all_keys}
+use Rattle.catalogue_rules.specs.Output.{all_keys}
 use Rattle.durable_catalogue.specs.declared.fault.OpenFault.{OpenFault}
 use Rattle.durable_catalogue.specs.Logs.{IsLogOf}
-use Rattle.durable_catalogue.specs.Openings.{IsWithin, IsUnopened}
+use Rattle.durable_catalogue.specs.Openings.{IsUnopened}
+use Rattle.entry_record.specs.History.{IsWithin}
 use Rattle.console_lines.specs.declared.fault.Fault.{Fault}
 use Rattle.room_files.specs.Faults.{fault_of_opening}
 use Rattle.room_files.specs.Journals.{journal_limits, log_bytes}

@@ -3,8 +3,8 @@ use Rattle.std.specs.Prelude.{◌≡◌, ◌⊎◌, ℕ, true, List, [], ◌∷�
 use Rattle.std.specs.Option.{option_copied}
 use Rattle.marc_types.specs.declared.entry.Entry.{Entry}
 use Rattle.outside.specs.Fault.{Rose}
-use Rattle.entry_record.specs.History.{state_of}
-use Rattle.entry_record.specs.Output.{export_of, report_of}
+use Rattle.catalogue_rules.specs.Settle.{state_of}
+use Rattle.catalogue_rules.specs.Output.{export_of, report_of}
 use Rattle.durable_catalogue.specs.Logs.{HasHistory}
 use Rattle.console_lines.specs.Ends.{Outcome, IsTold, IsUntold}
 use Rattle.console_lines.specs.declared.end.End.{End}

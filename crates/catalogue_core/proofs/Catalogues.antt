@@ -9,11 +9,11 @@ use Rattle.std.proofs.lemmas.List.Sums.{fold-append, sum_by-append, sum_by-cons}
 use Rattle.std.proofs.Math.Seq.{take-append_seam, drop-append_seam}
 use Rattle.marc_types.specs.declared.entry.Entry.{Entry}
 use Rattle.marc_types.specs.declared.entry.Limits.{Limits}
-use Rattle.entry_record.specs.State.{State, empty_state}
-use Rattle.entry_record.specs.Settle.{Arrival, step, state_after}
-use Rattle.entry_record.specs.History.{IsAdmitted, arrival_of, entry_size, entries_size, state_of}
-use Rattle.entry_record.specs.Receipt.{receipt_of, receipt}
-use Rattle.entry_record.proofs.Elements.{Each}
+use Rattle.catalogue_rules.specs.State.{State, empty_state}
+use Rattle.catalogue_rules.specs.Settle.{Arrival, step, state_after, arrival_of, state_of}
+use Rattle.entry_record.specs.History.{IsAdmitted, entry_size, entries_size}
+use Rattle.catalogue_rules.specs.Receipt.{receipt_of, receipt}
+use Rattle.catalogue_rules.proofs.Elements.{Each}
 use Rattle.catalogue_core.specs.Catalogues.{Catalogued, all_entries, is_full, with_staged, with_kept, without_staged, kept_count, catalogued, IsBefore, IsCatalogue}
 use Rattle.marc_types.specs.declared.entry.Receipt.{Receipt}
 use Rattle.catalogue_core.specs.Engines.{AreNumbersOf}

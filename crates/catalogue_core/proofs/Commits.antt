@@ -10,19 +10,19 @@ use Rattle.marc_types.specs.declared.key.Key.{Key}
 use Rattle.marc_types.specs.declared.entry.Entry.{Entry}
 use Rattle.iso2709_record.specs.Written.{field_length, fits}
 use Rattle.entry_record.specs.Authority.{Linkable, successor_of}
-use Rattle.entry_record.specs.State.{KeptRecord, Row, State, fields_of, new_record, linkable_authorities, each_in_record, each_in_row, each_field}
-use Rattle.entry_record.specs.Settle.{Arrival, place, loosen, put_in, put, settle_field, settle, step}
-use Rattle.entry_record.specs.History.{IsAdmitted, arrival_of}
-use Rattle.entry_record.specs.Valid.{IsRow, IsTied, IsRewritten, IsLinkOfHeading, HasRoom, IsValid, reach}
-use Rattle.entry_record.proofs.Elements.{Each, each_weaker, each_both}
-use Rattle.entry_record.proofs.Fit.{IsFit}
-use Rattle.entry_record.proofs.Fitting.{field_within, row_fits}
-use Rattle.entry_record.proofs.Once.{settled_linkables}
-use Rattle.entry_record.proofs.Proper.{all_fit}
-use Rattle.entry_record.proofs.Put.{IsTiedBut, steady_loosen}
-use Rattle.entry_record.proofs.Rows.{ascend_place, each_place, other_place}
-use Rattle.entry_record.proofs.States.{IsReadyRow, IsDoneRow, IsReady, IsFitArrival, IsLooseRow, settled_row, loosened_row, loose_row, new_ready, settled_done, put_ready, done_valid, fit_entry, link_of_heading}
-use Rattle.entry_record.proofs.Steady.{IsSteady, linkables_stay}
+use Rattle.catalogue_rules.specs.State.{KeptRecord, Row, State, fields_of, new_record, linkable_authorities, each_in_record, each_in_row, each_field}
+use Rattle.catalogue_rules.specs.Settle.{Arrival, place, loosen, put_in, put, settle_field, settle, step, arrival_of}
+use Rattle.entry_record.specs.History.{IsAdmitted}
+use Rattle.catalogue_rules.specs.Valid.{IsRow, IsTied, IsRewritten, IsLinkOfHeading, HasRoom, IsValid, reach}
+use Rattle.catalogue_rules.proofs.Elements.{Each, each_weaker, each_both}
+use Rattle.catalogue_rules.proofs.Fit.{IsFit}
+use Rattle.catalogue_rules.proofs.Fitting.{field_within, row_fits}
+use Rattle.catalogue_rules.proofs.Once.{settled_linkables}
+use Rattle.catalogue_rules.proofs.Proper.{all_fit}
+use Rattle.catalogue_rules.proofs.Put.{IsTiedBut, steady_loosen}
+use Rattle.catalogue_rules.proofs.Rows.{ascend_place, each_place, other_place}
+use Rattle.catalogue_rules.proofs.States.{IsReadyRow, IsDoneRow, IsReady, IsFitArrival, IsLooseRow, settled_row, loosened_row, loose_row, new_ready, settled_done, put_ready, done_valid, fit_entry, link_of_heading}
+use Rattle.catalogue_rules.proofs.Steady.{IsSteady, linkables_stay}
 use Rattle.catalogue_core.specs.Commits.{placed_in, placed, linkable_behind, ended_in, ended_by, record_behind, row_behind, rows_behind, state_behind}
 
 -- ---- a valid state is ready for a commit

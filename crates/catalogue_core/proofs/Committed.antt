@@ -9,7 +9,7 @@ use Rattle.iso2709_record.proofs.Lengths.{record_bounds}
 use Rattle.record_store.specs.Store.{kept_rows}
 use Rattle.record_store.proofs.Mapped.{kept_insert}
 use Rattle.entry_record.specs.Authority.{Linkable}
-use Rattle.entry_record.specs.State.{KeptRecord}
+use Rattle.catalogue_rules.specs.State.{KeptRecord}
 use Rattle.catalogue_core.specs.Stands.{field_standing, standings_of}
 use Rattle.catalogue_core.specs.KeptRecords.{kept_record}
 use Rattle.catalogue_core.specs.declared.standing.Standing.{Standing}

@@ -5,9 +5,9 @@ use Rattle.std.proofs.lemmas.Grind.{common_steps}
 use Rattle.std.proofs.lemmas.List.Sums.{count_by_more_yes, count_by_more_no, count_by-le-length, sum_by-cons}
 use Rattle.marc_types.specs.declared.key.Class.{Class}
 use Rattle.entry_record.specs.Authority.{Linkable}
-use Rattle.entry_record.specs.State.{KeptField, KeptRecord}
-use Rattle.entry_record.specs.Receipt as definition
-use Rattle.entry_record.specs.Receipt.{is_linked, is_ambiguous, is_unlinked, standing_of, count_standing}
+use Rattle.catalogue_rules.specs.State.{KeptField, KeptRecord}
+use Rattle.catalogue_rules.specs.Receipt as definition
+use Rattle.catalogue_rules.specs.Receipt.{is_linked, is_ambiguous, is_unlinked, standing_of, count_standing}
 use Rattle.catalogue_core.specs.Stands.{stands_as, field_standing, standings_of}
 use Rattle.catalogue_core.specs.Counted.{is_linked_here, is_ambiguous_here, is_unlinked_here, HasRoom, IsCountOf}
 use Rattle.catalogue_core.specs.declared.standing.Standing.{Standing}

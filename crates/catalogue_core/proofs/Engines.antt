@@ -10,22 +10,22 @@ use Rattle.std.specs.declared.cmp.Ordering.{Ordering}
 use Rattle.std.specs.declared.cmp.Ordering.TheVariants.{Less, Equal, Greater}
 use Rattle.std.proofs.lemmas.List.Elements.{recursion_from_All, All-from_recursion}
 use Rattle.std.proofs.lemmas.List.Sums.{count_by-le-length}
-use Rattle.marc_types.specs.Order.{key_cmp}
+use Rattle.marc_types.specs.Order.{key_cmp, same_key}
 use Rattle.marc_types.specs.declared.key.Class.{Class}
 use Rattle.marc_types.specs.declared.key.Class.TheVariants.{Authority, Bibliographic}
 use Rattle.marc_types.specs.declared.key.Key.{Key}
 use Rattle.marc_types.specs.declared.entry.Entry.{Entry}
 use Rattle.iso2709_record.specs.Written.{fits}
-use Rattle.entry_record.specs.Identity.{is_deletion, same_key}
+use Rattle.entry_record.specs.Identity.{is_deletion}
 use Rattle.entry_record.specs.Authority.{Linkable}
 use Rattle.entry_record.specs.Prepared.{authority_in, authority_of}
-use Rattle.entry_record.specs.State.{KeptRecord, Row, State, fields_of, empty_state, new_record, linkable_authorities, rows_of}
-use Rattle.entry_record.specs.Settle.{Arrival, place, step, state_after}
-use Rattle.entry_record.specs.History.{IsAdmitted, arrival_of, state_of}
-use Rattle.entry_record.specs.Receipt.{Standing, count_standing, kept_under, is_changed_row, changed_in, is_linked, is_ambiguous, is_unlinked, receipt_of}
-use Rattle.entry_record.specs.Valid.{IsAscending, IsValid}
-use Rattle.entry_record.proofs.Elements.{Each}
-use Rattle.entry_record.proofs.States.{fit_entry, new_ready, every_state_valid}
+use Rattle.catalogue_rules.specs.State.{KeptRecord, Row, State, fields_of, empty_state, new_record, linkable_authorities, rows_of}
+use Rattle.catalogue_rules.specs.Settle.{Arrival, place, step, state_after, arrival_of, state_of}
+use Rattle.entry_record.specs.History.{IsAdmitted}
+use Rattle.catalogue_rules.specs.Receipt.{Standing, count_standing, kept_under, is_changed_row, changed_in, is_linked, is_ambiguous, is_unlinked, receipt_of}
+use Rattle.catalogue_rules.specs.Valid.{IsAscending, IsValid}
+use Rattle.catalogue_rules.proofs.Elements.{Each}
+use Rattle.catalogue_rules.proofs.States.{fit_entry, new_ready, every_state_valid}
 use Rattle.catalogue_core.specs.Commits.{placed_in, placed, linkable_behind, ended_by, record_behind, row_behind, rows_behind, state_behind}
 use Rattle.catalogue_core.specs.KeptRecords.{CanStand, HasSize}
 use Rattle.catalogue_core.specs.Behind.{authority_row, linkable_rows, standings_rows, incoming, authorities_in, authorities_behind, count_incoming, StandsIn, CanFollow, IsStateAfter, is_other_changed}

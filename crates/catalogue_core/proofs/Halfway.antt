@@ -12,18 +12,18 @@ use Rattle.marc_types.specs.declared.key.Key.{Key}
 use Rattle.marc_types.specs.declared.entry.Kept.{Kept}
 use Rattle.marc_types.specs.declared.field.Field.{Field}
 use Rattle.marc_types.specs.declared.entry.Tie.{Tie}
-use Rattle.record_store.specs.Store as store
+use Rattle.catalogue_rules.specs.State as definition
 use Rattle.record_store.specs.Store.{kept_rows, kept_row, shown_row}
 use Rattle.record_store.proofs.Mapped.{kept_insert}
 use Rattle.entry_record.specs.Authority.{Linkable}
-use Rattle.entry_record.specs.State.{KeptRecord, Row}
-use Rattle.entry_record.specs.Settle.{Arrival}
-use Rattle.entry_record.specs.Receipt.{is_committed}
-use Rattle.entry_record.specs.Valid.{IsAscending}
-use Rattle.entry_record.proofs.Elements.{Each}
+use Rattle.catalogue_rules.specs.State.{KeptRecord, Row, tied}
+use Rattle.catalogue_rules.specs.Settle.{Arrival}
+use Rattle.catalogue_rules.specs.Receipt.{is_committed}
+use Rattle.catalogue_rules.specs.Valid.{IsAscending}
+use Rattle.catalogue_rules.proofs.Elements.{Each}
 use Rattle.catalogue_core.specs.Stands.{standings_of}
 use Rattle.catalogue_core.specs.Commits.{record_behind, rows_behind}
-use Rattle.catalogue_core.specs.KeptRecords.{tied, kept_record, record_after, HasSize}
+use Rattle.catalogue_core.specs.KeptRecords.{kept_record, record_after, HasSize}
 use Rattle.catalogue_core.specs.Behind.{HasSizeBehind, ended, standings_rows, is_other_changed, IsRowAfter, IsRowsAfter}
 use Rattle.catalogue_core.specs.declared.standing.Standing.{Standing}
 use Rattle.catalogue_core.specs.declared.settling.Loosening.{Loosening}
@@ -33,14 +33,9 @@ use Rattle.catalogue_core.proofs.Building.{insert_next, order_over}
 
 -- ---- the same by other names
 
-joined_same : (fields : List Field) (ties : List Tie) → store.kept_fields fields ties ≡ tied fields ties
-joined_same [] ties = refl
-joined_same (field ∷ fields) [] = refl
-joined_same (field ∷ fields) (tie ∷ ties) = ap (λ l. store.kept_field field tie ∷ l) (joined_same fields ties)
-
-pub record_same : (kept : Kept) → store.kept_record kept ≡ kept_record kept
-unfolding store.kept_record
-record_same kept = λ i. record { leader = kept.rec.leader; fields = joined_same kept.rec.fields kept.links i }
+pub record_same : (kept : Kept) → definition.kept_record kept ≡ kept_record kept
+unfolding definition.kept_record
+record_same kept = refl
 
 pub after_behind : (all : List Linkable) (l : Option (Bor Loosening)) (class : Class) (r : KeptRecord) → record_after all l class r ≡ record_behind all (ended l) class r
 after_behind all None class r = refl

@@ -3,22 +3,21 @@ use Rattle.std.proofs.Common.{◌≡◌, ℕ, zero, suc, Bool, true, false, cond
 use Rattle.std.specs.Prelude.{slice_get}
 use Rattle.std.specs.Option.{option_map, option_and_then, option_map_or}
 use Rattle.std.specs.Map.{lookup}
-use Rattle.marc_types.specs.Order.{key_Decides}
+use Rattle.marc_types.specs.Order.{key_Decides, same_key}
 use Rattle.marc_types.specs.declared.key.Class.{Class}
 use Rattle.marc_types.specs.declared.key.Key.{Key}
 use Rattle.marc_types.specs.declared.field.Field.{Field}
 use Rattle.marc_types.specs.declared.entry.Tie.{Tie}
 use Rattle.marc_types.specs.declared.entry.Kept.{Kept}
 use Rattle.record_store.specs.Store as store
-use Rattle.entry_record.specs.Identity.{same_key}
 use Rattle.entry_record.specs.Authority.{Linkable, linkable_of}
-use Rattle.entry_record.specs.State.{KeptField, KeptRecord, Row, fields_of}
-use Rattle.entry_record.specs.Receipt as definition
+use Rattle.catalogue_rules.specs.State.{KeptField, KeptRecord, Row, fields_of, tied, kept_record}
+use Rattle.catalogue_rules.specs.Receipt as definition
 use Rattle.catalogue_core.specs.Stands.{stands_as, field_standing, standings_of}
 use Rattle.catalogue_core.specs.Behind.{authority_row, standings_rows}
 use Rattle.entry_record.specs.Authority.{heading_kind}
-use Rattle.entry_record.specs.Choice as choices
-use Rattle.entry_record.specs.Choice.{Choice, Link, choice}
+use Rattle.catalogue_rules.specs.Choice as choices
+use Rattle.catalogue_rules.specs.Choice.{Choice, Link, choice}
 use Rattle.marc_types.specs.declared.form.Kind.{Kind}
 use Rattle.catalogue_core.specs.Told.{told_by, told_of, field_told, candidates_by, candidates_of, field_candidates}
 use Rattle.catalogue_core.specs.declared.standing.Standing.{Standing}
@@ -88,7 +87,7 @@ zero_not_suc n e = omega arith
 less : (m n : ℕ) → suc m ≡ suc n → m ≡ n
 less m n e = omega arith
 
-tie_joined : (fields : List Field) (ties : List Tie) (i : ℕ) → length ties ≡ length fields → option_map (λ (h : KeptField). h.tie) (slice_get (store.kept_fields fields ties) i) ≡ slice_get ties i
+tie_joined : (fields : List Field) (ties : List Tie) (i : ℕ) → length ties ≡ length fields → option_map (λ (h : KeptField). h.tie) (slice_get (tied fields ties) i) ≡ slice_get ties i
 tie_joined [] [] i e = refl
 tie_joined [] (tie ∷ ties) i e = absurd (suc_not_zero (length ties) e)
 tie_joined (field ∷ fields) [] i e = absurd (zero_not_suc (length fields) e)
@@ -96,16 +95,16 @@ tie_joined (field ∷ fields) (tie ∷ ties) zero e = refl
 tie_joined (field ∷ fields) (tie ∷ ties) (suc i) e = tie_joined fields ties i (less (length ties) (length fields) e)
 
 -- the tie at a place of a kept record
-pub tie_at : (kept : Kept) (i : ℕ) → option_map (λ (h : KeptField). h.tie) (store.field_at i (store.kept_record kept)) ≡ slice_get kept.links i
-unfolding store.kept_record
+pub tie_at : (kept : Kept) (i : ℕ) → option_map (λ (h : KeptField). h.tie) (store.field_at i (kept_record kept)) ≡ slice_get kept.links i
+unfolding kept_record
 tie_at kept i = tie_joined kept.rec.fields kept.links i kept.tied
 
 key_of_tie : (o : Option KeptField) → option_and_then (λ (tie : Tie). tie.key) (option_map (λ (h : KeptField). h.tie) o) ≡ option_and_then (λ (h : KeptField). h.tie.key) o
 key_of_tie None = refl
 key_of_tie (Some h) = refl
 
-pub link_at : (kept : Kept) (i : ℕ) → option_and_then (λ (tie : Tie). tie.key) (slice_get kept.links i) ≡ option_and_then (λ (h : KeptField). h.tie.key) (store.field_at i (store.kept_record kept))
-link_at kept i = ap (option_and_then (λ (tie : Tie). tie.key)) (sym (tie_at kept i)) ∙ key_of_tie (store.field_at i (store.kept_record kept))
+pub link_at : (kept : Kept) (i : ℕ) → option_and_then (λ (tie : Tie). tie.key) (slice_get kept.links i) ≡ option_and_then (λ (h : KeptField). h.tie.key) (store.field_at i (kept_record kept))
+link_at kept i = ap (option_and_then (λ (tie : Tie). tie.key)) (sym (tie_at kept i)) ∙ key_of_tie (store.field_at i (kept_record kept))
 
 -- ---- what is told
 

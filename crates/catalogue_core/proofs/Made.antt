@@ -5,8 +5,8 @@ use Rattle.marc_types.specs.declared.key.Class.TheVariants.{Authority, Bibliogra
 use Rattle.marc_types.specs.declared.key.Key.{Key}
 use Rattle.record_store.specs.Store.{kept_rows}
 use Rattle.entry_record.specs.Authority.{Linkable}
-use Rattle.entry_record.specs.State.{Row, State}
-use Rattle.entry_record.specs.Settle.{Arrival, place}
+use Rattle.catalogue_rules.specs.State.{Row, State}
+use Rattle.catalogue_rules.specs.Settle.{Arrival, place}
 use Rattle.catalogue_core.specs.Stands.{standings_of}
 use Rattle.catalogue_core.specs.Commits.{placed_in, ended_by, rows_behind, state_behind}
 use Rattle.catalogue_core.specs.Behind.{standings_rows, committed, incoming, AreCounts, IsRowsAfter, IsStateAfter}

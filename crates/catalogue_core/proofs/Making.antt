@@ -12,12 +12,12 @@ use Rattle.marc_types.specs.declared.field.Field.{Field}
 use Rattle.marc_types.specs.declared.entry.Tie.{Tie}
 use Rattle.marc_types.specs.declared.entry.Kept.{Kept}
 use Rattle.entry_record.specs.Authority.{Linkable}
-use Rattle.entry_record.specs.State.{KeptField, KeptRecord, new_tie, new_field, new_record}
-use Rattle.entry_record.specs.Settle.{settle_field}
-use Rattle.entry_record.specs.Sameness.{same_kept}
+use Rattle.catalogue_rules.specs.State.{KeptField, KeptRecord, new_tie, new_field, new_record, tied}
+use Rattle.catalogue_rules.specs.Settle.{settle_field}
+use Rattle.catalogue_rules.specs.Sameness.{same_kept}
 use Rattle.catalogue_core.specs.Changes.{held_as, change, loosened, field_after, IsFieldAfter}
 use Rattle.catalogue_core.specs.Stands.{field_standing, standings_of}
-use Rattle.catalogue_core.specs.KeptRecords.{tied, kept_record, record_after, new_record_after, record_change}
+use Rattle.catalogue_core.specs.KeptRecords.{kept_record, record_after, new_record_after, record_change}
 use Rattle.catalogue_core.specs.declared.standing.Standing.{Standing}
 use Rattle.catalogue_core.specs.declared.settling.Loosening.{Loosening}
 use Rattle.catalogue_core.specs.declared.settling.FieldAfter.{FieldAfter}

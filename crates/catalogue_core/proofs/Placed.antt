@@ -9,7 +9,8 @@ use Rattle.std.specs.declared.cmp.Ordering.{Ordering}
 use Rattle.std.specs.declared.cmp.Ordering.TheVariants.{Less, Equal, Greater}
 use Rattle.std.proofs.lemmas.Grind.{common_steps}
 use Rattle.std.proofs.lemmas.List.Elements.{All-from_recursion}
-use Rattle.marc_types.specs.Order.{key_cmp, key_Decides}
+use Rattle.std.proofs.lemmas.Bool.{and_parts}
+use Rattle.marc_types.specs.Order.{key_cmp, key_Decides, same_key}
 use Rattle.marc_types.specs.Valid.{is_code, is_code_byte, is_number, is_graphic, is_data, is_text, is_field, is_record, field_size, fields_size}
 use Rattle.marc_types.specs.declared.key.Class.{Class}
 use Rattle.marc_types.specs.declared.key.Class.TheVariants.{Authority, Bibliographic}
@@ -21,19 +22,18 @@ use Rattle.marc_types.specs.declared.field.Field.TheVariants.{Control, Variable}
 use Rattle.marc_types.specs.declared.field.Leader.{Leader}
 use Rattle.iso2709_record.specs.Written.{field_length, fields_length, fits}
 use Rattle.iso2709_record.proofs.Lengths.{field_length-control, field_length-variable}
-use Rattle.entry_record.specs.Identity.{is_deletion, same_key}
+use Rattle.entry_record.specs.Identity.{is_deletion}
 use Rattle.entry_record.specs.Authority.{Linkable, is_heading, heading_of, linkable_of, linkable_by, linkable_with, linkable_kind, successor_of}
 use Rattle.entry_record.specs.Prepared.{authority_in, authority_of}
-use Rattle.entry_record.specs.State.{KeptField, KeptRecord, Row, State, fields_of, new_field, new_record, row_linkable, linkable_authorities, each_in_row, each_field}
-use Rattle.entry_record.specs.Settle.{Arrival, place, loosen, put_in, put, settle_field, settle, step}
-use Rattle.entry_record.specs.History.{IsAdmitted, arrival_of}
-use Rattle.entry_record.specs.Valid.{IsTied, IsValid}
-use Rattle.entry_record.proofs.Elements.{Each, each_weaker, find_found}
-use Rattle.entry_record.proofs.Once.{steady_field}
-use Rattle.entry_record.proofs.Proper.{and_both}
-use Rattle.entry_record.proofs.Put.{IsTiedBut, steady_loosen}
-use Rattle.entry_record.proofs.States.{IsReadyRow, IsReady, IsFitArrival, IsLooseRow, put_ready, fit_entry, link_of_heading}
-use Rattle.entry_record.proofs.Steady.{IsSteady, linkable_stays}
+use Rattle.catalogue_rules.specs.State.{KeptField, KeptRecord, Row, State, fields_of, new_field, new_record, row_linkable, linkable_authorities, each_in_row, each_field}
+use Rattle.catalogue_rules.specs.Settle.{Arrival, place, loosen, put_in, put, settle_field, settle, step, arrival_of}
+use Rattle.entry_record.specs.History.{IsAdmitted}
+use Rattle.catalogue_rules.specs.Valid.{IsTied, IsValid}
+use Rattle.catalogue_rules.proofs.Elements.{Each, each_weaker, find_found}
+use Rattle.catalogue_rules.proofs.Once.{steady_field}
+use Rattle.catalogue_rules.proofs.Put.{IsTiedBut, steady_loosen}
+use Rattle.catalogue_rules.proofs.States.{IsReadyRow, IsReady, IsFitArrival, IsLooseRow, put_ready, fit_entry, link_of_heading}
+use Rattle.catalogue_rules.proofs.Steady.{IsSteady, linkable_stays}
 use Rattle.entry_record.proofs.Written.{fitting_length}
 use Rattle.catalogue_core.specs.Stands.{standings_of}
 use Rattle.catalogue_core.specs.Commits.{placed_in, placed, ended_in, loosened_by, record_behind, rows_behind}
@@ -210,24 +210,24 @@ code_data b h = grind (arith, common_steps)
 
 all_data : (p : ℕ → Bool) → ((b : ℕ) → p b ≡ true → is_data b ≡ true) → (bs : List ℕ) → list_all p bs ≡ true → list_all is_data bs ≡ true
 all_data p f [] h = refl
-all_data p f (b ∷ bs) h = let both = and_both (p b) (list_all p bs) h in rw (f b both.0) (all_data p f bs both.1)
+all_data p f (b ∷ bs) h = let both = and_parts (p b) (list_all p bs) h in rw (f b both.0) (all_data p f bs both.1)
 
 code_text : (code : List ℕ) → is_code code ≡ true → is_text code ≡ true
 unfolding is_code is_text
-code_text code h = all_data is_code_byte code_data code (and_both (nat_le 1 (length code) && nat_le (length code) 16) (list_all is_code_byte code) h).1
+code_text code h = all_data is_code_byte code_data code (and_parts (nat_le 1 (length code) && nat_le (length code) 16) (list_all is_code_byte code) h).1
 
 number_text : (number : List ℕ) → is_number number ≡ true → is_text number ≡ true
 unfolding is_number is_text
-number_text number h = all_data is_graphic graphic_data number (and_both (nat_le 1 (length number) && nat_le (length number) 64) (list_all is_graphic number) h).1
+number_text number h = all_data is_graphic graphic_data number (and_parts (nat_le 1 (length number) && nat_le (length number) 64) (list_all is_graphic number) h).1
 
 each_passing : {A : Type 0} (p : A → Bool) (xs : List A) → list_all p xs ≡ true → Each (λ x. p x ≡ true) xs
 each_passing p [] h = tt
-each_passing p (x ∷ xs) h = let both = and_both (p x) (list_all p xs) h in (both.0, each_passing p xs both.1)
+each_passing p (x ∷ xs) h = let both = and_parts (p x) (list_all p xs) h in (both.0, each_passing p xs both.1)
 
 record_fields_pass : (l : Leader) (fs : List Field) → is_record l fs ≡ true → Each (λ f. is_field f ≡ true) fs
 unfolding is_record
 record_fields_pass l fs h =
-    each_passing is_field fs (and_both _ (list_all is_field fs) (and_both _ _ (and_both _ _ h).0).0).1
+    each_passing is_field fs (and_parts _ (list_all is_field fs) (and_parts _ _ (and_parts _ _ h).0).0).1
 
 stand_by_kind : (key : Key) (fs : List Field) (f : Field) (o : Option Kind) → is_field f ≡ true → is_text key.code ≡ true → is_text key.number ≡ true →
     IfSome (elim o as (λ _. Option Linkable) [ None ↦ None | Some kind ↦ Some (linkable_with key fs f kind) ]) CanStand

@@ -9,17 +9,17 @@ use Rattle.std.specs.declared.cmp.Ordering.{Ordering}
 use Rattle.std.specs.declared.cmp.Ordering.TheVariants.{Less, Equal, Greater}
 use Rattle.std.proofs.lemmas.List.Sums.{sum_by-cons}
 use Rattle.std.proofs.lemmas.Map.Keys.{sorted_head, sorted_tail}
-use Rattle.marc_types.specs.Order.{key_cmp, key_cmp_total, key_Decides}
+use Rattle.marc_types.specs.Order.{key_cmp, key_cmp_total, key_Decides, same_key}
 use Rattle.marc_types.specs.declared.key.Class.{Class}
 use Rattle.marc_types.specs.declared.key.Class.TheVariants.{Authority, Bibliographic}
 use Rattle.marc_types.specs.declared.key.Key.{Key}
-use Rattle.entry_record.specs.Identity.{is_deletion, same_key}
+use Rattle.entry_record.specs.Identity.{is_deletion}
 use Rattle.entry_record.specs.Authority.{Linkable}
-use Rattle.entry_record.specs.State.{KeptRecord, Row, State, rows_of, new_record}
-use Rattle.entry_record.specs.Settle.{Arrival, place}
-use Rattle.entry_record.specs.Receipt.{same_class, is_committed, differs, is_changed_row}
-use Rattle.entry_record.specs.Valid.{IsAscending}
-use Rattle.entry_record.proofs.Elements.{Each, each_weaker}
+use Rattle.catalogue_rules.specs.State.{KeptRecord, Row, State, rows_of, new_record}
+use Rattle.catalogue_rules.specs.Settle.{Arrival, place}
+use Rattle.catalogue_rules.specs.Receipt.{same_class, is_committed, differs, is_changed_row}
+use Rattle.catalogue_rules.specs.Valid.{IsAscending}
+use Rattle.catalogue_rules.proofs.Elements.{Each, each_weaker}
 use Rattle.catalogue_core.specs.Commits.{placed_in, record_behind, row_behind, rows_behind}
 use Rattle.catalogue_core.specs.Behind.{committed, is_other_changed}
 use Rattle.catalogue_core.proofs.Placed.{place_is}

@@ -2,8 +2,8 @@
 use Rattle.std.proofs.Common.{◌≡◌, Bool, true, false, Option, Some, None, refl, sym, ap, ◌∙◌, if◌then◌else◌}
 use Rattle.std.specs.Option.{option_map}
 use Rattle.marc_types.specs.declared.entry.Kept.{Kept}
-use Rattle.entry_record.specs.State.{KeptRecord}
-use Rattle.entry_record.specs.Receipt.{differs}
+use Rattle.catalogue_rules.specs.State.{KeptRecord}
+use Rattle.catalogue_rules.specs.Receipt.{differs}
 use Rattle.catalogue_core.specs.KeptRecords.{kept_record, record_change}
 use Rattle.catalogue_core.proofs.Making.{record_becomes}
 

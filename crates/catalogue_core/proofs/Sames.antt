@@ -5,17 +5,16 @@ use Rattle.std.specs.Bool.{Decides, beq}
 use Rattle.std.specs.Option.{option_eq}
 use Rattle.std.specs.Cmp.{booleans_Decides, unsigned_Decides}
 use Rattle.std.specs.Cmp.Lexicographic.{pointwise, pointwise_decides}
-use Rattle.marc_types.specs.Order.{text_Decides, key_Decides}
+use Rattle.std.proofs.lemmas.Bool.{and_parts}
+use Rattle.marc_types.specs.Order.{text_Decides, key_Decides, same_key}
 use Rattle.marc_types.specs.declared.field.Tag.{Tag}
 use Rattle.marc_types.specs.declared.field.Subfield.{Subfield}
 use Rattle.marc_types.specs.declared.field.Field.{Field}
 use Rattle.marc_types.specs.declared.field.Field.TheVariants.{Control, Variable}
 use Rattle.marc_types.specs.declared.key.Key.{Key}
 use Rattle.marc_types.specs.declared.entry.Tie.{Tie}
-use Rattle.entry_record.specs.Identity.{same_key}
-use Rattle.entry_record.specs.State.{KeptField}
-use Rattle.entry_record.specs.Sameness.{same_tag, same_subfield, same_field, same_tie, same_kept}
-use Rattle.entry_record.proofs.Proper.{and_both}
+use Rattle.catalogue_rules.specs.State.{KeptField}
+use Rattle.catalogue_rules.specs.Sameness.{same_tag, same_subfield, same_field, same_tie, same_kept}
 use Rattle.catalogue_core.specs.Changes.{change}
 
 both : (a b : Bool) → a ≡ true → b ≡ true → (a && b) ≡ true
@@ -23,8 +22,8 @@ both a b p q = rw (p, q) refl
 
 tag_same : (s t : Tag) → same_tag s t ≡ true → s ≡ t
 tag_same s t h =
-    let outer = and_both ((s.a == t.a) && (s.b == t.b)) (s.c == t.c) h in
-    let inner = and_both (s.a == t.a) (s.b == t.b) outer.0 in
+    let outer = and_parts ((s.a == t.a) && (s.b == t.b)) (s.c == t.c) h in
+    let inner = and_parts (s.a == t.a) (s.b == t.b) outer.0 in
     let a : s.a ≡ t.a = (unsigned_Decides s.a t.a).0 inner.0 in
     let b : s.b ≡ t.b = (unsigned_Decides s.b t.b).0 inner.1 in
     let c : s.c ≡ t.c = (unsigned_Decides s.c t.c).0 outer.1 in
@@ -37,7 +36,7 @@ tag_alike s =
 
 subfield_same : (s t : Subfield) → same_subfield s t ≡ true → s ≡ t
 subfield_same s t h =
-    let parts = and_both (s.code == t.code) (bytes_eq s.text t.text) h in
+    let parts = and_parts (s.code == t.code) (bytes_eq s.text t.text) h in
     let code : s.code ≡ t.code = (unsigned_Decides s.code t.code).0 parts.0 in
     let text : s.text ≡ t.text = (text_Decides s.text t.text).0 parts.1 in
     λ i. record { code = code i; text = text i }
@@ -52,14 +51,14 @@ subfield_Decides s t = (subfield_same s t, λ e. rw (← e) (subfield_alike s))
 field_same : (f g : Field) → same_field f g ≡ true → f ≡ g
 unfolding same_field
 field_same (Control tag text) (Control other words) h =
-    let parts = and_both (same_tag tag other) (bytes_eq text words) h in
+    let parts = and_parts (same_tag tag other) (bytes_eq text words) h in
     let tags : tag ≡ other = tag_same tag other parts.0 in
     let texts : text ≡ words = (text_Decides text words).0 parts.1 in
     cc
 field_same (Variable tag ind1 ind2 subs) (Variable other one two others) h =
-    let first = and_both (same_tag tag other && (ind1 == one) && (ind2 == two)) (pointwise same_subfield subs others) h in
-    let second = and_both (same_tag tag other && (ind1 == one)) (ind2 == two) first.0 in
-    let third = and_both (same_tag tag other) (ind1 == one) second.0 in
+    let first = and_parts (same_tag tag other && (ind1 == one) && (ind2 == two)) (pointwise same_subfield subs others) h in
+    let second = and_parts (same_tag tag other && (ind1 == one)) (ind2 == two) first.0 in
+    let third = and_parts (same_tag tag other) (ind1 == one) second.0 in
     let tags : tag ≡ other = tag_same tag other third.0 in
     let ones : ind1 ≡ one = (unsigned_Decides ind1 one).0 third.1 in
     let twos : ind2 ≡ two = (unsigned_Decides ind2 two).0 second.1 in
@@ -90,8 +89,8 @@ option_key_alike (Some x) = (key_Decides x x).1 refl
 tie_same : (s t : Tie) → same_tie s t ≡ true → s ≡ t
 unfolding same_tie
 tie_same s t h =
-    let outer = and_both (option_eq same_key s.key t.key && beq s.whole t.whole) (option_eq same_key s.awaits t.awaits) h in
-    let inner = and_both (option_eq same_key s.key t.key) (beq s.whole t.whole) outer.0 in
+    let outer = and_parts (option_eq same_key s.key t.key && beq s.whole t.whole) (option_eq same_key s.awaits t.awaits) h in
+    let inner = and_parts (option_eq same_key s.key t.key) (beq s.whole t.whole) outer.0 in
     let key : s.key ≡ t.key = option_key_same s.key t.key inner.0 in
     let whole : s.whole ≡ t.whole = (booleans_Decides s.whole t.whole).0 inner.1 in
     let awaits : s.awaits ≡ t.awaits = option_key_same s.awaits t.awaits outer.1 in
@@ -106,7 +105,7 @@ tie_alike s =
 
 kept_same : (g h : KeptField) → same_kept g h ≡ true → g ≡ h
 kept_same g h e =
-    let parts = and_both (same_field g.field h.field) (same_tie g.tie h.tie) e in
+    let parts = and_parts (same_field g.field h.field) (same_tie g.tie h.tie) e in
     let field : g.field ≡ h.field = field_same g.field h.field parts.0 in
     let tie : g.tie ≡ h.tie = tie_same g.tie h.tie parts.1 in
     λ i. record { field = field i; tie = tie i }

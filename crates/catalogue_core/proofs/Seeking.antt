@@ -9,11 +9,12 @@ use Rattle.marc_types.specs.declared.field.Field.{Field}
 use Rattle.marc_types.specs.declared.form.Kind.{Kind}
 use Rattle.marc_types.specs.declared.form.Form.{Form}
 use Rattle.heading_fields.specs.Tables.{is_subdividable}
-use Rattle.heading_fields.specs.Parts.{tag_of, subfields_of, is_subdivided}
+use Rattle.heading_fields.specs.Parts.{is_subdivided}
+use Rattle.marc_types.specs.Fields.{tag_of, subfields_of}
 use Rattle.entry_record.specs.Authority.{Linkable, is_bare, base_form, full_form}
 use Rattle.heading_fields.specs.Numbers.{is_naming}
-use Rattle.entry_record.specs.State.{KeptField}
-use Rattle.entry_record.specs.Choice.{Choice, can_take, by_first_name, choice_among, is_established, is_see_from_form, by_form}
+use Rattle.catalogue_rules.specs.State.{KeptField}
+use Rattle.catalogue_rules.specs.Choice.{Choice, can_take, by_first_name, choice_among, is_established, is_see_from_form, by_form}
 use Rattle.entry_record.proofs.Undivided.{full_either}
 use Rattle.catalogue_core.specs.Views.{linkables, link_by_number}
 use Rattle.catalogue_core.specs.Sought.{is_under, is_sought, sought_among}

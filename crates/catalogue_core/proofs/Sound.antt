@@ -5,7 +5,7 @@ use Rattle.std.specs.List.{list_all}
 use Rattle.std.specs.Borrow.{Bor}
 use Rattle.std.specs.Option.{option_map, option_map_or, option_copied}
 use Rattle.std.proofs.lemmas.List.Elements.{recursion_from_All}
-use Rattle.std.proofs.lemmas.Bool.{le-leb}
+use Rattle.std.proofs.lemmas.Bool.{le-leb, and_parts}
 use Rattle.marc_types.specs.Valid.{is_field, is_leader, is_record, fields_size}
 use Rattle.marc_types.specs.declared.field.Subfield.{Subfield}
 use Rattle.marc_types.specs.declared.field.Leader.{Leader}
@@ -15,18 +15,17 @@ use Rattle.marc_types.specs.declared.key.Key.{Key}
 use Rattle.marc_types.specs.declared.form.Kind.{Kind}
 use Rattle.marc_types.specs.declared.form.Form.{Form}
 use Rattle.marc_types.specs.declared.entry.Tie.{Tie}
-use Rattle.heading_fields.specs.Parts.{subfields_of}
+use Rattle.marc_types.specs.Fields.{subfields_of}
 use Rattle.heading_fields.specs.Numbers.{is_naming}
 use Rattle.heading_fields.proofs.Fieldlaws.{is_field_rewriting, is_field_unlinking}
 use Rattle.entry_record.specs.Authority.{Linkable, is_bare, base_form, full_form, heading_kind}
-use Rattle.entry_record.specs.State.{KeptField}
-use Rattle.entry_record.specs.Choice.{Choice, Link, Ambiguous, Unlinked, has_key, takes_subdivisions, is_taken_whole, can_take, link_where, by_awaited, by_first_name, by_number, choice_among, is_established, is_see_from_form, by_form, by_full_form, asks_base, by_base_form, choice}
-use Rattle.entry_record.specs.Settle.{keeps_link, is_linked_to, awaits_key, end_link, await, hand_on, loosen, link_to, take_choice, settle_linked, settle_unlinked, settle_field}
-use Rattle.entry_record.proofs.Elements.{Each, each_weaker, each_filter, find_found, if_some_or, if_some_then}
-use Rattle.entry_record.proofs.Fit.{IfLink}
-use Rattle.entry_record.proofs.Proper.{and_both}
+use Rattle.catalogue_rules.specs.State.{KeptField, tied}
+use Rattle.catalogue_rules.specs.Choice.{Choice, Link, Ambiguous, Unlinked, has_key, takes_subdivisions, is_taken_whole, can_take, link_where, by_awaited, by_first_name, by_number, choice_among, is_established, is_see_from_form, by_form, by_full_form, asks_base, by_base_form, choice}
+use Rattle.catalogue_rules.specs.Settle.{keeps_link, is_linked_to, awaits_key, end_link, await, hand_on, loosen, link_to, take_choice, settle_linked, settle_unlinked, settle_field}
+use Rattle.catalogue_rules.proofs.Elements.{Each, each_weaker, each_filter, find_found, if_some_or, if_some_then}
+use Rattle.catalogue_rules.proofs.Fit.{IfLink}
 use Rattle.catalogue_core.specs.Changes.{loosened, field_after}
-use Rattle.catalogue_core.specs.KeptRecords.{tied, CanStand}
+use Rattle.catalogue_core.specs.KeptRecords.{CanStand}
 use Rattle.catalogue_core.specs.Drafts.{IsDraft}
 use Rattle.catalogue_core.specs.declared.records.Draft.{Draft}
 use Rattle.catalogue_core.specs.declared.settling.Loosening.{Loosening}
@@ -151,7 +150,7 @@ all_sound : (all : List Linkable) → Each CanStand all → (l : Option (Bor Loo
     list_all is_field (map (λ h. h.field) (map (field_after all l class) hs)) ≡ true
 all_sound all each l class [] f = refl
 all_sound all each l class (h ∷ hs) f =
-    let parts = and_both (is_field h.field) (list_all is_field (map (λ g. g.field) hs)) f in
+    let parts = and_parts (is_field h.field) (list_all is_field (map (λ g. g.field) hs)) f in
     rw (settled_sound all each class (loosened all l class h) (loosened_sound all l class h parts.0), all_sound all each l class hs parts.1) refl
 
 length_map : {A B : Type 0} (f : A → B) (xs : List A) → length (map f xs) ≡ length xs
@@ -165,9 +164,9 @@ is_record_by : (leader : Leader) (fields made : List Field) → is_record leader
     fields_size made ≤ 1000000 → is_record leader made ≡ true
 unfolding is_record
 is_record_by leader fields made valid sound same size =
-    let first = and_both (is_leader leader && list_all is_field fields && nat_le (length fields) 8331) (nat_le (fields_size fields) 1000000) valid in
-    let second = and_both (is_leader leader && list_all is_field fields) (nat_le (length fields) 8331) first.0 in
-    let third = and_both (is_leader leader) (list_all is_field fields) second.0 in
+    let first = and_parts (is_leader leader && list_all is_field fields && nat_le (length fields) 8331) (nat_le (fields_size fields) 1000000) valid in
+    let second = and_parts (is_leader leader && list_all is_field fields) (nat_le (length fields) 8331) first.0 in
+    let third = and_parts (is_leader leader) (list_all is_field fields) second.0 in
     both (is_leader leader && list_all is_field made && nat_le (length made) 8331) (nat_le (fields_size made) 1000000)
     (both (is_leader leader && list_all is_field made) (nat_le (length made) 8331)
     (both (is_leader leader) (list_all is_field made) third.0 sound) (rw same second.1))
@@ -176,9 +175,9 @@ is_record_by leader fields made valid sound same size =
 fields_sound : (leader : Leader) (fields : List Field) → is_record leader fields ≡ true → list_all is_field fields ≡ true
 unfolding is_record
 fields_sound leader fields valid =
-    let first = and_both (is_leader leader && list_all is_field fields && nat_le (length fields) 8331) (nat_le (fields_size fields) 1000000) valid in
-    let second = and_both (is_leader leader && list_all is_field fields) (nat_le (length fields) 8331) first.0 in
-    (and_both (is_leader leader) (list_all is_field fields) second.0).1
+    let first = and_parts (is_leader leader && list_all is_field fields && nat_le (length fields) 8331) (nat_le (fields_size fields) 1000000) valid in
+    let second = and_parts (is_leader leader && list_all is_field fields) (nat_le (length fields) 8331) first.0 in
+    (and_parts (is_leader leader) (list_all is_field fields) second.0).1
 
 -- the fields that a draft has make a record
 pub drafted_record : (all : List Linkable) (l : Option (Bor Loosening)) (class : Class) (leader : Leader) (fields : List Field) (ties : List Tie) (d : Draft) →

@@ -3,15 +3,14 @@ use Rattle.std.proofs.Common.{◌≡◌, ℕ, ◌≤◌, Bool, true, false, ◌&
 use Rattle.std.specs.Prelude.{option_and_then}
 use Rattle.std.specs.List.{list_all}
 use Rattle.std.specs.Option.{option_map}
-use Rattle.std.proofs.lemmas.Bool.{leb-true, lt-leb}
+use Rattle.std.proofs.lemmas.Bool.{leb-true, lt-leb, and_parts}
 use Rattle.marc_types.specs.Valid.{is_field, is_text, is_graphic, is_data, is_code, is_code_byte, is_number}
 use Rattle.marc_types.specs.declared.field.Field.{Field}
 use Rattle.marc_types.specs.declared.key.Key.{Key}
 use Rattle.marc_types.specs.declared.form.Kind.{Kind}
 use Rattle.entry_record.specs.Authority.{Linkable, is_heading, heading_of, linkable_kind, linkable_with, linkable_by, linkable_of}
-use Rattle.entry_record.proofs.Elements.{Each, find_found}
+use Rattle.catalogue_rules.proofs.Elements.{Each, find_found}
 use Rattle.entry_record.proofs.Graphic.{code_is_graphic}
-use Rattle.entry_record.proofs.Proper.{and_both}
 use Rattle.catalogue_core.specs.KeptRecords.{CanStand}
 
 not_above : (a b : Bool) → b ≡ false → not (a && b) ≡ true
@@ -20,25 +19,25 @@ not_above false b e = refl
 
 graphic_is_data : (b : ℕ) → is_graphic b ≡ true → is_data b ≡ true
 graphic_is_data b h =
-    let low : 0x21 ≤ b = leb-true 0x21 b (and_both (nat_le 0x21 b) (nat_le b 0x7e) h).0 in
+    let low : 0x21 ≤ b = leb-true 0x21 b (and_parts (nat_le 0x21 b) (nat_le b 0x7e) h).0 in
     not_above (nat_le 0x1d b) (nat_le b 0x1f) (lt-leb b 0x1f (omega arith))
 
 graphic_text : (bs : List ℕ) → list_all is_graphic bs ≡ true → list_all is_data bs ≡ true
 graphic_text [] h = refl
 graphic_text (b ∷ bs) h =
-    let parts = and_both (is_graphic b) (list_all is_graphic bs) h in rw (graphic_is_data b parts.0) (graphic_text bs parts.1)
+    let parts = and_parts (is_graphic b) (list_all is_graphic bs) h in rw (graphic_is_data b parts.0) (graphic_text bs parts.1)
 
 code_text : (code : List ℕ) → is_code code ≡ true → is_text code ≡ true
 unfolding is_code is_text
-code_text code h = graphic_text code (code_is_graphic code (and_both (nat_le 1 (length code) && nat_le (length code) 16) (list_all is_code_byte code) h).1)
+code_text code h = graphic_text code (code_is_graphic code (and_parts (nat_le 1 (length code) && nat_le (length code) 16) (list_all is_code_byte code) h).1)
 
 number_text : (number : List ℕ) → is_number number ≡ true → is_text number ≡ true
 unfolding is_number is_text
-number_text number h = graphic_text number (and_both (nat_le 1 (length number) && nat_le (length number) 64) (list_all is_graphic number) h).1
+number_text number h = graphic_text number (and_parts (nat_le 1 (length number) && nat_le (length number) 64) (list_all is_graphic number) h).1
 
 each_field : (fields : List Field) → list_all is_field fields ≡ true → Each (λ (f : Field). is_field f ≡ true) fields
 each_field [] h = tt
-each_field (f ∷ fs) h = let parts = and_both (is_field f) (list_all is_field fs) h in (parts.0, each_field fs parts.1)
+each_field (f ∷ fs) h = let parts = and_parts (is_field f) (list_all is_field fs) h in (parts.0, each_field fs parts.1)
 
 stands_with : (key : Key) (fields : List Field) (f : Field) (c : Linkable) (o : Option Kind) → is_field f ≡ true → is_text key.code ≡ true → is_text key.number ≡ true →
     option_map (linkable_with key fields f) o ≡ Some c → CanStand c

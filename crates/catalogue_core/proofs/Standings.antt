@@ -11,10 +11,10 @@ use Rattle.marc_types.specs.declared.form.Form.{Form}
 use Rattle.naco_form.specs.Form.{form_of}
 use Rattle.entry_record.specs.Authority.{Linkable, heading_kind, base_form}
 use Rattle.entry_record.specs.Prepared.{heading_base_form}
-use Rattle.entry_record.specs.State.{KeptField}
-use Rattle.entry_record.specs.Choice.{Choice, Link, Ambiguous, Unlinked, has_key, choice}
-use Rattle.entry_record.specs.Settle.{loosen, link_to, take_choice, settle_linked, settle_unlinked, settle_field}
-use Rattle.entry_record.specs.Receipt.{LinkedTo, WithoutHeading, standing_of, standing_by, standing_unlinked}
+use Rattle.catalogue_rules.specs.State.{KeptField}
+use Rattle.catalogue_rules.specs.Choice.{Choice, Link, Ambiguous, Unlinked, has_key, choice}
+use Rattle.catalogue_rules.specs.Settle.{loosen, link_to, take_choice, settle_linked, settle_unlinked, settle_field}
+use Rattle.catalogue_rules.specs.Receipt.{LinkedTo, WithoutHeading, standing_of, standing_by, standing_unlinked}
 use Rattle.catalogue_core.specs.Stands.{stands_as, standing_chosen, field_standing}
 use Rattle.catalogue_core.specs.Changes.{held_as, change, field_after, IsFieldAfter}
 use Rattle.catalogue_core.specs.declared.settling.Held.{Held}

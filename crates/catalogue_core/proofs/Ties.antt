@@ -5,9 +5,7 @@ use Rattle.std.proofs.lemmas.Grind.{common_steps}
 use Rattle.std.specs.Prelude.{slice_get, Some}
 use Rattle.marc_types.specs.declared.field.Field.{Field}
 use Rattle.marc_types.specs.declared.entry.Tie.{Tie}
-use Rattle.entry_record.specs.State.{KeptField, new_tie, new_field}
-use Rattle.catalogue_core.specs.Views.{kept_field}
-use Rattle.catalogue_core.specs.KeptRecords.{tied}
+use Rattle.catalogue_rules.specs.State.{KeptField, new_tie, new_field, kept_field, tied}
 use Rattle.catalogue_core.specs.Drafts.{IsDraft}
 use Rattle.catalogue_core.specs.declared.records.Draft.{Draft}
 

@@ -5,17 +5,17 @@ use Rattle.std.specs.List.{count_by}
 use Rattle.std.specs.Option.{option_map, option_copied}
 use Rattle.std.specs.BTreeMap.{insert_entry}
 use Rattle.std.specs.Map.{remove_entry}
-use Rattle.marc_types.specs.Order.{key_cmp}
+use Rattle.marc_types.specs.Order.{key_cmp, same_key}
 use Rattle.marc_types.specs.declared.key.Class.{Class}
 use Rattle.marc_types.specs.declared.key.Key.{Key}
 use Rattle.marc_types.specs.declared.key.Class.TheVariants.{Authority, Bibliographic}
 use Rattle.record_store.specs.Store.{kept_rows, stored}
-use Rattle.entry_record.specs.Identity.{is_deletion, same_key}
+use Rattle.entry_record.specs.Identity.{is_deletion}
 use Rattle.entry_record.specs.Authority.{Linkable}
-use Rattle.entry_record.specs.State.{KeptRecord, Row, State, new_record, row_linkable}
-use Rattle.entry_record.specs.Settle.{Arrival}
-use Rattle.entry_record.specs.Receipt as definition
-use Rattle.entry_record.specs.Receipt.{is_linked, is_ambiguous, is_unlinked, count_standing, differs, is_committed}
+use Rattle.catalogue_rules.specs.State.{KeptRecord, Row, State, new_record, row_linkable}
+use Rattle.catalogue_rules.specs.Settle.{Arrival}
+use Rattle.catalogue_rules.specs.Receipt as definition
+use Rattle.catalogue_rules.specs.Receipt.{is_linked, is_ambiguous, is_unlinked, count_standing, differs, is_committed}
 use Rattle.catalogue_core.specs.Stands.{standings_of}
 use Rattle.catalogue_core.specs.Commits.{placed, ended_by, record_behind, rows_behind, state_behind}
 use Rattle.catalogue_core.specs.KeptRecords.{kept_record, new_record_after, CanStand, HasSize}

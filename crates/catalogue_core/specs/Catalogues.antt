@@ -3,8 +3,9 @@ use Rattle.std.specs.Prelude.{◌≡◌, ℕ, ◌+◌, ◌≤◌, Bool, true, fa
 use Rattle.std.specs.Option.{option_map_or}
 use Rattle.marc_types.specs.declared.entry.Entry.{Entry}
 use Rattle.marc_types.specs.declared.entry.Limits.{Limits}
-use Rattle.entry_record.specs.History.{IsAdmitted, entry_size, entries_size, state_of}
-use Rattle.entry_record.specs.State.{State}
+use Rattle.entry_record.specs.History.{IsAdmitted, entry_size, entries_size, passes_limits}
+use Rattle.catalogue_rules.specs.Settle.{state_of}
+use Rattle.catalogue_rules.specs.State.{State}
 use Rattle.catalogue_core.specs.declared.catalogue.Before.{Before}
 use Rattle.catalogue_core.specs.declared.catalogue.CoreFault.{CoreFault}
 use Rattle.catalogue_core.specs.declared.catalogue.CoreFault.TheVariants.{Full, NoMemory}
@@ -23,8 +24,7 @@ empty_catalogue limits = record { history = []; staged = []; limits = limits }
 
 -- with one more entry, the catalogue has too many, or they have too many bytes
 abbrev pub is_full : Catalogued → Entry → Bool
-is_full c e =
-    nat_lt c.limits.entries (length (all_entries c) + 1) || nat_lt c.limits.bytes (entries_size (all_entries c) + entry_size e)
+is_full c e = passes_limits c.limits (all_entries c) e
 
 -- Full exactly where it is full
 abbrev pub IsDue : Bool → CoreFault → Type 0

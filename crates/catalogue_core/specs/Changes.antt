@@ -4,10 +4,9 @@ use Rattle.std.specs.Option.{option_map, option_copied}
 use Rattle.std.specs.Borrow.{Bor}
 use Rattle.marc_types.specs.declared.key.Class.{Class}
 use Rattle.entry_record.specs.Authority.{Linkable}
-use Rattle.entry_record.specs.State.{KeptField}
-use Rattle.entry_record.specs.Sameness.{same_kept}
-use Rattle.entry_record.specs.Settle.{loosen, settle_field}
-use Rattle.catalogue_core.specs.Views.{kept_field}
+use Rattle.catalogue_rules.specs.State.{KeptField, kept_field}
+use Rattle.catalogue_rules.specs.Sameness.{same_kept}
+use Rattle.catalogue_rules.specs.Settle.{loosen, settle_field}
 use Rattle.catalogue_core.specs.Stands.{field_standing}
 use Rattle.catalogue_core.specs.declared.settling.Held.{Held}
 use Rattle.catalogue_core.specs.declared.settling.Loosening.{Loosening}

@@ -4,8 +4,8 @@ use Rattle.marc_types.specs.declared.key.Class.{Class}
 use Rattle.marc_types.specs.declared.key.Class.TheVariants.{Authority, Bibliographic}
 use Rattle.marc_types.specs.declared.key.Key.{Key}
 use Rattle.entry_record.specs.Authority.{Linkable, successor_of}
-use Rattle.entry_record.specs.State.{KeptField, KeptRecord, Row, State, linkable_authorities, each_in_record}
-use Rattle.entry_record.specs.Settle.{Arrival, place, loosen, settle_field}
+use Rattle.catalogue_rules.specs.State.{KeptField, KeptRecord, Row, State, linkable_authorities, each_in_record}
+use Rattle.catalogue_rules.specs.Settle.{Arrival, place, loosen, settle_field}
 
 abbrev pub placed_in : Class → Arrival → State → State
 placed_in Authority a s = record { authorities = place a s.authorities; bibliographic = s.bibliographic }

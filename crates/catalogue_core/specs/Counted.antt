@@ -2,8 +2,8 @@
 use Rattle.std.specs.Prelude.{◌≡◌, ◌<◌, Bool, true, false, List}
 use Rattle.marc_types.specs.declared.key.Class.{Class}
 use Rattle.entry_record.specs.Authority.{Linkable}
-use Rattle.entry_record.specs.State.{KeptRecord}
-use Rattle.entry_record.specs.Receipt.{is_linked, is_ambiguous, is_unlinked, count_standing}
+use Rattle.catalogue_rules.specs.State.{KeptRecord}
+use Rattle.catalogue_rules.specs.Receipt.{is_linked, is_ambiguous, is_unlinked, count_standing}
 use Rattle.catalogue_core.specs.declared.standing.Standing.{Standing}
 use Rattle.catalogue_core.specs.declared.standing.Standing.TheVariants.{Linked, Ambiguous, Unlinked, NoHeading}
 use Rattle.catalogue_core.specs.declared.counts.Counts.{Counts}

@@ -2,10 +2,9 @@
 use Rattle.std.specs.Prelude.{◌≡◌, ℕ, ◌+◌, false, List, [], ◌∷◌, ◌++◌, map, length, take, slice_get, Option, Some, None}
 use Rattle.std.specs.Option.{option_map}
 use Rattle.std.specs.Cmp.Lexicographic.{pointwise}
-use Rattle.entry_record.specs.State.{KeptField}
-use Rattle.entry_record.specs.Sameness.{same_kept}
+use Rattle.catalogue_rules.specs.State.{KeptField, tied}
+use Rattle.catalogue_rules.specs.Sameness.{same_kept}
 use Rattle.catalogue_core.specs.Changes.{held_as, change}
-use Rattle.catalogue_core.specs.KeptRecords.{tied}
 use Rattle.catalogue_core.specs.declared.settling.Held.{Held}
 use Rattle.catalogue_core.specs.declared.records.Draft.{Draft}
 

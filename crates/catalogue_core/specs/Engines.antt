@@ -7,9 +7,9 @@ use Rattle.marc_types.specs.declared.key.Key.{Key}
 use Rattle.marc_types.specs.declared.form.Form.{Form}
 use Rattle.marc_types.specs.declared.entry.Receipt.{Receipt}
 use Rattle.entry_record.specs.Authority.{Linkable, linkable_of}
-use Rattle.entry_record.specs.State.{KeptRecord, State, fields_of, linkable_authorities}
-use Rattle.entry_record.specs.Receipt.{kept_under}
-use Rattle.entry_record.specs.Valid.{IsValid}
+use Rattle.catalogue_rules.specs.State.{KeptRecord, State, fields_of, linkable_authorities}
+use Rattle.catalogue_rules.specs.Receipt.{kept_under}
+use Rattle.catalogue_rules.specs.Valid.{IsValid}
 use Rattle.catalogue_core.specs.Behind.{authority_row, standings_rows, StandsIn}
 use Rattle.catalogue_core.specs.declared.standing.Standing.{Standing}
 use Rattle.catalogue_core.specs.declared.engine.Changes.{Changes}

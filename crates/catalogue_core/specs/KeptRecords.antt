@@ -4,24 +4,15 @@ use Rattle.std.specs.Option.{option_map}
 use Rattle.std.specs.Borrow.{Bor}
 use Rattle.marc_types.specs.Valid.{is_field, is_text, fields_size}
 use Rattle.marc_types.specs.declared.key.Class.{Class}
-use Rattle.marc_types.specs.declared.field.Field.{Field}
-use Rattle.marc_types.specs.declared.entry.Tie.{Tie}
 use Rattle.marc_types.specs.declared.entry.Kept.{Kept}
 use Rattle.entry_record.specs.Authority.{Linkable}
-use Rattle.entry_record.specs.State.{KeptField, KeptRecord, fields_of, each_in_record}
-use Rattle.entry_record.specs.Settle.{settle_field}
-use Rattle.entry_record.specs.Receipt.{differs}
-use Rattle.catalogue_core.specs.Views.{kept_field}
+use Rattle.catalogue_rules.specs.State.{KeptRecord, fields_of, each_in_record, tied}
+use Rattle.catalogue_rules.specs.Settle.{settle_field}
+use Rattle.catalogue_rules.specs.Receipt.{differs}
 use Rattle.catalogue_core.specs.Stands.{standings_of}
 use Rattle.catalogue_core.specs.Changes.{loosened}
 use Rattle.catalogue_core.specs.declared.settling.Loosening.{Loosening}
 use Rattle.catalogue_core.specs.declared.records.RecordAfter.{RecordAfter}
-
--- fields, each with the tie beside it
-abbrev pub tied : List Field → List Tie → List KeptField
-tied [] ties = []
-tied (field ∷ fields) [] = []
-tied (field ∷ fields) (tie ∷ ties) = kept_field field tie ∷ tied fields ties
 
 abbrev pub kept_record : Kept → KeptRecord
 kept_record kept = record { leader = kept.rec.leader; fields = tied kept.rec.fields kept.links }

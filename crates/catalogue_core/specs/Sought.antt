@@ -3,7 +3,7 @@
 use Rattle.std.specs.Prelude.{Bool, ◌&&◌, ◌||◌, List, filter, if◌then◌else◌}
 use Rattle.marc_types.specs.declared.form.Form.{Form}
 use Rattle.entry_record.specs.Authority.{Linkable, is_bare}
-use Rattle.entry_record.specs.Choice.{is_established, is_see_from_form}
+use Rattle.catalogue_rules.specs.Choice.{is_established, is_see_from_form}
 
 -- by a see from tracing, or by the heading
 abbrev pub is_under : Bool → Form → Linkable → Bool

@@ -2,10 +2,10 @@
 use Rattle.std.specs.Prelude.{List, map}
 use Rattle.marc_types.specs.declared.key.Class.{Class}
 use Rattle.entry_record.specs.Authority.{Linkable}
-use Rattle.entry_record.specs.State.{KeptField, KeptRecord}
-use Rattle.entry_record.specs.Choice as choice
-use Rattle.entry_record.specs.Choice.{Choice, Link}
-use Rattle.entry_record.specs.Receipt as definition
+use Rattle.catalogue_rules.specs.State.{KeptField, KeptRecord}
+use Rattle.catalogue_rules.specs.Choice as choice
+use Rattle.catalogue_rules.specs.Choice.{Choice, Link}
+use Rattle.catalogue_rules.specs.Receipt as definition
 use Rattle.catalogue_core.specs.declared.standing.Standing.{Standing}
 use Rattle.catalogue_core.specs.declared.standing.Standing.TheVariants.{Linked, Ambiguous, Unlinked, NoHeading}
 

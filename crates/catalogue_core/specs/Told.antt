@@ -5,8 +5,8 @@ use Rattle.marc_types.specs.declared.key.Key.{Key}
 use Rattle.marc_types.specs.declared.entry.Status.{Status}
 use Rattle.marc_types.specs.declared.entry.Status.TheVariants.{Linked, Ambiguous, Unlinked, NoHeading}
 use Rattle.entry_record.specs.Authority.{Linkable}
-use Rattle.entry_record.specs.State.{KeptField}
-use Rattle.entry_record.specs.Receipt as definition
+use Rattle.catalogue_rules.specs.State.{KeptField}
+use Rattle.catalogue_rules.specs.Receipt as definition
 use Rattle.catalogue_core.specs.declared.standing.Standing.{Standing}
 use Rattle.catalogue_core.specs.declared.standing.Standing.TheVariants as here
 

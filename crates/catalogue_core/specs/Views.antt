@@ -1,21 +1,16 @@
 -- The values of this crate as the definitions of the plain pass see them.
 use Rattle.std.specs.Prelude.{List, map}
 use Rattle.std.specs.Borrow.{Bor}
-use Rattle.marc_types.specs.declared.field.Field.{Field}
 use Rattle.marc_types.specs.declared.key.Class.{Class}
-use Rattle.marc_types.specs.declared.entry.Tie.{Tie}
 use Rattle.entry_record.specs.Authority.{Linkable}
-use Rattle.entry_record.specs.State.{KeptField}
-use Rattle.entry_record.specs.Choice as definition
+use Rattle.catalogue_rules.specs.State.{KeptField}
+use Rattle.catalogue_rules.specs.Choice as definition
 use Rattle.catalogue_core.specs.declared.choice.Chosen.{Chosen}
 use Rattle.catalogue_core.specs.declared.choice.Chosen.TheVariants.{Link, Ambiguous, Unlinked}
 
 -- the authorities behind references
 abbrev pub linkables : List (Bor Linkable) → List Linkable
 linkables found = map (λ c. c.now) found
-
-abbrev pub kept_field : Field → Tie → KeptField
-kept_field field tie = record { field = field; tie = tie }
 
 abbrev pub choice_of : Chosen → definition.Choice
 choice_of (Link authority whole) = definition.Link authority.now whole

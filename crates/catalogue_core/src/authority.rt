@@ -3,7 +3,7 @@ ghost use Rattle.std.specs.Prelude.{◌≡◌, IfOk};
 ghost use Rattle.std.specs.Option.{option_copied};
 ghost use Rattle.entry_record.specs.Authority.{heading_of, is_bare};
 ghost use Rattle.entry_record.specs.Prepared.{authority_of};
-ghost use Rattle.heading_fields.specs.Parts.{tag_of};
+ghost use Rattle.marc_types.specs.Fields.{tag_of};
 
 use entry_record::Prepared;
 use heading_fields::has_subdivision;

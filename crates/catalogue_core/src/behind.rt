@@ -1,11 +1,12 @@
 //! The rows of a catalogue behind a commit. All of them are made anew, so that those before stay until nothing can fail.
 ghost use Rattle.std.specs.Prelude.{◌≡◌, ◌+◌, ◌<◌, ◌^◌, [], All, IfOk, OnOk, cond, not, ◌&&◌};
 ghost use Rattle.std.specs.BTreeMap.{insert_entry};
-ghost use Rattle.marc_types.specs.Order.{key_cmp};
+ghost use Rattle.marc_types.specs.Order.{key_cmp, same_key};
 ghost use Rattle.entry_record.specs.Prepared.{authority_of};
-ghost use Rattle.entry_record.specs.State.{rows_of};
-ghost use Rattle.entry_record.specs.History.{IsAdmitted, arrival_of};
-ghost use Rattle.entry_record.specs.Receipt.{is_committed};
+ghost use Rattle.catalogue_rules.specs.State.{rows_of};
+ghost use Rattle.entry_record.specs.History.{IsAdmitted};
+ghost use Rattle.catalogue_rules.specs.Settle.{arrival_of};
+ghost use Rattle.catalogue_rules.specs.Receipt.{is_committed};
 ghost use Rattle.catalogue_core.specs.Views.{linkables};
 ghost use Rattle.catalogue_core.specs.KeptRecords.{kept_record, record_after, CanStand, HasSize};
 ghost use Rattle.catalogue_core.specs.Behind.{ended_if, ended, linkable_rows, committed, incoming, authorities_behind, CanFollow, HasSizeBehind, AreCounts, IsRowAfter, IsRowsAfter, IsStateAfter};
@@ -15,7 +16,6 @@ ghost use Rattle.catalogue_core.specs.Stands.{standings_of};
 ghost use Rattle.record_store.specs.Store.{kept_rows};
 ghost use Rattle.std.specs.Option.{option_copied};
 ghost use Rattle.std.specs.Map.{remove_entry};
-ghost use Rattle.entry_record.specs.Identity.{same_key};
 
 use crate::authority::{Authority, authority_of};
 use crate::counts::{Counts, count_standings};

@@ -1,10 +1,11 @@
 //! A catalogue: its history, the entries that are staged behind it, and the state behind both.
 ghost use Rattle.std.specs.Prelude.{◌≡◌, ◌+◌, ◌^◌, ◌<◌, ◌≤◌, [], true, false, length, map, All, IfOk, OnOk, IfErr, OnErr, slice_get};
 ghost use Rattle.std.specs.Option.{option_map, option_and_then, option_copied};
-ghost use Rattle.record_store.specs.Store.{field_under, kept_record, shown_row};
-ghost use Rattle.entry_record.specs.State.{linkable_authorities, rows_of};
-ghost use Rattle.entry_record.specs.History.{IsAdmitted, arrival_of, entries_size, state_of};
-ghost use Rattle.entry_record.specs.Receipt.{kept_under, receipt};
+ghost use Rattle.record_store.specs.Store.{field_under, shown_row};
+ghost use Rattle.catalogue_rules.specs.State.{linkable_authorities, rows_of, kept_record};
+ghost use Rattle.entry_record.specs.History.{IsAdmitted, entries_size};
+ghost use Rattle.catalogue_rules.specs.Settle.{arrival_of, state_of};
+ghost use Rattle.catalogue_rules.specs.Receipt.{kept_under, receipt};
 ghost use Rattle.catalogue_core.specs.Engines.{linkable_under, forms_as, forms_in};
 ghost use Rattle.catalogue_core.specs.Told.{told_as, field_told, field_candidates};
 ghost use Rattle.catalogue_core.specs.Catalogues.{all_entries, empty_catalogue, is_full, IsDue, with_staged, with_kept, without_staged, with_entry};

@@ -1,12 +1,12 @@
 //! What an unlinked heading field is linked to, by scans of all authorities.
 ghost use Rattle.std.specs.Prelude.{◌≡◌, ◌&&◌, ◌||◌, not, IfOk, find, filter, option_map, true};
 ghost use Rattle.std.specs.Option.{option_copied};
-ghost use Rattle.heading_fields.specs.Parts.{subfields_of};
+ghost use Rattle.marc_types.specs.Fields.{subfields_of};
 ghost use Rattle.heading_fields.specs.Numbers.{is_naming};
 ghost use Rattle.entry_record.specs.Authority.{base_form, full_form};
-ghost use Rattle.entry_record.specs.State.{new_field};
-ghost use Rattle.entry_record.specs.Choice.{has_key, can_take, is_taken_whole, by_awaited, by_first_name, by_number, choice_among, is_see_from_form, by_form, keys_of_linkable, asks_base, by_full_form, by_base_form, choice};
-ghost use Rattle.catalogue_core.specs.Views.{linkables, kept_field, choice_of, link_by_number};
+ghost use Rattle.catalogue_rules.specs.State.{new_field, kept_field};
+ghost use Rattle.catalogue_rules.specs.Choice.{has_key, can_take, is_taken_whole, by_awaited, by_first_name, by_number, choice_among, is_see_from_form, by_form, keys_of_linkable, asks_base, by_full_form, by_base_form, choice};
+ghost use Rattle.catalogue_core.specs.Views.{linkables, choice_of, link_by_number};
 ghost use Rattle.catalogue_core.specs.Sought.{is_sought, sought_among};
 
 use crate::authority::{Authority, is_bare, tag};
@@ -141,7 +141,7 @@ fn by_first_name<'a>(
     None
 }
 
-#[tactic(auto, unfolding(entry_record::specs::Choice::by_number))]
+#[tactic(auto, unfolding(catalogue_rules::specs::Choice::by_number))]
 fn by_number<'a>(
     authorities: &[&'a Authority],
     class: Class,
@@ -301,7 +301,7 @@ fn by_base_form<'a>(
 
 /// The choice of an unlinked heading field, over all authorities: by a number, else by its full form, else by its base form,
 /// which is given.
-#[tactic(auto, unfolding(entry_record::specs::Choice::choice))]
+#[tactic(auto, unfolding(catalogue_rules::specs::Choice::choice))]
 pub(crate) fn choose<'a>(
     alloc: Global,
     authorities: &[&'a Authority],

@@ -2,7 +2,7 @@
 ghost use Rattle.std.specs.Prelude.{◌≡◌, ◌+◌, ◌<◌, ◌≤◌, List, length, cond};
 ghost use Rattle.marc_types.specs.declared.key.Class.{Class};
 ghost use Rattle.entry_record.specs.Authority.{Linkable};
-ghost use Rattle.entry_record.specs.State.{KeptRecord};
+ghost use Rattle.catalogue_rules.specs.State.{KeptRecord};
 ghost use Rattle.catalogue_core.specs.Stands.{standings_of};
 ghost use Rattle.catalogue_core.specs.Counted.{is_linked_here, is_ambiguous_here, is_unlinked_here, IsCountOf, HasRoom};
 

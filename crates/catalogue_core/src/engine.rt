@@ -1,12 +1,11 @@
 //! A catalogue's state, without its history.
 ghost use Rattle.std.specs.Prelude.{◌≡◌, ℕ, ◌+◌, ◌<◌, ◌^◌, length, IfOk, OnOk, OnErr, slice_get};
 ghost use Rattle.std.specs.Option.{option_map, option_and_then, option_copied};
-ghost use Rattle.record_store.specs.Store.{field_at, field_under, kept_record, shown_row};
-ghost use Rattle.entry_record.specs.State.{empty_state, rows_of, linkable_authorities};
-ghost use Rattle.entry_record.specs.Settle.{step};
-ghost use Rattle.entry_record.specs.History.{arrival_of};
-ghost use Rattle.entry_record.specs.Receipt.{kept_under, receipt_of};
-ghost use Rattle.entry_record.specs.Valid.{IsValid};
+ghost use Rattle.record_store.specs.Store.{field_at, field_under, shown_row};
+ghost use Rattle.catalogue_rules.specs.State.{empty_state, rows_of, linkable_authorities, kept_record};
+ghost use Rattle.catalogue_rules.specs.Settle.{step, arrival_of};
+ghost use Rattle.catalogue_rules.specs.Receipt.{kept_under, receipt_of};
+ghost use Rattle.catalogue_rules.specs.Valid.{IsValid};
 ghost use Rattle.catalogue_core.specs.Behind.{standings_rows};
 ghost use Rattle.catalogue_core.specs.Engines.{AreNumbersOf, linkable_under, forms_as, forms_in};
 ghost use Rattle.catalogue_core.specs.Stands.{field_standing};
@@ -44,7 +43,7 @@ pub struct Engine {
 }
 
 impl Model for Engine {
-    ghost use Rattle.entry_record.specs.State.{State};
+    ghost use Rattle.catalogue_rules.specs.State.{State};
     ghost use Rattle.catalogue_core.specs.Engines.{IsEngine};
 
     ghost Value = { State };

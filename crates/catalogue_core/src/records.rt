@@ -1,11 +1,11 @@
 //! What a commit does to one record: a record is made anew only where a field or a tie differs.
 ghost use Rattle.std.specs.Prelude.{◌≡◌, ◌<◌, List, map, [], ◌∷◌, ◌++◌, length, IfOk, OnOk, IsTrue, None, All, option_map};
 ghost use Rattle.marc_types.specs.Valid.{is_record};
-ghost use Rattle.entry_record.specs.State.{KeptField, new_tie, new_record};
-ghost use Rattle.catalogue_core.specs.Views.{linkables, kept_field};
+ghost use Rattle.catalogue_rules.specs.State.{KeptField, new_tie, new_record, kept_field, tied};
+ghost use Rattle.catalogue_core.specs.Views.{linkables};
 ghost use Rattle.catalogue_core.specs.Stands.{field_standing, standings_of};
 ghost use Rattle.catalogue_core.specs.Changes.{held_as, change, field_after};
-ghost use Rattle.catalogue_core.specs.KeptRecords.{tied, kept_record, record_after, new_record_after, IsRecordAfter, CanStand, HasSize};
+ghost use Rattle.catalogue_core.specs.KeptRecords.{kept_record, record_after, new_record_after, IsRecordAfter, CanStand, HasSize};
 ghost use Rattle.catalogue_core.specs.Drafts.{IsDraft, IsDraftOf, IsBegunAt, GoesOn, IsAdded};
 
 use crate::authority::Authority;

@@ -1,14 +1,14 @@
 //! What a commit does to one field: a link that can't stay is ended, and then the field is settled.
 ghost use Rattle.std.specs.Prelude.{◌≡◌, IfOk, None, false, find, option_map};
 ghost use Rattle.std.specs.Option.{option_copied, option_map_or};
-ghost use Rattle.entry_record.specs.Identity.{same_key};
+ghost use Rattle.marc_types.specs.Order.{same_key};
 ghost use Rattle.entry_record.specs.Prepared.{heading_base_form};
-ghost use Rattle.entry_record.specs.State.{new_field};
-ghost use Rattle.entry_record.specs.Choice.{has_key};
-ghost use Rattle.entry_record.specs.Sameness.{same_field, same_tie};
-ghost use Rattle.entry_record.specs.Settle.{keeps_link, end_link, await, hand_on, loosen, link_to, take_choice, settle_linked, settle_unlinked, settle_field};
+ghost use Rattle.catalogue_rules.specs.State.{new_field, kept_field};
+ghost use Rattle.catalogue_rules.specs.Choice.{has_key};
+ghost use Rattle.catalogue_rules.specs.Sameness.{same_field, same_tie};
+ghost use Rattle.catalogue_rules.specs.Settle.{keeps_link, end_link, await, hand_on, loosen, link_to, take_choice, settle_linked, settle_unlinked, settle_field};
 ghost use Rattle.catalogue_core.specs.Stands.{standing_chosen};
-ghost use Rattle.catalogue_core.specs.Views.{linkables, kept_field, choice_of};
+ghost use Rattle.catalogue_core.specs.Views.{linkables, choice_of};
 ghost use Rattle.catalogue_core.specs.Changes.{held_as, change, field_after, IsFieldAfter};
 
 use crate::authority::{Authority, is_bare};
@@ -40,14 +40,14 @@ pub(crate) struct FieldAfter {
     pub(crate) standing: Standing,
 }
 
-#[tactic(auto, unfolding(entry_record::specs::Sameness::same_field))]
+#[tactic(auto, unfolding(catalogue_rules::specs::Sameness::same_field))]
 fn is_same_field(one: &Field, other: &Field) -> bool
     ensures { result ≡ same_field one.now other.now }
 {
     *one == *other
 }
 
-#[tactic(auto, unfolding(entry_record::specs::Sameness::same_tie))]
+#[tactic(auto, unfolding(catalogue_rules::specs::Sameness::same_tie))]
 fn is_same_tie(one: &Tie, other: &Tie) -> bool
     ensures { result ≡ same_tie one.now other.now }
 {
@@ -165,7 +165,7 @@ fn hand_on(
 }
 
 /// What the commit of an authority makes of a field: a link that can't stay is ended. None where it stays as it is.
-#[tactic(auto, unfolding(entry_record::specs::Settle::loosen), using(crate::proofs::Sames::no_change))]
+#[tactic(auto, unfolding(catalogue_rules::specs::Settle::loosen), using(crate::proofs::Sames::no_change))]
 pub(crate) fn loosen_field(
     alloc: Global,
     authorities: &[&Authority],

@@ -6,8 +6,8 @@ use Rattle.marc_types.specs.declared.entry.Entry.{Entry}
 use Rattle.marc_types.specs.declared.entry.Limits.{Limits}
 use Rattle.std.specs.List.{All}
 use Rattle.std.proofs.lemmas.List.Elements.{All-nil, All-cons, All-head, All-tail}
-use Rattle.entry_record.specs.History.{entry_size, entries_size, in_run, with_run}
-use Rattle.entry_history.specs.Commits.{passes_limits, fitting}
+use Rattle.entry_record.specs.History.{entry_size, entries_size, in_run, with_run, passes_limits}
+use Rattle.entry_history.specs.Commits.{fitting}
 
 -- so many items fit, and the rest is to be seen
 pub record IsFitting (limits : Limits) (before items : List Entry) (count entries bytes : ℕ) : Type 0 where

@@ -7,12 +7,12 @@ use Rattle.std.proofs.lemmas.Bool.Decides.{nat_tests}
 use Rattle.marc_types.specs.declared.entry.Entry.{Entry}
 use Rattle.marc_types.specs.declared.entry.Limits.{Limits}
 use Rattle.commit_journal.specs.declared.frame.Frame.{Frame}
-use Rattle.entry_record.specs.History.{entry_size, entries_size}
+use Rattle.entry_record.specs.History.{entry_size, entries_size, IsWithin}
 use Rattle.catalogue_core.specs.Catalogues.{Catalogued, is_full, with_entry}
 use Rattle.entry_history.specs.Payloads.{Holds, IsHistory, NoMore}
 use Rattle.entry_history.specs.Readers.{Taken, Takes}
 use Rattle.durable_catalogue.specs.Logs.{payloads_of}
-use Rattle.durable_catalogue.specs.Openings.{IsBadFrame, IsWithin, catalogue_of}
+use Rattle.durable_catalogue.specs.Openings.{IsBadFrame, catalogue_of}
 use Rattle.durable_catalogue.proofs.Histories.{one_behind}
 
 -- so many frames are read

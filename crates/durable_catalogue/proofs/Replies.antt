@@ -7,7 +7,7 @@ use Rattle.marc_types.specs.declared.entry.Receipt.{Receipt}
 use Rattle.marc_types.specs.declared.entry.CommitFault.{CommitFault}
 use Rattle.marc_types.specs.declared.entry.CommitFault.TheVariants.{Full, NoMemory, DeviceFault, Broken}
 use Rattle.entry_record.specs.History.{with_run}
-use Rattle.entry_record.specs.Receipts.{receipts_behind}
+use Rattle.catalogue_rules.specs.Receipts.{receipts_behind}
 use Rattle.entry_history.specs.Commits.{fitting, Origin, frame_of, CommitsFrame, IsEnd, IsCommit}
 use Rattle.entry_history.specs.Events.{entries_of, is_broken, committed}
 use Rattle.entry_history.specs.declared.event.Event.{Event}

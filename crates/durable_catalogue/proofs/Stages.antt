@@ -3,7 +3,7 @@ use Rattle.std.proofs.Common.{◌≡◌, List, [], ◌∷◌, ◌++◌, refl, sy
 use Rattle.std.proofs.lemmas.List.{append-nil}
 use Rattle.marc_types.specs.declared.entry.Entry.{Entry}
 use Rattle.marc_types.specs.declared.entry.Receipt.{Receipt}
-use Rattle.entry_record.specs.Receipts.{receipt_behind, receipts_behind}
+use Rattle.catalogue_rules.specs.Receipts.{receipt_behind, receipts_behind}
 use Rattle.catalogue_core.specs.Catalogues.{Catalogued, all_entries, with_staged}
 use Rattle.durable_catalogue.specs.Staged.{with_all_staged}
 

@@ -1,9 +1,8 @@
 -- A catalogue with nothing staged is within its limits.
 use Rattle.std.proofs.Common.{◌≡◌, ◌≤◌, [], ◌++◌, length, ap, subst, ◌∙◌, append-nil}
 use Rattle.marc_types.specs.declared.entry.Limits.{Limits}
-use Rattle.entry_record.specs.History.{entries_size}
+use Rattle.entry_record.specs.History.{entries_size, IsWithin}
 use Rattle.catalogue_core.specs.Catalogues.{Catalogued, all_entries}
-use Rattle.durable_catalogue.specs.Openings.{IsWithin}
 
 all_kept : (core : Catalogued) → core.staged ≡ [] → all_entries core ≡ core.history
 all_kept core none = ap (λ staged. core.history ++ staged) none ∙ append-nil core.history

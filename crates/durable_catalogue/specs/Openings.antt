@@ -6,7 +6,7 @@ use Rattle.outside.specs.Disk.{DiskView}
 use Rattle.commit_journal.specs.declared.frame.Frame.{Frame}
 use Rattle.commit_journal.specs.declared.format.TheConstants.{BLANK_LENGTH}
 use Rattle.commit_journal.specs.Log.{frames_of, version_of}
-use Rattle.entry_record.specs.History.{entries_size}
+use Rattle.entry_record.specs.History.{IsWithin}
 use Rattle.entry_history.specs.Payloads.{Holds, IsHistory}
 use Rattle.catalogue_core.specs.Catalogues.{Catalogued}
 use Rattle.durable_catalogue.specs.declared.fault.OpenFault.{OpenFault}
@@ -23,11 +23,6 @@ pub record IsBadFrame (version : ℕ) (frames : List Frame) (place : ℕ) : Type
   pub history : IsHistory version [] (payloads_of front) entries
   pub invalid : (more : List Entry) → Holds version entries more bad.payload → ⊥
   pub at : bad.gate ≡ place
-
--- not more entries than the limits, and not more bytes
-pub record IsWithin (limits : Limits) (entries : List Entry) : Type 0 where
-  pub count : length entries ≤ limits.entries
-  pub size : entries_size entries ≤ limits.bytes
 
 -- why frames of a version are not loaded: a payload isn't valid, the version is another, or their history passes the limits
 abbrev pub IsUnloaded : ℕ → List Frame → Limits → OpenFault → Type 0

@@ -4,8 +4,8 @@ use Rattle.std.specs.Option.{option_map}
 use Rattle.marc_types.specs.declared.key.Place.{Place}
 use Rattle.marc_types.specs.declared.copying.NoMemory.{NoMemory}
 use Rattle.record_store.specs.Store.{field_under}
-use Rattle.entry_record.specs.State.{State, linkable_authorities}
-use Rattle.entry_record.specs.History.{state_of}
+use Rattle.catalogue_rules.specs.State.{State, linkable_authorities}
+use Rattle.catalogue_rules.specs.Settle.{state_of}
 use Rattle.catalogue_core.specs.Told.{Told, ToldLinked, ToldAmbiguous, ToldUnlinked, ToldNoHeading, field_told}
 use Rattle.entry_history.specs.Events.{entries_of}
 use Rattle.entry_history.specs.declared.event.Event.{Event}

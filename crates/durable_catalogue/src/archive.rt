@@ -4,7 +4,8 @@ ghost use Rattle.outside.specs.Fault.{Rose};
 ghost use Rattle.commit_journal.specs.Log.{version_of};
 ghost use Rattle.durable_catalogue.specs.declared.fault.OpenFault.TheVariants.{DeviceFault, OldVersion};
 ghost use Rattle.durable_catalogue.specs.Logs.{HasHistory};
-ghost use Rattle.durable_catalogue.specs.Openings.{IsWithin, IsUnopened, IsOpening, KeepsContent};
+ghost use Rattle.durable_catalogue.specs.Openings.{IsUnopened, IsOpening, KeepsContent};
+ghost use Rattle.entry_record.specs.History.{IsWithin};
 
 use crate::OpenFault;
 use crate::fault::open_fault;

@@ -5,14 +5,14 @@ ghost use Rattle.marc_types.specs.declared.entry.CommitFault.TheVariants.{Device
 ghost use Rattle.outside.specs.Disk.{LeavesOnly};
 ghost use Rattle.outside.specs.Fault.{Rose};
 ghost use Rattle.commit_journal.specs.Log.{version_of};
-ghost use Rattle.entry_record.specs.History.{with_run, next_run};
-ghost use Rattle.entry_record.specs.Receipts.{receipts_behind};
+ghost use Rattle.entry_record.specs.History.{with_run, next_run, IsWithin};
+ghost use Rattle.catalogue_rules.specs.Receipts.{receipts_behind};
 ghost use Rattle.entry_history.specs.Commits.{fitting, frame_of, IsCommit};
 ghost use Rattle.entry_history.specs.Payloads.{CanFollow};
 ghost use Rattle.entry_history.specs.declared.event.Event.{Event};
 ghost use Rattle.durable_catalogue.specs.Logs.{HasHistory};
 ghost use Rattle.durable_catalogue.specs.declared.fault.OpenFault.{OpenFault};
-ghost use Rattle.durable_catalogue.specs.Openings.{IsWithin, IsUnopened, IsOpening, KeepsContent};
+ghost use Rattle.durable_catalogue.specs.Openings.{IsUnopened, IsOpening, KeepsContent};
 ghost use Rattle.durable_catalogue.specs.Images.{HasFrameOrNot};
 ghost use Rattle.durable_catalogue.specs.Durables.{mark_of, marked, events, is_taken, opening, IsKept, IsLeft, IsLostBy, IsSameOpening};
 

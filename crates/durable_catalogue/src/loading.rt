@@ -1,12 +1,12 @@
 //! The catalogue that a journal's frames hold.
 ghost use Rattle.std.specs.Prelude.{◌≡◌, ◌≢◌, ◌≤◌, ◌<◌, ◌^◌, [], length, IfOk, IfErr, OnOk};
-ghost use Rattle.entry_record.specs.History.{last_run, next_run};
+ghost use Rattle.entry_record.specs.History.{last_run, next_run, IsWithin};
 ghost use Rattle.entry_history.specs.Payloads.{IsHistory};
 ghost use Rattle.entry_history.specs.Readers.{IsVersion};
 ghost use Rattle.durable_catalogue.specs.declared.fault.OpenFault.TheVariants.{DeviceFault, OldVersion, Full};
 ghost use Rattle.catalogue_core.specs.Catalogues.{Catalogued};
 ghost use Rattle.durable_catalogue.specs.Logs.{payloads_of};
-ghost use Rattle.durable_catalogue.specs.Openings.{IsUnloaded, IsUnread, IsUnbuilt, IsWithin, catalogue_of};
+ghost use Rattle.durable_catalogue.specs.Openings.{IsUnloaded, IsUnread, IsUnbuilt, catalogue_of};
 
 use crate::OpenFault;
 use catalogue_core::{Catalogue, CoreFault};

@@ -1,6 +1,6 @@
 //! How a field stands, as an answer that outlasts the catalogue's next change.
 ghost use Rattle.std.specs.Prelude.{◌≡◌, IfOk};
-ghost use Rattle.entry_record.specs.History.{state_of};
+ghost use Rattle.catalogue_rules.specs.Settle.{state_of};
 ghost use Rattle.catalogue_core.specs.Catalogues.{all_entries};
 ghost use Rattle.durable_catalogue.specs.Questions.{IsSeenIn};
 

@@ -1,6 +1,6 @@
 //! Entries that are put behind a history together, or not at all.
 ghost use Rattle.std.specs.Prelude.{◌≡◌, ◌≤◌, ◌<◌, [], length, IfOk, OnOk, OnErr};
-ghost use Rattle.entry_record.specs.Receipts.{receipts_behind};
+ghost use Rattle.catalogue_rules.specs.Receipts.{receipts_behind};
 ghost use Rattle.durable_catalogue.specs.Staged.{with_all_staged};
 
 use catalogue_core::Catalogue;

@@ -4,7 +4,7 @@ use Rattle.std.specs.Int.{w32, w64, to_be_bytes}
 use Rattle.std.specs.List.{All, AllPairs, flat_map}
 use Rattle.std.proofs.Math.Seq.{drop-append-add, take-append-add, take-append_seam, set-append_seam}
 use Rattle.std.proofs.lemmas.Grind.{common_steps, flat_map-append}
-use Rattle.std.proofs.lemmas.List.{get_or-take, get_or-map, length-map, take-append-drop}
+use Rattle.std.proofs.lemmas.List.{get_or-take, get_or-map, length-map, take-append-drop, append-nil}
 use Rattle.std.proofs.lemmas.List.Elements.{All-push, All-take, All-map}
 use Rattle.std.proofs.lemmas.List.Quantifiers.{all_pairs_push}
 use Rattle.marc_types.specs.declared.entry.Entry.{Entry}
@@ -49,20 +49,16 @@ length-entry e =
 drop_front : (before rest : List ℕ) (b n : ℕ) → n ≡ length before + 1 → drop n (before ++ (b ∷ rest)) ≡ rest
 drop_front before rest b n is = rw is (drop-append-add before (b ∷ rest) 1)
 
-append_nil : (xs : List ℕ) → xs ++ [] ≡ xs
-append_nil [] = refl
-append_nil (x ∷ xs) = ap (λ ys. x ∷ ys) (append_nil xs)
-
 -- the entry in the payload of one
 pub entry_alone : (e : Entry) (n : ℕ) → n ≡ 13 + length e.library + 1 → drop n (payload_of e) ≡ entry_bytes e
 entry_alone e n is =
     rw (payload-front e.run e.loader e.library (e ∷ []))
     (drop_front (front e.run e.loader e.library) (entry_bytes e ++ []) 1 n (omega (arith, length-front e.run e.loader e.library))
-    ∙ append_nil (entry_bytes e))
+    ∙ append-nil (entry_bytes e))
 
 pub length-alone : (e : Entry) → length (payload_of e) ≡ 14 + length e.library + length (entry_bytes e)
 length-alone e =
-    rw (payload-front e.run e.loader e.library (e ∷ []), append_nil (entry_bytes e))
+    rw (payload-front e.run e.loader e.library (e ∷ []), append-nil (entry_bytes e))
     (omega (arith, length-append (front e.run e.loader e.library) (1 ∷ entry_bytes e), length-front e.run e.loader e.library))
 
 -- a slice from a place to the end
@@ -77,7 +73,7 @@ grown : (before rest part : List ℕ) (n m place : ℕ) → place ≡ length bef
 grown before rest part n m place is = rw (is, append_assoc before (n ∷ rest) part) (set-append_seam before n (rest ++ part) m)
 
 more_entries : (entries : List Entry) (e : Entry) → flat_map entry_bytes (entries ++ e ∷ []) ≡ flat_map entry_bytes entries ++ entry_bytes e
-more_entries entries e = flat_map-append entry_bytes entries (e ∷ []) ∙ ap (λ part. flat_map entry_bytes entries ++ part) (append_nil (entry_bytes e))
+more_entries entries e = flat_map-append entry_bytes entries (e ∷ []) ∙ ap (λ part. flat_map entry_bytes entries ++ part) (append-nil (entry_bytes e))
 
 pushed_payload : (entries : List Entry) (e : Entry) (place n : ℕ) → All (λ x. IsLike x e) entries → place ≡ 13 + length e.library
     → n ≡ length (entries ++ e ∷ []) → set (batch_payload entries ++ part_behind entries e) place n ≡ batch_payload (entries ++ e ∷ [])

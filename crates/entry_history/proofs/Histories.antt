@@ -2,6 +2,7 @@
 use Rattle.std.proofs.Common.{◌≡◌, ◌≢◌, ◌∙◌, ℕ, suc, List, [], ◌∷◌, ◌++◌, length, refl, sym, ap, subst, arith, append_assoc}
 use Rattle.std.specs.Int.{w32, w64, to_be_bytes}
 use Rattle.std.specs.List.{All, flat_map}
+use Rattle.std.proofs.lemmas.List.{append-nil}
 use Rattle.marc_types.specs.declared.entry.Entry.{Entry}
 use Rattle.iso2709_record.specs.Written.{record_length, record_bytes}
 use Rattle.iso2709_record.proofs.Spelled.{parts_same}
@@ -88,10 +89,6 @@ history_once version _ _ _ _ (NoMore entries) (NoMore also) = refl
 history_once version _ _ _ _ (OneMore before es all payload payloads holds more) (OneMore _ fs others _ _ also rest) =
     let same : es ≡ fs = holds_once version before es fs payload holds also in
     history_once version (before ++ es) all others payloads more (history_as version (before ++ fs) (before ++ es) payloads others (ap (λ xs. before ++ xs) (sym same)) rest)
-
-append_nil : (xs : List Entry) → xs ++ [] ≡ xs
-append_nil [] = refl
-append_nil (x ∷ xs) = ap (λ ys. x ∷ ys) (append_nil xs)
 
 pub history_more : (version : ℕ) (before all entries : List Entry) (payloads : List (List ℕ)) (payload : List ℕ) → IsHistory version before payloads all
     → Holds version all entries payload → IsHistory version before (payloads ++ payload ∷ []) (all ++ entries)

@@ -6,6 +6,7 @@ use Rattle.std.proofs.lemmas.List.Elements.{All-push}
 use Rattle.std.proofs.lemmas.Bool.{both_ways}
 use Rattle.std.specs.Int.{w32, w64, to_be_bytes}
 use Rattle.std.specs.List.{flat_map}
+use Rattle.std.proofs.lemmas.List.{append-nil}
 use Rattle.marc_types.specs.Valid.{is_code}
 use Rattle.marc_types.specs.declared.key.Key.{Key}
 use Rattle.marc_types.specs.declared.entry.Entry.{Entry}
@@ -29,10 +30,6 @@ cons_first a b x y e = cc
 
 cons_others : {X : Type 0} (a b : X) (x y : List X) → a ∷ x ≡ b ∷ y → x ≡ y
 cons_others a b x y e = cc
-
-append_nil : (xs : List ℕ) → xs ++ [] ≡ xs
-append_nil [] = refl
-append_nil (x ∷ xs) = ap (λ ys. x ∷ ys) (append_nil xs)
 
 -- what an entry at the front of bytes says of their parts
 old_long : (e : Entry) (rest : List ℕ) → 12 ≤ length (old_entry_bytes e ++ rest)
@@ -167,7 +164,7 @@ pub one_more_old : (count : ℕ) (bytes : List ℕ) (done : ℕ) (entries : List
     → done < count → BeginOld rest e behind → AreOldSoFar count bytes (done + 1) (entries ++ e ∷ []) behind
 one_more_old count bytes done entries rest behind e so_far more begin = record {
   written =
-      ap (λ xs. xs ++ behind) (flat_map-append old_entry_bytes entries (e ∷ []) ∙ ap (λ xs. flat_map old_entry_bytes entries ++ xs) (append_nil (old_entry_bytes e)))
+      ap (λ xs. xs ++ behind) (flat_map-append old_entry_bytes entries (e ∷ []) ∙ ap (λ xs. flat_map old_entry_bytes entries ++ xs) (append-nil (old_entry_bytes e)))
       ∙ append_assoc (flat_map old_entry_bytes entries) (old_entry_bytes e) behind
       ∙ ap (λ xs. flat_map old_entry_bytes entries ++ xs) begin.written
       ∙ so_far.written;

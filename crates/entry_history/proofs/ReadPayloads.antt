@@ -3,7 +3,7 @@ use Rattle.std.proofs.Common.{◌≡◌, ◌≢◌, ◌∙◌, ℕ, suc, ◌+◌
 use Rattle.std.proofs.Math.Seq.{drop-cons, drop-length}
 use Rattle.std.proofs.lemmas.Grind.{flat_map-append}
 use Rattle.std.proofs.lemmas.List.Elements.{All-push}
-use Rattle.std.proofs.lemmas.List.{take-append-drop}
+use Rattle.std.proofs.lemmas.List.{take-append-drop, append-nil}
 use Rattle.std.proofs.lemmas.Bool.{both_ways, and_parts}
 use Rattle.std.proofs.lemmas.Option.{get_or_from_slice_get}
 use Rattle.std.specs.Option.{option_map_or}
@@ -20,10 +20,6 @@ use Rattle.entry_history.specs.Reading.{BeginWith, IsNoEntry, AreEntries, AreNoE
 use Rattle.entry_history.specs.declared.fault.EntryFault.{EntryFault}
 use Rattle.entry_history.specs.declared.fault.EntryFault.TheVariants.{BadEntry, NoMemory}
 use Rattle.entry_history.proofs.Spelled.{long_once, short_once, entry_once}
-
-append_nil : (xs : List ℕ) → xs ++ [] ≡ xs
-append_nil [] = refl
-append_nil (x ∷ xs) = ap (λ ys. x ∷ ys) (append_nil xs)
 
 -- the next entry of all that the bytes can be
 next_begins : (run loader : ℕ) (library : List ℕ) (count : ℕ) (bytes : List ℕ) (done : ℕ) (entries : List Entry) (rest : List ℕ) (all : List Entry) (d : Entry)
@@ -42,7 +38,7 @@ pub one_more : (run loader : ℕ) (library : List ℕ) (count : ℕ) (bytes : Li
     → AreReadSoFar run loader library count bytes (done + 1) (entries ++ e ∷ []) behind
 one_more run loader library count bytes done entries rest behind e so_far more begin = record {
   written =
-      ap (λ xs. xs ++ behind) (flat_map-append entry_bytes entries (e ∷ []) ∙ ap (λ xs. flat_map entry_bytes entries ++ xs) (append_nil (entry_bytes e)))
+      ap (λ xs. xs ++ behind) (flat_map-append entry_bytes entries (e ∷ []) ∙ ap (λ xs. flat_map entry_bytes entries ++ xs) (append-nil (entry_bytes e)))
       ∙ append_assoc (flat_map entry_bytes entries) (entry_bytes e) behind
       ∙ ap (λ xs. flat_map entry_bytes entries ++ xs) begin.written
       ∙ so_far.written;
@@ -78,7 +74,7 @@ begin_so run loader library count bytes = record {
 pub all_read : (run loader : ℕ) (library : List ℕ) (count : ℕ) (bytes : List ℕ) (done : ℕ) (entries : List Entry) (rest : List ℕ)
     → AreReadSoFar run loader library count bytes done entries rest → done ≡ count → rest ≡ [] → AreEntries run loader library count bytes entries
 all_read run loader library count bytes done entries rest so_far end empty = record {
-  written = sym (append_nil (flat_map entry_bytes entries)) ∙ ap (λ xs. flat_map entry_bytes entries ++ xs) (sym empty) ∙ so_far.written;
+  written = sym (append-nil (flat_map entry_bytes entries)) ∙ ap (λ xs. flat_map entry_bytes entries ++ xs) (sym empty) ∙ so_far.written;
   count_is = so_far.count_is ∙ end;
   shared = so_far.shared;
   entries_are = so_far.entries_are;

@@ -5,17 +5,12 @@ use Rattle.marc_types.specs.declared.entry.Limits.{Limits}
 use Rattle.marc_types.specs.declared.entry.Receipt.{Receipt}
 use Rattle.marc_types.specs.declared.entry.CommitFault.{CommitFault}
 use Rattle.marc_types.specs.declared.entry.CommitFault.TheVariants.{Full, NoMemory, DeviceFault, Broken}
-use Rattle.entry_record.specs.History.{entry_size, entries_size, with_run}
-use Rattle.entry_record.specs.Receipts.{receipts_behind}
+use Rattle.entry_record.specs.History.{passes_limits, with_run}
+use Rattle.catalogue_rules.specs.Receipts.{receipts_behind}
 use Rattle.entry_history.specs.Events.{entries_of, is_broken, committed}
 use Rattle.entry_history.specs.declared.event.Event.{Event}
 use Rattle.entry_history.specs.declared.event.Event.TheVariants.{Broke}
 use Rattle.entry_history.specs.declared.reply.BatchReply.{BatchReply}
-
--- with one more entry behind these there are too many, or they have too many bytes
-abbrev pub passes_limits : Limits → List Entry → Entry → Bool
-passes_limits limits entries e =
-    nat_lt limits.entries (length entries + 1) || nat_lt limits.bytes (entries_size entries + entry_size e)
 
 -- those of some entries that come before the first that passes a limit
 unfoldable pub fitting : Limits → List Entry → List Entry → List Entry

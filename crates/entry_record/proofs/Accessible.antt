@@ -11,7 +11,7 @@ use Rattle.marc_types.specs.declared.key.Key.{Key}
 use Rattle.marc_types.specs.declared.form.Kind.{Kind}
 use Rattle.marc_types.specs.declared.form.Form.{Form}
 use Rattle.heading_fields.specs.Tables.{authority_kind_of}
-use Rattle.heading_fields.specs.Parts.{tag_of}
+use Rattle.marc_types.specs.Fields.{tag_of}
 use Rattle.naco_form.specs.Form.{form_of}
 use Rattle.entry_record.specs.Authority.{Linkable, heading_of, full_form, has_form, option_filter, is_short_in_full, linkable_kind, linkable_with, linkable_by, linkable_of, is_see_from, is_kind, same_kind, is_tracing_of, see_from_forms}
 use Rattle.entry_record.specs.Headings.{filled_full_form, established_form, is_tracing_tag}

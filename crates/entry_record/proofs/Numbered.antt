@@ -7,7 +7,7 @@ use Rattle.std.proofs.lemmas.Grind.{flat_map-append}
 use Rattle.std.proofs.lemmas.Bool.Decides.{nat_tests}
 use Rattle.marc_types.specs.declared.field.Subfield.{Subfield}
 use Rattle.marc_types.specs.declared.field.Field.{Field}
-use Rattle.heading_fields.specs.Parts.{subfields_of}
+use Rattle.marc_types.specs.Fields.{subfields_of}
 use Rattle.entry_record.specs.Authority.{is_replacement, replacement_numbers}
 
 abbrev is_number : Subfield → Bool

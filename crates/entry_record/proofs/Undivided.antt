@@ -13,7 +13,8 @@ use Rattle.marc_types.specs.declared.key.Class.TheVariants.{Authority}
 use Rattle.marc_types.specs.declared.form.Kind.{Kind}
 use Rattle.marc_types.specs.declared.form.Form.{Form}
 use Rattle.heading_fields.specs.Tables.{is_subdividable}
-use Rattle.heading_fields.specs.Parts.{tag_of, subfields_of, before, is_dividing, is_subdivided, is_part, part, base_part, full_part}
+use Rattle.heading_fields.specs.Parts.{before, is_dividing, is_subdivided, is_part, part, base_part, full_part}
+use Rattle.marc_types.specs.Fields.{tag_of, subfields_of}
 use Rattle.heading_fields.proofs.Codes.{undivided_part}
 use Rattle.heading_fields.proofs.Slices.{size_region}
 use Rattle.naco_form.specs.Form.{form_of}

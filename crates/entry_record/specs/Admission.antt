@@ -10,7 +10,8 @@ use Rattle.marc_types.specs.declared.key.Class.{Class}
 use Rattle.marc_types.specs.declared.refusal.Refusal.{Refusal}
 use Rattle.marc_types.specs.declared.refusal.Refusal.TheVariants.{OtherType, NoNumber, BadCode, NoHeading, HeadingTooLong, NoRoom}
 use Rattle.heading_fields.specs.Tables.{authority_kind_of}
-use Rattle.heading_fields.specs.Parts.{tag_of, base_part}
+use Rattle.heading_fields.specs.Parts.{base_part}
+use Rattle.marc_types.specs.Fields.{tag_of}
 use Rattle.iso2709_record.specs.Written.{record_length, field_length}
 use Rattle.entry_record.specs.Identity.{class_of, is_known_type, is_deletion, control_number_of, code_of}
 use Rattle.entry_record.specs.Authority.{longest_heading, is_see_from, heading_of, is_heading_field}

@@ -14,12 +14,13 @@ use Rattle.marc_types.specs.declared.key.Key.{Key}
 use Rattle.marc_types.specs.declared.form.Kind.{Kind}
 use Rattle.marc_types.specs.declared.form.Item.{Item}
 use Rattle.marc_types.specs.declared.form.Form.{Form}
-use Rattle.marc_types.specs.Order.{kind_rank}
+use Rattle.marc_types.specs.Order.{kind_rank, same_key}
 use Rattle.heading_fields.specs.Tables.{authority_kind_of, kind_of}
-use Rattle.heading_fields.specs.Parts.{tag_of, subfields_of, base_part, full_part, is_subdivided}
+use Rattle.heading_fields.specs.Parts.{base_part, full_part, is_subdivided}
+use Rattle.marc_types.specs.Fields.{tag_of, subfields_of}
 use Rattle.heading_fields.specs.Numbers.{without_blanks}
 use Rattle.naco_form.specs.Form.{form_of}
-use Rattle.entry_record.specs.Identity.{has_tag, same_key}
+use Rattle.entry_record.specs.Identity.{has_tag}
 
 -- the longest heading: of the base part where a record is admitted, of the full part where an authority is linked to
 abbrev pub longest_heading : ℕ

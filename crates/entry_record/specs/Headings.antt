@@ -7,7 +7,8 @@ use Rattle.marc_types.specs.declared.key.Class.TheVariants.{Authority}
 use Rattle.marc_types.specs.declared.form.Kind.{Kind}
 use Rattle.marc_types.specs.declared.form.Form.{Form}
 use Rattle.heading_fields.specs.Tables.{authority_kind_of, kind_of, is_subdividable}
-use Rattle.heading_fields.specs.Parts.{tag_of, subfields_of, is_subdivided}
+use Rattle.heading_fields.specs.Parts.{is_subdivided}
+use Rattle.marc_types.specs.Fields.{tag_of, subfields_of}
 use Rattle.entry_record.specs.Authority.{base_form, full_form, has_form, is_see_from, is_kind, linkable_kind, option_filter}
 use Rattle.entry_record.specs.declared.headings.HeadingForms.{HeadingForms}
 

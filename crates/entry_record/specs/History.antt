@@ -1,14 +1,13 @@
 -- Entries, histories, and what the files of one command add to a history. The rules are this project's own.
-use Rattle.std.specs.Prelude.{◌≡◌, ℕ, ◌+◌, ◌<◌, ◌≤◌, ◌==◌, List, ◌++◌, length, map, filter, slice_get, All, true, Some, None}
+use Rattle.std.specs.Prelude.{◌≡◌, ℕ, ◌+◌, ◌<◌, ◌≤◌, ◌==◌, Bool, ◌||◌, nat_lt, List, ◌++◌, length, map, filter, slice_get, All, true, Some, None}
 use Rattle.std.specs.List.{sum_by, last_or}
 use Rattle.std.specs.Option.{option_map_or}
 use Rattle.marc_types.specs.Valid.{is_code}
 use Rattle.marc_types.specs.declared.entry.Entry.{Entry}
+use Rattle.marc_types.specs.declared.entry.Limits.{Limits}
 use Rattle.iso2709_record.specs.Written.{record_length}
 use Rattle.entry_record.specs.Identity.{class_of, key_of}
 use Rattle.entry_record.specs.Admission.{admission_refusal}
-use Rattle.entry_record.specs.Settle.{Arrival, state_after}
-use Rattle.entry_record.specs.State.{State}
 
 -- a catalogue takes the entry: its file's code is proper, nothing refuses its record, and class and key are the record's
 pub record IsAdmitted (e : Entry) : Type 0 where
@@ -25,12 +24,15 @@ entry_size e = 12 + record_length e.rec.fields
 abbrev pub entries_size : List Entry → ℕ
 entries_size entries = sum_by entry_size entries
 
-abbrev pub arrival_of : Entry → Arrival
-arrival_of e = record { class = e.class; key = e.key; leader = e.rec.leader; fields = e.rec.fields }
+-- not more entries than the limits, and not more bytes
+pub record IsWithin (limits : Limits) (entries : List Entry) : Type 0 where
+  pub count : length entries ≤ limits.entries
+  pub size : entries_size entries ≤ limits.bytes
 
--- the state that a list of entries leads to
-abbrev pub state_of : List Entry → State
-state_of history = state_after (map arrival_of history)
+-- with one more entry behind these there are too many, or they have too many bytes
+abbrev pub passes_limits : Limits → List Entry → Entry → Bool
+passes_limits limits entries e =
+    nat_lt limits.entries (length entries + 1) || nat_lt limits.bytes (entries_size entries + entry_size e)
 
 abbrev pub brought_by : ℕ → List Entry → List Entry
 brought_by loader entries = filter (λ e. e.loader == loader) entries

@@ -2,8 +2,6 @@
 -- Authority Data (leader 05 and 06, fields 001 and 003); the rules on blanks, codes and numbers are this project's.
 use Rattle.std.specs.Prelude.{ℕ, ◌==◌, Bool, ◌&&◌, ◌||◌, List, [], ◌∷◌, Option, Some, None, codes, unwrap_or, if◌then◌else◌}
 use Rattle.std.specs.List.{list_any}
-use Rattle.std.specs.Ordering.{eq_by_cmp}
-use Rattle.marc_types.specs.Order.{key_cmp}
 use Rattle.marc_types.specs.declared.field.Tag.{Tag}
 use Rattle.marc_types.specs.declared.field.Leader.{Leader}
 use Rattle.marc_types.specs.declared.field.Field.{Field}
@@ -49,6 +47,3 @@ code_of library fields = or_library library (without_blanks (unwrap_or (first_co
 
 unfoldable pub key_of : List ℕ → List Field → Key
 key_of library fields = record { code = code_of library fields; number = control_number_of fields }
-
-abbrev pub same_key : Key → Key → Bool
-same_key = eq_by_cmp key_cmp

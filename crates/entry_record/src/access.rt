@@ -8,7 +8,7 @@ ghost use Rattle.entry_record.specs.Access.{IsAccessTo};
 ghost use Rattle.entry_record.specs.Headings.{filled_full_form, established_form, is_tracing_tag};
 
 use crate::admission::{LONGEST_HEADING, heading, is_see_from};
-use crate::headings::{forms_of_kind, is_divided, tag};
+use crate::headings::{forms_of_kind, is_divided};
 use heading_fields::{authority_kind, full, heading_len};
 use marc_types::{Class, Field, Form, Forms, Kind, NoMemory, Subfield};
 use std::alloc::Global;
@@ -71,7 +71,7 @@ fn established_form(alloc: Global, heading: &Field) -> Result<Option<Form>, NoMe
     requires { field_size heading.now ≤ 1000000 }
     ensures { IfOk result (λ form. form ≡ established_form heading.now) }
 {
-    let Some(kind) = authority_kind(tag(heading)) else {
+    let Some(kind) = authority_kind(heading.tag()) else {
         return Ok(None);
     };
     if !is_short_in_full(alloc, heading, kind)? {
@@ -83,7 +83,7 @@ fn established_form(alloc: Global, heading: &Field) -> Result<Option<Form>, NoMe
 fn is_tracing_tag(field: &Field, kind: Kind) -> bool
     ensures { result ≡ is_tracing_tag kind field.now }
 {
-    is_see_from(field) && authority_kind(tag(field)) == Some(kind)
+    is_see_from(field) && authority_kind(field.tag()) == Some(kind)
 }
 
 #[tactic(auto, using(crate::proofs::Accessible::no_tracing, crate::proofs::Accessible::one_tracing, crate::proofs::Accessible::empty_tracing))]

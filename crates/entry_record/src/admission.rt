@@ -12,7 +12,7 @@ ghost use Rattle.entry_record.specs.Headings.{heading_forms};
 ghost use Rattle.entry_record.specs.Taking.{heading_refusal, IsExamined};
 ghost use Rattle.entry_record.specs.Answers.{IsRefusalOf};
 
-use crate::headings::{HeadingForms, Headings, heading_forms, tag};
+use crate::headings::{HeadingForms, Headings, heading_forms};
 use crate::identity::{class_of, is_deletion, is_known_type, key_of};
 use heading_fields::{authority_kind, heading_len};
 use iso2709_record::field_len;
@@ -51,13 +51,13 @@ fn is_living_authority(leader: &Leader) -> bool
 fn is_heading(field: &Field) -> bool
     ensures { result ≡ is_heading field.now }
 {
-    tag(field).a == b'1'
+    field.tag().a == b'1'
 }
 
 pub(crate) fn is_see_from(field: &Field) -> bool
     ensures { result ≡ is_see_from field.now }
 {
-    tag(field).a == b'4'
+    field.tag().a == b'4'
 }
 
 /// The heading of an authority record: its first 1XX.
@@ -76,7 +76,7 @@ fn is_too_long(field: &Field) -> bool
     requires { field_size field.now ≤ 1000000 }
     ensures { result ≡ is_too_long field.now }
 {
-    match authority_kind(tag(field)) {
+    match authority_kind(field.tag()) {
         Some(kind) => heading_len(field, kind) > LONGEST_HEADING,
         None => false,
     }

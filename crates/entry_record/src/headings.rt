@@ -1,10 +1,9 @@
 //! The forms of a record's heading fields, each made once.
 ghost use Rattle.std.specs.Prelude.{◌≡◌, IfOk, Some, map, unwrap_or};
-ghost use Rattle.heading_fields.specs.Parts.{tag_of};
 ghost use Rattle.entry_record.specs.Headings.{is_divided, divided_form, filled_forms, heading_forms};
 
 use heading_fields::{controlled, full, has_subdivision, heading_kind, takes_subdivisions};
-use marc_types::{Class, Field, Form, Kind, NoMemory, Sequence, Tag, TryCopy};
+use marc_types::{Class, Field, Form, Kind, NoMemory, Sequence, TryCopy};
 use naco_form::form;
 use std::alloc::Global;
 
@@ -45,18 +44,10 @@ impl TryCopy for HeadingForms {
     }
 }
 
-pub(crate) fn tag(field: &Field) -> &Tag
-    ensures { result.now ≡ tag_of field.now }
-{
-    match field {
-        Field::Control { tag, .. } | Field::Variable { tag, .. } => tag,
-    }
-}
-
 pub(crate) fn is_divided(field: &Field, class: Class) -> bool
     ensures { result ≡ is_divided class field.now }
 {
-    takes_subdivisions(tag(field), class) && has_subdivision(field)
+    takes_subdivisions(field.tag(), class) && has_subdivision(field)
 }
 
 fn divided_form(

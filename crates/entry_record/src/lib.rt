@@ -1,4 +1,4 @@
-//! Which records a catalogue takes, what an entry of its history is, and the definitions of the plain pass over a history.
+//! Which records a catalogue takes, and what an entry of its history is, with all that a commit asks of it.
 #![tactic(auto)]
 
 pub use admission::admission_refusal;
@@ -10,7 +10,6 @@ mod access;
 mod admission;
 mod headings;
 mod identity;
-pub mod laws;
 mod payload;
 mod prepared;
 mod successor;

@@ -1,11 +1,9 @@
 //! The key that a replaced authority hands its links on to.
 ghost use Rattle.std.specs.Prelude.{◌≡◌, ◌==◌, ◌&&◌, not, [], ◌∷◌, ◌++◌, Some, position, IfOk, OnOk, IsTrue, filter};
-ghost use Rattle.heading_fields.specs.Parts.{subfields_of};
 ghost use Rattle.heading_fields.specs.Numbers.{without_blanks};
 ghost use Rattle.entry_record.specs.Authority.{is_right_parenthesis, is_valid_key, is_replacement, key_split_at_parenthesis, key_of_text, option_filter, replacement_numbers, replacement_key, successor_of};
-ghost use Rattle.entry_record.specs.Identity.{same_key};
+ghost use Rattle.marc_types.specs.Order.{same_key};
 
-use crate::headings::tag;
 use crate::identity::{code_text, filled_bytes, number_text};
 use marc_types::{
     Field, Key, Leader, NoMemory, Subfield, Text, TryCopy, can_be_code, can_be_number,
@@ -19,17 +17,8 @@ const NUMBER: u8 = b'0';
 fn is_replacement(field: &Field) -> bool
     ensures { result ≡ is_replacement field.now }
 {
-    let tag = tag(field);
+    let tag = field.tag();
     tag.a == b'6' && tag.b == b'8' && tag.c == b'2'
-}
-
-fn subfields(field: &Field) -> &[Subfield]
-    ensures { result.now ≡ subfields_of field.now }
-{
-    match field {
-        Field::Control { .. } => &[],
-        Field::Variable { subs, .. } => subs.as_slice(),
-    }
 }
 
 fn append_numbers(
@@ -56,7 +45,7 @@ fn append_field_numbers(
     ensures { OnOk result (out.new.items ≡ out.old.items ++ replacement_numbers (field.now ∷ [])) }
 {
     if is_replacement(field) {
-        append_numbers(alloc, out, subfields(field))?;
+        append_numbers(alloc, out, field.subfields())?;
     }
     Ok(())
 }

@@ -1,6 +1,7 @@
 -- The laws of rewriting and unlinking, on fields.
 use Rattle.std.proofs.Common.{◌≡◌, ◌≢◌, ◌+◌, ◌≤◌, ℕ, Bool, true, false, not, ◌&&◌, List, [], length, refl, arith}
 use Rattle.std.specs.List.{list_any, list_all}
+use Rattle.std.proofs.lemmas.Bool.{and_parts}
 use Rattle.marc_types.specs.declared.field.Tag.{Tag}
 use Rattle.marc_types.specs.declared.field.Subfield.{Subfield}
 use Rattle.marc_types.specs.declared.field.Field.{Field}
@@ -11,7 +12,8 @@ use Rattle.marc_types.specs.declared.form.Kind.{Kind}
 use Rattle.marc_types.specs.declared.form.Kind.TheVariants.{Personal, Corporate, Meeting, Title, Chronological, Topical, Geographic, Genre}
 use Rattle.marc_types.specs.Valid.{is_tag, is_control_tag, is_printable, is_text, is_subfield, is_field, subfields_size, field_size}
 use Rattle.heading_fields.specs.Tables.{kind_of}
-use Rattle.heading_fields.specs.Parts.{tag_of, subfields_of, written_length, part, base_part, field_part, field_outside, reaches}
+use Rattle.heading_fields.specs.Parts.{written_length, part, base_part, field_part, field_outside, reaches}
+use Rattle.marc_types.specs.Fields.{tag_of, subfields_of}
 use Rattle.heading_fields.specs.Numbers.{is_naming, unnumbered, is_blankless}
 use Rattle.heading_fields.specs.Rewriting.{indicator_of, rewritten_indicator, rewriting, rewritten_subfields, unlinking}
 use Rattle.heading_fields.proofs.Passing.{full_from, all_from, full_filter}
@@ -138,17 +140,13 @@ pub record IsVariableField (tag : Tag) (ind1 ind2 : ℕ) (subs : List Subfield) 
   pub second : is_printable ind2 ≡ true
   pub subfields : list_all is_subfield subs ≡ true
 
-and_both : (a b : Bool) → (a && b) ≡ true → (a ≡ true) × (b ≡ true)
-and_both true b h = (refl, h)
-and_both false b h = cc
-
 variable_field : (tag : Tag) (ind1 ind2 : ℕ) (subs : List Subfield) → is_field (Variable tag ind1 ind2 subs) ≡ true → IsVariableField tag ind1 ind2 subs
 unfolding is_field
 variable_field tag ind1 ind2 subs h =
-    let last = and_both (is_tag tag && not (is_control_tag tag) && is_printable ind1 && is_printable ind2) (list_all is_subfield subs) h in
-    let fourth = and_both (is_tag tag && not (is_control_tag tag) && is_printable ind1) (is_printable ind2) last.0 in
-    let third = and_both (is_tag tag && not (is_control_tag tag)) (is_printable ind1) fourth.0 in
-    let second_of = and_both (is_tag tag) (not (is_control_tag tag)) third.0 in
+    let last = and_parts (is_tag tag && not (is_control_tag tag) && is_printable ind1 && is_printable ind2) (list_all is_subfield subs) h in
+    let fourth = and_parts (is_tag tag && not (is_control_tag tag) && is_printable ind1) (is_printable ind2) last.0 in
+    let third = and_parts (is_tag tag && not (is_control_tag tag)) (is_printable ind1) fourth.0 in
+    let second_of = and_parts (is_tag tag) (not (is_control_tag tag)) third.0 in
     record { tag_ok = second_of.0; not_control = second_of.1; first = third.1; second = fourth.1; subfields = last.1 }
 
 is_field_from : (tag : Tag) (ind1 ind2 : ℕ) (subs : List Subfield) → IsVariableField tag ind1 ind2 subs → is_field (Variable tag ind1 ind2 subs) ≡ true

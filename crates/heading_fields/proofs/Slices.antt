@@ -6,7 +6,8 @@ use Rattle.marc_types.specs.declared.field.Subfield.{Subfield}
 use Rattle.marc_types.specs.declared.field.Field.{Field}
 use Rattle.marc_types.specs.declared.field.Field.TheVariants.{Control, Variable}
 use Rattle.marc_types.specs.Valid.{subfields_size, field_size}
-use Rattle.heading_fields.specs.Parts.{before, onward, subfields_of, region, is_dividing}
+use Rattle.heading_fields.specs.Parts.{before, onward, region, is_dividing}
+use Rattle.marc_types.specs.Fields.{subfields_of}
 
 before_step : {A : Type 0} (x : A) (xs : List A) (n : ℕ) (b : Bool) → (if b then [] else x ∷ take n xs) ≡ take (cond (not b) (1 + n) 0) (x ∷ xs)
 before_step x xs n true = refl

@@ -1,23 +1,14 @@
 -- The parts of a heading. The base part is the heading itself; the full part has its subdivisions too.
 use Rattle.std.specs.Prelude.{ℕ, ◌+◌, Bool, true, false, ◌&&◌, ◌||◌, not, List, [], ◌∷◌, ◌++◌, filter, length, if◌then◌else◌}
 use Rattle.std.specs.List.{list_any}
-use Rattle.marc_types.specs.declared.field.Tag.{Tag}
 use Rattle.marc_types.specs.declared.field.Subfield.{Subfield}
 use Rattle.marc_types.specs.declared.field.Field.{Field}
 use Rattle.marc_types.specs.declared.field.Field.TheVariants.{Control, Variable}
 use Rattle.marc_types.specs.declared.key.Class.{Class}
 use Rattle.marc_types.specs.declared.form.Kind.{Kind}
+use Rattle.marc_types.specs.Fields.{tag_of, subfields_of}
 use Rattle.marc_types.specs.Valid.{subfields_size}
 use Rattle.heading_fields.specs.Tables.{is_controlled, is_subdivision, is_subdividable}
-
-abbrev pub tag_of : Field → Tag
-tag_of (Control tag text) = tag
-tag_of (Variable tag ind1 ind2 subs) = tag
-
--- a control field has no subfields
-abbrev pub subfields_of : Field → List Subfield
-subfields_of (Control tag text) = []
-subfields_of (Variable tag ind1 ind2 subs) = subs
 
 -- two indicators, the subfields, and the terminator; a control field has no indicators
 abbrev pub written_length : Field → ℕ

@@ -8,7 +8,8 @@ use Rattle.marc_types.specs.declared.key.Class.{Class}
 use Rattle.marc_types.specs.declared.key.Key.{Key}
 use Rattle.marc_types.specs.declared.form.Kind.{Kind}
 use Rattle.marc_types.specs.declared.form.Kind.TheVariants.{Personal, Corporate, Meeting, Title, Chronological, Topical, Geographic, Genre}
-use Rattle.heading_fields.specs.Parts.{subfields_of, before, onward, region, behind, is_part, part, reaches}
+use Rattle.heading_fields.specs.Parts.{before, onward, region, behind, is_part, part, reaches}
+use Rattle.marc_types.specs.Fields.{subfields_of}
 use Rattle.heading_fields.specs.Numbers.{unnumbered, number_of}
 
 -- the first indicator of a field, or another number for a control field

@@ -3,7 +3,8 @@ ghost use Rattle.std.specs.Prelude.{◌≡◌, ◌≢◌, ◌+◌, ◌≤◌, []
 ghost use Rattle.std.specs.List.{list_any};
 ghost use Rattle.marc_types.specs.Valid.{is_field, is_text, field_size, subfields_size};
 ghost use Rattle.heading_fields.specs.Tables.{kind_of};
-ghost use Rattle.heading_fields.specs.Parts.{tag_of, subfields_of, written_length, part, base_part, field_part, field_outside, reaches};
+ghost use Rattle.heading_fields.specs.Parts.{written_length, part, base_part, field_part, field_outside, reaches};
+ghost use Rattle.marc_types.specs.Fields.{tag_of, subfields_of};
 ghost use Rattle.heading_fields.specs.Numbers.{is_naming, unnumbered, is_blankless};
 ghost use Rattle.heading_fields.specs.Rewriting.{rewriting, unlinking};
 

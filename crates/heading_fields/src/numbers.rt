@@ -1,9 +1,8 @@
 ghost use Rattle.std.specs.Prelude.{◌≡◌, ◌++◌, IfOk, OnOk, filter, length, drop, slice_get, bytes_eq};
 ghost use Rattle.std.specs.List.{list_any};
-ghost use Rattle.heading_fields.specs.Parts.{subfields_of};
+ghost use Rattle.marc_types.specs.Fields.{subfields_of};
 ghost use Rattle.heading_fields.specs.Numbers.{without_blanks, key_text, is_naming, unnumbered, number_of};
 
-use crate::parts::subfields;
 use marc_types::{Field, Key, NoMemory, Subfield, Text, TryCopy};
 use std::alloc::Global;
 
@@ -59,7 +58,8 @@ pub fn is_number_of(subfield: &Subfield, key: &Key) -> bool
 pub fn names(field: &Field, key: &Key) -> bool
     ensures { result ≡ list_any (is_naming key.now) (subfields_of field.now) }
 {
-    subfields(field)
+    field
+        .subfields()
         .iter()
         .any(|subfield| is_number_of(subfield, key))
 }

@@ -1,34 +1,18 @@
 ghost use Rattle.std.specs.Prelude.{◌≡◌, false, ◌≤◌, ◌++◌, IfOk, OnOk, filter, length, position};
 ghost use Rattle.marc_types.specs.Valid.{field_size, subfields_size};
-ghost use Rattle.heading_fields.specs.Parts.{tag_of, subfields_of, before, onward, is_dividing, is_subdivided, region, behind, is_part, part, base_part, full_part};
+ghost use Rattle.heading_fields.specs.Parts.{before, onward, is_dividing, is_subdivided, region, behind, is_part, part, base_part, full_part};
+ghost use Rattle.marc_types.specs.Fields.{subfields_of};
 
 use crate::tables::{is_controlled_code, is_subdivision_code, takes_subdivisions};
-use marc_types::{Class, Field, Kind, NoMemory, Subfield, Subfields, Tag, TryCopy};
+use marc_types::{Class, Field, Kind, NoMemory, Subfield, Subfields, TryCopy};
 use std::alloc::Global;
-
-/// The subfields of a field; a control field has none.
-pub(crate) fn subfields(field: &Field) -> &[Subfield]
-    ensures { result.now ≡ subfields_of field.now }
-{
-    match field {
-        Field::Control { .. } => &[],
-        Field::Variable { subs, .. } => subs.as_slice(),
-    }
-}
-
-fn tag(field: &Field) -> &Tag
-    ensures { result.now ≡ tag_of field.now }
-{
-    match field {
-        Field::Control { tag, .. } | Field::Variable { tag, .. } => tag,
-    }
-}
 
 /// Whether the field has a subdivision: a subfield `$v`, `$x`, `$y` or `$z`. A heading that has none is bare.
 pub fn has_subdivision(field: &Field) -> bool
     ensures { result ≡ is_subdivided (subfields_of field.now) }
 {
-    subfields(field)
+    field
+        .subfields()
         .iter()
         .any(|subfield| is_subdivision_code(subfield.code))
 }
@@ -98,7 +82,7 @@ pub fn heading_len(field: &Field, kind: Kind) -> u64
     requires { field_size field.now ≤ 1000000 }
     ensures { result ≡ subfields_size (base_part kind field.now) }
 {
-    let (region, _) = split_region(subfields(field), false);
+    let (region, _) = split_region(field.subfields(), false);
     part_len(region, kind)
 }
 
@@ -152,7 +136,7 @@ fn part_of(
 pub fn controlled(alloc: Global, field: &Field, kind: Kind) -> Result<Subfields, NoMemory>
     ensures { IfOk result (λ made. made ≡ base_part kind field.now) }
 {
-    part_of(alloc, subfields(field), kind, false)
+    part_of(alloc, field.subfields(), kind, false)
 }
 
 /// The full part of a field: the subfields with a controlled code of the kind or the code of a subdivision, in their
@@ -160,6 +144,6 @@ pub fn controlled(alloc: Global, field: &Field, kind: Kind) -> Result<Subfields,
 pub fn full(alloc: Global, field: &Field, kind: Kind, class: Class) -> Result<Subfields, NoMemory>
     ensures { IfOk result (λ made. made ≡ full_part kind class field.now) }
 {
-    let whole = takes_subdivisions(tag(field), class);
-    part_of(alloc, subfields(field), kind, whole)
+    let whole = takes_subdivisions(field.tag(), class);
+    part_of(alloc, field.subfields(), kind, whole)
 }

@@ -4,7 +4,7 @@ ghost use Rattle.heading_fields.specs.Numbers.{unnumbered, number_of};
 ghost use Rattle.heading_fields.specs.Rewriting.{rewritten_indicator, rewritten_subfields, rewriting, unlinking};
 
 use crate::numbers::{append_unnumbered, is_number_of, number_of_key};
-use crate::parts::{append_part, belongs, part_count, split_part, split_region, subfields};
+use crate::parts::{append_part, belongs, part_count, split_part, split_region};
 use crate::tables::takes_subdivisions;
 use marc_types::{Class, Field, Key, Kind, NoMemory, Subfield, Subfields, TryCopy};
 use std::alloc::Global;
@@ -134,7 +134,7 @@ pub fn rewrite(
                 tag: *tag,
                 ind1: first_indicator(kind, heading, *ind1),
                 ind2: *ind2,
-                subs: rewritten(alloc, subs.as_slice(), kind, subfields(heading), key, whole)?,
+                subs: rewritten(alloc, subs.as_slice(), kind, heading.subfields(), key, whole)?,
             })
         }
     }

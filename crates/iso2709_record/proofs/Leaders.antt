@@ -9,7 +9,8 @@ use Rattle.marc_types.specs.declared.field.Tag.{Tag}
 use Rattle.marc_types.specs.declared.field.Leader.{Leader}
 use Rattle.marc_types.specs.declared.field.Field.{Field}
 use Rattle.marc_types.specs.Valid.{is_printable, is_digit, is_alphanumeric, is_tag, is_leader}
-use Rattle.iso2709_record.specs.Written.{four_digits, five_digits, leader_bytes, entry_bytes, tag_of, field_length, base_address, record_length}
+use Rattle.iso2709_record.specs.Written.{four_digits, five_digits, leader_bytes, entry_bytes, field_length, base_address, record_length}
+use Rattle.marc_types.specs.Fields.{tag_of}
 use Rattle.iso2709_record.specs.Layout.{number, base_of, entry_at, tag_at, length_at, start_at}
 use Rattle.iso2709_record.specs.Faults.{has_bad_leader, is_good_entry}
 use Rattle.iso2709_record.specs.Raw.{leader_at}

@@ -7,7 +7,8 @@ use Rattle.marc_types.specs.declared.field.Subfield.{Subfield}
 use Rattle.marc_types.specs.declared.field.Field.{Field}
 use Rattle.marc_types.specs.declared.field.Field.TheVariants.{Control, Variable}
 use Rattle.marc_types.specs.Valid.{is_printable, is_text, is_subfield, is_control_tag, is_field}
-use Rattle.iso2709_record.specs.Written.{field_terminator, subfield_bytes, field_data, field_bytes, tag_of}
+use Rattle.iso2709_record.specs.Written.{field_terminator, subfield_bytes, field_data, field_bytes}
+use Rattle.marc_types.specs.Fields.{tag_of}
 use Rattle.iso2709_record.specs.Faults.{ends_once, codes_follow, is_subfield_data, is_control_data, is_variable_data, fits_tag}
 use Rattle.iso2709_record.proofs.Endings.{ends_here}
 use Rattle.iso2709_record.proofs.Terminators.{IsTerminator, field_data_has_none}

@@ -9,7 +9,8 @@ use Rattle.marc_types.specs.declared.field.Leader.{Leader}
 use Rattle.marc_types.specs.declared.field.Field.{Field}
 use Rattle.marc_types.specs.declared.field.Field.TheVariants.{Control}
 use Rattle.marc_types.specs.Valid.{is_digit, is_leader, is_field, is_record}
-use Rattle.iso2709_record.specs.Written.{record_terminator, field_terminator, field_data, field_bytes, field_length, fields_length, tag_of, five_digits, leader_bytes, entry_bytes, directory_bytes, base_address, record_length, record_bytes, fits}
+use Rattle.iso2709_record.specs.Written.{record_terminator, field_terminator, field_data, field_bytes, field_length, fields_length, five_digits, leader_bytes, entry_bytes, directory_bytes, base_address, record_length, record_bytes, fits}
+use Rattle.marc_types.specs.Fields.{tag_of}
 use Rattle.iso2709_record.specs.Layout.{number, base_of, entry_count, entry_at, tag_at, length_at, start_at, area_at, data_at, lengths_of}
 use Rattle.iso2709_record.specs.Faults.{has_bad_length, has_bad_leader, is_ragged, ends_once, is_good_field, HasWholeEntries, IsSound}
 use Rattle.iso2709_record.specs.Raw.{leader_at, coding_at, raw_field, raw_fields, raw_record, raw_of, raw_of_record}

@@ -10,7 +10,8 @@ use Rattle.marc_types.specs.declared.field.Subfield.{Subfield}
 use Rattle.marc_types.specs.declared.field.Field.{Field}
 use Rattle.marc_types.specs.declared.field.Field.TheVariants.{Control, Variable}
 use Rattle.marc_types.specs.Valid.{is_data, is_text, is_subfield, is_field, is_control_tag, is_record}
-use Rattle.iso2709_record.specs.Written.{field_terminator, record_terminator, delimiter, four_digits, five_digits, subfield_bytes, field_data, field_bytes, field_length, tag_of, entry_bytes, directory_bytes, leader_bytes, record_bytes, base_address, fits}
+use Rattle.iso2709_record.specs.Written.{field_terminator, record_terminator, delimiter, four_digits, five_digits, subfield_bytes, field_data, field_bytes, field_length, entry_bytes, directory_bytes, leader_bytes, record_bytes, base_address, fits}
+use Rattle.marc_types.specs.Fields.{tag_of}
 use Rattle.iso2709_record.proofs.Lengths.{length-leader_bytes, length-entry_bytes, length-directory_bytes, record_bounds}
 use Rattle.iso2709_record.proofs.Each.{fields_valid, fields_short}
 use Rattle.iso2709_record.proofs.Digits.{four_digits_same, five_digits_same}

@@ -12,7 +12,8 @@ use Rattle.marc_types.specs.declared.field.Field.{Field}
 use Rattle.marc_types.specs.declared.field.Field.TheVariants.{Control, Variable}
 use Rattle.marc_types.specs.Valid.{is_data, is_graphic, is_printable, is_alphanumeric, is_tag, is_leader, is_text, is_subfield, is_field, is_record}
 use Rattle.iso2709_record.proofs.Each.{leader_valid, fields_valid}
-use Rattle.iso2709_record.specs.Written.{field_terminator, record_terminator, delimiter, digit, four_digits, five_digits, subfield_bytes, field_data, field_bytes, field_length, tag_of, entry_bytes, directory_bytes, leader_bytes, record_bytes, record_length, base_address}
+use Rattle.iso2709_record.specs.Written.{field_terminator, record_terminator, delimiter, digit, four_digits, five_digits, subfield_bytes, field_data, field_bytes, field_length, entry_bytes, directory_bytes, leader_bytes, record_bytes, record_length, base_address}
+use Rattle.marc_types.specs.Fields.{tag_of}
 
 -- whether a byte is the mark
 abbrev pub has : ℕ → List ℕ → Bool

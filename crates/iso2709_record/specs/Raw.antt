@@ -5,7 +5,8 @@ use Rattle.marc_types.specs.declared.field.Leader.{Leader}
 use Rattle.marc_types.specs.declared.field.Field.{Field}
 use Rattle.iso2709_record.specs.declared.raw.RawField.{RawField}
 use Rattle.iso2709_record.specs.declared.raw.RawRecord.{RawRecord}
-use Rattle.iso2709_record.specs.Written.{record_terminator, field_terminator, tag_of, field_data}
+use Rattle.iso2709_record.specs.Written.{record_terminator, field_terminator, field_data}
+use Rattle.marc_types.specs.Fields.{tag_of}
 use Rattle.iso2709_record.specs.Layout.{entry_count, tag_at, data_at}
 
 -- the leader's bytes 05 to 08 and 17 to 19

@@ -7,7 +7,8 @@ use Rattle.marc_types.specs.declared.field.Subfield.{Subfield}
 use Rattle.marc_types.specs.declared.field.Field.{Field}
 use Rattle.marc_types.specs.Valid.{is_subfield, is_field}
 use Rattle.iso2709_record.specs.declared.subfields.Cut.{Cut}
-use Rattle.iso2709_record.specs.Written.{subfield_bytes, field_data, tag_of}
+use Rattle.iso2709_record.specs.Written.{subfield_bytes, field_data}
+use Rattle.marc_types.specs.Fields.{tag_of}
 
 -- the bytes spell these subfields: valid ones, which written one after the other are the bytes
 pub record Spells (subfields : List Subfield) (bytes : List ℕ) : Type 0 where

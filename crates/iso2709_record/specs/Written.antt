@@ -2,7 +2,7 @@
 -- Specifications for Record Structure use it.
 use Rattle.std.specs.Prelude.{ℕ, ◌+◌, ◌*◌, ◌/◌, ◌%◌, Bool, ◌&&◌, nat_le, List, [], ◌∷◌, ◌++◌, length}
 use Rattle.std.specs.List.{flat_map, list_all}
-use Rattle.marc_types.specs.declared.field.Tag.{Tag}
+use Rattle.marc_types.specs.Fields.{tag_of}
 use Rattle.marc_types.specs.declared.field.Leader.{Leader}
 use Rattle.marc_types.specs.declared.field.Subfield.{Subfield}
 use Rattle.marc_types.specs.declared.field.Field.{Field}
@@ -40,10 +40,6 @@ field_data (Variable tag ind1 ind2 subs) = ind1 ∷ ind2 ∷ flat_map subfield_b
 
 unfoldable pub field_bytes : Field → List ℕ
 field_bytes f = field_data f ++ field_terminator ∷ []
-
-abbrev pub tag_of : Field → Tag
-tag_of (Control tag text) = tag
-tag_of (Variable tag ind1 ind2 subs) = tag
 
 -- the length of a field, with its terminator
 unfoldable pub field_length : Field → ℕ

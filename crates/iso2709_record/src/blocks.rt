@@ -1,8 +1,8 @@
 ghost use Rattle.std.specs.Prelude.{◌≡◌};
-ghost use Rattle.iso2709_record.specs.Written.{digit, entry_bytes, field_length, leader_bytes, tag_of};
+ghost use Rattle.iso2709_record.specs.Written.{digit, entry_bytes, field_length, leader_bytes};
 
 use crate::size::{base_len, encoded_len};
-use marc_types::{Field, Record, Tag};
+use marc_types::{Field, Record};
 
 pub(crate) const RECORD_TERMINATOR: u8 = 0x1d;
 
@@ -59,7 +59,7 @@ pub(crate) fn entry_block(field: &Field, len: u64, start: u64) -> [u8; 12]
     requires { len ≡ field_length field.now }
     ensures { result ≡ entry_bytes start field.now }
 {
-    let tag = tag_of(field);
+    let tag = field.tag();
     [
         tag.a,
         tag.b,
@@ -74,12 +74,4 @@ pub(crate) fn entry_block(field: &Field, len: u64, start: u64) -> [u8; 12]
         digit(start / 10),
         digit(start),
     ]
-}
-
-fn tag_of(field: &Field) -> Tag
-    ensures { result ≡ tag_of field.now }
-{
-    match field {
-        Field::Control { tag, .. } | Field::Variable { tag, .. } => *tag,
-    }
 }

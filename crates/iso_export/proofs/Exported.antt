@@ -1,17 +1,16 @@
 -- What an export has written row by row, and that each row fits.
 use Rattle.std.proofs.Common.{◌≡◌, Bool, true, false, List, ◌∷◌, ◌++◌, refl, ap, sym, ◌∙◌, subst}
 use Rattle.std.proofs.lemmas.List.Elements.{recursion_from_All}
-use Rattle.entry_record.proofs.Elements.{Each}
+use Rattle.catalogue_rules.proofs.Elements.{Each}
 use Rattle.marc_types.specs.declared.key.Class.{Class}
 use Rattle.marc_types.specs.declared.key.Class.TheVariants.{Authority, Bibliographic}
 use Rattle.marc_types.specs.declared.key.Key.{Key}
 use Rattle.marc_types.specs.declared.entry.Kept.{Kept}
 use Rattle.iso2709_record.specs.Written.{fits, record_bytes}
-use Rattle.entry_record.specs.State.{Row, State, fields_of, rows_of}
-use Rattle.entry_record.specs.Valid.{IsValid}
-use Rattle.entry_record.specs.Output.{export_of_rows, written_row}
-use Rattle.entry_record.proofs.Fitting.{valid_fits}
-use Rattle.record_store.specs.Store.{kept_record}
+use Rattle.catalogue_rules.specs.State.{Row, State, fields_of, rows_of, kept_record}
+use Rattle.catalogue_rules.specs.Valid.{IsValid}
+use Rattle.catalogue_rules.specs.Output.{export_of_rows, written_row}
+use Rattle.catalogue_rules.proofs.Fitting.{valid_fits}
 use Rattle.record_store.proofs.Joined.{joined_fields}
 
 -- a row's record fits its written form

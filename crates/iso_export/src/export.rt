@@ -2,9 +2,9 @@ ghost use Rattle.std.specs.Prelude.{◌≡◌, [], OnOk};
 ghost use Rattle.std.specs.Io.KnownBytes.{Appends};
 ghost use Rattle.outside.specs.Fault.{HasCause};
 ghost use Rattle.outside.specs.Sink.{WritesFront};
-ghost use Rattle.entry_record.specs.History.{state_of};
-ghost use Rattle.entry_record.specs.Output.{export_of, export_of_rows};
-ghost use Rattle.entry_record.specs.State.{rows_of};
+ghost use Rattle.catalogue_rules.specs.Settle.{state_of};
+ghost use Rattle.catalogue_rules.specs.Output.{export_of, export_of_rows};
+ghost use Rattle.catalogue_rules.specs.State.{rows_of};
 ghost use Rattle.selection.specs.Selections.{ForSelected, IsCallable};
 
 use catalogue_core::{Catalogue, Engine};

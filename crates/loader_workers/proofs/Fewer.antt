@@ -7,7 +7,7 @@ use Rattle.marc_types.specs.declared.entry.Receipt.{Receipt}
 use Rattle.marc_types.specs.declared.entry.CommitFault.{CommitFault}
 use Rattle.marc_types.specs.declared.entry.CommitFault.TheVariants.{Full, NoMemory, DeviceFault, Broken}
 use Rattle.entry_record.specs.History.{with_run}
-use Rattle.entry_record.specs.Receipts.{receipt_behind, receipts_behind}
+use Rattle.catalogue_rules.specs.Receipts.{receipt_behind, receipts_behind}
 use Rattle.entry_history.specs.Commits.{Origin, frame_of, CommitsFrame, IsEnd}
 use Rattle.entry_history.specs.Events.{entries_of}
 use Rattle.entry_history.specs.declared.event.Event.{Event}
@@ -18,7 +18,7 @@ use Rattle.catalogue_lock.proofs.Numbers.{items-append, items-numbered}
 use Rattle.loader_workers.specs.Counts.{HasRoom, IsSummed}
 use Rattle.loader_workers.specs.Turns.{Replies, IsCatalogue, IsCounted, most_entries}
 use Rattle.loader_workers.specs.declared.counts.Counts.{Counts}
-use Rattle.loader_workers.proofs.FewRows.{few_changed}
+use Rattle.catalogue_rules.proofs.FewRows.{few_changed}
 use Rattle.loader_workers.proofs.Frames.{IsWithin, NoEntry, Within, frame_within}
 use Rattle.loader_workers.proofs.Receipts.{receipts_length, entries_append, entries_committed}
 

@@ -4,8 +4,8 @@ use Rattle.std.specs.Prelude.{nat_lt}
 use Rattle.std.proofs.lemmas.Bool.{or_parts, ltb-false}
 use Rattle.marc_types.specs.declared.entry.Entry.{Entry}
 use Rattle.marc_types.specs.declared.entry.Limits.{Limits}
-use Rattle.entry_record.specs.History.{in_run, with_run, entry_size, entries_size}
-use Rattle.entry_history.specs.Commits.{passes_limits, fitting}
+use Rattle.entry_record.specs.History.{in_run, with_run, entry_size, entries_size, passes_limits}
+use Rattle.entry_history.specs.Commits.{fitting}
 
 fitting_none : (limits : Limits) (before : List Entry) → fitting limits before [] ≡ []
 unfolding fitting

@@ -1,5 +1,4 @@
 pub mod Fewer
-pub mod FewRows
 pub mod Frames
 pub mod Joining
 pub mod Loaded

@@ -1,7 +1,7 @@
 -- The receipts of one pass's entries, each at its own place of a history.
 use Rattle.std.proofs.Common.{◌≡◌, ◌∙◌, ℕ, Bool, true, false, List, [], ◌∷◌, ◌++◌, length, Some, if◌then◌else◌, append_assoc, append-nil, refl, sym, ap, arith, eq-eqb}
 use Rattle.marc_types.specs.declared.entry.Entry.{Entry}
-use Rattle.entry_record.specs.Receipts.{receipts_behind}
+use Rattle.catalogue_rules.specs.Receipts.{receipts_behind}
 use Rattle.entry_history.specs.Events.{entries_of, committed_entries, committed}
 use Rattle.entry_history.specs.declared.event.Event.{Event}
 use Rattle.entry_history.specs.declared.event.Event.TheVariants.{Committed, Broke}

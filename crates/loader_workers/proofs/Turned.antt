@@ -6,9 +6,9 @@ use Rattle.marc_types.specs.declared.entry.Entry.{Entry}
 use Rattle.marc_types.specs.declared.entry.Receipt.{Receipt}
 use Rattle.marc_types.specs.declared.entry.CommitFault.{CommitFault}
 use Rattle.marc_types.specs.declared.entry.CommitFault.TheVariants.{Full, NoMemory, DeviceFault, Broken}
-use Rattle.entry_record.specs.History.{in_run, with_run}
-use Rattle.entry_record.specs.Receipts.{receipts_behind}
-use Rattle.entry_history.specs.Commits.{Origin, frame_of, passes_limits, CommitsNothing, IsEnd}
+use Rattle.entry_record.specs.History.{in_run, with_run, passes_limits}
+use Rattle.catalogue_rules.specs.Receipts.{receipts_behind}
+use Rattle.entry_history.specs.Commits.{Origin, frame_of, CommitsNothing, IsEnd}
 use Rattle.entry_history.specs.Events.{entries_of, committed, is_broken}
 use Rattle.entry_history.specs.declared.event.Event.{Event}
 use Rattle.entry_history.specs.declared.event.Event.TheVariants.{Committed, Broke}

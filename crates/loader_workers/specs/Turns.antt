@@ -2,9 +2,9 @@
 use Rattle.std.specs.Prelude.{◌≡◌, ◌≢◌, ℕ, ◌+◌, ◌*◌, ◌^◌, ◌≤◌, true, List, [], ◌∷◌, ◌++◌, length, Option, Some, None, if◌then◌else◌}
 use Rattle.marc_types.specs.declared.entry.Entry.{Entry}
 use Rattle.marc_types.specs.declared.entry.Receipt.{Receipt}
-use Rattle.entry_record.specs.History.{in_run, with_run}
-use Rattle.entry_record.specs.Receipts.{receipts_behind}
-use Rattle.entry_history.specs.Commits.{Origin, IsCommit, passes_limits}
+use Rattle.entry_record.specs.History.{in_run, with_run, passes_limits}
+use Rattle.catalogue_rules.specs.Receipts.{receipts_behind}
+use Rattle.entry_history.specs.Commits.{Origin, IsCommit}
 use Rattle.entry_history.specs.Events.{entries_of, committed_entries, committed, is_broken}
 use Rattle.entry_history.specs.declared.event.Event.{Event}
 use Rattle.entry_history.specs.declared.event.Event.TheVariants.{Broke}

@@ -6,6 +6,7 @@ use Rattle.std.specs.Io.BufRead.{take_through, drop_through, ends_with_byte}
 use Rattle.std.specs.List.{All}
 use Rattle.std.proofs.lemmas.List.{get_or-take, get_or-drop, get_or_append_left, take_at, drop_at}
 use Rattle.std.proofs.lemmas.List.Elements.{All-nil, All-cons, All-head, All-tail, All-get_or, All-from_get_or, All-weaker}
+use Rattle.std.proofs.lemmas.Bool.{and_parts}
 use Rattle.marc_stream.specs.Pieces.{Item, record_terminator, is_line_end, skip_line_ends, item_at, end_of, unless_none, first_items, items_behind}
 use Rattle.marc_stream.specs.Stream.{EndsWithin, told}
 use Rattle.marc_stream.specs.Window.{AreLineEnds, BeginsItem, IsItemBefore, EndsNone}
@@ -172,17 +173,13 @@ none_window bytes n m none =
     get_or-take n bytes (m + i) 0 (omega arith) ∙ sym (get_or-drop m bytes i 0) ∙ sym (get_or-take (n - m) (drop m bytes) i 0 low) in
     All-get_or (λ b. b ≢ record_terminator) (take n bytes) (m + i) 0 inside none (there ∙ same))
 
-and_both : (a b : Bool) → (a && b) ≡ true → (a ≡ true) × (b ≡ true)
-and_both true b both = (refl, both)
-and_both false b both = absurd (cc)
-
 below : (n m : ℕ) → (m ≤ n → ⊥) → n < m
 below n m wrong = grind (arith, wrong)
 
 -- a terminated front of bytes whose first n end no record is longer than n
 longer_than : (bytes rest : List ℕ) (n : ℕ) → EndsNone (take n (bytes ++ rest)) → ends_with_byte record_terminator bytes ≡ true → n < length bytes
 longer_than bytes rest n none ended =
-    let both = and_both _ _ ended in
+    let both = and_parts _ _ ended in
     let some : 0 < length bytes = ltb-true 0 (length bytes) both.0 in
     let last : get_or bytes (length bytes - 1) 0 ≡ record_terminator = eqb-true _ _ both.1 in
     let wrong : length bytes ≤ n → ⊥ =

@@ -1,8 +1,8 @@
 ghost use Rattle.std.specs.Prelude.{◌≡◌, [], true, Some, None, OnOk, ◌∷◌};
 ghost use Rattle.outside.specs.Fault.{HasCause, HasWriteCause};
 ghost use Rattle.outside.specs.Room.{SameBut};
-ghost use Rattle.entry_record.specs.History.{state_of};
-ghost use Rattle.entry_record.specs.Output.{all_keys, export_of, report_of};
+ghost use Rattle.catalogue_rules.specs.Settle.{state_of};
+ghost use Rattle.catalogue_rules.specs.Output.{all_keys, export_of, report_of};
 ghost use Rattle.selection.specs.Selections.{ForSelected, IsCallable};
 ghost use Rattle.output_files.specs.Outputs.{IsPartWritten};
 

@@ -4,6 +4,8 @@ use std::fs::{File, OpenOptions};
 use std::test::Fail;
 use std::{env, fs, process};
 
+mod holding;
+
 // A path among the temporary files that no other run of the tests has.
 fn path_of(rt: &HostRuntime, name: &str) -> Result<String, Fail> {
     let folder = env::temp_dir(rt)?;

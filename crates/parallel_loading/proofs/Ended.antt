@@ -7,8 +7,8 @@ use Rattle.std.proofs.lemmas.List.Sums.{sum_by-append}
 use Rattle.marc_types.specs.declared.entry.Entry.{Entry}
 use Rattle.marc_types.specs.declared.entry.Limits.{Limits}
 use Rattle.marc_stream.specs.Pieces.{Item}
-use Rattle.entry_record.specs.History.{in_run, with_run, entry_size, entries_size}
-use Rattle.entry_history.specs.Commits.{Origin, passes_limits}
+use Rattle.entry_record.specs.History.{in_run, with_run, entry_size, entries_size, passes_limits}
+use Rattle.entry_history.specs.Commits.{Origin}
 use Rattle.entry_history.specs.Events.{entries_of, is_broken, committed}
 use Rattle.entry_history.specs.declared.event.Event.{Event}
 use Rattle.file_entries.specs.Files.{IsJudged, NoItem, Accepts, Refuses}

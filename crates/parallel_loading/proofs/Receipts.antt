@@ -2,7 +2,7 @@
 use Rattle.std.proofs.Common.{◌≡◌, ◌∙◌, ℕ, ◌==◌, Bool, true, false, List, [], ◌∷◌, ◌++◌, Some, if◌then◌else◌, append-nil, refl, sym, ap}
 use Rattle.marc_types.specs.declared.entry.Entry.{Entry}
 use Rattle.marc_types.specs.declared.entry.Receipt.{Receipt}
-use Rattle.entry_record.specs.Receipts.{receipt_behind, receipts_behind, receipts_of_loader}
+use Rattle.catalogue_rules.specs.Receipts.{receipt_behind, receipts_behind, receipts_of_loader}
 use Rattle.entry_history.specs.Events.{entries_of}
 use Rattle.entry_history.specs.declared.event.Event.{Event}
 use Rattle.entry_history.specs.declared.event.Event.TheVariants.{Committed, Broke}

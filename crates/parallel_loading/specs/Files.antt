@@ -5,9 +5,8 @@ use Rattle.marc_types.specs.declared.entry.Limits.{Limits}
 use Rattle.outside.specs.Fault.{Rose}
 use Rattle.marc_stream.specs.Pieces.{Item, items}
 use Rattle.file_entries.specs.Files.{IsJudged}
-use Rattle.entry_record.specs.History.{brought_by, in_run, with_run, next_run}
-use Rattle.entry_record.specs.Receipts.{receipts_of_loader}
-use Rattle.entry_history.specs.Commits.{passes_limits}
+use Rattle.entry_record.specs.History.{brought_by, in_run, with_run, next_run, passes_limits}
+use Rattle.catalogue_rules.specs.Receipts.{receipts_of_loader}
 use Rattle.durable_catalogue.specs.Durables.{marked}
 use Rattle.loader_workers.specs.Counts.{no_counts, with_receipts, counts_in}
 use Rattle.loader_workers.specs.declared.file_end.FileEnd.{FileEnd}

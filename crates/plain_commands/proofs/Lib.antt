@@ -1,4 +1,3 @@
-pub mod FewRows
 pub mod Summed
 pub mod Loads
 pub mod Passes

@@ -6,13 +6,13 @@ use Rattle.std.proofs.lemmas.List.Sums.{sum_by_push}
 use Rattle.marc_types.specs.declared.entry.Entry.{Entry}
 use Rattle.marc_types.specs.declared.entry.Receipt.{Receipt}
 use Rattle.entry_record.specs.History.{entry_size, entries_size}
-use Rattle.entry_record.specs.Receipts.{receipt_behind, receipts_behind}
+use Rattle.catalogue_rules.specs.Receipts.{receipt_behind, receipts_behind}
 use Rattle.catalogue_core.specs.Catalogues.{Catalogued, is_full, with_entry}
 use Rattle.console_lines.specs.Totals.{sums_of, with_receipt, HasRoom}
 use Rattle.plain_commands.specs.Totals.{holding, IsWithinLimits, IsSummed, most_entries, most_bytes}
 use Rattle.plain_commands.specs.Loading.{IsCommitted}
 use Rattle.console_lines.specs.declared.totals.Sums.{Sums}
-use Rattle.plain_commands.proofs.FewRows.{few_changed}
+use Rattle.catalogue_rules.proofs.FewRows.{few_changed}
 
 receipts_last : (history entries : List Entry) (e : Entry)
     → receipts_behind history (entries ++ e ∷ []) ≡ receipts_behind history entries ++ receipt_behind (history ++ entries) e ∷ []

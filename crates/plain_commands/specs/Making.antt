@@ -3,7 +3,7 @@ use Rattle.std.specs.Prelude.{◌≡◌, ◌⊎◌, ℕ, true, List, [], Some}
 use Rattle.std.specs.Io.KnownBytes.{Appends}
 use Rattle.outside.specs.Fault.{Rose}
 use Rattle.outside.specs.Sink.{WritesFront}
-use Rattle.entry_record.specs.Receipts.{receipts_behind}
+use Rattle.catalogue_rules.specs.Receipts.{receipts_behind}
 use Rattle.workload.specs.Workload.{workload_bytes}
 use Rattle.workload_entries.specs.Entries.{workload_entries}
 use Rattle.console_lines.specs.Ends.{Outcome, IsTold}

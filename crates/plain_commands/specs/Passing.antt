@@ -7,8 +7,8 @@ use Rattle.outside.specs.Sink.{WritesFront}
 use Rattle.marc_types.specs.declared.entry.Entry.{Entry}
 use Rattle.marc_stream.specs.Pieces.{items}
 use Rattle.command_words.specs.Command.{Library}
-use Rattle.entry_record.specs.History.{state_of}
-use Rattle.entry_record.specs.Output.{export_of, all_keys}
+use Rattle.catalogue_rules.specs.Settle.{state_of}
+use Rattle.catalogue_rules.specs.Output.{export_of, all_keys}
 use Rattle.file_entries.specs.Files.{IsJudged}
 use Rattle.file_entries.specs.declared.refused.RefusedItem.{RefusedItem}
 use Rattle.console_lines.specs.Ends.{Outcome, IsTold, IsAllDone, end_of}

@@ -3,7 +3,7 @@ use Rattle.std.specs.Prelude.{◌≡◌, ℕ, ◌*◌, ◌^◌, ◌≤◌, List,
 use Rattle.marc_types.specs.declared.entry.Entry.{Entry}
 use Rattle.marc_types.specs.declared.entry.Limits.{Limits}
 use Rattle.entry_record.specs.History.{entries_size}
-use Rattle.entry_record.specs.Receipts.{receipts_behind}
+use Rattle.catalogue_rules.specs.Receipts.{receipts_behind}
 use Rattle.catalogue_core.specs.Catalogues.{Catalogued}
 use Rattle.file_entries.specs.declared.refused.RefusedItem.{RefusedItem}
 use Rattle.console_lines.specs.Totals.{sums_of}

@@ -10,13 +10,12 @@ use Rattle.std.specs.declared.cmp.Ordering.TheVariants.{Less, Equal, Greater}
 use Rattle.std.specs.Ordering.{is_eq, match_ordering}
 use Rattle.std.proofs.lemmas.Map.Keys.{sorted_head, sorted_tail}
 use Rattle.std.proofs.lemmas.Map.Steps.{set_value_same}
-use Rattle.marc_types.specs.Order.{key_cmp}
+use Rattle.marc_types.specs.Order.{key_cmp, same_key}
 use Rattle.marc_types.specs.declared.key.Key.{Key}
 use Rattle.marc_types.specs.declared.entry.Kept.{Kept}
-use Rattle.entry_record.specs.Identity.{same_key}
-use Rattle.entry_record.specs.State.{KeptField, KeptRecord, Row}
+use Rattle.catalogue_rules.specs.State.{KeptField, KeptRecord, Row, kept_record}
 use Rattle.record_store.specs.Shelf.{filled}
-use Rattle.record_store.specs.Store.{field_at, kept_record, kept_rows, with_field, with_field_under}
+use Rattle.record_store.specs.Store.{field_at, kept_rows, with_field, with_field_under}
 use Rattle.record_store.proofs.Places.{Slots, IsBelow, IsInOrder, still_below, same_below, lookup_below, filled_in_order, filled_put, found, counted}
 use Rattle.record_store.proofs.Mapped.{kept_insert, kept_lookup}
 

@@ -7,29 +7,29 @@ use Rattle.marc_types.specs.Valid.{is_record}
 use Rattle.marc_types.specs.declared.field.Field.{Field}
 use Rattle.marc_types.specs.declared.entry.Tie.{Tie}
 use Rattle.marc_types.specs.declared.entry.Kept.{Kept}
-use Rattle.entry_record.specs.State.{KeptField}
-use Rattle.record_store.specs.Store.{StaysRecord, field_at, kept_field, kept_fields, kept_record, with_field}
+use Rattle.catalogue_rules.specs.State.{KeptField, kept_field, tied, kept_record}
+use Rattle.record_store.specs.Store.{StaysRecord, field_at, with_field}
 
 pub joined_set : (fields : List Field) (ties : List Tie) (i : ℕ) (field : Field) (tie : Tie) → length ties ≡ length fields
-    → kept_fields (slice_set fields i field) (slice_set ties i tie) ≡ slice_set (kept_fields fields ties) i (kept_field field tie)
+    → tied (slice_set fields i field) (slice_set ties i tie) ≡ slice_set (tied fields ties) i (kept_field field tie)
 joined_set [] ties i field tie same = refl
 joined_set (f ∷ fields) [] i field tie same = absurd (omega (arith, same))
 joined_set (f ∷ fields) (t ∷ ties) zero field tie same = refl
 joined_set (f ∷ fields) (t ∷ ties) (suc i) field tie same = ap (λ l. kept_field f t ∷ l) (joined_set fields ties i field tie (omega (arith, same)))
 
 pub joined_get : (fields : List Field) (ties : List Tie) (i : ℕ) (field : Field) (tie : Tie) → slice_get fields i ≡ Some field → slice_get ties i ≡ Some tie
-    → slice_get (kept_fields fields ties) i ≡ Some (kept_field field tie)
+    → slice_get (tied fields ties) i ≡ Some (kept_field field tie)
 joined_get [] ties i field tie f t = absurd (false≢true (ap is_some f))
 joined_get (x ∷ fields) [] i field tie f t = absurd (false≢true (ap is_some t))
 joined_get (x ∷ fields) (y ∷ ties) zero field tie f t = grind (arith, f, t)
 joined_get (x ∷ fields) (y ∷ ties) (suc i) field tie f t = joined_get fields ties i field tie f t
 
-pub joined_fields : (fields : List Field) (ties : List Tie) → length ties ≡ length fields → map (λ h. h.field) (kept_fields fields ties) ≡ fields
+pub joined_fields : (fields : List Field) (ties : List Tie) → length ties ≡ length fields → map (λ h. h.field) (tied fields ties) ≡ fields
 joined_fields [] ties same = refl
 joined_fields (f ∷ fields) [] same = absurd (omega (arith, same))
 joined_fields (f ∷ fields) (t ∷ ties) same = ap (λ l. f ∷ l) (joined_fields fields ties (omega (arith, same)))
 
-pub joined_length : (fields : List Field) (ties : List Tie) → length ties ≡ length fields → length (kept_fields fields ties) ≡ length fields
+pub joined_length : (fields : List Field) (ties : List Tie) → length ties ≡ length fields → length (tied fields ties) ≡ length fields
 joined_length [] ties same = refl
 joined_length (f ∷ fields) [] same = absurd (omega (arith, same))
 joined_length (f ∷ fields) (t ∷ ties) same = ap suc (joined_length fields ties (omega (arith, same)))
@@ -41,7 +41,7 @@ pub record_set : (before after : Kept) (i : ℕ) (field : Field) (tie : Tie) →
     → kept_record after ≡ with_field i (kept_field field tie) (kept_record before)
 unfolding kept_record
 record_set before after i field tie leader fields links =
-    let joined = ap (λ l. kept_fields l after.links) fields ∙ ap (kept_fields (slice_set before.rec.fields i field)) links ∙ joined_set before.rec.fields before.links i field tie before.tied in
+    let joined = ap (λ l. tied l after.links) fields ∙ ap (tied (slice_set before.rec.fields i field)) links ∙ joined_set before.rec.fields before.links i field tie before.tied in
     λ n. record { leader = leader n; fields = joined n }
 
 pub record_get : (kept : Kept) (i : ℕ) (field : Field) (tie : Tie) → slice_get kept.rec.fields i ≡ Some field → slice_get kept.links i ≡ Some tie

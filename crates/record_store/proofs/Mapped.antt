@@ -8,13 +8,12 @@ use Rattle.std.specs.BTreeMap.{insert_entry}
 use Rattle.std.specs.declared.cmp.Ordering.{Ordering}
 use Rattle.std.specs.declared.cmp.Ordering.TheVariants.{Less, Equal, Greater}
 use Rattle.std.specs.Ordering.{match_ordering}
-use Rattle.marc_types.specs.Order.{key_cmp, key_Decides}
+use Rattle.marc_types.specs.Order.{key_cmp, key_Decides, same_key}
 use Rattle.marc_types.specs.declared.key.Key.{Key}
 use Rattle.marc_types.specs.declared.entry.Kept.{Kept}
-use Rattle.entry_record.specs.Identity.{same_key}
-use Rattle.entry_record.specs.State.{Row}
+use Rattle.catalogue_rules.specs.State.{Row, kept_record}
 use Rattle.record_store.specs.Shelf.{Shelved, has_place}
-use Rattle.record_store.specs.Store.{kept_record, kept_row, kept_rows}
+use Rattle.record_store.specs.Store.{kept_row, kept_rows}
 
 insert_at : (key : Key) (kept : Kept) (o : Ordering) (row : Key × Kept) (rows more : List (Key × Kept)) (then : List Row) → kept_rows more ≡ then
     → kept_rows (match_ordering o ((key, kept) ∷ row ∷ rows) ((row.0, kept) ∷ rows) (row ∷ more))

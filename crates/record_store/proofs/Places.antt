@@ -10,9 +10,8 @@ use Rattle.std.specs.declared.cmp.Ordering.{Ordering}
 use Rattle.std.specs.declared.cmp.Ordering.TheVariants.{Less, Equal, Greater}
 use Rattle.std.specs.Ordering.{is_eq, match_ordering}
 use Rattle.std.proofs.lemmas.Map.Keys.{sorted_head, sorted_tail}
-use Rattle.marc_types.specs.Order.{key_cmp, key_cmp_total, key_Decides}
+use Rattle.marc_types.specs.Order.{key_cmp, key_cmp_total, key_Decides, same_key}
 use Rattle.marc_types.specs.declared.key.Key.{Key}
-use Rattle.entry_record.specs.Identity.{same_key}
 use Rattle.record_store.specs.Shelf.{filled}
 
 abbrev pub Slots : Type 0 → Type 0

@@ -3,7 +3,7 @@ use Rattle.std.specs.Prelude.{Bool, List, [], ◌∷◌, Option, Some, None}
 use Rattle.std.specs.List.{list_any}
 use Rattle.std.specs.Map.{keys_of}
 use Rattle.marc_types.specs.declared.key.Key.{Key}
-use Rattle.entry_record.specs.Identity.{same_key}
+use Rattle.marc_types.specs.Order.{same_key}
 
 -- the rows in key order, and the keys that have a place, in order
 pub record Shelved (V : Type 0) : Type 0 where

@@ -11,22 +11,10 @@ use Rattle.marc_types.specs.declared.key.Key.{Key}
 use Rattle.marc_types.specs.declared.key.Place.{Place}
 use Rattle.marc_types.specs.declared.entry.Tie.{Tie}
 use Rattle.marc_types.specs.declared.entry.Kept.{Kept}
-use Rattle.entry_record.specs.Identity.{same_key}
-use Rattle.entry_record.specs.State.{KeptField, KeptRecord, Row, State, fields_of}
-use Rattle.entry_record.specs.Receipt.{kept_under}
+use Rattle.marc_types.specs.Order.{same_key}
+use Rattle.catalogue_rules.specs.State.{KeptField, KeptRecord, Row, State, fields_of, kept_record}
+use Rattle.catalogue_rules.specs.Receipt.{kept_under}
 use Rattle.record_store.specs.Shelf.{Shelved}
-
-abbrev pub kept_field : Field → Tie → KeptField
-kept_field field tie = record { field = field; tie = tie }
-
--- fields and ties, joined in turn
-abbrev pub kept_fields : List Field → List Tie → List KeptField
-kept_fields [] ties = []
-kept_fields (field ∷ fields) [] = []
-kept_fields (field ∷ fields) (tie ∷ ties) = kept_field field tie ∷ kept_fields fields ties
-
-unfoldable pub kept_record : Kept → KeptRecord
-kept_record kept = record { leader = kept.rec.leader; fields = kept_fields kept.rec.fields kept.links }
 
 -- the keys that have a place, by class
 pub record Places : Type 0 where

@@ -1,7 +1,8 @@
 ghost use Rattle.std.specs.Prelude.{◌≡◌, ◌<◌, length, true, slice_get, slice_set, Some, None, IfSome, OnOk, OnErr, IfOk, IfErr};
 ghost use Rattle.std.specs.Option.{option_map, option_and_then};
 ghost use Rattle.marc_types.specs.Valid.{is_record};
-ghost use Rattle.record_store.specs.Store.{StaysRecord, field_at, kept_field, kept_record, with_field};
+ghost use Rattle.record_store.specs.Store.{StaysRecord, field_at, with_field};
+ghost use Rattle.catalogue_rules.specs.State.{kept_field, kept_record};
 
 use marc_types::{Field, Kept, Record, Sequence, Tie};
 use std::mem;

@@ -15,7 +15,7 @@ pub struct KeptRows<'a> {
 
 impl<'a> Model for KeptRows<'a> {
     ghost use Rattle.std.specs.Prelude.{List};
-    ghost use Rattle.entry_record.specs.State.{Row};
+    ghost use Rattle.catalogue_rules.specs.State.{Row};
     ghost use Rattle.record_store.specs.Store.{kept_rows};
 
     ghost Value = { List Row };

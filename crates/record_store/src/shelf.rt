@@ -5,10 +5,10 @@ ghost use Rattle.std.specs.Map.Iter.{deref_pair};
 ghost use Rattle.std.specs.List.{list_any};
 ghost use Rattle.std.specs.BTreeMap.{insert_entry};
 ghost use Rattle.std.specs.Map.{keys_of, lookup, remove_entry};
-ghost use Rattle.marc_types.specs.Order.{key_cmp};
-ghost use Rattle.entry_record.specs.Identity.{same_key};
+ghost use Rattle.marc_types.specs.Order.{key_cmp, same_key};
 ghost use Rattle.record_store.specs.Shelf.{filled, has_place};
-ghost use Rattle.record_store.specs.Store.{StaysRecord, field_at, kept_field, kept_rows, with_field_under};
+ghost use Rattle.record_store.specs.Store.{StaysRecord, field_at, kept_rows, with_field_under};
+ghost use Rattle.catalogue_rules.specs.State.{kept_field};
 
 use crate::rows::Rows;
 use crate::swapping::swap_under;

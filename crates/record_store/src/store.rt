@@ -2,13 +2,12 @@ ghost use Rattle.std.specs.Prelude.{◌≡◌, ◌+◌, ◌<◌, ◌^◌, [], le
 ghost use Rattle.std.specs.Option.{option_map};
 ghost use Rattle.std.specs.BTreeMap.{insert_entry};
 ghost use Rattle.std.specs.Map.{lookup, remove_entry};
-ghost use Rattle.marc_types.specs.Order.{key_cmp};
-ghost use Rattle.entry_record.specs.Identity.{same_key};
-ghost use Rattle.entry_record.specs.State.{empty_state, rows_of};
-ghost use Rattle.entry_record.specs.Receipt.{kept_under};
-ghost use Rattle.entry_record.specs.Valid.{IsAscending};
+ghost use Rattle.marc_types.specs.Order.{key_cmp, same_key};
+ghost use Rattle.catalogue_rules.specs.State.{empty_state, rows_of, kept_field, kept_record};
+ghost use Rattle.catalogue_rules.specs.Receipt.{kept_under};
+ghost use Rattle.catalogue_rules.specs.Valid.{IsAscending};
 ghost use Rattle.record_store.specs.Shelf.{has_place};
-ghost use Rattle.record_store.specs.Store.{StaysRecord, field_under, has_room, kept_field, kept_record, kept_rows, shown_row, stored, with_field_under, with_rows};
+ghost use Rattle.record_store.specs.Store.{StaysRecord, field_under, has_room, kept_rows, shown_row, stored, with_field_under, with_rows};
 
 use crate::kept_rows::KeptRows;
 use crate::shelf::Shelf;

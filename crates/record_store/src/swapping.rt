@@ -1,9 +1,10 @@
 ghost use Rattle.std.specs.Prelude.{◌≡◌, length, Some, None, IfSome, OnOk, OnErr, IfOk, IfErr};
 ghost use Rattle.std.specs.Option.{option_and_then};
 ghost use Rattle.std.specs.Map.{keys_of, lookup};
-ghost use Rattle.entry_record.specs.Identity.{same_key};
+ghost use Rattle.marc_types.specs.Order.{same_key};
 ghost use Rattle.record_store.specs.Shelf.{filled};
-ghost use Rattle.record_store.specs.Store.{StaysRecord, field_at, kept_field, kept_rows, with_field_under};
+ghost use Rattle.record_store.specs.Store.{StaysRecord, field_at, kept_rows, with_field_under};
+ghost use Rattle.catalogue_rules.specs.State.{kept_field};
 
 use crate::exchange::swap_in;
 use marc_types::{Field, Kept, Key, Tie};

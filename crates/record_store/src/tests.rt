@@ -1,6 +1,6 @@
 ghost use Rattle.std.specs.Prelude.{◌≡◌, ◌<◌, IfOk};
 ghost use Rattle.std.specs.Map.{keys_of};
-ghost use Rattle.entry_record.specs.State.{rows_of};
+ghost use Rattle.catalogue_rules.specs.State.{rows_of};
 
 use crate::{Shelf, Steps, Store};
 use marc_types::{

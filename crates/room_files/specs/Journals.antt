@@ -5,10 +5,9 @@ use Rattle.marc_types.specs.declared.entry.Limits.{Limits}
 use Rattle.outside.specs.Disk.{DiskView, SameDisk}
 use Rattle.outside.specs.Room.{RoomView, bytes_or_none}
 use Rattle.commit_journal.specs.Log.{version_of}
-use Rattle.entry_record.specs.History.{next_run}
+use Rattle.entry_record.specs.History.{next_run, IsWithin}
 use Rattle.durable_catalogue.specs.Logs.{HasHistory}
 use Rattle.durable_catalogue.specs.Images.{Holds}
-use Rattle.durable_catalogue.specs.Openings.{IsWithin}
 use Rattle.durable_catalogue.specs.Durables.{Opening, IsLeft, marked}
 use Rattle.durable_catalogue.specs.Views.{DurableView}
 

@@ -5,7 +5,8 @@ ghost use Rattle.outside.specs.Fault.{Rose};
 ghost use Rattle.outside.specs.Room.{AsLog, SameBut};
 ghost use Rattle.durable_catalogue.specs.declared.fault.OpenFault.TheVariants.{DeviceFault, OldVersion};
 ghost use Rattle.durable_catalogue.specs.Logs.{HasHistory};
-ghost use Rattle.durable_catalogue.specs.Openings.{IsWithin, IsUnopened};
+ghost use Rattle.durable_catalogue.specs.Openings.{IsUnopened};
+ghost use Rattle.entry_record.specs.History.{IsWithin};
 ghost use Rattle.room_files.specs.Journals.{journal_limits, log_bytes, KeepsHistory, KeepsLog};
 
 use crate::JOURNAL_LIMITS;

@@ -8,8 +8,8 @@ use Rattle.outside.specs.Fault.{Rose}
 use Rattle.outside.specs.Room.{RoomView, SameBut}
 use Rattle.outside.specs.Sink.{WritesFront}
 use Rattle.command_words.specs.Command.{Library, AreNames}
-use Rattle.entry_record.specs.History.{state_of}
-use Rattle.entry_record.specs.Output.{export_of, all_keys, report_of}
+use Rattle.catalogue_rules.specs.Settle.{state_of}
+use Rattle.catalogue_rules.specs.Output.{export_of, all_keys, report_of}
 use Rattle.console_lines.specs.Ends.{Outcome, IsTold, IsAllDone, IsUntold, end_of}
 use Rattle.console_lines.specs.declared.end.End.TheVariants.{OutputFault, Told}
 use Rattle.console_lines.specs.declared.fault.Fault.{Fault}

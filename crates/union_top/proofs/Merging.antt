@@ -11,7 +11,7 @@ use Rattle.marc_stream.specs.Pieces.{items}
 use Rattle.file_entries.specs.Files.{IsJudged}
 use Rattle.file_entries.specs.declared.refused.RefusedItem.{RefusedItem}
 use Rattle.entry_record.specs.History.{brought_by, with_run, next_run}
-use Rattle.entry_record.specs.Receipts.{receipts_of_loader}
+use Rattle.catalogue_rules.specs.Receipts.{receipts_of_loader}
 use Rattle.console_lines.specs.Lines.{refused_lines, totals_line}
 use Rattle.console_lines.specs.Totals.{sums_of}
 use Rattle.console_lines.specs.declared.fault.Fault.{Fault}

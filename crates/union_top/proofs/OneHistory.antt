@@ -5,11 +5,10 @@ use Rattle.std.proofs.Math.Logic.{∥∥₁_map}
 use Rattle.marc_types.specs.declared.entry.Entry.{Entry}
 use Rattle.outside.specs.Room.{RoomView, bytes_or_none}
 use Rattle.command_words.specs.Command.{Library}
-use Rattle.entry_record.specs.History.{IsMerged, brought_by, with_run, next_run}
+use Rattle.entry_record.specs.History.{IsMerged, brought_by, with_run, next_run, IsWithin}
 use Rattle.durable_catalogue.specs.Logs.{HasHistory}
 use Rattle.durable_catalogue.specs.Images.{Holds}
 use Rattle.durable_catalogue.specs.Durables.{Opening}
-use Rattle.durable_catalogue.specs.Openings.{IsWithin}
 use Rattle.durable_catalogue.proofs.Images.{front_of, whole_is}
 use Rattle.loader_workers.specs.declared.result.FileResult.{FileResult}
 use Rattle.durable_catalogue.specs.Views.{DurableView}

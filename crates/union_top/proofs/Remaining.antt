@@ -8,13 +8,12 @@ use Rattle.marc_types.specs.declared.entry.Entry.{Entry}
 use Rattle.outside.specs.Room.{RoomView}
 use Rattle.command_words.specs.Command.{Library}
 use Rattle.commit_journal.specs.Log.{version_of}
-use Rattle.entry_record.specs.History.{entries_size}
+use Rattle.entry_record.specs.History.{entries_size, IsWithin}
 use Rattle.console_lines.specs.declared.fault.Fault.{Fault}
 use Rattle.console_lines.specs.declared.fault.Fault.TheVariants as fault
 use Rattle.durable_catalogue.specs.declared.fault.OpenFault.{OpenFault}
 use Rattle.durable_catalogue.specs.declared.fault.OpenFault.TheVariants as opening
 use Rattle.durable_catalogue.specs.Durables.{marked}
-use Rattle.durable_catalogue.specs.Openings.{IsWithin}
 use Rattle.loader_workers.specs.declared.file_end.FileEnd.TheVariants as end
 use Rattle.loader_workers.specs.declared.result.FileResult.{FileResult}
 use Rattle.room_files.specs.Journals.{journal_limits, log_bytes}

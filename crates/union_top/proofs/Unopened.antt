@@ -10,7 +10,8 @@ use Rattle.entry_history.proofs.Histories.{history_once}
 use Rattle.durable_catalogue.specs.declared.fault.OpenFault.{OpenFault}
 use Rattle.durable_catalogue.specs.declared.fault.OpenFault.TheVariants as opening
 use Rattle.durable_catalogue.specs.Logs.{payloads_of, IsLogOf}
-use Rattle.durable_catalogue.specs.Openings.{IsBadFrame, IsWithin, NoGate, NoPayload, IsUnopened}
+use Rattle.durable_catalogue.specs.Openings.{IsBadFrame, NoGate, NoPayload, IsUnopened}
+use Rattle.entry_record.specs.History.{IsWithin}
 use Rattle.room_files.specs.Journals.{journal_limits}
 use Rattle.archive_commands.specs.Archives.{HasFittingHistory}
 use mathlib.Core.HLevel.{⊥_prop}

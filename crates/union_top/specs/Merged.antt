@@ -7,10 +7,9 @@ use Rattle.marc_stream.specs.Pieces.{items}
 use Rattle.commit_journal.specs.Log.{version_of}
 use Rattle.file_entries.specs.Files.{IsJudged}
 use Rattle.file_entries.specs.declared.refused.RefusedItem.{RefusedItem}
-use Rattle.entry_record.specs.History.{IsMerged}
+use Rattle.entry_record.specs.History.{IsMerged, IsWithin}
 use Rattle.durable_catalogue.specs.Logs.{HasHistory}
 use Rattle.durable_catalogue.specs.Images.{Holds}
-use Rattle.durable_catalogue.specs.Openings.{IsWithin}
 use Rattle.room_files.specs.Journals.{journal_limits, log_bytes}
 
 -- The accepted entries and the refused items of the files of libraries, in their order: each file is there, and each of its items

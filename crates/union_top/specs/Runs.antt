@@ -6,8 +6,8 @@ use Rattle.outside.specs.Room.{RoomView}
 use Rattle.outside.specs.Sink.{WritesFront}
 use Rattle.command_words.specs.Command.{Library}
 use Rattle.file_entries.specs.declared.refused.RefusedItem.{RefusedItem}
-use Rattle.entry_record.specs.History.{state_of}
-use Rattle.entry_record.specs.Output.{export_of, all_keys, report_of}
+use Rattle.catalogue_rules.specs.Settle.{state_of}
+use Rattle.catalogue_rules.specs.Output.{export_of, all_keys, report_of}
 use Rattle.console_lines.specs.Ends.{end_of}
 use Rattle.console_lines.specs.declared.end.End.{End}
 use Rattle.console_lines.specs.declared.fault.Fault.{Fault}

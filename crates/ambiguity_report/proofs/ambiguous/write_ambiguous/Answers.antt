@@ -1,5 +1,5 @@
 use Rattle.std.proofs.Common.{◌∙◌, arith}
-use Rattle.entry_record.specs.State.{linkable_authorities}
+use Rattle.catalogue_rules.specs.State.{linkable_authorities}
 use Rattle.outside.proofs.Fronts.{writing_more, writing_failed}
 use Rattle.ambiguity_report.proofs.Fields.{ambiguous_next, stood_more}
 use Rattle.ambiguity_report.proofs.ambiguous.write_ambiguous.Goals as goal

@@ -1,8 +1,8 @@
 use Rattle.std.proofs.Common.{◌≡◌, ◌≤◌}
 use Rattle.std.specs.Prelude.{is_some}
 use Rattle.outside.proofs.Fronts.{IsWriting}
-use Rattle.entry_record.specs.State.{linkable_authorities, rows_of}
-use Rattle.entry_record.specs.Output.{ambiguous_line}
+use Rattle.catalogue_rules.specs.State.{linkable_authorities, rows_of}
+use Rattle.catalogue_rules.specs.Output.{ambiguous_line}
 use Rattle.catalogue_core.specs.Behind.{standings_rows}
 use Rattle.ambiguity_report.specs.Beside.{rows_lines}
 use Rattle.ambiguity_report.proofs.ambiguous.write_ambiguous.Given as goal

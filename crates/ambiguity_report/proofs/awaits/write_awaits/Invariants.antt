@@ -1,8 +1,8 @@
 use Rattle.std.proofs.Common.{◌≡◌, ◌≤◌}
 use Rattle.std.specs.Prelude.{is_some}
 use Rattle.outside.proofs.Fronts.{IsWriting}
-use Rattle.entry_record.specs.State.{rows_of}
-use Rattle.entry_record.specs.Output.{awaits_line}
+use Rattle.catalogue_rules.specs.State.{rows_of}
+use Rattle.catalogue_rules.specs.Output.{awaits_line}
 use Rattle.ambiguity_report.specs.Beside.{rows_lines}
 use Rattle.ambiguity_report.proofs.awaits.write_awaits.Given as goal
 

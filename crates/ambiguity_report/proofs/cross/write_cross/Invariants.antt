@@ -2,7 +2,7 @@ use Rattle.std.proofs.Common.{◌≡◌, ◌≤◌, drop}
 use Rattle.std.specs.Prelude.{is_some}
 use Rattle.std.specs.List.{flat_map}
 use Rattle.outside.proofs.Fronts.{IsWriting}
-use Rattle.entry_record.specs.Output.{cross_lines}
+use Rattle.catalogue_rules.specs.Output.{cross_lines}
 use Rattle.catalogue_core.specs.Views.{linkables}
 use Rattle.ambiguity_report.proofs.Scans.{cross_lines_at}
 use Rattle.ambiguity_report.proofs.cross.write_cross.Given as goal

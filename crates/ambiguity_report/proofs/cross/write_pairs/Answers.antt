@@ -1,5 +1,5 @@
 use Rattle.std.proofs.Common.{◌∙◌, arith}
-use Rattle.entry_record.specs.Output.{cross_line}
+use Rattle.catalogue_rules.specs.Output.{cross_line}
 use Rattle.outside.proofs.Fronts.{writing_more, writing_failed}
 use Rattle.ambiguity_report.proofs.Scans.{authority_next}
 use Rattle.ambiguity_report.proofs.cross.write_pairs.Goals as goal

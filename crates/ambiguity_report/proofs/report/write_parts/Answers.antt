@@ -1,6 +1,6 @@
 use Rattle.std.proofs.lemmas.Result.{on_ok_weaker}
 use Rattle.outside.proofs.Fronts.{front_more, front_then, appends_then}
-use Rattle.entry_record.specs.Output.{report_of}
+use Rattle.catalogue_rules.specs.Output.{report_of}
 use Rattle.ambiguity_report.proofs.report.write_parts.Goals as goal
 
 pub returns-in_err-write_shared-clause-front : goal.returns-in_err-write_shared-clause-front

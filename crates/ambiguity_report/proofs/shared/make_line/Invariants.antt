@@ -1,8 +1,8 @@
 use Rattle.std.proofs.Common.{◌≡◌, ◌++◌, map, take}
 use Rattle.std.specs.Prelude.{codes}
 use Rattle.heading_fields.specs.Numbers.{key_text}
-use Rattle.entry_record.specs.Choice.{keys_of_linkable}
-use Rattle.entry_record.specs.Lines.{then_words}
+use Rattle.catalogue_rules.specs.Choice.{keys_of_linkable}
+use Rattle.catalogue_rules.specs.Lines.{then_words}
 use Rattle.catalogue_core.specs.Views.{linkables}
 use Rattle.ambiguity_report.proofs.shared.make_line.Given as goal
 

@@ -1,6 +1,6 @@
 use Rattle.std.proofs.Common.{◌≡◌, take}
 use Rattle.std.specs.Prelude.{filter}
-use Rattle.entry_record.specs.Choice.{is_established}
+use Rattle.catalogue_rules.specs.Choice.{is_established}
 use Rattle.catalogue_core.specs.Views.{linkables}
 use Rattle.ambiguity_report.proofs.shared.sharing.Given as goal
 

@@ -1,6 +1,6 @@
 use Rattle.std.proofs.Common.{◌≡◌, ap, ◌∙◌, arith}
 use Rattle.std.specs.Prelude.{filter}
-use Rattle.entry_record.specs.Choice.{is_established}
+use Rattle.catalogue_rules.specs.Choice.{is_established}
 use Rattle.catalogue_core.specs.Views.{linkables}
 use Rattle.outside.proofs.Fronts.{writing_more, writing_failed}
 use Rattle.ambiguity_report.proofs.Scans.{authority_next, shared_line_at}

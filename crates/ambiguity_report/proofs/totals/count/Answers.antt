@@ -1,5 +1,5 @@
 use Rattle.std.proofs.Common.{refl}
-use Rattle.entry_record.specs.State.{linkable_authorities, rows_of}
+use Rattle.catalogue_rules.specs.State.{linkable_authorities, rows_of}
 use Rattle.catalogue_core.specs.Behind.{standings_rows}
 use Rattle.ambiguity_report.proofs.Counting.{totals_are}
 use Rattle.ambiguity_report.proofs.totals.count.Goals as goal

@@ -1,6 +1,6 @@
 use Rattle.catalogue_core.specs.Behind.{standings_rows}
 use Rattle.catalogue_core.specs.Counted.{is_linked_here, is_ambiguous_here, is_unlinked_here}
-use Rattle.entry_record.specs.State.{linkable_authorities, rows_of}
+use Rattle.catalogue_rules.specs.State.{linkable_authorities, rows_of}
 use Rattle.ambiguity_report.proofs.Counting.{IsCounting}
 use Rattle.ambiguity_report.proofs.totals.count.Given as goal
 

@@ -1,8 +1,8 @@
 use Rattle.std.proofs.Common.{◌≡◌, ap, ◌∙◌}
 use Rattle.marc_types.specs.declared.entry.Entry.{Entry}
 use Rattle.marc_types.specs.declared.record.Record.{Record}
-use Rattle.entry_record.specs.State.{new_record}
-use Rattle.entry_record.specs.History.{arrival_of}
+use Rattle.catalogue_rules.specs.State.{new_record}
+use Rattle.catalogue_rules.specs.Settle.{arrival_of}
 use Rattle.catalogue_core.specs.Views.{linkables}
 use Rattle.catalogue_core.specs.Stands.{standings_of}
 use Rattle.catalogue_core.specs.KeptRecords.{kept_record, new_record_after}

@@ -1,6 +1,6 @@
 use Rattle.std.proofs.Common.{sym, subst}
-use Rattle.entry_record.specs.State.{KeptRecord, rows_of}
-use Rattle.entry_record.specs.History.{arrival_of}
+use Rattle.catalogue_rules.specs.State.{KeptRecord, rows_of}
+use Rattle.catalogue_rules.specs.Settle.{arrival_of}
 use Rattle.catalogue_core.specs.Views.{linkables}
 use Rattle.catalogue_core.specs.KeptRecords.{kept_record, HasSize}
 use Rattle.catalogue_core.specs.Behind.{ended, IsRowAfter}

@@ -1,5 +1,5 @@
-use Rattle.entry_record.specs.State.{rows_of}
-use Rattle.entry_record.specs.History.{arrival_of}
+use Rattle.catalogue_rules.specs.State.{rows_of}
+use Rattle.catalogue_rules.specs.Settle.{arrival_of}
 use Rattle.catalogue_core.specs.Views.{linkables}
 use Rattle.catalogue_core.specs.Behind.{ended}
 use Rattle.catalogue_core.proofs.Halfway.{IsHalfway}

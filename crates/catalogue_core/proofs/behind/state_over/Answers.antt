@@ -3,7 +3,7 @@ use Rattle.std.specs.Prelude.{All}
 use Rattle.marc_types.specs.declared.key.Class.TheVariants.{Authority, Bibliographic}
 use Rattle.marc_types.specs.declared.key.Key.{Key}
 use Rattle.marc_types.specs.declared.entry.Entry.{Entry}
-use Rattle.entry_record.specs.History.{arrival_of}
+use Rattle.catalogue_rules.specs.Settle.{arrival_of}
 use Rattle.catalogue_core.specs.Views.{linkables}
 use Rattle.catalogue_core.specs.Commits.{ended_by}
 use Rattle.catalogue_core.specs.Behind.{ended, HasSizeBehind}

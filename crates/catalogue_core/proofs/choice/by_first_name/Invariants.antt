@@ -1,7 +1,8 @@
 use Rattle.std.proofs.Common.{◌≡◌, drop}
-use Rattle.heading_fields.specs.Parts.{subfields_of}
-use Rattle.entry_record.specs.Choice.{by_first_name}
-use Rattle.catalogue_core.specs.Views.{linkables, kept_field}
+use Rattle.marc_types.specs.Fields.{subfields_of}
+use Rattle.catalogue_rules.specs.Choice.{by_first_name}
+use Rattle.catalogue_core.specs.Views.{linkables}
+use Rattle.catalogue_rules.specs.State.{kept_field}
 use Rattle.catalogue_core.proofs.choice.by_first_name.Given as goal
 
 abbrev pub invariant-loop-subfield : goal.invariant-loop-subfield

@@ -1,6 +1,6 @@
 use Rattle.std.proofs.Common.{arith, ◌≡◌, [], Option, IfOk, subst, option_map}
 use Rattle.std.proofs.lemmas.Grind.{common_steps}
-use Rattle.entry_record.specs.Choice.{Choice}
+use Rattle.catalogue_rules.specs.Choice.{Choice}
 use Rattle.catalogue_core.specs.Views.{choice_of}
 use Rattle.catalogue_core.proofs.Seeking.{traced_decide}
 use Rattle.catalogue_core.proofs.choice.by_form.Goals as goal

@@ -1,5 +1,5 @@
 use Rattle.std.proofs.Common.{◌≡◌, take}
-use Rattle.entry_record.specs.Choice.{keys_of_linkable}
+use Rattle.catalogue_rules.specs.Choice.{keys_of_linkable}
 use Rattle.catalogue_core.specs.Views.{linkables}
 use Rattle.catalogue_core.proofs.choice.keys_of.Given as goal
 

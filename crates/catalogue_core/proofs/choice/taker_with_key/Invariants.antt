@@ -1,8 +1,8 @@
 use Rattle.std.proofs.Common.{◌≡◌, Bool, ◌&&◌, drop}
 use Rattle.std.specs.Prelude.{find}
 use Rattle.entry_record.specs.Authority.{Linkable}
-use Rattle.entry_record.specs.State.{new_field}
-use Rattle.entry_record.specs.Choice.{has_key, can_take}
+use Rattle.catalogue_rules.specs.State.{new_field}
+use Rattle.catalogue_rules.specs.Choice.{has_key, can_take}
 use Rattle.catalogue_core.specs.Views.{linkables}
 use Rattle.catalogue_core.proofs.choice.taker_with_key.Given as goal
 

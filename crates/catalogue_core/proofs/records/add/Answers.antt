@@ -1,6 +1,5 @@
 use Rattle.std.proofs.Common.{take}
-use Rattle.catalogue_core.specs.Views.{kept_field}
-use Rattle.catalogue_core.specs.KeptRecords.{tied}
+use Rattle.catalogue_rules.specs.State.{kept_field, tied}
 use Rattle.catalogue_core.specs.Drafts.{IsBegunAt, IsAdded}
 use Rattle.catalogue_core.proofs.Making.{added_by, begun_by, ok_weaker}
 use Rattle.catalogue_core.proofs.Ties.{tied_at, tied_take}

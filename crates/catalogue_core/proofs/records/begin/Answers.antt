@@ -1,4 +1,4 @@
-use Rattle.catalogue_core.specs.KeptRecords.{tied}
+use Rattle.catalogue_rules.specs.State.{tied}
 use Rattle.catalogue_core.proofs.Making.{begun_none, begun_some}
 use Rattle.catalogue_core.proofs.records.begin.Goals as goal
 

@@ -1,6 +1,7 @@
 use Rattle.std.proofs.Common.{◌≤◌, length}
-use Rattle.catalogue_core.specs.Views.{linkables, kept_field}
-use Rattle.catalogue_core.specs.KeptRecords.{tied, kept_record}
+use Rattle.catalogue_core.specs.Views.{linkables}
+use Rattle.catalogue_rules.specs.State.{kept_field, tied}
+use Rattle.catalogue_core.specs.KeptRecords.{kept_record}
 use Rattle.catalogue_core.proofs.Ties.{tied_at, length_tied}
 use Rattle.catalogue_core.proofs.Making.{through_more, through_drafted, through_standing}
 use Rattle.catalogue_core.proofs.records.fields_after.Goals as goal

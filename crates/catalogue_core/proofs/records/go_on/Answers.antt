@@ -1,4 +1,4 @@
-use Rattle.catalogue_core.specs.Views.{kept_field}
+use Rattle.catalogue_rules.specs.State.{kept_field}
 use Rattle.catalogue_core.proofs.Making.{went_on}
 use Rattle.catalogue_core.proofs.records.go_on.Goals as goal
 

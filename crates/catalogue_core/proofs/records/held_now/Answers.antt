@@ -1,5 +1,5 @@
 use Rattle.std.proofs.Common.{◌≡◌, ◌∙◌}
-use Rattle.catalogue_core.specs.Views.{kept_field}
+use Rattle.catalogue_rules.specs.State.{kept_field}
 use Rattle.catalogue_core.proofs.Making.{stayed}
 use Rattle.catalogue_core.proofs.records.held_now.Goals as goal
 

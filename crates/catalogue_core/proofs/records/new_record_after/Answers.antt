@@ -1,5 +1,5 @@
 use Rattle.std.proofs.Common.{◌≡◌, None, refl, sym, ap, ◌∙◌, subst}
-use Rattle.entry_record.specs.State.{KeptRecord, new_record}
+use Rattle.catalogue_rules.specs.State.{KeptRecord, new_record}
 use Rattle.catalogue_core.specs.Views.{linkables}
 use Rattle.catalogue_core.specs.Stands.{standings_of}
 use Rattle.catalogue_core.specs.KeptRecords.{kept_record, record_after, new_record_after, HasSize}

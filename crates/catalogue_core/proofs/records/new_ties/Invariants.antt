@@ -1,6 +1,6 @@
 use Rattle.std.proofs.Common.{◌≡◌, take, map}
 use Rattle.marc_types.specs.declared.field.Field.{Field}
-use Rattle.entry_record.specs.State.{new_tie}
+use Rattle.catalogue_rules.specs.State.{new_tie}
 use Rattle.catalogue_core.proofs.records.new_ties.Given as goal
 
 abbrev pub invariant-loop-field : goal.invariant-loop-field

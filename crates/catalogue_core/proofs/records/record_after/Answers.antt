@@ -1,6 +1,6 @@
 use Rattle.std.proofs.Common.{◌≤◌, List, Option, map, sym, ◌∙◌, subst}
 use Rattle.marc_types.specs.Valid.{fields_size}
-use Rattle.entry_record.specs.State.{KeptField}
+use Rattle.catalogue_rules.specs.State.{KeptField}
 use Rattle.catalogue_core.specs.Views.{linkables}
 use Rattle.catalogue_core.specs.Changes.{field_after}
 use Rattle.catalogue_core.specs.KeptRecords.{kept_record}

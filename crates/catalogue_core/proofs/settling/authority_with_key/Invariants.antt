@@ -1,6 +1,6 @@
 use Rattle.std.proofs.Common.{◌≡◌, drop}
 use Rattle.std.specs.Prelude.{find}
-use Rattle.entry_record.specs.Choice.{has_key}
+use Rattle.catalogue_rules.specs.Choice.{has_key}
 use Rattle.catalogue_core.specs.Views.{linkables}
 use Rattle.catalogue_core.proofs.settling.authority_with_key.Given as goal
 

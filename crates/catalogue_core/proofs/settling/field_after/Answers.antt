@@ -1,6 +1,6 @@
 use Rattle.std.proofs.Common.{sym, ap, ◌∙◌, IfOk, subst, option_map}
-use Rattle.entry_record.specs.State.{KeptField}
-use Rattle.catalogue_core.specs.Views.{linkables, kept_field}
+use Rattle.catalogue_rules.specs.State.{KeptField, kept_field}
+use Rattle.catalogue_core.specs.Views.{linkables}
 use Rattle.catalogue_core.specs.Changes.{held_as, IsFieldAfter}
 use Rattle.catalogue_core.proofs.Standings.{same_after, both_after}
 use Rattle.catalogue_core.proofs.settling.field_after.Goals as goal

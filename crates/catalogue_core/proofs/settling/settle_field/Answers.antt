@@ -1,5 +1,6 @@
 use Rattle.std.proofs.Common.{sym, ap, ◌∙◌}
-use Rattle.catalogue_core.specs.Views.{linkables, kept_field}
+use Rattle.catalogue_core.specs.Views.{linkables}
+use Rattle.catalogue_rules.specs.State.{kept_field}
 use Rattle.catalogue_core.specs.Changes.{change}
 use Rattle.catalogue_core.proofs.Standings.{settled_linked, settled_stands}
 use Rattle.catalogue_core.proofs.settling.settle_field.Goals as goal

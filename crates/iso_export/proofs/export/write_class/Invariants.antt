@@ -1,7 +1,7 @@
 use Rattle.std.proofs.Common.{◌≤◌}
-use Rattle.entry_record.proofs.Elements.{Each}
-use Rattle.entry_record.specs.Output.{export_of_rows}
-use Rattle.entry_record.specs.State.{rows_of}
+use Rattle.catalogue_rules.proofs.Elements.{Each}
+use Rattle.catalogue_rules.specs.Output.{export_of_rows}
+use Rattle.catalogue_rules.specs.State.{rows_of}
 use Rattle.outside.proofs.Fronts.{IsWriting}
 use Rattle.selection.specs.Selections.{ForSelected}
 use Rattle.iso_export.proofs.Exported.{RowFits}

@@ -1,5 +1,5 @@
 use Rattle.std.proofs.lemmas.Result.{on_ok_weaker}
-use Rattle.entry_record.specs.Output.{export_of}
+use Rattle.catalogue_rules.specs.Output.{export_of}
 use Rattle.outside.proofs.Fronts.{front_more, front_then, appends_then}
 use Rattle.iso_export.proofs.export.write_state.Goals as goal
 

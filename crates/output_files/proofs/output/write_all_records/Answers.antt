@@ -1,5 +1,5 @@
 use Rattle.std.proofs.Common.{rules}
-use Rattle.entry_record.specs.Output.{all_keys}
+use Rattle.catalogue_rules.specs.Output.{all_keys}
 use Rattle.output_files.proofs.output.write_all_records.Goals as goal
 
 pub returns-clause-part : goal.returns-clause-part

@@ -1,7 +1,8 @@
 use Rattle.std.proofs.Common.{ap, sym, ◌∙◌, subst, length, IfSome}
 use Rattle.std.specs.Option.{option_and_then}
 use Rattle.record_store.specs.Shelf.{filled}
-use Rattle.record_store.specs.Store.{StaysRecord, field_at, kept_field, with_field}
+use Rattle.record_store.specs.Store.{StaysRecord, field_at, with_field}
+use Rattle.catalogue_rules.specs.State.{kept_field}
 use Rattle.record_store.proofs.Exchanged.{stands, exchanged, as_many, unchanged, nowhere}
 use Rattle.record_store.proofs.swapping.swap_under.Goals as goal
 

@@ -1,6 +1,6 @@
 use Rattle.std.proofs.Common.{◌≡◌, ◌++◌}
 use Rattle.std.specs.Map.{keys_of}
-use Rattle.entry_record.specs.State.{rows_of}
+use Rattle.catalogue_rules.specs.State.{rows_of}
 use Rattle.record_store.proofs.tests.keys_in.Given as goal
 
 abbrev pub invariant-loop-key : goal.invariant-loop-key

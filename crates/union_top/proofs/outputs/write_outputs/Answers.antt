@@ -1,7 +1,7 @@
 use Rattle.std.proofs.Common.{rules, OnOk, sym, subst, ◌∙◌}
 use Rattle.std.proofs.lemmas.Result.{on_ok_weaker}
-use Rattle.entry_record.specs.History.{state_of}
-use Rattle.entry_record.specs.Output.{export_of, report_of, all_keys}
+use Rattle.catalogue_rules.specs.Settle.{state_of}
+use Rattle.catalogue_rules.specs.Output.{export_of, report_of, all_keys}
 use Rattle.output_files.specs.Outputs.{IsPartWritten, AsItWas}
 use Rattle.union_top.proofs.outputs.write_outputs.Goals as goal
 

@@ -1,9 +1,9 @@
 use Rattle.std.proofs.Common.{◌≡◌, ◌+◌, ℕ, List, [], ◌∷◌, ◌++◌, length, map, false, Some, arith, sym, ap, ◌∙◌, subst}
 use Rattle.std.specs.Prelude.{unwrap_or}
 use Rattle.marc_types.specs.declared.entry.Entry.{Entry}
-use Rattle.entry_record.specs.Settle.{step}
-use Rattle.entry_record.specs.History.{arrival_of, entry_size}
-use Rattle.entry_record.specs.Receipt.{receipt}
+use Rattle.catalogue_rules.specs.Settle.{step, arrival_of}
+use Rattle.entry_record.specs.History.{entry_size}
+use Rattle.catalogue_rules.specs.Receipt.{receipt}
 use Rattle.catalogue_core.specs.Catalogues.{Catalogued, all_entries, catalogued, is_full, IsCatalogue}
 use Rattle.catalogue_core.specs.declared.catalogue.Before.{Before}
 use Rattle.catalogue_core.proofs.Catalogues.{all_is, first_before, catalogue_added, room_in_bytes, numbered, receipt_made}

@@ -1,6 +1,6 @@
 use Rattle.std.proofs.Common.{List, None, sym, subst}
 use Rattle.marc_types.specs.declared.entry.Entry.{Entry}
-use Rattle.entry_record.specs.State.{State, empty_state}
+use Rattle.catalogue_rules.specs.State.{State, empty_state}
 use Rattle.catalogue_core.specs.Catalogues.{IsCatalogue}
 use Rattle.catalogue_core.proofs.Catalogues.{catalogue_empty}
 use Rattle.catalogue_core.proofs.catalogue.Catalogue.empty.Goals as goal

@@ -1,8 +1,7 @@
 use Rattle.std.proofs.Common.{◌+◌, ◌<◌, ◌^◌, arith, refl, sym, ap, ◌∙◌, subst}
-use Rattle.entry_record.specs.State.{State}
-use Rattle.entry_record.specs.Settle.{step}
-use Rattle.entry_record.specs.History.{arrival_of}
-use Rattle.entry_record.specs.Receipt.{receipt_of}
+use Rattle.catalogue_rules.specs.State.{State}
+use Rattle.catalogue_rules.specs.Settle.{step, arrival_of}
+use Rattle.catalogue_rules.specs.Receipt.{receipt_of}
 use Rattle.record_store.specs.Store.{Stored}
 use Rattle.catalogue_core.specs.Behind.{linkable_rows}
 use Rattle.catalogue_core.specs.Engines.{IsEngine, AreNumbersOf}

@@ -1,6 +1,6 @@
 use Rattle.std.proofs.Common.{List, Some, None, ap, ◌∙◌}
 use Rattle.std.specs.Prelude.{slice_get}
-use Rattle.entry_record.specs.State.{rows_of, linkable_authorities}
+use Rattle.catalogue_rules.specs.State.{rows_of, linkable_authorities}
 use Rattle.catalogue_core.specs.declared.standing.Standing.{Standing}
 use Rattle.catalogue_core.proofs.Look.{standing_found}
 use Rattle.catalogue_core.proofs.engine.Engine.standing.Goals as goal

@@ -2,7 +2,7 @@ use Rattle.std.proofs.Common.{List, ◌++◌, sym, ap, subst, ◌∙◌}
 use Rattle.std.specs.Prelude.{IfOk}
 use Rattle.std.proofs.lemmas.List.{append-nil}
 use Rattle.marc_types.specs.declared.entry.Entry.{Entry}
-use Rattle.entry_record.specs.History.{state_of}
+use Rattle.catalogue_rules.specs.Settle.{state_of}
 use Rattle.durable_catalogue.specs.Durables.{mark_of}
 use Rattle.durable_catalogue.specs.Questions.{IsSeenIn}
 use Rattle.durable_catalogue.proofs.Replies.{entries_are}

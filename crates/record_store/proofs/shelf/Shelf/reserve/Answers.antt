@@ -1,7 +1,7 @@
 use Rattle.std.proofs.Common.{ap, sym, ◌∙◌, length, ◌||◌}
 use Rattle.std.specs.List.{list_any}
 use Rattle.std.specs.Map.{keys_of}
-use Rattle.entry_record.specs.Identity.{same_key}
+use Rattle.marc_types.specs.Order.{same_key}
 use Rattle.record_store.proofs.Places.{placed_again, placed_reserved, reserved_then}
 use Rattle.record_store.proofs.shelf.Shelf.reserve.Goals as goal
 

@@ -1,0 +1,16 @@
+pub mod Elements
+pub mod FewRows
+pub mod Fit
+pub mod Fitting
+pub mod Once
+pub mod Proper
+pub mod Put
+pub mod Reach
+pub mod Room
+pub mod Rows
+pub mod Settled
+pub mod Sizes
+pub mod States
+pub mod Steady
+pub mod Still
+pub mod Worked

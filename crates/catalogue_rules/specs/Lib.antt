@@ -1,0 +1,10 @@
+pub mod Choice
+pub mod Lines
+pub mod Output
+pub mod Receipt
+pub mod Receipts
+pub mod Sameness
+pub mod Settle
+pub mod State
+pub mod Valid
+pub mod Worked

@@ -1,5 +1,0 @@
-use Rattle.entry_record.proofs.States.{every_state_valid}
-use Rattle.entry_record.proofs.laws.every_state_is_valid.Goals as goal
-
-pub returns : goal.returns
-returns c = every_state_valid c.args.history.now c.requires
