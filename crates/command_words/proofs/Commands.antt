@@ -11,7 +11,8 @@ use Rattle.std.proofs.lemmas.List.Elements.{All-nil, All-cons}
 use Rattle.std.proofs.lemmas.Slice.Eq.{bytes_eq-Decides}
 use Rattle.marc_types.specs.Valid.{is_code}
 use Rattle.outside.specs.Room.{IsNoneOf}
-use Rattle.command_words.specs.Command.{Library, Command, Pass, Run, Load, Export, Report, Make, is_name, differ, split_at_equals, library_of, are_libraries, is_free, number_upto, greatest_seed, greatest_count, are_two_names, pass_of, run_of, load_of, export_of, report_of, make_of, command_of, words_of_files, libraries_of, file_count, names_of, AreNames, IsBounded}
+use Rattle.command_words.specs.declared.library.Library.{Library}
+use Rattle.command_words.specs.Command.{Command, Pass, Run, Load, Export, Report, Make, is_name, differ, split_at_equals, library_of, are_libraries, is_free, number_upto, greatest_seed, greatest_count, are_two_names, pass_of, run_of, load_of, export_of, report_of, make_of, command_of, words_of_files, libraries_of, file_count, names_of, AreNames, IsBounded}
 
 -- a test and what it lets through
 if_some : {A : Type 0} (good : Bool) (a b : A) → (if good then Some a else None) ≡ Some b → (good ≡ true) × (a ≡ b)

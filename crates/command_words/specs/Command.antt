@@ -5,7 +5,7 @@ use Rattle.std.specs.Str.{bytes_eq}
 use Rattle.std.specs.Str.Parse.{digits_value}
 use Rattle.marc_types.specs.Valid.{is_code, is_digit}
 use Rattle.outside.specs.Room.{IsNoneOf}
-pub use Rattle.command_words.specs.declared.library.Library.{Library}
+use Rattle.command_words.specs.declared.library.Library.{Library}
 
 -- what a command asks for; the names are those of the words
 pub data Command : Type 0 where

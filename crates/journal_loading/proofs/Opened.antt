@@ -5,7 +5,7 @@ use Rattle.std.proofs.lemmas.Bool.Decides.{nat_tests}
 use Rattle.std.proofs.lemmas.List.Elements.{All-head, All-tail}
 use Rattle.outside.specs.Fault.{Rose}
 use Rattle.outside.specs.Room.{RoomView, SameBut}
-use Rattle.command_words.specs.Command.{Library}
+use Rattle.command_words.specs.declared.library.Library.{Library}
 use Rattle.parallel_loading.specs.declared.input.InputFile.{InputFile}
 use Rattle.journal_loading.specs.Inputs.{IsInputFault, IsInputOf, AreInputs, NoInput, OneInput, RisesFrom}
 

@@ -3,7 +3,7 @@ use Rattle.std.specs.Prelude.{◌≡◌, ◌≢◌, ℕ, ◌<◌, ◌≤◌, tru
 use Rattle.marc_types.specs.Valid.{is_code}
 use Rattle.outside.specs.Room.{RoomView}
 use Rattle.outside.specs.Fault.{Rose}
-use Rattle.command_words.specs.Command.{Library}
+use Rattle.command_words.specs.declared.library.Library.{Library}
 use Rattle.parallel_loading.specs.declared.input.InputFile.{InputFile}
 
 -- the codes of these libraries obey the rule of codes

@@ -6,7 +6,7 @@ use Rattle.marc_types.specs.declared.copying.NoMemory.{NoMemory}
 use Rattle.outside.specs.Fault.{Rose}
 use Rattle.outside.specs.Room.{RoomView, AsLog}
 use Rattle.commit_journal.specs.Log.{version_of}
-use Rattle.command_words.specs.Command.{Library}
+use Rattle.command_words.specs.declared.library.Library.{Library}
 use Rattle.console_lines.specs.declared.fault.Fault.{Fault}
 use Rattle.console_lines.specs.declared.fault.Fault.TheVariants as fault
 use Rattle.durable_catalogue.specs.Durables.{Opening, marked}

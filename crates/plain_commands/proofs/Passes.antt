@@ -7,7 +7,7 @@ use Rattle.outside.specs.Fault.{Rose}
 use Rattle.outside.specs.Room.{RoomView, SameBut}
 use Rattle.outside.specs.Sink.{WritesFront}
 use Rattle.marc_stream.specs.Pieces.{items}
-use Rattle.command_words.specs.Command.{Library}
+use Rattle.command_words.specs.declared.library.Library.{Library}
 use Rattle.catalogue_core.specs.Catalogues.{Catalogued}
 use Rattle.console_lines.specs.Ends.{Outcome, IsTold, IsAllDone, IsUntold, end_of}
 use Rattle.console_lines.specs.declared.end.End.{End}
@@ -23,7 +23,7 @@ use Rattle.plain_commands.proofs.There.{there_more}
 use Rattle.file_entries.specs.declared.refused.RefusedItem.{RefusedItem}
 use Rattle.plain_commands.specs.declared.ready.Ready.{Ready}
 
-module _ (library : Library) (bytes : List ℕ) (old new told now : Option (List ℕ)) (ready : Ready) (core : Catalogued)
+module _ (library : Library) (bytes : List ℕ) (new told now : Option (List ℕ)) (ready : Ready) (core : Catalogued)
     (is : IsReady library bytes ready) (holds : core ≡ holding ready.loaded.accepted) where
   pub ended_whole : (end : End) → new ≡ Some (exported core.history) → Appends told now (string_bytes ready.text)
       → end ≡ end_of (nat_lt 0 (length ready.loaded.refused)) → IsPassed library bytes new told now end
@@ -37,9 +37,9 @@ module _ (library : Library) (bytes : List ℕ) (old new told now : Option (List
     end_is = ended;
   }
 
-  pub ended_in_part : IsPartWritten old new (exported core.history) → WritesFront told now (string_bytes ready.text)
+  pub ended_in_part : (old : Option (List ℕ)) → IsPartWritten old new (exported core.history) → WritesFront told now (string_bytes ready.text)
       → IsPassedInPart library bytes old new told now
-  ended_in_part part wrote = record {
+  ended_in_part old part wrote = record {
     accepted = ready.loaded.accepted;
     refused = ready.loaded.refused;
     judged = is.loaded.judged;

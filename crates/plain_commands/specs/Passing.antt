@@ -6,7 +6,7 @@ use Rattle.outside.specs.Room.{SameBut}
 use Rattle.outside.specs.Sink.{WritesFront}
 use Rattle.marc_types.specs.declared.entry.Entry.{Entry}
 use Rattle.marc_stream.specs.Pieces.{items}
-use Rattle.command_words.specs.Command.{Library}
+use Rattle.command_words.specs.declared.library.Library.{Library}
 use Rattle.catalogue_rules.specs.Settle.{state_of}
 use Rattle.catalogue_rules.specs.Output.{export_of, all_keys}
 use Rattle.file_entries.specs.Files.{IsJudged}

@@ -2,7 +2,7 @@ ghost use Rattle.std.specs.Prelude.{◌≡◌, ◌⊎◌, ℕ, List, true, None,
 ghost use Rattle.marc_types.specs.Valid.{is_code};
 ghost use Rattle.outside.specs.Fault.{Rose};
 ghost use Rattle.outside.specs.Room.{SameBut};
-ghost use Rattle.command_words.specs.Command.{Library};
+ghost use Rattle.command_words.specs.declared.library.Library.{Library};
 ghost use Rattle.console_lines.specs.Ends.{outcome, IsAllDone, IsUntold};
 ghost use Rattle.plain_commands.specs.Passing.{IsReady, IsPassed, IsPassedInPart, Passes};
 

@@ -8,7 +8,8 @@ use Rattle.std.proofs.lemmas.Bool.Decides.{nat_tests}
 use Rattle.marc_types.specs.declared.entry.Entry.{Entry}
 use Rattle.outside.specs.Room.{RoomView}
 use Rattle.marc_stream.specs.Pieces.{Item, items}
-use Rattle.command_words.specs.Command.{Library, Command, Pass, Run, Load, Export, Report, Make, command_of, libraries_of}
+use Rattle.command_words.specs.declared.library.Library.{Library}
+use Rattle.command_words.specs.Command.{Command, Pass, Run, Load, Export, Report, Make, command_of, libraries_of}
 use Rattle.entry_record.specs.History.{entry_size, entries_size}
 use Rattle.file_entries.specs.Files.{IsJudged, Accepts}
 use Rattle.file_entries.specs.declared.refused.RefusedItem.{RefusedItem}

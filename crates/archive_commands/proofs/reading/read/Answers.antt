@@ -39,13 +39,13 @@ returns-in-Err-OutputFault-clause-ends g c =
     c.requires.differ c.open_archive.ensures.apart w.file w.log a.history a.within a.kept w.part)
     refl (refl, refl) (omega (arith, earlier, rose))
 
-pub returns-clause-closed : goal.returns-clause-closed
-returns-clause-closed g c =
+pub returns-in-Err-NoMemory-clause-closed : goal.returns-in-Err-NoMemory-clause-closed
+returns-in-Err-NoMemory-clause-closed g c =
     let w = c.write_archive.ensures in
     closed_opened _ _ _ _ _ c.open_archive.ensures.apart w.apart w.closed w.out_closed c.requires.closed
 
-pub returns-clause-ends : goal.returns-clause-ends
-returns-clause-ends g c =
+pub returns-in-Err-NoMemory-clause-ends : goal.returns-in-Err-NoMemory-clause-ends
+returns-in-Err-NoMemory-clause-ends g c =
     let w = c.write_archive.ensures in
     let a = c.in-Ok.ensures in
     reads_no_memory _ _ _ _ _ (was_read _ _ _ _ (g.R.Room.seen c.open_archive.new.room) (g.R.Log.Disk.seen c.in-Ok.archive.journal.disk) _

@@ -3,7 +3,7 @@ use Rattle.std.proofs.lemmas.List.Elements.{All-nil, All-push}
 use Rattle.marc_types.specs.Valid.{is_code}
 use Rattle.outside.specs.Fault.{Rose}
 use Rattle.outside.proofs.Rooms.{same_but_itself, same_but_then}
-use Rattle.command_words.specs.Command.{Library}
+use Rattle.command_words.specs.declared.library.Library.{Library}
 use Rattle.journal_loading.specs.Inputs.{AreInputs, NoInput, IsFresh}
 use Rattle.journal_loading.proofs.Opened.{got, got_is, fault_since, input_before, input_more}
 use Rattle.journal_loading.proofs.inputs.open_inputs.Goals as goal

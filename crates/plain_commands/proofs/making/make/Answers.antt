@@ -1,4 +1,4 @@
-use Rattle.std.proofs.Common.{◌∙◌, inl, inr, refl, subst}
+use Rattle.std.proofs.Common.{◌∙◌, inl, inr, Err, refl, ap, subst}
 use Rattle.std.specs.Io.KnownBytes.{Appends}
 use Rattle.outside.specs.Sink.{WritesFront}
 use Rattle.outside.proofs.Fronts.{front_none}
@@ -11,7 +11,7 @@ returns-in-Err-clause-ends g c = makes_no_memory _ _ _ _ c.tell.ensures.end c.te
 
 pub returns-in-Err-OutputFault-clause-ends : goal.returns-in-Err-OutputFault-clause-ends
 returns-in-Err-OutputFault-clause-ends g c =
-    makes_failed _ _ _ _ refl (inl (c.write_workload.ensures.cause.failed c.in-Err-OutputFault.is)) c.write_workload.ensures.part (front_none _ _)
+    makes_failed _ _ _ _ refl (inl (c.write_workload.ensures.cause.failed (c.in-Err-OutputFault.is ∙ ap Err c.in-Err-OutputFault.field-0-is))) c.write_workload.ensures.part (front_none _ _)
 
 pub returns-in-Err-NoMemory-clause-ends : goal.returns-in-Err-NoMemory-clause-ends
 returns-in-Err-NoMemory-clause-ends g c =
@@ -24,5 +24,5 @@ returns-in-Ok-write_all-clause-ends g c =
 
 pub returns-clause-ends : goal.returns-clause-ends
 returns-clause-ends g c =
-    makes_failed _ _ _ _ refl (inr c.in-Err-write_all.ensures.cause) c.write_workload.ensures.part
+    makes_failed _ _ _ _ refl (inr c.in-Err-write_all.ensures.cause.failed) c.write_workload.ensures.part
     (subst (WritesFront _ _) (c.as_bytes.ensures.value ∙ c.in-Ok.ensures) c.write_all.ensures.front)

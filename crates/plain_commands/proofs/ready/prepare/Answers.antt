@@ -1,4 +1,5 @@
 use Rattle.std.proofs.Common.{List, ℕ, subst}
+use Rattle.std.specs.Prelude.{IsSomeAnd}
 use Rattle.marc_stream.specs.Pieces.{items}
 use Rattle.plain_commands.specs.Loading.{IsLoaded}
 use Rattle.plain_commands.proofs.There.{there_more}
@@ -8,4 +9,5 @@ pub returns-in-Ok-ready_of-clause-ready : goal.returns-in-Ok-ready_of-clause-rea
 returns-in-Ok-ready_of-clause-ready g c tells =
     there_more _ (λ bytes is.
     c.in-Ok-ready_of.ensures bytes (subst (λ (library : List ℕ). IsLoaded library (items bytes) c.in-Ok-load_file.loaded) c.in-Ok.ensures is))
-    (c.in-Ok-load_file.ensures.loaded tells)
+    (subst (λ n. IsSomeAnd ((g.R.Room.seen c.args.room.now).file n) (λ bytes. IsLoaded c.in-Ok.code (items bytes) c.in-Ok-load_file.loaded))
+    c.as_str.ensures.value (c.in-Ok-load_file.ensures.loaded tells))

@@ -4,7 +4,8 @@ use Rattle.std.specs.Option.{option_copied}
 use Rattle.marc_types.specs.Valid.{is_code}
 use Rattle.outside.proofs.Rooms.{same_but_itself}
 use Rattle.command_words.specs.Command as command
-use Rattle.command_words.specs.Command.{Library, command_of, libraries_of}
+use Rattle.command_words.specs.declared.library.Library.{Library}
+use Rattle.command_words.specs.Command.{command_of, libraries_of}
 use Rattle.command_words.specs.Asked.{command_asked}
 use Rattle.console_lines.specs.Ends.{Outcome, outcome}
 use Rattle.console_lines.specs.declared.end.End.TheVariants.{Told}
