@@ -21,7 +21,7 @@ loop-index-preserved c =
     let bytes = c.in_ok-push_str.ensures.bytes ∙ ap (λ line. string_bytes c.loop-index.text ++ line) c.as_str.ensures.value in
     subst (λ text. text ++ refused_text (drop (n + 1) libraries) (drop (n + 1) results) ≡ refused_text libraries results) (sym bytes)
     (refused_step libraries results n library file named at (string_bytes c.loop-index.text) (string_bytes c.in_ok-lines.lines)
-    (c.in_ok-lines.ensures ∙ (ap (λ name. refused_lines name _) c.as_str-file.ensures.value ∙ ap (refused_lines library.file) (c.as_slice.ensures ∙ ap (λ r. r.refused) (sym c.index-results-index.is)))) c.loop-index.invariant)
+    (c.in_ok-lines.ensures ∙ (ap (λ name. refused_lines name _) c.as_str-file.ensures ∙ ap (refused_lines library.file) (c.as_slice.ensures ∙ ap (λ r. r.refused) (sym c.index-results-index.is)))) c.loop-index.invariant)
 
 pub returns : goal.returns
 returns c =

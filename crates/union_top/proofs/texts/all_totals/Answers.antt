@@ -21,7 +21,7 @@ loop-index-preserved c =
     let bytes = c.in_ok-push_str.ensures.bytes ∙ ap (λ line. string_bytes c.loop-index.text ++ line) c.as_str.ensures.value in
     subst (λ text. text ++ totals_text (drop (n + 1) libraries) (drop (n + 1) results) ≡ totals_text libraries results) (sym bytes)
     (totals_step libraries results n library file named at (string_bytes c.loop-index.text) (string_bytes c.in_ok-line.line)
-    (c.in_ok-line.ensures ∙ (ap (λ name. totals_line name _) c.as_str-file.ensures.value ∙ ap (totals_line library.file) c.totals_in.ensures)) c.loop-index.invariant)
+    (c.in_ok-line.ensures ∙ (ap (λ name. totals_line name _) c.as_str-file.ensures ∙ ap (totals_line library.file) c.totals_in.ensures)) c.loop-index.invariant)
 
 pub returns : goal.returns
 returns c =
