@@ -11,8 +11,9 @@ use Rattle.std.proofs.lemmas.List.Elements.{All-nil, All-cons}
 use Rattle.std.proofs.lemmas.Slice.Eq.{bytes_eq-Decides}
 use Rattle.marc_types.specs.Valid.{is_code}
 use Rattle.outside.specs.Room.{IsNoneOf}
+use Rattle.marc_types.specs.Limits.{most_entries}
 use Rattle.command_words.specs.declared.library.Library.{Library}
-use Rattle.command_words.specs.Command.{Command, Pass, Run, Load, Export, Report, Make, is_name, differ, split_at_equals, library_of, are_libraries, is_free, number_upto, greatest_seed, greatest_count, are_two_names, pass_of, run_of, load_of, export_of, report_of, make_of, command_of, words_of_files, libraries_of, file_count, names_of, AreNames, IsBounded}
+use Rattle.command_words.specs.Command.{Command, Pass, Run, Load, Export, Report, Make, is_name, differ, split_at_equals, library_of, are_libraries, is_free, number_upto, greatest_seed, are_two_names, pass_of, run_of, load_of, export_of, report_of, make_of, command_of, words_of_files, libraries_of, file_count, names_of, AreNames, IsBounded}
 
 -- a test and what it lets through
 if_some : {A : Type 0} (good : Bool) (a b : A) → (if good then Some a else None) ≡ Some b → (good ≡ true) × (a ≡ b)
@@ -189,14 +190,14 @@ make_is verb (seed ∷ []) c is = cc
 make_is verb (seed ∷ count ∷ []) c is = cc
 make_is verb (seed ∷ count ∷ out ∷ []) c is =
     let first = and_then_some _ (number_upto greatest_seed seed) c is in
-    let second = and_then_some _ (number_upto greatest_count count) c first.2 in
+    let second = and_then_some _ (number_upto most_entries count) c first.2 in
     let parts = if_some (is_name out) (Make first.0 second.0 out) c second.2 in
     subst (IsCommand (verb ∷ seed ∷ count ∷ out ∷ [])) parts.1 (record {
       count = refl;
       codes = All-nil (λ (l : Library). is_code l.code ≡ true);
       names = (named out parts.0, tt, tt);
       files = λ k d less. absurd (omega (arith, less));
-      bounded = number_within greatest_count count second.0 second.1;
+      bounded = number_within most_entries count second.0 second.1;
     })
 make_is verb (seed ∷ count ∷ out ∷ other ∷ rest) c is = cc
 

@@ -3,6 +3,7 @@ use Rattle.std.specs.Prelude.{◌≢◌, ◌≤◌, ℕ, ◌^◌, ◌-◌, Bool,
 use Rattle.std.specs.List.{before_first, after_first, position_or_len, list_all}
 use Rattle.std.specs.Str.{bytes_eq}
 use Rattle.std.specs.Str.Parse.{digits_value}
+use Rattle.marc_types.specs.Limits.{most_entries}
 use Rattle.marc_types.specs.Valid.{is_code, is_digit}
 use Rattle.outside.specs.Room.{IsNoneOf}
 use Rattle.command_words.specs.declared.library.Library.{Library}
@@ -63,9 +64,6 @@ number_upto limit word =
 abbrev pub greatest_seed : ℕ
 greatest_seed = 2 ^ 64 - 1
 
-abbrev pub greatest_count : ℕ
-greatest_count = 1048576
-
 -- the command, if its words are good ones
 abbrev pub command_if : Bool → Command → Option Command
 command_if good command = if good then Some command else None
@@ -106,7 +104,7 @@ o >>= f = option_and_then f o
 abbrev pub make_of : List (List ℕ) → Option Command
 make_of (seed ∷ count ∷ out ∷ []) = do
   s ← number_upto greatest_seed seed
-  n ← number_upto greatest_count count
+  n ← number_upto most_entries count
   command_if (is_name out) (Make s n out)
 make_of words = None
 
@@ -166,4 +164,4 @@ IsBounded (Run journal out report files) = (1 ≤ files) × (files ≤ 64)
 IsBounded (Load journal files) = (1 ≤ files) × (files ≤ 64)
 IsBounded (Export journal out code) = Unit {0}
 IsBounded (Report journal out) = Unit {0}
-IsBounded (Make seed count out) = count ≤ greatest_count
+IsBounded (Make seed count out) = count ≤ most_entries

@@ -6,7 +6,7 @@ ghost use Rattle.command_words.specs.Asked.{AsksFor};
 
 use crate::asked::Request;
 use crate::library::Library;
-use marc_types::{NoMemory, Sequence, Text, can_be_code};
+use marc_types::{Limits, NoMemory, Sequence, Text, can_be_code};
 use std::alloc::Global;
 
 /// The words of the command line, without the program's name.
@@ -16,7 +16,7 @@ pub type Words = Sequence<Text>;
 const MOST_FILES: usize = 64;
 
 /// The most records of a workload.
-const MOST_COUNT: u64 = 1_048_576;
+const MOST_COUNT: u64 = Limits::GREATEST.entries;
 
 /// The library code and the file of a word `CODE=FILE`.
 #[tactic(auto, unfolding(crate::specs::Command::library_of))]

@@ -134,7 +134,14 @@ pub fn rewrite(
                 tag: *tag,
                 ind1: first_indicator(kind, heading, *ind1),
                 ind2: *ind2,
-                subs: rewritten(alloc, subs.as_slice(), kind, heading.subfields(), key, whole)?,
+                subs: rewritten(
+                    alloc,
+                    subs.as_slice(),
+                    kind,
+                    heading.subfields(),
+                    key,
+                    whole,
+                )?,
             })
         }
     }

@@ -59,9 +59,3 @@ module _ {J : Type 0} where
     pub result : FileResult
     pub is : slot ≡ Some job
     pub tells : told ≡ Some result
-
-module _ {J B : Type 0} where
-  -- each has its slot, the last one the first slot
-  pub data Backwards (In : J → B → Type 0) : List J → List B → Type 0 where
-    NoSlot : Backwards In [] []
-    OneSlot : (jobs : List J) (slots : List B) (job : J) (slot : B) → Backwards In jobs slots → In job slot → Backwards In (job ∷ jobs) (slots ++ slot ∷ [])

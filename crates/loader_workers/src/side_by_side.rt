@@ -1,7 +1,7 @@
-ghost use Rattle.std.specs.Prelude.{◌≡◌, ◌≢◌, ◌<◌, ◌≤◌, ◌^◌, ℕ, [], List, Some, All, IfOk, IfErr, length, slice_index_or, vec_capacity};
+ghost use Rattle.std.specs.Prelude.{◌≡◌, ◌≢◌, ◌<◌, ◌≤◌, ◌^◌, ℕ, [], List, Some, All, IfOk, IfErr, length, map, slice_index_or, vec_capacity};
 ghost use Rattle.marc_types.specs.declared.entry.Entry.{Entry};
 ghost use Rattle.loader_workers.specs.Turns.{IsCatalogue};
-ghost use Rattle.loader_workers.specs.SideBySide.{CanLoad, IsWaiting, IsDone, Each, LoadsJob, Backwards, IsThere};
+ghost use Rattle.loader_workers.specs.SideBySide.{CanLoad, IsWaiting, IsDone, Each, LoadsJob, IsThere};
 
 use crate::job::Job;
 use crate::loading::load;
@@ -75,14 +75,16 @@ fn load_slots<
     );
 }
 
-/// Puts each job into a slot, the last job into the first slot.
+/// Puts each job into a slot, in their order.
 fn deal<O: Object, S>(jobs: &mut Vec<Job<O, S>>, slots: &mut Vec<Slot<O, S>>)
     requires none { slots.old.items ≡ [] }
     requires room { length jobs.old.items ≤ vec_capacity slots.old }
-    ensures dealt { Backwards (λ job slot. slot.job ≡ Some job) jobs.old.items slots.new.items }
+    ensures dealt { map (λ slot. slot.job) slots.new.items ≡ map Some jobs.old.items }
     ensures none { jobs.new.items ≡ [] }
     ensures capacity { vec_capacity jobs.new ≡ vec_capacity jobs.old }
 {
+    // The last one is popped first.
+    jobs.reverse();
     while let Some(job) = jobs.pop() {
         slots.push_reserved(Slot {
             job: Some(job),
@@ -91,7 +93,7 @@ fn deal<O: Object, S>(jobs: &mut Vec<Job<O, S>>, slots: &mut Vec<Slot<O, S>>)
     }
 }
 
-/// Takes the jobs and their results out of the slots, the last slot first.
+/// Takes the jobs and their results out of the slots, in their order.
 fn collect<O: Object, S>(
     slots: Vec<Slot<O, S>>,
     jobs: Vec<Job<O, S>>,
@@ -100,12 +102,13 @@ fn collect<O: Object, S>(
     requires there { All (λ slot. IsThere slot.job slot.result) slots.items }
     requires jobs { (jobs.items ≡ []) × (length slots.items ≤ vec_capacity jobs) }
     requires results { (results.items ≡ []) × (length slots.items ≤ vec_capacity results) }
-    ensures jobs { Backwards (λ job slot. slot.job ≡ Some job) result.0 slots.items }
-    ensures results { Backwards (λ told slot. slot.result ≡ Some told) result.1 slots.items }
+    ensures jobs { map (λ slot. slot.job) slots.items ≡ map Some result.0 }
+    ensures results { map (λ slot. slot.result) slots.items ≡ map Some result.1 }
 {
     let mut slots = slots;
     let mut jobs = jobs;
     let mut results = results;
+    slots.reverse();
     while let Some(slot) = slots.pop() {
         let Slot { job, result } = slot;
         let Some(job) = job else { unreachable!() };

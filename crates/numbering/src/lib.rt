@@ -4,7 +4,7 @@
 #![tactic(auto)]
 
 pub use numbers::Numbering;
-pub use seat::Seat;
+pub use seat::{Seat, Seats};
 
 pub mod laws;
 mod numbers;

@@ -13,6 +13,9 @@ pub struct Seat {
     pub field: u32,
 }
 
+/// Seats, in no order that means anything.
+pub type Seats = Vec<Seat>;
+
 fn rank(class: Class) -> u8
     ensures { result ≡ class_rank class }
 {

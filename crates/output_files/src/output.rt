@@ -42,11 +42,7 @@ pub fn write_export<R: Room, F: Fn(&Key) -> bool>(
 }
 
 /// Writes all records of a catalogue into the file of that name.
-pub fn write_all_records<R: Room>(
-    room: &mut R,
-    name: &str,
-    core: &Catalogue,
-) -> Result<(), Failed>
+pub fn write_all_records<R: Room>(room: &mut R, name: &str, core: &Catalogue) -> Result<(), Failed>
     requires free { (R.seen room.old).open_as name.now ≡ None }
     requires staged { core.now.staged ≡ [] }
     ensures apart { SameBut (R.seen room.old) (R.seen room.new) (name.now ∷ []) }

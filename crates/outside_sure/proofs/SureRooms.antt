@@ -94,7 +94,7 @@ of_each P old new name taken stays fewer n = decided (bytes_eq n name) refl
         subst (λ m. P (kept_under old m) (kept_under new m)) (sym is) (subst (P (kept_under old name)) (sym taken.here) (fewer (kept_under old name)))
     decided false differ =
         let other : n ≢ name = (λ e. true≢false (sym ((bytes_eq-Decides n name).1 e) ∙ differ)) in
-        subst (P (kept_under old n)) (sym (taken.others n other.0)) (stays (kept_under old n))
+        subst (P (kept_under old n)) (sym (taken.others n other)) (stays (kept_under old n))
 
 -- one copy was taken
 pub stays_taken : (old new : SureRoom) (name : List ℕ) → HasTaken old new name → old.in_faults ≤ new.in_faults → old.out_faults ≤ new.out_faults → old.log_faults ≤ new.log_faults

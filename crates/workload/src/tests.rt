@@ -1,4 +1,5 @@
 ghost use Rattle.std.specs.Prelude.{Some, ◌≤◌};
+ghost use Rattle.marc_types.specs.Limits.{most_entries};
 
 use crate::make;
 use outside::{Failed, Sink};
@@ -29,7 +30,7 @@ impl Sink for Page {
 }
 
 fn made(alloc: Global, seed: u64, count: u64) -> Result<Page, Fail>
-    requires { count ≤ 1048576 }
+    requires { count ≤ most_entries }
 {
     let mut page = Page {
         bytes: Vec::new(alloc),

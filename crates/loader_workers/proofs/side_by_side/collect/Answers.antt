@@ -1,25 +1,37 @@
-use Rattle.std.proofs.Common.{rules, refl, sym, subst, Some, ◌≡◌}
-use Rattle.loader_workers.proofs.Slots.{collecting_none, collecting_one, collected_jobs, collected_results}
-use Rattle.loader_workers.specs.SideBySide.{Backwards}
+use Rattle.std.proofs.Common.{rules, sym, subst, ◌∙◌, ap, map, Some, All}
+use Rattle.loader_workers.specs.SideBySide.{IsThere}
+use Rattle.loader_workers.proofs.Slots.{popped_more, popped_all, all_reverse, all_front}
 use Rattle.loader_workers.proofs.side_by_side.collect.Goals as goal
 
 pub loop-slot-init : goal.loop-slot-init
-loop-slot-init g c = (collecting_none _ _ _ c.requires.there c.requires.jobs.0 c.requires.results.0, refl, refl)
-
-pub loop-slot-preserved : goal.loop-slot-preserved
-loop-slot-preserved g c = (
-  collecting_one _ _ _ _ _ _ _ c.in-Some.slot c.in-Some-job.job c.in-Some-result.result c.loop-slot.invariant.0 c.in-Some.ensures.items
-      c.in-Some-job.is c.in-Some-result.is c.push_reserved.ensures.items c.push_reserved-in-Some.ensures.items,
+loop-slot-init g c = (
+  search rules,
+  search rules,
+  subst (All (λ slot. IsThere slot.job slot.result)) (sym c.reverse.ensures.items) (all_reverse (λ slot. IsThere slot.job slot.result) c.args.slots.items c.requires.there),
+  search rules,
+  search rules,
   search rules,
   search rules,
 )
 
+pub loop-slot-preserved : goal.loop-slot-preserved
+loop-slot-preserved g c =
+    let (jobs, results, there, jobs_count, results_count, jobs_room, results_room) = c.loop-slot.invariant in (
+      popped_more (λ slot. slot.job) Some c.reverse.new.self.items c.loop-slot.slots.items c.pop.new.self.items c.loop-slot.jobs.items c.push_reserved.new.self.items c.in-Some.slot
+          c.in-Some-job.job jobs c.in-Some.ensures.items c.in-Some-job.is c.push_reserved.ensures.items,
+      popped_more (λ slot. slot.result) Some c.reverse.new.self.items c.loop-slot.slots.items c.pop.new.self.items c.loop-slot.results.items c.push_reserved-in-Some.new.self.items
+          c.in-Some.slot c.in-Some-result.result results c.in-Some.ensures.items c.in-Some-result.is c.push_reserved-in-Some.ensures.items,
+      all_front (λ slot. IsThere slot.job slot.result) c.pop.new.self.items c.in-Some.slot (subst (All (λ slot. IsThere slot.job slot.result)) c.in-Some.ensures.items there),
+      search rules,
+      search rules,
+      search rules,
+      search rules,
+    )
+
 pub returns-clause-jobs : goal.returns-clause-jobs
 returns-clause-jobs g c =
-    subst (λ js. Backwards (λ job slot. slot.job ≡ Some job) js c.args.slots.items) (sym c.from_vec.ensures)
-    (collected_jobs _ _ _ _ c.loop-slot.invariant.0 (search rules))
+    sym (popped_all (λ slot. slot.job) Some c.args.slots.items c.reverse.new.self.items c.loop-slot.slots.items c.loop-slot.jobs.items c.reverse.ensures.items c.loop-slot.invariant.0 (search rules)) ∙ ap (map Some) (sym c.from_vec.ensures)
 
 pub returns-clause-results : goal.returns-clause-results
 returns-clause-results g c =
-    subst (λ rs. Backwards (λ told slot. slot.result ≡ Some told) rs c.args.slots.items) (sym c.from_vec-2.ensures)
-    (collected_results _ _ _ _ c.loop-slot.invariant.0 (search rules))
+    sym (popped_all (λ slot. slot.result) Some c.args.slots.items c.reverse.new.self.items c.loop-slot.slots.items c.loop-slot.results.items c.reverse.ensures.items c.loop-slot.invariant.1 (search rules)) ∙ ap (map Some) (sym c.from_vec-2.ensures)

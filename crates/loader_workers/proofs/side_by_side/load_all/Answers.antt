@@ -8,7 +8,7 @@ load_slots-requires-clause-wait g c κs within =
 
 pub collect-requires-clause-there : goal.collect-requires-clause-there
 collect-requires-clause-there g c =
-    there_all _ _ _ _ _ _ c.deal.ensures.dealt c.as_mut_slice.ensures.value c.load_slots.ensures.len c.load_slots.ensures.done
+    there_all _ _ _ _ c.load_slots.ensures.len c.load_slots.ensures.done
     (written_back _ _ _ _ c.load_slots.ensures.len c.as_mut_slice.ensures.value c.deal.new.slots.ok.0)
 
 pub collect-requires-clause-jobs : goal.collect-requires-clause-jobs

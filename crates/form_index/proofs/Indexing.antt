@@ -1,0 +1,323 @@
+-- The index as rows and lists: what each change leaves of them.
+use Rattle.std.proofs.Common.{◌≡◌, ◌≢◌, ◌⊎◌, inl, inr, ◌∙◌, sym, ap, subst, refl, ℕ, zero, suc, ◌<◌, ◌≤◌, arith, List, [], ◌∷◌, ◌++◌, length, Option, Some, None, Result, Ok, Err, OnErr, get_or, eq-eqb}
+use Rattle.std.specs.Prelude.{Bool, true, false, not, ◌||◌, ◌&&◌, ◌==◌, is_none, if◌then◌else◌}
+use Rattle.std.specs.Option.{option_map_or, is_some}
+use Rattle.std.specs.List.Sorted.{IsStrictlySortedBy}
+use Rattle.std.proofs.lemmas.Bool.{true≢false, eqb-true}
+use Rattle.marc_types.specs.declared.key.Key.{Key}
+use Rattle.form_index.specs.Order.{Ascends, has, placed}
+use Rattle.form_index.specs.Trimmed.{trimmed, with_at}
+use Rattle.form_index.specs.Listed.{Listed, no_list, released, seated, unseated, with_held}
+use Rattle.form_index.specs.Forms.{Forms, belongs}
+use Rattle.form_index.specs.Index.{ExchangesRow, Indexed, IsBlankScan, IsHeld, IsInOrder, IsScan, IsShortListing, Listing, ListingInOrder, Puts, PutsBack, Taken, TakesOut, Took, let_go, listed, listing_step, no_index, put_back, row_under, slot_at, taken, taken_out, with_slot}
+use Rattle.form_index.specs.Stands.{Fits, HasSlots, Stands}
+use Rattle.form_index.specs.declared.among.Among.{Among}
+use Rattle.form_index.specs.declared.among.Among.TheVariants.{All, Bare}
+use Rattle.form_index.specs.declared.among.By.{By}
+use Rattle.form_index.specs.declared.among.By.TheVariants.{Established, SeeFrom}
+use Rattle.form_index.proofs.Listing.{listing_short, listing_took, same_listing}
+use Rattle.form_index.proofs.Places.{held_after_hold, held_after_seat, held_after_unseat, held_unseated, live_seated, live_unseated, put_undone, reseated, still_has}
+use Rattle.form_index.proofs.Trims.{same_trimmed, trimmed_again, trimmed_at, with_at_at}
+
+-- ---- rows
+
+none_is : (x : Option Forms) → is_none x ≡ true → x ≡ None
+none_is None e = refl
+none_is (Some x) e = cc
+
+pub slots_at : (rows : List (Option Forms)) (n : ℕ) → slot_at (trimmed is_none rows) n ≡ slot_at rows n
+slots_at = trimmed_at None is_none none_is refl
+
+pub rows_same : (old new : List (Option Forms)) → ((n : ℕ) → slot_at new n ≡ slot_at old n) → trimmed is_none new ≡ trimmed is_none old
+rows_same old new same = same_trimmed None is_none none_is refl new old same
+
+rows_with : (n : ℕ) (s : Option Forms) (old new : List (Option Forms)) → ((m : ℕ) → slot_at new m ≡ (if m == n then s else slot_at old m)) → trimmed is_none new ≡ with_slot n s (trimmed is_none old)
+rows_with n s old new slots =
+    same_trimmed None is_none none_is refl new (with_at None n s (trimmed is_none old))
+    (λ m. slots m ∙ ap (λ z. if m == n then s else z) (sym (slots_at old m)) ∙ sym (with_at_at None n s (trimmed is_none old) m))
+
+with_slot_at : (n : ℕ) (s : Option Forms) (rows : List (Option Forms)) (m : ℕ) → slot_at (with_slot n s rows) m ≡ (if m == n then s else slot_at rows m)
+with_slot_at n s rows m = slots_at (with_at None n s rows) m ∙ with_at_at None n s rows m
+
+-- a row that goes where it was
+slots_back : (n : ℕ) (s t : Option Forms) (rows : List (Option Forms)) → trimmed is_none rows ≡ rows → slot_at rows n ≡ s → with_slot n s (with_slot n t rows) ≡ rows
+slots_back n s t rows short at =
+    same_trimmed None is_none none_is refl (with_at None n s (with_slot n t rows)) rows
+    (λ m. with_at_at None n s (with_slot n t rows) m ∙ ap (λ z. if m == n then s else z) (with_slot_at n t rows m) ∙ by m (m == n) refl)
+    ∙ short
+  where
+    by : (m : ℕ) (d : Bool) → (m == n) ≡ d → (if m == n then s else (if m == n then t else slot_at rows m)) ≡ slot_at rows m
+    by m true e = ap (λ b. if b then s else (if b then t else slot_at rows m)) e ∙ sym at ∙ ap (slot_at rows) (sym (eqb-true m n e))
+    by m false e = ap (λ b. if b then s else (if b then t else slot_at rows m)) e
+
+-- where there was no row, none went
+pub none_taken : (n : ℕ) (rows more : List (Option Forms)) → slot_at rows n ≡ None → ((m : ℕ) → slot_at more m ≡ (if m == n then None else slot_at rows m)) → (m : ℕ) → slot_at more m ≡ slot_at rows m
+none_taken n rows more free slots m = slots m ∙ by (m == n) refl
+  where
+    by : (d : Bool) → (m == n) ≡ d → (if m == n then None else slot_at rows m) ≡ slot_at rows m
+    by true e = ap (λ b. if b then None else slot_at rows m) e ∙ sym free ∙ ap (slot_at rows) (sym (eqb-true m n e))
+    by false e = ap (λ b. if b then None else slot_at rows m) e
+
+pub blank_slot : (rows : List (Option Forms)) (n : ℕ) → slot_at (rows ++ None ∷ []) n ≡ slot_at rows n
+blank_slot [] zero = refl
+blank_slot [] (suc n) = refl
+blank_slot (r ∷ rs) zero = refl
+blank_slot (r ∷ rs) (suc n) = blank_slot rs n
+
+-- ---- rows and lists together
+
+abbrev pub shown : List (Option Forms) → Listing → Indexed
+shown rows lists = record { rows = trimmed is_none rows; lists = lists }
+
+module _ (n : ℕ) (r : Forms) (step : Listed → Listed) (old new : Listing) (took : Took r step old new) where
+  took_in : (a : Among) (b : By) (f : ℕ) → belongs a b f r ≡ true → listed a b f new ≡ step (listed a b f old)
+  took_in a b f e = took a b f ∙ ap (λ t. if t then step (listed a b f old) else listed a b f old) e
+
+  took_out : (a : Among) (b : By) (f : ℕ) → belongs a b f r ≡ false → listed a b f new ≡ listed a b f old
+  took_out a b f e = took a b f ∙ ap (λ t. if t then step (listed a b f old) else listed a b f old) e
+
+  module _ (rows more : List (Option Forms)) (s : Option Forms) (slots : (m : ℕ) → slot_at more m ≡ (if m == n then s else slot_at rows m)) (fits : Fits rows old) where
+    fits_after : ((a : Among) (b : By) (f : ℕ) → belongs a b f r ≡ true → (m : ℕ) → has m (step (listed a b f old)).live ≡ (if m == n then option_map_or (belongs a b f) s false else has m (listed a b f old).live))
+        → ((a : Among) (b : By) (f : ℕ) → belongs a b f r ≡ false → has n (listed a b f old).live ≡ option_map_or (belongs a b f) s false)
+        → Fits more new
+    fits_after inside outside a b f m = by (belongs a b f r) refl
+      where
+        ends : (d : Bool) → (m == n) ≡ d → (if m == n then option_map_or (belongs a b f) s false else has m (listed a b f old).live) ≡ option_map_or (belongs a b f) (slot_at more m) false
+        ends true e =
+            ap (λ t. if t then option_map_or (belongs a b f) s false else has m (listed a b f old).live) e
+            ∙ ap (λ o. option_map_or (belongs a b f) o false) (sym (slots m ∙ ap (λ t. if t then s else slot_at rows m) e))
+        ends false e =
+            ap (λ t. if t then option_map_or (belongs a b f) s false else has m (listed a b f old).live) e ∙ fits a b f m
+            ∙ ap (λ o. option_map_or (belongs a b f) o false) (sym (slots m ∙ ap (λ t. if t then s else slot_at rows m) e))
+        same : belongs a b f r ≡ false → (d : Bool) → (m == n) ≡ d → has m (listed a b f old).live ≡ (if m == n then option_map_or (belongs a b f) s false else has m (listed a b f old).live)
+        same out true e =
+            ap (λ k. has k (listed a b f old).live) (eqb-true m n e) ∙ outside a b f out
+            ∙ sym (ap (λ t. if t then option_map_or (belongs a b f) s false else has m (listed a b f old).live) e)
+        same out false e = sym (ap (λ t. if t then option_map_or (belongs a b f) s false else has m (listed a b f old).live) e)
+        by : (t : Bool) → belongs a b f r ≡ t → has m (listed a b f new).live ≡ option_map_or (belongs a b f) (slot_at more m) false
+        by true e = ap (λ l. has m l.live) (took_in a b f e) ∙ inside a b f e m ∙ ends (m == n) refl
+        by false e = ap (λ l. has m l.live) (took_out a b f e) ∙ same e (m == n) refl ∙ ends (m == n) refl
+
+  slots_after : ((l : Listed) (m : ℕ) → has m (step l).held ≡ true → (m ≡ n) ⊎ (has m l.held ≡ true)) → (rows more : List (Option Forms)) → n < length more → length rows ≤ length more
+      → HasSlots rows old → HasSlots more new
+  slots_after held rows more known longer slots f m there = by (belongs All Established f r) refl
+    where
+      where_from : (m ≡ n) ⊎ (has m (listed All Established f old).held ≡ true) → m < length more
+      where_from (inl e) = subst (λ k. k < length more) (sym e) known
+      where_from (inr h) = let low : m < length rows = slots f m h in omega arith
+      by : (t : Bool) → belongs All Established f r ≡ t → m < length more
+      by true e = where_from (held (listed All Established f old) m (sym (ap (λ l. has m l.held) (took_in All Established f e)) ∙ there))
+      by false e = where_from (inr (sym (ap (λ l. has m l.held) (took_out All Established f e)) ∙ there))
+
+-- ---- a row is taken out
+
+module _ (keys : List Key) (n : ℕ) (r : Forms) (rows more : List (Option Forms)) (old new : Listing) (stands : Stands rows old) (at : slot_at rows n ≡ Some r)
+    (slots : (m : ℕ) → slot_at more m ≡ (if m == n then None else slot_at rows m)) (ordered : ListingInOrder keys old) (is : new ≡ listing_step r (unseated n) old) where
+  there : (a : Among) (b : By) (f : ℕ) → has n (listed a b f old).live ≡ belongs a b f r
+  there a b f = stands.fits a b f n ∙ ap (λ o. option_map_or (belongs a b f) o false) at
+
+  took_unseat : Took r (unseated n) old new
+  took_unseat = subst (Took r (unseated n) old) (sym is) (listing_took r (unseated n) old refl)
+
+  within : (rows : List (Option Forms)) (n : ℕ) → slot_at rows n ≡ Some r → n < length rows
+  within [] n e = cc
+  within (x ∷ xs) zero e = omega arith
+  within (x ∷ xs) (suc n) e = let low : n < length xs = within xs n e in omega arith
+
+  pub take_stands : length more ≡ length rows → Stands more new
+  take_stands long = record {
+    fits = fits_after n r (unseated n) old new took_unseat rows more None slots stands.fits
+        (λ a b f e m. live_unseated n (listed a b f old) keys (ordered a b f) (there a b f ∙ e) m)
+        (λ a b f e. there a b f ∙ e);
+    slots = let low : n < length rows = within rows n at in
+        slots_after n r (unseated n) old new took_unseat (λ l m h. held_after_unseat n l m h) rows more (omega arith) (omega arith) stands.slots;
+    short = subst IsShortListing (sym is) (listing_short r (unseated n) old stands.short);
+  }
+
+  lists_back : listing_step r (seated keys n) new ≡ old
+  lists_back =
+      same_listing old (listing_step r (seated keys n) new) stands.short
+      (listing_short r (seated keys n) new (subst IsShortListing (sym is) (listing_short r (unseated n) old stands.short)))
+      (λ a b f. by a b f (belongs a b f r) refl)
+    where
+      took_seat : Took r (seated keys n) new (listing_step r (seated keys n) new)
+      took_seat = listing_took r (seated keys n) new refl
+      by : (a : Among) (b : By) (f : ℕ) (t : Bool) → belongs a b f r ≡ t → listed a b f (listing_step r (seated keys n) new) ≡ listed a b f old
+      by a b f true e =
+          took_in n r (seated keys n) new (listing_step r (seated keys n) new) took_seat a b f e
+          ∙ ap (seated keys n) (took_in n r (unseated n) old new took_unseat a b f e)
+          ∙ reseated n (listed a b f old) keys (ordered a b f) (there a b f ∙ e)
+      by a b f false e = took_out n r (seated keys n) new (listing_step r (seated keys n) new) took_seat a b f e ∙ took_out n r (unseated n) old new took_unseat a b f e
+
+  pub take_takes : TakesOut keys (taken n r) (shown rows old) (shown more new)
+  take_takes = record {
+    is = λ i. record { rows = rows_with n None rows more slots i; lists = is i };
+    rows = λ m. slots_at more m ∙ slots m ∙ ap (λ z. if m == n then None else z) (sym (slots_at rows m));
+    held = λ a b f e. ap (λ l. has n l.held) (took_in n r (unseated n) old new took_unseat a b f e) ∙ held_unseated n (listed a b f old) (there a b f ∙ e);
+    undone =
+        let rows_back : with_slot n (Some r) (trimmed is_none more) ≡ trimmed is_none rows =
+        ap (with_slot n (Some r)) (rows_with n None rows more slots)
+        ∙ slots_back n (Some r) None (trimmed is_none rows) (trimmed_again None is_none none_is refl rows) (slots_at rows n ∙ at) in
+        λ i. record { rows = rows_back i; lists = lists_back i };
+  }
+
+-- ---- a row is seated, whose places are held
+
+module _ (keys : List Key) (n : ℕ) (r : Forms) (rows more : List (Option Forms)) (old new : Listing) (fits : Fits rows old) (free : slot_at rows n ≡ None)
+    (slots : (m : ℕ) → slot_at more m ≡ (if m == n then Some r else slot_at rows m)) (is : new ≡ listing_step r (seated keys n) old)
+    (held : (a : Among) (b : By) (f : ℕ) → belongs a b f r ≡ true → has n (listed a b f old).held ≡ true) where
+  absent : (a : Among) (b : By) (f : ℕ) → has n (listed a b f old).live ≡ false
+  absent a b f = fits a b f n ∙ ap (λ o. option_map_or (belongs a b f) o false) free
+
+  pub took_seated : Took r (seated keys n) old new
+  took_seated = subst (Took r (seated keys n) old) (sym is) (listing_took r (seated keys n) old refl)
+
+  seat_fits : Fits more new
+  seat_fits =
+      fits_after n r (seated keys n) old new took_seated rows more (Some r) slots fits
+      (λ a b f e m. live_seated n (listed a b f old) keys (held a b f e) (absent a b f) m ∙ ap (λ t. if m == n then t else has m (listed a b f old).live) (sym e))
+      (λ a b f e. absent a b f ∙ sym e)
+
+  pub seat_stands : IsShortListing old → HasSlots rows old → n < length more → length rows ≤ length more → Stands more new
+  seat_stands short places known longer = record {
+    fits = seat_fits;
+    slots = slots_after n r (seated keys n) old new took_seated (λ l m h. held_after_seat n l keys m h) rows more known longer places;
+    short = subst IsShortListing (sym is) (listing_short r (seated keys n) old short);
+  }
+
+  pub seat_exchanges : ExchangesRow n (Some r) (shown rows old) (shown more new)
+  seat_exchanges m = slots_at more m ∙ slots m ∙ ap (λ z. if m == n then Some r else z) (sym (slots_at rows m))
+
+  pub seat_puts_back : PutsBack keys (taken n r) (shown rows old) (shown more new)
+  seat_puts_back = record {
+    is = λ i. record { rows = rows_with n (Some r) rows more slots i; lists = is i };
+    rows = seat_exchanges;
+  }
+
+-- a place that is held has a slot
+pub held_slot : (n : ℕ) (r : Forms) (rows : List (Option Forms)) (lists : Listing) → Stands rows lists → IsHeld (taken n r) (shown rows lists) → n < length rows
+held_slot n r rows lists stands held =
+    stands.slots r.established n (held All Established r.established (ap (λ t. t || false) (eq-eqb r.established r.established refl)))
+
+-- ---- places are made, or given up
+
+module _ (n : ℕ) (r : Forms) (rows : List (Option Forms)) (old new : Listing) (stands : Stands rows old) where
+  pub hold_fits : (more : List (Option Forms)) → ((m : ℕ) → slot_at more m ≡ slot_at rows m) → Took r (with_held n) old new → Fits more new
+  hold_fits more same took a b f m = by (belongs a b f r) refl ∙ stands.fits a b f m ∙ ap (λ o. option_map_or (belongs a b f) o false) (sym (same m))
+    where
+      by : (t : Bool) → belongs a b f r ≡ t → has m (listed a b f new).live ≡ has m (listed a b f old).live
+      by true e = ap (λ l. has m l.live) (took_in n r (with_held n) old new took a b f e)
+      by false e = ap (λ l. has m l.live) (took_out n r (with_held n) old new took a b f e)
+
+  pub hold_held : Took r (with_held n) old new → (a : Among) (b : By) (f : ℕ) → belongs a b f r ≡ true → has n (listed a b f new).held ≡ true
+  hold_held took a b f e =
+      ap (λ l. has n l.held) (took_in n r (with_held n) old new took a b f e) ∙ ap (λ t. t || has n (listed a b f old).held) (eq-eqb n n refl)
+
+  pub hold_slots : (more : List (Option Forms)) → n < length more → length rows ≤ length more → Took r (with_held n) old new → HasSlots more new
+  hold_slots more known longer took = slots_after n r (with_held n) old new took (λ l m h. held_after_hold n l m h) rows more known longer stands.slots
+
+  pub hold_ordered : (keys : List Key) → ListingInOrder keys old → Took r (with_held n) old new → ListingInOrder keys new
+  hold_ordered keys ordered took a b f = by (belongs a b f r) refl
+    where
+      by : (t : Bool) → belongs a b f r ≡ t → Ascends keys (listed a b f new).live
+      by true e = subst (λ l. Ascends keys l.live) (sym (took_in n r (with_held n) old new took a b f e)) (ordered a b f)
+      by false e = subst (λ l. Ascends keys l.live) (sym (took_out n r (with_held n) old new took a b f e)) (ordered a b f)
+
+  module _ (is : new ≡ listing_step r (released n) old) where
+    took_release : Took r (released n) old new
+    took_release = subst (Took r (released n) old) (sym is) (listing_took r (released n) old refl)
+
+    same_live : (a : Among) (b : By) (f : ℕ) → (listed a b f new).live ≡ (listed a b f old).live
+    same_live a b f = by (belongs a b f r) refl
+      where
+        by : (t : Bool) → belongs a b f r ≡ t → (listed a b f new).live ≡ (listed a b f old).live
+        by true e = ap (λ l. l.live) (took_in n r (released n) old new took_release a b f e)
+        by false e = ap (λ l. l.live) (took_out n r (released n) old new took_release a b f e)
+
+    pub release_ordered : (keys : List Key) → ListingInOrder keys old → ListingInOrder keys new
+    release_ordered keys ordered a b f = subst (Ascends keys) (sym (same_live a b f)) (ordered a b f)
+
+    pub release_stands : Stands rows new
+    release_stands = record {
+      fits = λ a b f m. ap (has m) (same_live a b f) ∙ stands.fits a b f m;
+      slots = λ f m there. stands.slots f m (by f m there (belongs All Established f r) refl);
+      short = subst IsShortListing (sym is) (listing_short r (released n) old stands.short);
+    }
+      where
+        by : (f m : ℕ) → has m (listed All Established f new).held ≡ true → (t : Bool) → belongs All Established f r ≡ t → has m (listed All Established f old).held ≡ true
+        by f m there true e = still_has n m (listed All Established f old).held (sym (ap (λ l. has m l.held) (took_in n r (released n) old new took_release All Established f e)) ∙ there)
+        by f m there false e = sym (ap (λ l. has m l.held) (took_out n r (released n) old new took_release All Established f e)) ∙ there
+
+-- ---- a row that was put is taken out and let go
+
+module _ (keys : List Key) (n : ℕ) (r : Forms) (rows more : List (Option Forms)) (old mid new : Listing) (stands : Stands rows old) (free : slot_at rows n ≡ None)
+    (slots : (m : ℕ) → slot_at more m ≡ (if m == n then Some r else slot_at rows m)) (held : Took r (with_held n) old mid) (is : new ≡ listing_step r (seated keys n) mid) where
+  put_lists : IsShortListing mid → listing_step r (released n) (listing_step r (unseated n) new) ≡ old
+  put_lists short =
+      same_listing old (listing_step r (released n) (listing_step r (unseated n) new)) stands.short
+      (listing_short r (released n) (listing_step r (unseated n) new) (listing_short r (unseated n) new (subst IsShortListing (sym is) (listing_short r (seated keys n) mid short))))
+      (λ a b f. by a b f (belongs a b f r) refl)
+    where
+      seat : Took r (seated keys n) mid new
+      seat = subst (Took r (seated keys n) mid) (sym is) (listing_took r (seated keys n) mid refl)
+      out : Took r (unseated n) new (listing_step r (unseated n) new)
+      out = listing_took r (unseated n) new refl
+      go : Took r (released n) (listing_step r (unseated n) new) (listing_step r (released n) (listing_step r (unseated n) new))
+      go = listing_took r (released n) (listing_step r (unseated n) new) refl
+      by : (a : Among) (b : By) (f : ℕ) (t : Bool) → belongs a b f r ≡ t → listed a b f (listing_step r (released n) (listing_step r (unseated n) new)) ≡ listed a b f old
+      by a b f true e =
+          took_in n r (released n) (listing_step r (unseated n) new) (listing_step r (released n) (listing_step r (unseated n) new)) go a b f e
+          ∙ ap (released n) (took_in n r (unseated n) new (listing_step r (unseated n) new) out a b f e
+            ∙ ap (unseated n) (took_in n r (seated keys n) mid new seat a b f e ∙ ap (seated keys n) (took_in n r (with_held n) old mid held a b f e)))
+          ∙ put_undone n (listed a b f old) keys (stands.fits a b f n ∙ ap (λ o. option_map_or (belongs a b f) o false) free)
+      by a b f false e =
+          took_out n r (released n) (listing_step r (unseated n) new) (listing_step r (released n) (listing_step r (unseated n) new)) go a b f e
+          ∙ took_out n r (unseated n) new (listing_step r (unseated n) new) out a b f e
+          ∙ took_out n r (seated keys n) mid new seat a b f e ∙ took_out n r (with_held n) old mid held a b f e
+
+  pub put_puts : IsShortListing mid → Puts (taken n r) (shown rows old) (shown more new)
+  put_puts short = record {
+    rows = λ m. slots_at more m ∙ slots m ∙ ap (λ z. if m == n then Some r else z) (sym (slots_at rows m));
+    undone =
+        let rows_back : with_slot n None (trimmed is_none more) ≡ trimmed is_none rows =
+        ap (with_slot n None) (rows_with n (Some r) rows more slots)
+        ∙ slots_back n None (Some r) (trimmed is_none rows) (trimmed_again None is_none none_is refl rows) (slots_at rows n ∙ free) in
+        λ i. record { rows = rows_back i; lists = put_lists short i };
+  }
+
+-- ---- what the lists say of the rows
+
+module _ (rows : List (Option Forms)) (lists : Listing) (stands : Stands rows lists) (a : Among) (b : By) (f : ℕ) where
+  pub scans : (numbers : List ℕ) → numbers ≡ (listed a b f lists).live → IsScan a b f (shown rows lists) numbers
+  scans numbers is = record {
+    members = λ n. ap (has n) is ∙ stands.fits a b f n ∙ ap (λ o. option_map_or (belongs a b f) o false) (sym (slots_at rows n));
+    ordered = λ keys ordered. subst (Ascends keys) (sym is) (ordered a b f);
+  }
+
+  pub scans_none : (numbers : List ℕ) → numbers ≡ (listed a b f lists).live → numbers ≡ [] → IsBlankScan a b f (shown rows lists)
+  scans_none numbers is blank n = ap (λ o. option_map_or (belongs a b f) o false) (slots_at rows n) ∙ sym (stands.fits a b f n) ∙ ap (has n) (sym is ∙ blank)
+
+-- ---- the blank index
+
+nil_ascends : (keys : List Key) → Ascends keys []
+unfolding IsStrictlySortedBy
+nil_ascends keys = record { known = tt; rising = tt }
+
+pub none_ordered : (keys : List Key) → ListingInOrder keys no_index.lists
+none_ordered keys All Established f = nil_ascends keys
+none_ordered keys All SeeFrom f = nil_ascends keys
+none_ordered keys Bare Established f = nil_ascends keys
+none_ordered keys Bare SeeFrom f = nil_ascends keys
+
+-- ---- what a test for emptiness says, and what an error leaves
+
+pub empty_is : (b : Bool) (l : List ℕ) → b ≡ (length l == 0) → b ≡ true → l ≡ []
+empty_is b [] e t = refl
+empty_is b (n ∷ ns) e t = absurd (omega (arith, eqb-true (length (n ∷ ns)) 0 (sym e ∙ t)))
+
+pub filled_is : (b : Bool) (l : List ℕ) → b ≡ (length l == 0) → b ≡ false → l ≢ []
+filled_is b l e f blank = true≢false (sym (e ∙ ap (λ l. length l == 0) blank) ∙ f)
+
+pub on_err : {T E P : Type 0} (r : Result T E) → P → OnErr r P
+on_err (Ok x) p = tt
+on_err (Err x) p = p

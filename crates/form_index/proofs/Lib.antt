@@ -1,0 +1,8 @@
+pub mod Indexing
+pub mod Listing
+pub mod Moved
+pub mod Onces
+pub mod Ordered
+pub mod Places
+pub mod Stepping
+pub mod Trims

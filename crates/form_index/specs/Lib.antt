@@ -1,0 +1,7 @@
+pub mod Candidates
+pub mod Forms
+pub mod Index
+pub mod Listed
+pub mod Order
+pub mod Stands
+pub mod Trimmed

@@ -1,0 +1,10 @@
+use Rattle.std.proofs.Common.{◌≡◌, ◌++◌}
+use Rattle.std.specs.Prelude.{filter}
+use Rattle.std.specs.HashMap.{keys}
+use Rattle.link_table.specs.Links.{is_linked}
+use Rattle.link_table.specs.Table.{links}
+use Rattle.link_table.proofs.table.LinkTable.linked_in.Given as goal
+
+abbrev pub invariant-loop-seat : goal.invariant-loop-seat
+invariant-loop-seat l =
+    l.seats.items ++ filter (is_linked l.number (links l.self)) l.seat-iterator ≡ filter (is_linked l.number (links l.self)) (keys l.group)

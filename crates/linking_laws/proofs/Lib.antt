@@ -1,0 +1,16 @@
+pub mod Agreeing
+pub mod Commits
+pub mod Counts
+pub mod Dropped
+pub mod Exchanges
+pub mod Heart
+pub mod Listed
+pub mod Others
+pub mod Pairs
+pub mod Partial
+pub mod Settling
+pub mod Staged
+pub mod Steadily
+pub mod Sums
+pub mod Touched
+pub mod Visited

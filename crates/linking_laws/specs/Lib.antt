@@ -1,0 +1,10 @@
+pub mod Behind
+pub mod Commits
+pub mod Middle
+pub mod Partway
+pub mod Receipts
+pub mod Stages
+pub mod Tables
+pub mod Visits
+pub mod Waiting
+pub mod Weights

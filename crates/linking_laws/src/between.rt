@@ -1,0 +1,69 @@
+//! Laws of the states between the stages of a commit.
+ghost use Rattle.std.specs.Prelude.{ℕ, List, find, Option};
+ghost use Rattle.marc_types.specs.declared.key.Class.{Class};
+ghost use Rattle.marc_types.specs.declared.key.Class.TheVariants.{Authority};
+ghost use Rattle.marc_types.specs.declared.key.Key.{Key};
+ghost use Rattle.marc_types.specs.declared.entry.Entry.{Entry};
+ghost use Rattle.entry_record.specs.Authority.{Linkable};
+ghost use Rattle.catalogue_rules.specs.State.{KeptField, State, linkable_authorities, each_field, Row};
+ghost use Rattle.catalogue_rules.specs.Choice.{has_key};
+ghost use Rattle.catalogue_rules.specs.Valid.{IsValid};
+ghost use Rattle.linking_laws.specs.Partway.{IsSteadyChange};
+ghost use Rattle.linking_laws.specs.Middle.{CanDrop, IsEitherStage, IsMiddle, IsMiddleWith, IsVisited};
+ghost use Rattle.linking_laws.specs.Stages.{Dropping, drop_by, carry_by, choose_field, settle_own};
+ghost use Rattle.marc_types.specs.declared.field.Field.{Field};
+ghost use Rattle.marc_types.specs.declared.form.Form.{Form};
+ghost use Rattle.record_store.specs.Store.{StaysRecord};
+ghost use Rattle.linking_laws.specs.Commits.{IsCommit, dropping_of, placed_by};
+
+/// A valid state may stand between two stages.
+#[tactic(auto, using(crate::proofs::Settling::valid_middle))]
+pub fn a_valid_state_is_a_middle()
+    ensures { (s : State) → IsValid s → IsMiddle s }
+{}
+
+/// A stage that leaves each field or settles it leads from one state between stages to another, with the same authorities.
+pub fn a_stage_leads_between_stages()
+    ensures { (all : List Linkable) (change : Class → KeptField → KeptField) (s : State)
+        → IsMiddleWith all s → IsEitherStage all change → IsMiddleWith all (each_field change s) }
+{}
+
+/// Carrying leaves each field or settles it, and so does choosing.
+pub fn carrying_and_choosing_settle()
+    ensures carry { (key : Key) (all : List Linkable) → IsEitherStage all (carry_by key (find (has_key key) all)) }
+    ensures choose { (all : List Linkable) (forms : List Form) (key : Key) → IsEitherStage all (choose_field all forms key) }
+{}
+
+/// A visited record with room stays a record with another field at one place.
+#[tactic(auto, using(crate::proofs::Settling::stays_record))]
+pub fn a_record_stays_one()
+    ensures { (class : Class) (row : Row) (i : ℕ) (field : Field) → IsVisited class row field → StaysRecord i field row.1 }
+{}
+
+/// Such a stage changes no field of an authority record but a 5XX, so that the authorities stay also on its way.
+pub fn a_stage_is_steady()
+    ensures { (all : List Linkable) (change : Class → KeptField → KeptField) (s : State)
+        → IsMiddleWith all s → IsEitherStage all change → IsSteadyChange change s }
+{}
+
+/// Nor does dropping.
+pub fn dropping_is_steady()
+    ensures { (d : Dropping) (key : Key) (successor : Option Key) (s : State) → CanDrop d key s
+        → IsSteadyChange (drop_by d (linkable_authorities s) key successor) s }
+{}
+
+/// With the record of an admitted authority in its place, a valid state can drop the links that the commit ends.
+pub fn a_commit_can_drop()
+    ensures { (s : State) (e : Entry) → IsCommit Authority s e → CanDrop (dropping_of s e) e.key (placed_by Authority s e) }
+{}
+
+/// Dropping leads from such a state to one between stages, with the same authorities.
+pub fn dropping_leads_between_stages()
+    ensures { (d : Dropping) (key : Key) (successor : Option Key) (s : State) → CanDrop d key s
+        → IsMiddleWith (linkable_authorities s) (each_field (drop_by d (linkable_authorities s) key successor) s) }
+{}
+
+/// Settling the own fields leads from one state between stages to another.
+pub fn own_fields_lead_between_stages()
+    ensures { (all : List Linkable) (class : Class) (key : Key) (s : State) → IsMiddleWith all s → IsMiddleWith all (settle_own all class key s) }
+{}

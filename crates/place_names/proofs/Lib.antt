@@ -1,0 +1,4 @@
+pub mod Groups
+pub mod Lefts
+pub mod Listings
+pub mod Rows

@@ -1,0 +1,8 @@
+use Rattle.std.proofs.Common.{◌≡◌, ◌+◌, take}
+use Rattle.place_names.specs.Counts.{times, brought}
+use Rattle.place_names.proofs.counts.Counts.note_all.Given as goal
+
+abbrev pub invariant-loop-i : goal.invariant-loop-i
+invariant-loop-i g l =
+    (n : g.row.N.Denot) (p : g.row.P.Denot) → times g.N.PartialEq.eq g.P.PartialEq.eq l.self.groups n p
+    ≡ times g.N.PartialEq.eq g.P.PartialEq.eq l.fn.self.groups n p + brought g.N.PartialEq.eq g.P.PartialEq.eq (take l.i l.names) l.thing n p

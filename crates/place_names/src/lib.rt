@@ -1,0 +1,12 @@
+//! Things under names: a slot for each thing's row, and how often each name has each thing.
+//!
+//! A row may be taken out of its slot and put back later. Meanwhile the names go on counting it, so neither needs memory.
+#![tactic(auto)]
+
+pub use counts::Counts;
+pub use slots::Slots;
+
+mod counts;
+mod slots;
+#[cfg(test)]
+mod tests;
