@@ -1,9 +1,9 @@
 //! The commands on a journal that is only read: its export and its report.
 #![tactic(auto)]
 
+pub use command::read;
 pub use due::Due;
-pub use reading::read;
 
+mod command;
 mod due;
-mod reading;
 mod writing;

@@ -12,7 +12,7 @@ use Rattle.console_lines.specs.declared.fault.Fault.TheVariants as fault
 use Rattle.durable_catalogue.specs.declared.fault.OpenFault.TheVariants as opening
 use Rattle.room_files.proofs.Journals.{unopened_keeps}
 use Rattle.archive_commands.specs.Reads.{DueView, Reads}
-use Rattle.archive_commands.proofs.Reads.{reads_unopened}
+use Rattle.archive_commands.proofs.Endings.{reads_unopened}
 use Rattle.plain_commands.proofs.Passes.{passes_told}
 use Rattle.plain_commands.proofs.Made.{makes_no_memory}
 use Rattle.output_files.specs.Outputs as files

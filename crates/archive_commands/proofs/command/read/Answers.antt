@@ -2,8 +2,8 @@ use Rattle.std.proofs.Common.{◌∙◌, Err, refl, ap, subst, arith}
 use Rattle.console_lines.specs.Faults.{IsFaultTold, fault_line}
 use Rattle.console_lines.specs.declared.end.End.TheVariants.{Told}
 use Rattle.archive_commands.proofs.Rooms.{closed_opened}
-use Rattle.archive_commands.proofs.Reads.{reads_unopened, was_read, reads_whole, reads_failed, reads_no_memory}
-use Rattle.archive_commands.proofs.reading.read.Goals as goal
+use Rattle.archive_commands.proofs.Endings.{reads_unopened, was_read, reads_whole, reads_failed, reads_no_memory}
+use Rattle.archive_commands.proofs.command.read.Goals as goal
 
 pub returns-in-Err-clause-ends : goal.returns-in-Err-clause-ends
 returns-in-Err-clause-ends g c =
