@@ -1,5 +1,5 @@
 -- How a pass ended.
-use Rattle.std.proofs.Common.{◌≡◌, ◌∙◌, ◌⊎◌, inl, inr, ℕ, Bool, true, false, ◌==◌, ◌<◌, List, length, sym, ap, subst, arith, Option, Some}
+use Rattle.std.proofs.Common.{◌≡◌, ◌∙◌, ◌⊎◌, inl, inr, ℕ, Bool, true, false, ◌==◌, ◌<◌, List, length, sym, ap, subst, arith, Option, Some, []}
 use Rattle.std.specs.Prelude.{string_bytes, nat_lt, IsSomeAnd}
 use Rattle.std.proofs.lemmas.Bool.{eqb-true, eqb-false, lt-ltb}
 use Rattle.std.specs.Io.KnownBytes.{Appends}

@@ -1,4 +1,4 @@
-ghost use Rattle.std.specs.Prelude.{◌≡◌, ◌≢◌, ◌↔◌, ◌⊎◌, ℕ, ◌≤◌, List, true, Some, None};
+ghost use Rattle.std.specs.Prelude.{◌≡◌, ◌≢◌, ◌↔◌, ◌⊎◌, ℕ, ◌≤◌, List, true, Some, None, []};
 ghost use Rattle.outside.specs.Room.{SameBut};
 ghost use Rattle.command_words.specs.Command.{Command, command_of, names_of};
 ghost use Rattle.command_words.specs.Asked.{command_asked};

@@ -1,4 +1,4 @@
-use Rattle.std.proofs.Common.{◌≡◌, All, length, take, vec_capacity}
+use Rattle.std.proofs.Common.{◌≡◌, All, length, take, vec_capacity, []}
 use Rattle.outside.specs.Room.{SameBut}
 use Rattle.journal_loading.specs.Inputs.{AreInputs, IsFresh}
 use Rattle.journal_loading.proofs.inputs.open_inputs.Given as goal
