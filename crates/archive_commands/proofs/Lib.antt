@@ -1,3 +1,3 @@
 pub mod Rooms
 pub mod Histories
-pub mod Ends
+pub mod Endings

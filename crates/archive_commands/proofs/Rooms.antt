@@ -2,7 +2,7 @@
 use Rattle.std.proofs.Common.{◌≡◌, ◌≢◌, ◌∙◌, ◌⊎◌, inl, inr, ℕ, Bool, true, false, true≢false, List, ◌∷◌, [], refl, sym, ap, subst, Some, None}
 use Rattle.std.specs.Str.{bytes_eq}
 use Rattle.marc_types.specs.Order.{text_Decides}
-use Rattle.outside.specs.Room.{RoomView, SameBut, AsLog}
+use Rattle.outside.specs.Room.{RoomView, AsLog, SameBut}
 use Rattle.output_files.specs.Outputs.{IsPartWritten}
 use Rattle.outside.proofs.Rooms.{same_but_first, same_but_then}
 
@@ -14,7 +14,7 @@ same_or_not a b = let same = text_Decides a b in decided (bytes_eq a b) same.0 s
     decided false is back = inr (λ e. absurd (true≢false (sym (back e))))
 
 -- where no name was open, and two names alone were used and closed again, no name is open
-pub closed_everywhere : (old new : RoomView) (journal out : List ℕ) → SameBut old new (journal ∷ out ∷ []) → new.open_as journal ≡ None
+closed_everywhere : (old new : RoomView) (journal out : List ℕ) → SameBut old new (journal ∷ out ∷ []) → new.open_as journal ≡ None
     → new.open_as out ≡ None → ((name : List ℕ) → old.open_as name ≡ None) → (name : List ℕ) → new.open_as name ≡ None
 closed_everywhere old new journal out apart closed out_closed free name = decided (same_or_not name journal) (same_or_not name out)
   where
@@ -28,6 +28,12 @@ pub apart_opened : (old opened new : RoomView) (journal out : List ℕ) → Same
     → SameBut old new (journal ∷ out ∷ [])
 apart_opened old opened new journal out first second =
     same_but_then old opened new (journal ∷ out ∷ []) (same_but_first old opened journal (out ∷ []) first) second
+
+-- the same where the log was opened first
+pub closed_opened : (old opened new : RoomView) (journal out : List ℕ) → SameBut old opened (journal ∷ []) → SameBut opened new (journal ∷ out ∷ [])
+    → new.open_as journal ≡ None → new.open_as out ≡ None → ((name : List ℕ) → old.open_as name ≡ None) → (name : List ℕ) → new.open_as name ≡ None
+closed_opened old opened new journal out first second closed out_closed free =
+    closed_everywhere old new journal out (apart_opened old opened new journal out first second) closed out_closed free
 
 -- a log that is open, and a name that isn't
 other_name : (room : RoomView) (journal out : List ℕ) → room.open_as journal ≡ Some AsLog → room.open_as out ≡ None → out ≢ journal

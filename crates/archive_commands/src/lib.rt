@@ -1,9 +1,9 @@
 //! The commands on a journal that is only read: its export and its report.
 #![tactic(auto)]
 
-pub use exporting::export;
-pub use reporting::report;
+pub use command::read;
+pub use due::Due;
 
-mod exporting;
-mod fault;
-mod reporting;
+mod command;
+mod due;
+mod writing;

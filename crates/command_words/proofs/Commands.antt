@@ -1,16 +1,19 @@
 -- What every command has that words ask for.
 use Rattle.std.proofs.Common.{◌≡◌, ◌≢◌, ℕ, zero, suc, ◌<◌, ◌≤◌, Bool, true, false, ◌&&◌, List, [], ◌∷◌, length, Option, Some, None, refl, sym, ap, subst, ◌∙◌, arith, codes, if◌then◌else◌}
-use Rattle.std.specs.Prelude.{is_some, slice_get, option_and_then, nat_le}
+use Rattle.std.specs.Prelude.{is_some, option_and_then, nat_le, All, map}
 use Rattle.std.specs.Str.Parse.{digits_value}
 use Rattle.std.proofs.lemmas.Bool.Decides.{nat_tests}
 use Rattle.std.specs.List.{list_all}
 use Rattle.std.specs.Str.{bytes_eq}
 use Rattle.std.proofs.lemmas.Bool.{and_parts, not-true, true≢false}
-use Rattle.std.proofs.lemmas.Option.{slice_get_past}
+use Rattle.std.proofs.lemmas.List.{length-map}
+use Rattle.std.proofs.lemmas.List.Elements.{All-nil, All-cons}
 use Rattle.std.proofs.lemmas.Slice.Eq.{bytes_eq-Decides}
+use Rattle.marc_types.specs.Valid.{is_code}
 use Rattle.outside.specs.Room.{IsNoneOf}
 use Rattle.marc_types.specs.Limits.{most_entries}
-use Rattle.command_words.specs.Command.{Library, Command, Pass, Run, Load, Export, Report, Make, is_name, differ, split_at_equals, library_of, are_libraries, is_free, number_upto, greatest_seed, are_two_names, pass_of, run_of, load_of, export_of, report_of, make_of, command_of, file_at, library_at, file_count, names_of, AreNames, IsBounded}
+use Rattle.command_words.specs.declared.library.Library.{Library}
+use Rattle.command_words.specs.Command.{Command, Pass, Run, Load, Export, Report, Make, is_name, differ, split_at_equals, library_of, are_libraries, is_free, number_upto, greatest_seed, are_two_names, pass_of, run_of, load_of, export_of, report_of, make_of, command_of, words_of_files, libraries_of, file_count, names_of, AreNames, IsBounded}
 
 -- a test and what it lets through
 if_some : {A : Type 0} (good : Bool) (a b : A) → (if good then Some a else None) ≡ Some b → (good ≡ true) × (a ≡ b)
@@ -28,16 +31,26 @@ apart a b differs same = true≢false (sym ((bytes_eq-Decides a b).1 same) ∙ n
 named : (name : List ℕ) → is_name name ≡ true → name ≢ []
 named name good empty = true≢false (sym good ∙ ap is_name empty)
 
-all_there : (files : List (List ℕ)) (i : ℕ) → list_all (λ word. is_some (library_of word)) files ≡ true → i < length files
-    → is_some (option_and_then library_of (slice_get files i)) ≡ true
-all_there [] i good within = absurd (omega arith)
-all_there (word ∷ words) zero good within = (and_parts _ _ good).0
-all_there (word ∷ words) (suc i) good within = all_there words i (and_parts _ _ good).1 (omega arith)
+named_word : (good : Bool) (library : Library) → is_some (if good then Some library else None) ≡ true → good ≡ true
+named_word true library is = refl
+named_word false library is = cc
 
-there : (files : List (List ℕ)) → are_libraries files ≡ true → (i : ℕ) → i < length files
-    → is_some (option_and_then library_of (slice_get files i)) ≡ true
+proper : (word : List ℕ) → is_some (library_of word) ≡ true → is_code (split_at_equals word).code ≡ true
+unfolding library_of
+proper word good =
+    let all = named_word _ (split_at_equals word) good in
+    let both = and_parts _ (is_name (split_at_equals word).file) all in
+    (and_parts _ (is_code (split_at_equals word).code) both.0).1
+
+all_proper : (files : List (List ℕ)) → list_all (λ word. is_some (library_of word)) files ≡ true
+    → All (λ (l : Library). is_code l.code ≡ true) (map split_at_equals files)
+all_proper [] good = All-nil (λ (l : Library). is_code l.code ≡ true)
+all_proper (word ∷ words) good =
+    All-cons (λ (l : Library). is_code l.code ≡ true) (split_at_equals word) (map split_at_equals words) (proper word (and_parts _ _ good).0) (all_proper words (and_parts _ _ good).1)
+
+codes_of : (files : List (List ℕ)) → are_libraries files ≡ true → All (λ (l : Library). is_code l.code ≡ true) (map split_at_equals files)
 unfolding are_libraries
-there files good i within = all_there files i (and_parts _ _ good).1 within
+codes_of files good = all_proper files (and_parts _ _ good).1
 
 few : (files : List (List ℕ)) → are_libraries files ≡ true → (1 ≤ length files) × (length files ≤ 64)
 unfolding are_libraries
@@ -53,35 +66,27 @@ number_within limit word n is =
     let last = (and_parts _ (nat_le (digits_value 10 word) limit) parts.0).1 in
     subst (λ v. v ≤ limit) parts.1 (grind (arith, nat_tests, last))
 
-past : (files : List (List ℕ)) (i : ℕ) → length files ≤ i → option_and_then library_of (slice_get files i) ≡ None
-past files i behind = ap (option_and_then library_of) (slice_get_past files i behind)
-
-file_of_library : (word : List ℕ) (library : Library) → library_of word ≡ Some library → (split_at_equals word).file ≡ library.file
-unfolding library_of
-file_of_library word library is = ap (λ l. l.file) (if_some _ (split_at_equals word) library is).1
-
 all_apart : (files : List (List ℕ)) (name : List ℕ) → list_all (λ word. differ name (split_at_equals word).file) files ≡ true
-    → (i : ℕ) (library : Library) → option_and_then library_of (slice_get files i) ≡ Some library → library.file ≢ name
-all_apart [] name good i library at = cc
-all_apart (word ∷ words) name good zero library at = λ same.
-    apart name (split_at_equals word).file (and_parts _ _ good).0 (sym (file_of_library word library at ∙ same))
-all_apart (word ∷ words) name good (suc i) library at = all_apart words name (and_parts _ _ good).1 i library at
+    → All (λ (l : Library). l.file ≢ name) (map split_at_equals files)
+all_apart [] name good = All-nil (λ (l : Library). l.file ≢ name)
+all_apart (word ∷ words) name good =
+    All-cons (λ (l : Library). l.file ≢ name) (split_at_equals word) (map split_at_equals words)
+    (λ same. apart name (split_at_equals word).file (and_parts _ _ good).0 (sym same)) (all_apart words name (and_parts _ _ good).1)
 
-free_apart : (files : List (List ℕ)) (name : List ℕ) → is_free files name ≡ true
-    → (i : ℕ) (library : Library) → option_and_then library_of (slice_get files i) ≡ Some library → library.file ≢ name
+free_apart : (files : List (List ℕ)) (name : List ℕ) → is_free files name ≡ true → All (λ (l : Library). l.file ≢ name) (map split_at_equals files)
 unfolding is_free
-free_apart files name good i library at = all_apart files name (and_parts _ _ good).1 i library at
+free_apart files name good = all_apart files name (and_parts _ _ good).1
 
 free_named : (files : List (List ℕ)) (name : List ℕ) → is_free files name ≡ true → name ≢ []
 unfolding is_free
 free_named files name good = named name (and_parts _ _ good).0
 
--- its files are there, and its names are apart
+-- its libraries are counted and proper, and its names are apart
 record IsCommand (words : List (List ℕ)) (command : Command) : Type 0 where
-  each : (i : ℕ) → i < file_count command → is_some (file_at words i command) ≡ true
-  none : (i : ℕ) → file_count command ≤ i → file_at words i command ≡ None
+  count : length (map split_at_equals (words_of_files words (Some command))) ≡ file_count command
+  codes : All (λ (l : Library). is_code l.code ≡ true) (map split_at_equals (words_of_files words (Some command)))
   names : AreNames (names_of command)
-  files : (i : ℕ) (library : Library) → file_at words i command ≡ Some library → IsNoneOf library.file (names_of command)
+  files : All (λ (l : Library). IsNoneOf l.file (names_of command)) (map split_at_equals (words_of_files words (Some command)))
   bounded : IsBounded command
 
 pass_is : (verb : List ℕ) (words : List (List ℕ)) (c : Command) → pass_of words ≡ Some c → IsCommand (verb ∷ words) c
@@ -91,10 +96,10 @@ pass_is verb (out ∷ file ∷ []) c is =
     let parts = if_some (are_libraries (file ∷ []) && is_free (file ∷ []) out) (Pass out) c is in
     let good = and_parts (are_libraries (file ∷ [])) (is_free (file ∷ []) out) parts.0 in
     subst (IsCommand (verb ∷ out ∷ file ∷ [])) parts.1 (record {
-      each = there (file ∷ []) good.0;
-      none = past (file ∷ []);
+      count = refl;
+      codes = codes_of (file ∷ []) good.0;
       names = (free_named (file ∷ []) out good.1, tt, tt);
-      files = λ i library at. (free_apart (file ∷ []) out good.1 i library at, tt);
+      files = λ k d less. (free_apart (file ∷ []) out good.1 k d less, tt);
       bounded = tt;
     })
 pass_is verb (out ∷ file ∷ other ∷ rest) c is = cc
@@ -112,14 +117,14 @@ run_is verb (journal ∷ out ∷ report ∷ words) c is =
     let two = and_parts _ (is_free words out) three.0 in
     let one = and_parts (are_libraries words) (is_free words journal) two.0 in
     subst (IsCommand (verb ∷ journal ∷ out ∷ report ∷ words)) parts.1 (record {
-      each = there words one.0;
-      none = past words;
+      count = length-map words split_at_equals;
+      codes = codes_of words one.0;
       names = (
         free_named words journal one.1,
         (apart journal out four.1, (apart journal report five.1, tt)),
         (free_named words out two.1, (apart out report six.1, tt), (free_named words report three.1, tt, tt)),
       );
-      files = λ i library at. (free_apart words journal one.1 i library at, (free_apart words out two.1 i library at, (free_apart words report three.1 i library at, tt)));
+      files = λ k d less. (free_apart words journal one.1 k d less, (free_apart words out two.1 k d less, (free_apart words report three.1 k d less, tt)));
       bounded = few words one.0;
     })
 
@@ -129,10 +134,10 @@ load_is verb (journal ∷ words) c is =
     let parts = if_some _ (Load journal (length words)) c is in
     let good = and_parts (are_libraries words) (is_free words journal) parts.0 in
     subst (IsCommand (verb ∷ journal ∷ words)) parts.1 (record {
-      each = there words good.0;
-      none = past words;
+      count = length-map words split_at_equals;
+      codes = codes_of words good.0;
       names = (free_named words journal good.1, tt, tt);
-      files = λ i library at. (free_apart words journal good.1 i library at, tt);
+      files = λ k d less. (free_apart words journal good.1 k d less, tt);
       bounded = few words good.0;
     })
 
@@ -148,19 +153,19 @@ export_is verb (journal ∷ []) c is = cc
 export_is verb (journal ∷ out ∷ []) c is =
     let parts = if_some (are_two_names journal out) (Export journal out None) c is in
     subst (IsCommand (verb ∷ journal ∷ out ∷ [])) parts.1 (record {
-      each = λ i within. absurd (omega arith);
-      none = λ i behind. refl;
+      count = refl;
+      codes = All-nil (λ (l : Library). is_code l.code ≡ true);
       names = two_names journal out parts.0;
-      files = λ i library at. cc;
+      files = λ k d less. absurd (omega (arith, less));
       bounded = tt;
     })
 export_is verb (journal ∷ out ∷ code ∷ []) c is =
     let parts = if_some _ (Export journal out (Some code)) c is in
     subst (IsCommand (verb ∷ journal ∷ out ∷ code ∷ [])) parts.1 (record {
-      each = λ i within. absurd (omega arith);
-      none = λ i behind. refl;
+      count = refl;
+      codes = All-nil (λ (l : Library). is_code l.code ≡ true);
       names = two_names journal out (and_parts (are_two_names journal out) _ parts.0).0;
-      files = λ i library at. cc;
+      files = λ k d less. absurd (omega (arith, less));
       bounded = tt;
     })
 export_is verb (journal ∷ out ∷ code ∷ other ∷ rest) c is = cc
@@ -171,10 +176,10 @@ report_is verb (journal ∷ []) c is = cc
 report_is verb (journal ∷ out ∷ []) c is =
     let parts = if_some (are_two_names journal out) (Report journal out) c is in
     subst (IsCommand (verb ∷ journal ∷ out ∷ [])) parts.1 (record {
-      each = λ i within. absurd (omega arith);
-      none = λ i behind. refl;
+      count = refl;
+      codes = All-nil (λ (l : Library). is_code l.code ≡ true);
       names = two_names journal out parts.0;
-      files = λ i library at. cc;
+      files = λ k d less. absurd (omega (arith, less));
       bounded = tt;
     })
 report_is verb (journal ∷ out ∷ other ∷ rest) c is = cc
@@ -188,10 +193,10 @@ make_is verb (seed ∷ count ∷ out ∷ []) c is =
     let second = and_then_some _ (number_upto most_entries count) c first.2 in
     let parts = if_some (is_name out) (Make first.0 second.0 out) c second.2 in
     subst (IsCommand (verb ∷ seed ∷ count ∷ out ∷ [])) parts.1 (record {
-      each = λ i within. absurd (omega arith);
-      none = λ i behind. refl;
+      count = refl;
+      codes = All-nil (λ (l : Library). is_code l.code ≡ true);
       names = (named out parts.0, tt, tt);
-      files = λ i library at. cc;
+      files = λ k d less. absurd (omega (arith, less));
       bounded = number_within most_entries count second.0 second.1;
     })
 make_is verb (seed ∷ count ∷ out ∷ other ∷ rest) c is = cc
@@ -212,26 +217,28 @@ command_is (verb ∷ words) c is =
     chosen (bytes_eq verb (codes "report")) (report_of words) _ c (report_is verb words c) (
     chosen (bytes_eq verb (codes "make")) (make_of words) None c (make_is verb words c) (λ none. cc)))))) is
 
-library_at_is : (words : List (List ℕ)) (c : Command) (i : ℕ) → command_of words ≡ Some c → library_at words i ≡ file_at words i c
-unfolding library_at
-library_at_is words c i is = ap (option_and_then (file_at words i)) is
+-- a command has a library for each of its files
+pub libraries_are_counted : (words : List (List ℕ)) (c : Command) → command_of words ≡ Some c → length (libraries_of words) ≡ file_count c
+unfolding libraries_of
+libraries_are_counted words c is = ap (λ o. length (map split_at_equals (words_of_files words o))) is ∙ (command_is words c is).count
 
--- a command names each of its files
-pub file_is_named : (words : List (List ℕ)) (c : Command) (i : ℕ) → command_of words ≡ Some c → i < file_count c → is_some (library_at words i) ≡ true
-file_is_named words c i is within = ap is_some (library_at_is words c i is) ∙ (command_is words c is).each i within
-
--- and no more
-pub no_more_named : (words : List (List ℕ)) (c : Command) (i : ℕ) → command_of words ≡ Some c → file_count c ≤ i → library_at words i ≡ None
-no_more_named words c i is behind = library_at_is words c i is ∙ (command_is words c is).none i behind
+-- their codes are proper
+pub codes_are_proper : (words : List (List ℕ)) → All (λ (l : Library). is_code l.code ≡ true) (libraries_of words)
+unfolding libraries_of
+codes_are_proper words = decided (command_of words) refl
+  where
+    decided : (o : Option Command) → command_of words ≡ o → All (λ (l : Library). is_code l.code ≡ true) (map split_at_equals (words_of_files words (command_of words)))
+    decided None is = subst (λ o. All (λ (l : Library). is_code l.code ≡ true) (map split_at_equals (words_of_files words o))) (sym is) (All-nil (λ (l : Library). is_code l.code ≡ true))
+    decided (Some c) is = subst (λ o. All (λ (l : Library). is_code l.code ≡ true) (map split_at_equals (words_of_files words o))) (sym is) (command_is words c is).codes
 
 -- the names of its log and outputs aren't empty, and differ from one another
 pub names_are_apart : (words : List (List ℕ)) (c : Command) → command_of words ≡ Some c → AreNames (names_of c)
 names_are_apart words c is = (command_is words c is).names
 
 -- and from each of its files
-pub files_are_apart : (words : List (List ℕ)) (c : Command) (i : ℕ) (library : Library) → command_of words ≡ Some c
-    → library_at words i ≡ Some library → IsNoneOf library.file (names_of c)
-files_are_apart words c i library is at = (command_is words c is).files i library (sym (library_at_is words c i is) ∙ at)
+pub files_are_apart : (words : List (List ℕ)) (c : Command) → command_of words ≡ Some c → All (λ (l : Library). IsNoneOf l.file (names_of c)) (libraries_of words)
+unfolding libraries_of
+files_are_apart words c is = subst (λ o. All (λ (l : Library). IsNoneOf l.file (names_of c)) (map split_at_equals (words_of_files words o))) (sym is) (command_is words c is).files
 
 -- its numbers are within their bounds
 pub is_bounded : (words : List (List ℕ)) (c : Command) → command_of words ≡ Some c → IsBounded c

@@ -1,11 +1,12 @@
 -- The words of the command line, without the program's name, and what they ask for. The rules are this project's own.
-use Rattle.std.specs.Prelude.{◌≢◌, ◌≤◌, ℕ, ◌^◌, ◌-◌, Bool, ◌&&◌, ◌==◌, not, nat_le, nat_lt, List, [], ◌∷◌, length, Option, Some, None, is_some, codes, drop, slice_get, if◌then◌else◌, option_and_then}
+use Rattle.std.specs.Prelude.{◌≢◌, ◌≤◌, ℕ, ◌^◌, ◌-◌, Bool, ◌&&◌, ◌==◌, not, nat_le, nat_lt, List, [], ◌∷◌, length, Option, Some, None, is_some, codes, drop, map, if◌then◌else◌, option_and_then}
 use Rattle.std.specs.List.{before_first, after_first, position_or_len, list_all}
 use Rattle.std.specs.Str.{bytes_eq}
 use Rattle.std.specs.Str.Parse.{digits_value}
 use Rattle.marc_types.specs.Limits.{most_entries}
 use Rattle.marc_types.specs.Valid.{is_code, is_digit}
 use Rattle.outside.specs.Room.{IsNoneOf}
+use Rattle.command_words.specs.declared.library.Library.{Library}
 
 -- what a command asks for; the names are those of the words
 pub data Command : Type 0 where
@@ -32,11 +33,6 @@ differ name other = not (bytes_eq name other)
 
 abbrev pub is_equals_sign : ℕ → Bool
 is_equals_sign b = b == 61
-
--- the library code and the name of a file
-pub record Library : Type 0 where
-  pub code : List ℕ
-  pub file : List ℕ
 
 -- a word `CODE=FILE` is split at its first `=`
 abbrev pub split_at_equals : List ℕ → Library
@@ -124,22 +120,19 @@ command_of (verb ∷ words) =
     else if bytes_eq verb (codes "make") then make_of words
     else None
 
--- the words `CODE=FILE` of a command, which stand behind its other words
-abbrev pub words_of_files : List (List ℕ) → Command → List (List ℕ)
-words_of_files words (Pass out) = drop 2 words
-words_of_files words (Run journal out report files) = drop 4 words
-words_of_files words (Load journal files) = drop 2 words
-words_of_files words (Export journal out code) = []
-words_of_files words (Report journal out) = []
-words_of_files words (Make seed count out) = []
+-- the words `CODE=FILE` of a command, which stand behind its other words; none where there is no command
+abbrev pub words_of_files : List (List ℕ) → Option Command → List (List ℕ)
+words_of_files words None = []
+words_of_files words (Some (Pass out)) = drop 2 words
+words_of_files words (Some (Run journal out report files)) = drop 4 words
+words_of_files words (Some (Load journal files)) = drop 2 words
+words_of_files words (Some (Export journal out code)) = []
+words_of_files words (Some (Report journal out)) = []
+words_of_files words (Some (Make seed count out)) = []
 
--- the library of a command's file with that number, from 0
-abbrev pub file_at : List (List ℕ) → ℕ → Command → Option Library
-file_at words index command = option_and_then library_of (slice_get (words_of_files words command) index)
-
--- the library code and the name of the file with that number, from 0, of the words' command
-unfoldable pub library_at : List (List ℕ) → ℕ → Option Library
-library_at words index = option_and_then (file_at words index) (command_of words)
+-- the libraries of the files of the words' command, in their order
+unfoldable pub libraries_of : List (List ℕ) → List Library
+libraries_of words = map split_at_equals (words_of_files words (command_of words))
 
 -- how many files a command reads
 abbrev pub file_count : Command → ℕ

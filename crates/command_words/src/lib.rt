@@ -2,10 +2,12 @@
 #![tactic(auto)]
 
 pub use asked::Request;
-pub use words::{Words, library, request};
+pub use library::Library;
+pub use words::{Words, libraries, request};
 
 mod asked;
 pub mod laws;
+mod library;
 #[cfg(test)]
 mod tests;
 mod words;

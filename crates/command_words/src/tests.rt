@@ -1,4 +1,4 @@
-use crate::{Request, Words, library, request};
+use crate::{Library, Request, Words, libraries, request};
 use marc_types::{NoMemory, Text};
 use std::alloc::Global;
 use std::test::Fail;
@@ -148,13 +148,19 @@ fn most_files(rt: HostRuntime) -> Result<(), Fail> {
     Ok(())
 }
 
+/// What is listed of a line's files.
+fn listed(alloc: Global, line: &str) -> Result<Vec<Library>, NoMemory> {
+    libraries(alloc, &words_of(alloc, line)?)
+}
+
 #[test]
-fn libraries(rt: HostRuntime) -> Result<(), Fail> {
-    let words = words_of(rt.alloc(), "run j o r A=b=c D=e")?;
-    assert_eq!(rt; library(&words, 0), Some(("A", "b=c")));
-    assert_eq!(rt; library(&words, 1), Some(("D", "e")));
-    assert_eq!(rt; library(&words, 2), None);
-    let words = words_of(rt.alloc(), "export j o D")?;
-    assert_eq!(rt; library(&words, 0), None);
+fn files(rt: HostRuntime) -> Result<(), Fail> {
+    let made = listed(rt.alloc(), "run j o r A=b=c D=e")?;
+    assert_eq!(rt; made.len(), 2);
+    assert_eq!(rt; made[0].code.as_str(), "A");
+    assert_eq!(rt; made[0].file.as_str(), "b=c");
+    assert_eq!(rt; made[1].code.as_str(), "D");
+    assert_eq!(rt; made[1].file.as_str(), "e");
+    assert_eq!(rt; listed(rt.alloc(), "export j o D")?.len(), 0);
     Ok(())
 }

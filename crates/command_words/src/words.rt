@@ -1,12 +1,13 @@
-ghost use Rattle.std.specs.Prelude.{◌≡◌, ℕ, true, false, length, List, Option, Some, None, IfSome, MatchOption, drop, slice_get, is_some};
+ghost use Rattle.std.specs.Prelude.{◌≡◌, ℕ, true, false, length, List, Option, Some, None, IfSome, IfOk, MatchOption, drop, is_some};
 ghost use Rattle.std.specs.List.{list_all};
-ghost use Rattle.std.specs.Option.{option_copied};
 ghost use Rattle.marc_types.specs.Valid.{is_code, is_digit};
-ghost use Rattle.command_words.specs.Command.{Library, library_of, are_libraries, is_free, differ, split_at_equals, number_upto, pass_of, run_of, load_of, export_of, report_of, make_of, are_two_names, command_of, library_at};
+ghost use Rattle.command_words.specs.Command.{library_of, are_libraries, is_free, differ, split_at_equals, number_upto, pass_of, run_of, load_of, export_of, report_of, make_of, are_two_names, command_of, words_of_files, libraries_of};
 ghost use Rattle.command_words.specs.Asked.{AsksFor};
 
 use crate::asked::Request;
-use marc_types::{Limits, Sequence, Text, can_be_code};
+use crate::library::Library;
+use marc_types::{Limits, NoMemory, Sequence, Text, can_be_code};
+use std::alloc::Global;
 
 /// The words of the command line, without the program's name.
 pub type Words = Sequence<Text>;
@@ -213,28 +214,47 @@ pub fn request(words: &Words) -> Option<Request<'_>>
     }
 }
 
-/// The word with that number behind the first words.
-fn word_at(words: &[Text], first: usize, index: u32) -> Option<&Text>
-    ensures { option_copied result ≡ slice_get (drop first words.now) index }
+fn behind(words: &[Text], first: usize) -> &[Text]
+    ensures { result.now ≡ drop first words.now }
 {
     if first > words.len() {
-        return None;
+        return &[];
     }
-    words[first..].get(index as usize)
+    &words[first..]
 }
 
-/// The library code and the name of the file with that number, from 0, among the words `CODE=FILE` of a request; `None`
-/// from the number of files on. The code obeys the rule of codes.
-#[tactic(auto, unfolding(crate::specs::Command::library_at))]
-pub fn library(words: &Words, index: u32) -> Option<(&str, &str)>
-    ensures found { MatchOption result (library_at words.now index ≡ None)
-        (λ found. library_at words.now index ≡ Some (record { code = found.0.now; file = found.1.now })) }
-    ensures proper { IfSome result (λ found. is_code found.0.now ≡ true) }
+/// The words `CODE=FILE` of the words' command.
+fn words_of_files(words: &Words) -> &[Text]
+    ensures { result.now ≡ words_of_files words.now (command_of words.now) }
 {
-    let first = match request(words)? {
-        Request::Pass { .. } | Request::Load { .. } => 2,
-        Request::Run { .. } => 4,
-        Request::Export { .. } | Request::Report { .. } | Request::Make { .. } => return None,
+    match request(words) {
+        Some(Request::Pass { .. } | Request::Load { .. }) => behind(words.as_slice(), 2),
+        Some(Request::Run { .. }) => behind(words.as_slice(), 4),
+        _ => &[],
+    }
+}
+
+fn library_in(alloc: Global, word: &Text) -> Result<Library, NoMemory>
+    ensures { IfOk result (λ library. library ≡ split_at_equals word.now) }
+{
+    let (code, file) = match word.as_str().split_once('=') {
+        Some(parts) => parts,
+        None => (word.as_str(), ""),
     };
-    split_library(word_at(words.as_slice(), first, index)?.as_str())
+    let code = Text::from_str(alloc, code)?;
+    let file = Text::from_str(alloc, file)?;
+    Ok(Library { code, file })
+}
+
+/// The libraries of the files of the words' command, in their order; none where the words are no command.
+#[tactic(auto, unfolding(crate::specs::Command::libraries_of))]
+pub fn libraries(alloc: Global, words: &Words) -> Result<Vec<Library>, NoMemory>
+    ensures { IfOk result (λ libraries. libraries.items ≡ libraries_of words.now) }
+{
+    let mut libraries = Vec::new(alloc);
+    let files = words_of_files(words);
+    for word in files {
+        libraries.push(library_in(alloc, word)?)?;
+    }
+    Ok(libraries)
 }

@@ -1,5 +1,5 @@
--- How a command ends before its end. The statuses and lines are this project's own.
-use Rattle.std.specs.Prelude.{◌≡◌, ℕ, ◌++◌, ◌≤◌, List, ◌∷◌, [], Option, codes}
+-- Why a command ends before its end. The statuses and lines are this project's own.
+use Rattle.std.specs.Prelude.{ℕ, ◌++◌, ◌≤◌, List, ◌∷◌, [], Option, codes}
 use Rattle.std.specs.Fmt.{decimal}
 use Rattle.std.specs.Io.KnownBytes.{Appends}
 use Rattle.outside.specs.Fault.{Rose}
@@ -29,10 +29,3 @@ fault_line OldVersion = codes "union_cat: wrong journal version\n"
 pub data IsFaultTold (old new : Option (List ℕ)) (before now : ℕ) (line : List ℕ) : Type 0 where
   Told : before ≤ now → Appends old new line → IsFaultTold old new before now line
   Untold : Rose before now → WritesFront old new line → IsFaultTold old new before now line
-
--- a command with this status told its fault, of which `why` holds
-pub record TellsFault (why : Fault → Type 0) (old new : Option (List ℕ)) (before now status : ℕ) : Type 0 where
-  pub fault : Fault
-  pub is : status ≡ fault_status fault
-  pub told : IsFaultTold old new before now (fault_line fault)
-  pub because : why fault

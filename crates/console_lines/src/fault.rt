@@ -4,6 +4,7 @@ ghost use Rattle.outside.specs.Fault.{HasCause};
 ghost use Rattle.outside.specs.Sink.{WritesFront};
 ghost use Rattle.console_lines.specs.Faults.{fault_status, fault_line, IsFaultTold};
 
+use crate::end::End;
 use itoa::Buffer;
 use outside::{Failed, Sink};
 
@@ -70,12 +71,12 @@ fn write_fault<K: Sink>(console: &mut K, fault: Fault) -> Result<(), Failed>
     }
 }
 
-/// Tells a fault on the console, as far as that can be written, and answers its exit status. It takes no memory.
-pub fn tell<K: Sink>(console: &mut K, fault: Fault) -> u8
-    ensures status { result ≡ fault_status fault }
+/// Tells a fault on the console, as far as that can be written, and ends with it. It takes no memory.
+pub fn tell<K: Sink>(console: &mut K, fault: Fault) -> End
+    ensures end { result ≡ End.Told fault }
     ensures told { IsFaultTold (K.written console.old) (K.written console.new) (K.faults console.old) (K.faults console.new) (fault_line fault) }
 {
     // A failure to write the line changes nothing.
     let _ = write_fault(console, fault);
-    fault.status()
+    End::Told(fault)
 }

@@ -1,10 +1,12 @@
 //! What the console is told: the lines of results, and of faults.
 #![tactic(auto)]
 
+pub use end::End;
 pub use fault::{Fault, tell};
 pub use results::{made_text, refused_text, results_text, totals_text};
 pub use totals::{Sums, Totals};
 
+mod end;
 mod fault;
 mod lines;
 mod results;

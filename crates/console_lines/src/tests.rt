@@ -1,6 +1,6 @@
 ghost use Rattle.std.specs.Prelude.{Some};
 
-use crate::{Fault, Sums, Totals, made_text, refused_text, results_text, tell, totals_text};
+use crate::{End, Fault, Sums, Totals, made_text, refused_text, results_text, tell, totals_text};
 use file_entries::RefusedItem;
 use marc_types::{Refusal, Set};
 use outside::{Failed, Sink};
@@ -67,25 +67,27 @@ fn texts(rt: HostRuntime) -> Result<(), Fail> {
     Ok(())
 }
 
-fn told(alloc: Global, fault: Fault) -> (u8, Vec<u8>) {
+fn told(alloc: Global, fault: Fault) -> (End, Vec<u8>) {
     let mut page = Page {
         bytes: Vec::new(alloc),
         faults: 0,
     };
-    let status = tell(&mut page, fault);
-    (status, page.bytes)
+    let end = tell(&mut page, fault);
+    (end, page.bytes)
 }
 
 #[test]
 fn faults(rt: HostRuntime) -> Result<(), Fail> {
-    let (status, line) = told(rt.alloc(), Fault::NotAJournal(1_099_511_627_775));
-    assert_eq!(rt; status, 6);
+    let fault = Fault::NotAJournal(1_099_511_627_775);
+    let (end, line) = told(rt.alloc(), fault);
+    assert_eq!(rt; end, End::Told(fault));
+    assert_eq!(rt; end.status(), 6);
     assert_eq!(rt;
         line.as_slice(),
         b"union_cat: not a journal at 1099511627775\n".as_slice()
     );
-    let (status, line) = told(rt.alloc(), Fault::OldVersion);
-    assert_eq!(rt; status, 9);
+    let (end, line) = told(rt.alloc(), Fault::OldVersion);
+    assert_eq!(rt; end.status(), 9);
     assert_eq!(rt;
         line.as_slice(),
         b"union_cat: wrong journal version\n".as_slice()

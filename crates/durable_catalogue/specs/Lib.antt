@@ -6,3 +6,4 @@ pub mod Openings
 pub mod Questions
 pub mod Refused
 pub mod Staged
+pub mod Views

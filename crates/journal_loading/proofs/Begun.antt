@@ -1,18 +1,21 @@
 -- Why loading didn't begin, or ended in part; and that it ended whole.
-use Rattle.std.proofs.Common.{◌≡◌, ◌≢◌, ◌⊎◌, inl, inr, ℕ, ◌<◌, List, ◌++◌, length, Option, Some, None, Bool, true, false, Result, Ok, Err, IfOk, IfErr, OnErr, refl, sym, ap, subst, ◌∙◌}
+use Rattle.std.proofs.Common.{◌≡◌, ◌≢◌, ◌⊎◌, inl, inr, ℕ, ◌<◌, List, ◌++◌, length, Option, Some, None, Bool, true, false, Result, Ok, Err, IfOk, IfErr, OnOk, OnErr, refl, sym, ap, subst, ◌∙◌}
 use Rattle.std.specs.Prelude.{is_some, All, if◌then◌else◌}
 use Rattle.marc_types.specs.declared.entry.Entry.{Entry}
 use Rattle.marc_types.specs.declared.entry.Limits.{Limits}
 use Rattle.marc_types.specs.declared.copying.NoMemory.{NoMemory}
 use Rattle.outside.specs.Room.{RoomView}
-use Rattle.command_words.specs.Command.{Library}
+use Rattle.command_words.specs.declared.library.Library.{Library}
 use Rattle.console_lines.specs.declared.fault.Fault.{Fault}
 use Rattle.console_lines.specs.declared.fault.Fault.TheVariants as fault
 use Rattle.durable_catalogue.specs.Durables.{Opening, marked}
+use Rattle.durable_catalogue.specs.declared.fault.OpenFault.{OpenFault}
+use Rattle.durable_catalogue.specs.declared.fault.OpenFault.TheVariants as opening
 use Rattle.loader_workers.specs.declared.file_end.FileEnd.TheVariants as end
 use Rattle.loader_workers.specs.declared.result.FileResult.{FileResult}
 use Rattle.parallel_loading.specs.declared.input.InputFile.{InputFile}
 use Rattle.parallel_loading.specs.Files.{EachLoaded, AreOfOneFile, AreLoaded}
+use Rattle.room_files.specs.Faults.{fault_of_opening}
 use Rattle.room_files.specs.Journals.{journal_limits, IsOpenedFrom, IsClosedTo}
 use Rattle.journal_loading.specs.Inputs.{AreInputs, IsFresh}
 use Rattle.journal_loading.specs.Outcomes.{any_ends, loading_fault, AreLoadedBehind, IsLoadedWhole, IsUnbegun, Unbegun, IsLoadingFault, NotBegun, InPart, IsFinished, IsStopped, Unloaded, Faulty}
@@ -27,6 +30,28 @@ either_fault (fault.NotAJournal place) other = inr (other (λ is. cc))
 either_fault fault.Full other = inr (other (λ is. cc))
 either_fault fault.Memory other = inr refl
 either_fault fault.OldVersion other = inr (other (λ is. cc))
+
+-- a fault of opening a journal is none of an input
+pub opening_device : (of : OpenFault) → fault_of_opening of ≡ fault.Device → of ≡ opening.DeviceFault
+opening_device opening.DeviceFault is = refl
+opening_device (opening.NotAJournal place) is = cc
+opening_device opening.OldVersion is = cc
+opening_device opening.Full is = cc
+opening_device opening.NoMemory is = cc
+
+pub opening_input : (of : OpenFault) → fault_of_opening of ≡ fault.Input → ⊥
+opening_input opening.DeviceFault is = cc
+opening_input (opening.NotAJournal place) is = cc
+opening_input opening.OldVersion is = cc
+opening_input opening.Full is = cc
+opening_input opening.NoMemory is = cc
+
+pub opening_usage : (of : OpenFault) → fault_of_opening of ≡ fault.Usage → ⊥
+opening_usage opening.DeviceFault is = cc
+opening_usage (opening.NotAJournal place) is = cc
+opening_usage opening.OldVersion is = cc
+opening_usage opening.Full is = cc
+opening_usage opening.NoMemory is = cc
 
 -- a journal that was opened, and closed again with the same entries
 pub unbegun : (old new : RoomView) (journal : List ℕ) (why : Fault) (before entries : List Entry) (mark was : Option (List Entry)) (o : Opening)
@@ -108,7 +133,7 @@ module _ {S : Type 0} (left : S → Option (List ℕ)) (faults : S → ℕ) (roo
   }
 
   pub loaded_whole : (results : Result (List FileResult) NoMemory) (are : List FileResult)
-      → IfOk results (λ rs. AreLoaded left faults limits before files after rs entries mark) → IsFinished results are → IsLoadedWhole room journal libraries entries mark o are
+      → IfOk results (λ rs. AreLoaded left faults limits before files after rs entries mark) → IsFinished results are → IsLoadedWhole room journal libraries (record { entries = entries; mark = mark; opened = o }) are
   loaded_whole results are loaded finished =
       let l : AreLoaded left faults limits before files after are entries mark = subst (λ r. IfOk r (λ rs. AreLoaded left faults limits before files after rs entries mark)) finished.ok loaded in
       let none : mark ≡ None = l.unmarked (none_failed are (none_device are finished.faultless)) in
@@ -179,6 +204,10 @@ if_ok_more (Err e) more is = tt
 pub if_err_more : {T E : Type 0} {P Q : E → Type 0} (r : Result T E) → ((e : E) → r ≡ Err e → P e → Q e) → IfErr r P → IfErr r Q
 if_err_more (Ok x) more is = tt
 if_err_more (Err e) more is = more e refl is
+
+pub on_ok_at : {T E P : Type 0} (r : Result T E) (x : T) → r ≡ Ok x → OnOk r P → P
+on_ok_at (Ok x) y at is = is
+on_ok_at (Err e) y at is = cc
 
 pub err_at : {T E P : Type 0} (r : Result T E) (e : E) → r ≡ Err e → OnErr r P → P
 err_at (Ok x) e at is = cc

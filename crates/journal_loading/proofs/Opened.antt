@@ -1,23 +1,20 @@
 -- Inputs that are opened one after the other.
-use Rattle.std.proofs.Common.{◌≡◌, ℕ, ◌+◌, ◌<◌, ◌≤◌, suc, zero, Bool, false, nat_eq, ◌≢◌, List, [], ◌∷◌, ◌++◌, length, take, slice_get, Option, Some, None, IsSome, is_some, true, refl, sym, ap, subst, ◌∙◌, arith}
+use Rattle.std.proofs.Common.{◌≡◌, ℕ, ◌+◌, ◌<◌, ◌≤◌, suc, zero, Bool, false, nat_eq, ◌≢◌, List, [], ◌∷◌, ◌++◌, length, take, slice_get, get_or, Option, Some, None, IsSome, is_some, true, refl, sym, ap, subst, ◌∙◌, arith}
+use Rattle.std.specs.Prelude.{All}
 use Rattle.std.proofs.lemmas.Bool.Decides.{nat_tests}
+use Rattle.std.proofs.lemmas.List.Elements.{All-head, All-tail}
 use Rattle.outside.specs.Fault.{Rose}
 use Rattle.outside.specs.Room.{RoomView, SameBut}
-use Rattle.outside.proofs.Disks.{same_disk}
-use Rattle.command_words.specs.Command.{Library, library_at}
+use Rattle.command_words.specs.declared.library.Library.{Library}
 use Rattle.parallel_loading.specs.declared.input.InputFile.{InputFile}
 use Rattle.journal_loading.specs.Inputs.{IsInputFault, IsInputOf, AreInputs, NoInput, OneInput, RisesFrom}
-
-pub some_of : {A : Type 0} (o : Option A) → is_some o ≡ true → (x : A) × (o ≡ Some x)
-some_of None is = cc
-some_of (Some x) is = (x, refl)
 
 some_same : {A : Type 0} {x y : A} → Some x ≡ Some y → x ≡ y
 some_same is = cc
 
 -- a fault of a later opening is one since an earlier moment
-pub fault_since : (words : List (List ℕ)) (old now new : RoomView) → SameBut old now [] → IsInputFault words now new → IsInputFault words old new
-fault_since words old now new stays is = record {
+pub fault_since : (libraries : List Library) (old now new : RoomView) → SameBut old now [] → IsInputFault libraries now new → IsInputFault libraries old new
+fault_since libraries old now new stays is = record {
   index = is.index;
   library = is.library;
   named = is.named;
@@ -42,13 +39,12 @@ module _ {S : Type 0} (left : S → Option (List ℕ)) where
     code = is.code;
   }
 
-  pub inputs_after : (words : List (List ℕ)) (old now : RoomView) (name : List ℕ) → SameBut old now (name ∷ []) → (libraries : List Library) (inputs : List (InputFile S))
-      → ((index : ℕ) (library : Library) → slice_get libraries index ≡ Some library → library.file ≢ name) → AreInputs left now libraries inputs → AreInputs left old libraries inputs
-  inputs_after words old now name apart [] [] others NoInput = NoInput
-  inputs_after words old now name apart [] (i ∷ inputs) others are = elim are [ ]
-  inputs_after words old now name apart (l ∷ libraries) [] others are = elim are [ ]
-  inputs_after words old now name apart (l ∷ libraries) (i ∷ inputs) others (OneInput ls is l' i' one are) =
-      OneInput libraries inputs l i (input_apart old now name l i apart (others 0 l refl) one) (inputs_after words old now name apart libraries inputs (λ index. others (suc index)) are)
+  pub inputs_after : (old now : RoomView) (name : List ℕ) → SameBut old now (name ∷ []) → (libraries : List Library) (inputs : List (InputFile S))
+      → All (λ (l : Library). l.file ≢ name) libraries → AreInputs left now libraries inputs → AreInputs left old libraries inputs
+  inputs_after old now name apart _ _ others NoInput = NoInput
+  inputs_after old now name apart _ _ others (OneInput ls is l i one are) =
+      OneInput ls is l i (input_apart old now name l i apart (All-head (λ (l : Library). l.file ≢ name) l ls others) one)
+      (inputs_after old now name apart ls is (All-tail (λ (l : Library). l.file ≢ name) l ls others) are)
 
   one_input : (room : RoomView) (libraries : List Library) (library : Library) (input : InputFile S) → slice_get libraries 0 ≡ Some library
       → IsInputOf left room library input → AreInputs left room (take 1 libraries) (input ∷ [])
@@ -75,23 +71,39 @@ module _ {A : Type 0} where
   at_before (x ∷ left) last (suc index) few = at_before left last index (omega arith)
 
 -- the last of the inputs that are left is closed
-pub closed_more : {S : Type 0} (faults : S → ℕ) (words : List (List ℕ)) (all left : List (InputFile S)) (last : InputFile S) (old now new : RoomView)
-    → RisesFrom faults (length left + 1) words all old now → SameBut old now [] → SameBut now new []
-    → ((library : Library) → library_at words (length left) ≡ Some library → Rose 0 (faults last.source) → Rose (now.in_faults library.file) (new.in_faults library.file))
-    → slice_get all (length left) ≡ Some last
-    → RisesFrom faults (length left) words all old new
-closed_more faults words all left last old now new rises before stays rose at index library input from named is had = decided (nat_eq index (length left)) refl
+pub closed_more : {S : Type 0} (faults : S → ℕ) (libraries : List Library) (all left : List (InputFile S)) (this : Library) (last : InputFile S) (old now new : RoomView)
+    → RisesFrom faults (length left + 1) libraries all old now → SameBut old now [] → SameBut now new [] → slice_get libraries (length left) ≡ Some this
+    → (Rose 0 (faults last.source) → Rose (now.in_faults this.file) (new.in_faults this.file)) → slice_get all (length left) ≡ Some last
+    → RisesFrom faults (length left) libraries all old new
+closed_more faults libraries all left this last old now new rises before stays of rose at index library input from named is had = decided (nat_eq index (length left)) refl
   where
     decided : (b : Bool) → nat_eq index (length left) ≡ b → Rose (old.in_faults library.file) (new.in_faults library.file)
     decided true same =
         let here : index ≡ length left = grind (arith, nat_tests) in
         let it : input ≡ last = some_same (sym is ∙ subst (λ n. slice_get all n ≡ Some last) (sym here) at) in
-        let now_rose = rose library (subst (λ n. library_at words n ≡ Some library) here named) (subst (λ i. Rose 0 (faults i.source)) it had) in
+        let its : this ≡ library = some_same (sym of ∙ subst (λ n. slice_get libraries n ≡ Some library) here named) in
+        let now_rose = subst (λ (l : Library). Rose (now.in_faults l.file) (new.in_faults l.file)) its (rose (subst (λ i. Rose 0 (faults i.source)) it had)) in
         let earlier = before.ins library.file in omega (arith, now_rose, earlier)
     decided false other =
         let later : length left + 1 ≤ index = grind (arith, nat_tests) in
         let was = rises index library input later named is had in
         let more = stays.ins library.file in omega (arith, was, more)
+
+-- an element that is there
+pub get_within : {A : Type 0} (xs : List A) (n : ℕ) → n < length xs → (x : A) × (slice_get xs n ≡ Some x)
+get_within [] n less = absurd (omega (arith, less))
+get_within (x ∷ xs) zero less = (x, refl)
+get_within (x ∷ xs) (suc n) less = get_within xs n (omega (arith, less))
+
+-- an element that was read
+pub got : {A : Type 0} (xs : List A) (n : ℕ) (x : A) → n < length xs → x ≡ get_or xs n x → slice_get xs n ≡ Some x
+got [] n x less is = absurd (omega (arith, less))
+got (y ∷ ys) zero x less is = ap Some (sym is)
+got (y ∷ ys) (suc n) x less is = got ys n x (omega (arith, less)) is
+
+-- an element that a test lets through
+pub got_is : {A : Type 0} (P : A → Type 0) (xs : List A) (n : ℕ) (x : A) → n < length xs → x ≡ get_or xs n x → All P xs → P x
+got_is P xs n x less is all = subst P (sym is) (all n x less)
 
 pub take_all : {A : Type 0} (xs : List A) (n : ℕ) → n ≡ length xs → take n xs ≡ xs
 take_all [] zero is = refl
@@ -100,9 +112,9 @@ take_all (x ∷ xs) zero is = cc
 take_all (x ∷ xs) (suc n) is = ap (λ ys. x ∷ ys) (take_all xs n (omega (arith, is)))
 
 -- a fault that came between other calls is one of all of them
-pub fault_between : (words : List (List ℕ)) (old now new last : RoomView) → ((n : List ℕ) → old.in_faults n ≤ now.in_faults n) → IsInputFault words now new
-    → ((n : List ℕ) → new.in_faults n ≤ last.in_faults n) → IsInputFault words old last
-fault_between words old now new last before is behind = record {
+pub fault_between : (libraries : List Library) (old now new last : RoomView) → ((n : List ℕ) → old.in_faults n ≤ now.in_faults n) → IsInputFault libraries now new
+    → ((n : List ℕ) → new.in_faults n ≤ last.in_faults n) → IsInputFault libraries old last
+fault_between libraries old now new last before is behind = record {
   index = is.index;
   library = is.library;
   named = is.named;

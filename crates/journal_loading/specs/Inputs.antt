@@ -1,20 +1,27 @@
 -- The inputs of a command's files. The rules are this project's own.
-use Rattle.std.specs.Prelude.{◌≡◌, ℕ, ◌≤◌, true, List, [], ◌∷◌, Option, Some, IsSome, IsTrue, slice_get}
+use Rattle.std.specs.Prelude.{◌≡◌, ◌≢◌, ℕ, ◌<◌, ◌≤◌, true, List, [], ◌∷◌, length, All, Option, Some, IsSome, IsTrue, slice_get}
 use Rattle.marc_types.specs.Valid.{is_code}
 use Rattle.outside.specs.Room.{RoomView}
 use Rattle.outside.specs.Fault.{Rose}
-use Rattle.command_words.specs.Command.{Library, library_at}
+use Rattle.command_words.specs.declared.library.Library.{Library}
 use Rattle.parallel_loading.specs.declared.input.InputFile.{InputFile}
 
--- the libraries of a command's files, in the words' order
-abbrev pub AreLibraries : List (List ℕ) → List Library → Type 0
-AreLibraries words libraries = (index : ℕ) → library_at words index ≡ slice_get libraries index
+-- the codes of these libraries obey the rule of codes
+abbrev pub AreProper : List Library → Type 0
+AreProper libraries = All (λ library. IsTrue (is_code library.code)) libraries
+
+-- 1 to 64 libraries with proper codes, none of whose files is the journal
+pub record AreLoadable (journal : List ℕ) (libraries : List Library) : Type 0 where
+  pub some : 0 < length libraries
+  pub few : length libraries ≤ 64
+  pub proper : AreProper libraries
+  pub apart : All (λ library. library.file ≢ journal) libraries
 
 -- a fault of the input of some library's file
-pub record IsInputFault (words : List (List ℕ)) (old new : RoomView) : Type 0 where
+pub record IsInputFault (libraries : List Library) (old new : RoomView) : Type 0 where
   pub index : ℕ
   pub library : Library
-  pub named : library_at words index ≡ Some library
+  pub named : slice_get libraries index ≡ Some library
   pub rose : Rose (old.in_faults library.file) (new.in_faults library.file)
 
 module _ {S : Type 0} (left : S → Option (List ℕ)) where
@@ -36,6 +43,7 @@ pub record IsFresh {S : Type 0} (faults : S → ℕ) (input : InputFile S) : Typ
   pub proper : IsTrue (is_code input.code)
 
 -- the count of the inputs of a file rose, where its input had a fault; of the files from that number on
-abbrev pub RisesFrom : {S : Type 0} → (S → ℕ) → ℕ → List (List ℕ) → List (InputFile S) → RoomView → RoomView → Type 0
-RisesFrom {S} faults first words inputs old new = (index : ℕ) (library : Library) (input : InputFile S) → first ≤ index → library_at words index ≡ Some library
-    → slice_get inputs index ≡ Some input → Rose 0 (faults input.source) → Rose (old.in_faults library.file) (new.in_faults library.file)
+abbrev pub RisesFrom : {S : Type 0} → (S → ℕ) → ℕ → List Library → List (InputFile S) → RoomView → RoomView → Type 0
+RisesFrom {S} faults first libraries inputs old new = (index : ℕ) (library : Library) (input : InputFile S) → first ≤ index
+    → slice_get libraries index ≡ Some library → slice_get inputs index ≡ Some input → Rose 0 (faults input.source)
+    → Rose (old.in_faults library.file) (new.in_faults library.file)

@@ -3,20 +3,25 @@ use Rattle.std.specs.Prelude.{◌≡◌, ◌≢◌, ◌⊎◌, ℕ, ◌+◌, ◌
 use Rattle.std.specs.List.{list_any}
 use Rattle.marc_types.specs.declared.entry.Entry.{Entry}
 use Rattle.marc_types.specs.declared.copying.NoMemory.{NoMemory}
-use Rattle.outside.specs.Room.{RoomView}
+use Rattle.outside.specs.Fault.{Rose}
+use Rattle.outside.specs.Room.{RoomView, AsLog}
 use Rattle.commit_journal.specs.Log.{version_of}
-use Rattle.command_words.specs.Command.{Library}
+use Rattle.command_words.specs.declared.library.Library.{Library}
 use Rattle.console_lines.specs.declared.fault.Fault.{Fault}
 use Rattle.console_lines.specs.declared.fault.Fault.TheVariants as fault
 use Rattle.durable_catalogue.specs.Durables.{Opening, marked}
 use Rattle.durable_catalogue.specs.Openings.{IsUnopened}
+use Rattle.durable_catalogue.specs.Views.{DurableView}
 use Rattle.durable_catalogue.specs.declared.fault.OpenFault.{OpenFault}
+use Rattle.durable_catalogue.specs.declared.fault.OpenFault.TheVariants as opening
 use Rattle.loader_workers.specs.declared.file_end.FileEnd.{FileEnd}
 use Rattle.loader_workers.specs.declared.file_end.FileEnd.TheVariants as end
 use Rattle.loader_workers.specs.declared.result.FileResult.{FileResult}
 use Rattle.parallel_loading.specs.Files.{IsFileLoaded, AreOfOneFile}
+use Rattle.parallel_loading.specs.declared.input.InputFile.{InputFile}
 use Rattle.room_files.specs.Faults.{fault_of_opening}
-use Rattle.room_files.specs.Journals.{journal_limits, log_bytes, IsOpenedFrom, IsClosedTo, KeepsHistory}
+use Rattle.room_files.specs.Journals.{journal_limits, log_bytes, IsOpenedFrom, IsOpenedAs, IsClosedTo, KeepsHistory}
+use Rattle.journal_loading.specs.Inputs.{IsInputFault, AreInputs, IsFresh}
 
 -- the file of a library was loaded by the loader with that number
 pub record IsLibraryLoaded (room : RoomView) (before added : List Entry) (mark : Option (List Entry)) (library : Library) (loader : ℕ) (result : FileResult) : Type 0 where
@@ -60,12 +65,12 @@ loading_fault results =
 
 -- Files were loaded whole into the journal of that name, over which the catalogue is still open: it had `before`, and has `added`
 -- behind that.
-pub record IsLoadedWhole (room : RoomView) (journal : List ℕ) (libraries : List Library) (entries : List Entry) (mark : Option (List Entry)) (o : Opening) (results : List FileResult) : Type 0 where
+pub record IsLoadedWhole (room : RoomView) (journal : List ℕ) (libraries : List Library) (d : DurableView) (results : List FileResult) : Type 0 where
   pub before : List Entry
   pub added : List Entry
-  pub opened : IsOpenedFrom room journal before None o
-  pub entries_are : entries ≡ before ++ added
-  pub unmarked : mark ≡ None
+  pub opened : IsOpenedFrom room journal before None d.opened
+  pub entries_are : d.entries ≡ before ++ added
+  pub unmarked : d.mark ≡ None
   pub loaded : AreLoadedBehind room libraries before added None results
   pub faultless : loading_fault results ≡ None
 
@@ -96,6 +101,29 @@ pub data IsUnbegun (old new : RoomView) (journal : List ℕ) (why : Fault) : Typ
 pub data IsLoadingFault (old new : RoomView) (journal : List ℕ) (libraries : List Library) (why : Fault) : Type 0 where
   NotBegun : IsUnbegun old new journal why → IsLoadingFault old new journal libraries why
   InPart : IsLoadedInPart old new journal libraries why → IsLoadingFault old new journal libraries why
+
+-- The journal and all files are opened.
+pub record HasBegun {S : Type 0} (left : S → Option (List ℕ)) (faults : S → ℕ) (old new : RoomView) (journal : List ℕ) (libraries : List Library)
+    (d : DurableView) (inputs : List (InputFile S)) : Type 0 where
+  pub is_open : new.open_as journal ≡ Some AsLog
+  pub catalogue : IsOpenedAs old journal d
+  pub inputs_are : AreInputs left old libraries inputs
+  pub fresh : All (IsFresh faults) inputs
+
+-- The files were not loaded whole, for that reason: the journal is closed, and a fault of the outside has its cause. What there is
+-- then, where the room tells its files, is `so`.
+pub record Fails (old new : RoomView) (journal : List ℕ) (libraries : List Library) (why : Fault) (so : Type 0) : Type 0 where
+  pub closed : new.open_as journal ≡ None
+  pub because : old.tells ≡ true → so
+  pub device : why ≡ fault.Device → Rose (old.log_faults journal) (new.log_faults journal)
+  pub input : why ≡ fault.Input → IsInputFault libraries old new
+  pub no_usage : why ≢ fault.Usage
+
+-- The catalogue over the journal, into which all files were loaded, is still open.
+pub record HasLoaded (old new : RoomView) (journal : List ℕ) (libraries : List Library) (d : DurableView) (results : List FileResult) : Type 0 where
+  pub is_open : new.open_as journal ≡ Some AsLog
+  pub whole : old.tells ≡ true → IsLoadedWhole old journal libraries d results
+  pub count : length results ≡ length libraries
 
 -- the results of loading, none of which is a fault
 pub record IsFinished (results : Result (List FileResult) NoMemory) (are : List FileResult) : Type 0 where

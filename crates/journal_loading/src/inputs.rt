@@ -1,68 +1,64 @@
 //! The inputs of a command's files: opened all before the first is read, and closed on every path.
-ghost use Rattle.std.specs.Prelude.{◌≡◌, ◌≢◌, ℕ, ◌<◌, ◌≤◌, List, Some, None, IsSome, All, IfOk, IfErr, IfSome, length, take, slice_get, is_some, true, []};
+ghost use Rattle.std.specs.Prelude.{◌≡◌, ◌≢◌, ◌≤◌, None, All, IsTrue, IfOk, IfErr, IfSome, length, take, []};
+ghost use Rattle.marc_types.specs.Valid.{is_code};
 ghost use Rattle.outside.specs.Fault.{Rose};
 ghost use Rattle.outside.specs.Room.{SameBut};
-ghost use Rattle.command_words.specs.Command.{Library, library_at};
-ghost use Rattle.journal_loading.specs.Inputs.{AreLibraries, IsInputFault, IsInputOf, AreInputs, IsFresh, RisesFrom};
+ghost use Rattle.journal_loading.specs.Inputs.{AreProper, IsInputFault, IsInputOf, AreInputs, IsFresh, RisesFrom};
 
-use command_words::{Words, library};
+use command_words::Library;
 use console_lines::Fault;
-use marc_types::Text;
+use marc_types::TryCopy;
 use outside::Room;
 use parallel_loading::{InputFile, InputFiles};
 use std::alloc::Global;
 
-/// Opens the file with that number.
+/// Opens the file of a library.
 fn open_input<R: Room>(
     alloc: Global,
     room: &mut R,
-    words: &Words,
-    index: u32,
+    library: &Library,
 ) -> Result<InputFile<R::In>, Fault>
-    requires there { is_some (library_at words.now index) ≡ true }
-    requires free { (library : Library) → library_at words.now index ≡ Some library → (R.seen room.old).open_as library.file ≡ None }
+    requires free { (R.seen room.old).open_as library.now.file ≡ None }
+    requires proper { IsTrue (is_code library.now.code) }
     ensures stays { SameBut (R.seen room.old) (R.seen room.new) [] }
-    ensures input { IfOk result (λ input. (library : Library) → library_at words.now index ≡ Some library →
-        IsInputOf R.In.left (R.seen room.old) library input) }
-    ensures fresh { IfOk result (IsFresh R.In.faults) }
-    ensures cause { IfErr result (λ fault. fault ≡ Fault.Input → IsInputFault words.now (R.seen room.old) (R.seen room.new)) }
+    ensures input { IfOk result (λ input. IsInputOf R.In.left (R.seen room.old) library.now input) }
+    ensures fresh { IfOk result (λ input. IsFresh R.In.faults input) }
+    ensures cause { IfErr result (λ fault. fault ≡ Fault.Input →
+        Rose ((R.seen room.old).in_faults library.now.file) ((R.seen room.new).in_faults library.now.file)) }
     ensures fault { IfErr result (λ fault. fault ≢ Fault.Input → fault ≡ Fault.Memory) }
 {
-    let Some((code, file)) = library(words, index) else {
-        unreachable!()
-    };
-    let Ok(code) = Text::from_str(alloc, code) else {
+    let Ok(code) = library.code.copy(alloc) else {
         return Err(Fault::Memory);
     };
-    match room.open_in(file) {
+    match room.open_in(library.file.as_str()) {
         Ok(source) => Ok(InputFile { source, code }),
         Err(_) => Err(Fault::Input),
     }
 }
 
-/// Opens the first so many files, in their order. With a fault it gives those that it opened before.
+/// Opens the files of these libraries, in their order. With a fault it gives those that it opened before.
 pub fn open_inputs<R: Room>(
     alloc: Global,
     room: &mut R,
-    words: &Words,
-    files: u32,
+    libraries: &[Library],
 ) -> (Vec<InputFile<R::In>>, Option<Fault>)
-    requires there { (index : ℕ) → index < files → is_some (library_at words.now index) ≡ true }
-    requires free { (index : ℕ) (library : Library) → library_at words.now index ≡ Some library → (R.seen room.old).open_as library.file ≡ None }
+    requires free { All (λ library. (R.seen room.old).open_as library.file ≡ None) libraries.now }
+    requires proper { AreProper libraries.now }
     ensures stays { SameBut (R.seen room.old) (R.seen room.new) [] }
-    ensures inputs { (libraries : List Library) → AreLibraries words.now libraries →
-        AreInputs R.In.left (R.seen room.old) (take (length result.0.items) libraries) result.0.items }
+
+    // What was opened: all files, where there is no fault.
+    ensures inputs { AreInputs R.In.left (R.seen room.old) (take (length result.0.items) libraries.now) result.0.items }
     ensures fresh { All (IsFresh R.In.faults) result.0.items }
-    ensures few { length result.0.items ≤ files }
-    ensures whole { result.1 ≡ None → length result.0.items ≡ files }
-    ensures cause { IfSome result.1 (λ fault. fault ≡ Fault.Input → IsInputFault words.now (R.seen room.old) (R.seen room.new)) }
+    ensures few { length result.0.items ≤ length libraries.now }
+    ensures whole { result.1 ≡ None → length result.0.items ≡ length libraries.now }
+    ensures cause { IfSome result.1 (λ fault. fault ≡ Fault.Input → IsInputFault libraries.now (R.seen room.old) (R.seen room.new)) }
     ensures fault { IfSome result.1 (λ fault. fault ≢ Fault.Input → fault ≡ Fault.Memory) }
 {
-    let Ok(mut inputs) = Vec::with_capacity(alloc, files as usize) else {
+    let Ok(mut inputs) = Vec::with_capacity(alloc, libraries.len()) else {
         return (Vec::new(alloc), Some(Fault::Memory));
     };
-    for index in 0..files {
-        match open_input(alloc, room, words, index) {
+    for index in 0..libraries.len() {
+        match open_input(alloc, room, &libraries[index]) {
             Ok(input) => inputs.push_reserved(input),
             Err(fault) => return (inputs, Some(fault)),
         }
@@ -70,30 +66,25 @@ pub fn open_inputs<R: Room>(
     (inputs, None)
 }
 
-/// Closes the file with that number.
-fn close_input<R: Room>(room: &mut R, words: &Words, index: u32, input: InputFile<R::In>)
-    requires there { is_some (library_at words.now index) ≡ true }
+/// Closes the file of a library.
+fn close_input<R: Room>(room: &mut R, library: &Library, input: InputFile<R::In>)
     ensures stays { SameBut (R.seen room.old) (R.seen room.new) [] }
-    ensures rose { (library : Library) → library_at words.now index ≡ Some library → Rose 0 (R.In.faults input.source) →
-        Rose ((R.seen room.old).in_faults library.file) ((R.seen room.new).in_faults library.file) }
+    ensures rose { Rose 0 (R.In.faults input.source) →
+        Rose ((R.seen room.old).in_faults library.now.file) ((R.seen room.new).in_faults library.now.file) }
 {
-    let Some((_code, file)) = library(words, index) else {
-        unreachable!()
-    };
     let InputFile { source, .. } = input;
-    room.close_in(file, source);
+    room.close_in(library.file.as_str(), source);
 }
 
-/// Closes the files from the last to the first.
-pub fn close_inputs<R: Room>(room: &mut R, words: &Words, inputs: InputFiles<R::In>)
-    requires there { (index : ℕ) → index < length inputs → is_some (library_at words.now index) ≡ true }
-    requires few { length inputs ≤ 64 }
+/// Closes the files of the first of these libraries, from the last to the first.
+pub fn close_inputs<R: Room>(room: &mut R, libraries: &[Library], inputs: InputFiles<R::In>)
+    requires { length inputs ≤ length libraries.now }
     ensures stays { SameBut (R.seen room.old) (R.seen room.new) [] }
-    ensures rose { RisesFrom R.In.faults 0 words.now inputs (R.seen room.old) (R.seen room.new) }
+    ensures rose { RisesFrom R.In.faults 0 libraries.now inputs (R.seen room.old) (R.seen room.new) }
 {
     let mut inputs = inputs.into_vec();
     while let Some(input) = inputs.pop() {
-        close_input(room, words, inputs.len() as u32, input);
+        close_input(room, &libraries[inputs.len()], input);
     }
     inputs.destroy_empty();
 }

@@ -1,7 +1,8 @@
 ghost use Rattle.std.specs.Prelude.{◌≡◌, ◌<◌, ◌≤◌, None, [], IsTrue, All, IfOk, OnErr, length, vec_capacity};
 ghost use Rattle.marc_types.specs.Valid.{is_code};
 ghost use Rattle.entry_record.specs.History.{next_run};
-ghost use Rattle.durable_catalogue.specs.Durables.{mark_of, events, opening};
+ghost use Rattle.durable_catalogue.specs.Views.{durable_view};
+ghost use Rattle.durable_catalogue.specs.Durables.{mark_of, events};
 ghost use Rattle.catalogue_lock.specs.Passes.{new_passes};
 ghost use Rattle.loader_workers.specs.Turns.{most_entries};
 ghost use Rattle.parallel_loading.specs.Files.{AreLoaded};
@@ -41,8 +42,7 @@ fn load_under<H: Threads + Wait + Sync, D: Disk + Send, S: Source + Send, G: Gat
     ensures unbegun { OnErr result.2 (result.0.core.history ≡ lock.opened.core.history) }
     ensures unmarked { OnErr result.2 (mark_of result.0.mark ≡ None) }
     ensures files { OnErr result.2 (result.1 ≡ files) }
-    ensures origin { opening result.0.limits result.0.run result.0.opened (D.seen result.0.before.value) (D.seen result.0.first.value.disk)
-        ≡ opening lock.opened.limits lock.opened.run lock.opened.opened (D.seen lock.opened.before.value) (D.seen lock.opened.first.value.disk) }
+    ensures origin { (durable_view result.0).opened ≡ (durable_view lock.opened).opened }
 {
     let mut passes = passes.into_vec();
     let mut files = files.into_vec();
@@ -85,8 +85,7 @@ pub fn load_files<H: Threads + Wait + Sync, D: Disk + Send, S: Source + Send, G:
     ensures files { OnErr result.2 (result.1 ≡ files) }
 
     // What the opening left stays.
-    ensures origin { opening result.0.limits result.0.run result.0.opened (D.seen result.0.before.value) (D.seen result.0.first.value.disk)
-        ≡ opening durable.limits durable.run durable.opened (D.seen durable.before.value) (D.seen durable.first.value.disk) }
+    ensures origin { (durable_view result.0).opened ≡ (durable_view durable).opened }
 {
     let Ok(jobs) = Vec::with_capacity(alloc, files.len()) else {
         return (durable, files, Err(NoMemory));

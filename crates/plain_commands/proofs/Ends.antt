@@ -1,5 +1,5 @@
 -- How a command ended.
-use Rattle.std.proofs.Common.{◌≡◌, ◌≢◌, ◌∙◌, ◌⊎◌, inl, inr, ℕ, ◌<◌, ◌≤◌, Bool, true, false, true≢false, List, refl, sym, subst, arith, None, ◌∷◌, []}
+use Rattle.std.proofs.Common.{◌≡◌, ◌∙◌, ℕ, Bool, true, false, true≢false, List, refl, sym, subst, None, ◌∷◌, []}
 use Rattle.std.specs.Str.{bytes_eq}
 use Rattle.marc_types.specs.Order.{text_Decides}
 use Rattle.outside.specs.Room.{RoomView, SameBut}
@@ -16,8 +16,3 @@ pub closed_everywhere : (old new : RoomView) (out : List ℕ) → SameBut old ne
 closed_everywhere old new out apart closed free name =
     let same = text_Decides name out in
     closed_at (bytes_eq name out) old new out name same.0 same.1 apart closed (free name)
-
--- no fault has the status of a command that wrote something
-pub no_fault : {P : Type 0} (status : ℕ) → (status ≤ 1) ⊎ (status ≡ 4) → 1 < status → status ≢ 4 → P
-no_fault status (inl few) more other = absurd (omega (arith, few, more))
-no_fault status (inr four) more other = absurd (other four)

@@ -4,3 +4,4 @@ pub mod Passes
 pub mod Ends
 pub mod Committed
 pub mod Made
+pub mod There

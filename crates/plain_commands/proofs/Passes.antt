@@ -1,57 +1,103 @@
 -- How a pass ended.
-use Rattle.std.proofs.Common.{◌≡◌, ◌∙◌, ℕ, ◌≤◌, Bool, true, false, ◌==◌, ◌<◌, List, length, sym, ap, subst, if◌then◌else◌, arith, Option, Some}
-use Rattle.std.specs.Prelude.{string_bytes, nat_lt}
+use Rattle.std.proofs.Common.{◌≡◌, ◌∙◌, ◌⊎◌, inl, inr, ℕ, Bool, true, false, ◌==◌, ◌<◌, List, length, sym, ap, subst, arith, Option, Some, []}
+use Rattle.std.specs.Prelude.{string_bytes, nat_lt, IsSomeAnd}
 use Rattle.std.proofs.lemmas.Bool.{eqb-true, eqb-false, lt-ltb}
 use Rattle.std.specs.Io.KnownBytes.{Appends}
+use Rattle.outside.specs.Fault.{Rose}
+use Rattle.outside.specs.Room.{RoomView, SameBut}
 use Rattle.outside.specs.Sink.{WritesFront}
+use Rattle.marc_stream.specs.Pieces.{items}
+use Rattle.command_words.specs.declared.library.Library.{Library}
 use Rattle.catalogue_core.specs.Catalogues.{Catalogued}
+use Rattle.console_lines.specs.Ends.{Outcome, IsTold, IsAllDone, IsUntold, end_of}
+use Rattle.console_lines.specs.declared.end.End.{End}
+use Rattle.console_lines.specs.declared.end.End.TheVariants.{Done, Refused, OutputFault, Told}
+use Rattle.console_lines.specs.declared.fault.Fault.{Fault}
+use Rattle.console_lines.specs.declared.fault.Fault.TheVariants.{Input, Full}
+use Rattle.console_lines.proofs.Ends.{told_once, told_no_output, never_told, told_not_all}
 use Rattle.plain_commands.specs.Totals.{holding}
 use Rattle.output_files.specs.Outputs.{IsPartWritten}
-use Rattle.plain_commands.specs.Passing.{exported, IsReady, IsEndOfPass, Whole, InPart}
+use Rattle.plain_commands.specs.Loading.{EndsLoading, IsFullAt}
+use Rattle.plain_commands.specs.Passing.{exported, IsReady, IsPassed, IsPassedInPart, Passes}
+use Rattle.plain_commands.proofs.There.{there_more}
 use Rattle.file_entries.specs.declared.refused.RefusedItem.{RefusedItem}
 use Rattle.plain_commands.specs.declared.ready.Ready.{Ready}
 
-at_most_one : (b : Bool) → (if b then 1 else 0) ≤ 1
-at_most_one true = omega arith
-at_most_one false = omega arith
+module _ (library : Library) (bytes : List ℕ) (new told now : Option (List ℕ)) (ready : Ready) (core : Catalogued)
+    (is : IsReady library bytes ready) (holds : core ≡ holding ready.loaded.accepted) where
+  pub ended_whole : (end : End) → new ≡ Some (exported core.history) → Appends told now (string_bytes ready.text)
+      → end ≡ end_of (nat_lt 0 (length ready.loaded.refused)) → IsPassed library bytes new told now end
+  ended_whole end written wrote ended = record {
+    accepted = ready.loaded.accepted;
+    refused = ready.loaded.refused;
+    judged = is.loaded.judged;
+    within = is.loaded.within;
+    export = written ∙ ap (λ (c : Catalogued). Some (exported c.history)) holds;
+    console = subst (Appends told now) is.text wrote;
+    end_is = ended;
+  }
 
-pub ended_whole : (library file bytes : List ℕ) (old new before after : Option (List ℕ)) (ready : Ready) (core : Catalogued) (status : ℕ) → IsReady library file bytes ready
-    → core ≡ holding ready.loaded.accepted → new ≡ Some (exported core.history) → Appends before after (string_bytes ready.text)
-    → status ≡ (if nat_lt 0 (length ready.loaded.refused) then 1 else 0) → IsEndOfPass library file bytes old new before after status
-ended_whole library file bytes old new before after ready core status is holds written told ended =
-    Whole status (subst (λ s. s ≤ 1) (sym ended) (at_most_one (nat_lt 0 (length ready.loaded.refused)))) (record {
-      accepted = ready.loaded.accepted;
-      refused = ready.loaded.refused;
-      judged = is.loaded.judged;
-      within = is.loaded.within;
-      export = written ∙ ap (λ (c : Catalogued). Some (exported c.history)) holds;
-      told = subst (Appends before after) is.text told;
-      status_is = ended;
-    })
-
-pub ended_in_part : (library file bytes : List ℕ) (old new before after : Option (List ℕ)) (ready : Ready) (core : Catalogued) → IsReady library file bytes ready
-    → core ≡ holding ready.loaded.accepted → IsPartWritten old new (exported core.history) → WritesFront before after (string_bytes ready.text)
-    → IsEndOfPass library file bytes old new before after 4
-ended_in_part library file bytes old new before after ready core is holds part told =
-    InPart (record {
-      accepted = ready.loaded.accepted;
-      refused = ready.loaded.refused;
-      judged = is.loaded.judged;
-      within = is.loaded.within;
-      part = subst (λ (c : Catalogued). IsPartWritten old new (exported c.history)) holds part;
-      told = subst (WritesFront before after) is.text told;
-    })
+  pub ended_in_part : (old : Option (List ℕ)) → IsPartWritten old new (exported core.history) → WritesFront told now (string_bytes ready.text)
+      → IsPassedInPart library bytes old new told now
+  ended_in_part old part wrote = record {
+    accepted = ready.loaded.accepted;
+    refused = ready.loaded.refused;
+    judged = is.loaded.judged;
+    within = is.loaded.within;
+    part = subst (λ (c : Catalogued). IsPartWritten old new (exported c.history)) holds part;
+    console = subst (WritesFront told now) is.text wrote;
+  }
 
 -- nothing was refused
-pub status_of_none : (items refused : List RefusedItem) → items ≡ refused → (length items == 0) ≡ true → ◌≡◌ {A = ℕ} 0 (if nat_lt 0 (length refused) then 1 else 0)
-status_of_none items refused same none =
+pub end_of_none : (items refused : List RefusedItem) → items ≡ refused → (length items == 0) ≡ true → Done ≡ end_of (nat_lt 0 (length refused))
+end_of_none items refused same none =
     let zero : length refused ≡ 0 = sym (ap (length {A = RefusedItem}) same) ∙ eqb-true (length items) 0 none in
-    ap (λ n. if nat_lt 0 n then 1 else 0) (sym zero)
+    ap (λ n. end_of (nat_lt 0 n)) (sym zero)
 
 -- something was refused
-pub status_of_some : (items refused : List RefusedItem) → items ≡ refused → (length items == 0) ≡ false → ◌≡◌ {A = ℕ} 1 (if nat_lt 0 (length refused) then 1 else 0)
-status_of_some items refused same some =
+pub end_of_some : (items refused : List RefusedItem) → items ≡ refused → (length items == 0) ≡ false → Refused ≡ end_of (nat_lt 0 (length refused))
+end_of_some items refused same some =
     let len : length items ≡ length refused = ap (length {A = RefusedItem}) same in
     let more : ¬ (length items ≡ 0) = eqb-false (length items) 0 some in
     let lt : 0 < length refused = omega arith in
-    ap (λ (b : Bool). if b then 1 else 0) (sym (lt-ltb 0 (length refused) lt))
+    ap (λ (b : Bool). end_of b) (sym (lt-ltb 0 (length refused) lt))
+
+module _ (library : Library) (out : List ℕ) (o : Outcome) where
+  -- a fault was told before anything was written
+  pub passes_told : (why : Fault) → o.end ≡ Told why → IsTold why o → EndsLoading why → SameBut o.old o.new []
+      → (why ≡ Input → Rose (o.old.in_faults library.file) (o.new.in_faults library.file))
+      → (why ≡ Full → o.old.tells ≡ true → IsSomeAnd (o.old.file library.file) (λ bytes. IsFullAt library.code (items bytes)))
+      → Passes library out o
+  passes_told why is told kind stays input full = record {
+    told = λ other also. subst (λ w. IsTold w o × EndsLoading w × SameBut o.old o.new []) (told_once o.end why other is also) (told, kind, stays);
+    input = λ also. input (told_once o.end why Input is also);
+    output = λ also. absurd (told_no_output o.end why is also);
+    full = λ also. full (told_once o.end why Full is also);
+    whole = λ all. absurd (told_not_all o.end why is all);
+    part = λ also. absurd (told_no_output o.end why is also);
+  }
+
+  -- what was made ready was delivered, into a room where the file had been read
+  pub passes_delivered : (mid : RoomView) (ready : Ready) → SameBut o.old mid [] → IsUntold o.end
+      → (o.end ≡ OutputFault → Rose (mid.out_faults out) (o.new.out_faults out) ⊎ Rose o.faults o.faults_now)
+      → (o.old.tells ≡ true → IsSomeAnd (o.old.file library.file) (λ bytes. IsReady library bytes ready))
+      → ((l : Library) (bytes : List ℕ) → mid.tells ≡ true → IsReady l bytes ready → IsAllDone o.end
+      → IsPassed l bytes (o.new.file out) o.told o.now o.end)
+      → ((l : Library) (bytes : List ℕ) → mid.tells ≡ true → IsReady l bytes ready → o.end ≡ OutputFault
+      → IsPassedInPart l bytes (mid.file out) (o.new.file out) o.told o.now)
+      → Passes library out o
+  passes_delivered mid ready stays untold output is whole part = record {
+    told = λ why also. absurd (never_told o.end why untold also);
+    input = λ also. absurd (never_told o.end Input untold also);
+    output = λ also. rose (output also);
+    full = λ also. absurd (never_told o.end Full untold also);
+    whole = λ all tells. there_more (o.old.file library.file) (λ bytes ready_is. whole library bytes (stays.tells ∙ tells) ready_is all) (is tells);
+    part = λ also tells. there_more (o.old.file library.file)
+        (λ bytes ready_is. subst (λ f. IsPassedInPart library bytes f (o.new.file out) o.told o.now) (stays.files out tt)
+        (part library bytes (stays.tells ∙ tells) ready_is also)) (is tells);
+  }
+    where
+      rose : Rose (mid.out_faults out) (o.new.out_faults out) ⊎ Rose o.faults o.faults_now
+          → Rose (o.old.out_faults out) (o.new.out_faults out) ⊎ Rose o.faults o.faults_now
+      rose (inl file) = let earlier = stays.outs out in inl (omega (arith, earlier, file))
+      rose (inr console) = inr console

@@ -1,17 +1,25 @@
 -- What a pass of one file into another comes to.
-use Rattle.std.specs.Prelude.{◌≡◌, ℕ, ◌≤◌, List, ◌++◌, length, nat_lt, Option, Some, string_bytes, if◌then◌else◌}
+use Rattle.std.specs.Prelude.{◌≡◌, ◌⊎◌, ℕ, true, List, ◌++◌, length, nat_lt, Option, Some, IsSomeAnd, string_bytes, []}
 use Rattle.std.specs.Io.KnownBytes.{Appends}
+use Rattle.outside.specs.Fault.{Rose}
+use Rattle.outside.specs.Room.{SameBut}
 use Rattle.outside.specs.Sink.{WritesFront}
 use Rattle.marc_types.specs.declared.entry.Entry.{Entry}
 use Rattle.marc_stream.specs.Pieces.{items}
+use Rattle.command_words.specs.declared.library.Library.{Library}
 use Rattle.catalogue_rules.specs.Settle.{state_of}
 use Rattle.catalogue_rules.specs.Output.{export_of, all_keys}
 use Rattle.file_entries.specs.Files.{IsJudged}
 use Rattle.file_entries.specs.declared.refused.RefusedItem.{RefusedItem}
+use Rattle.console_lines.specs.Ends.{Outcome, IsTold, IsAllDone, end_of}
 use Rattle.console_lines.specs.Lines.{refused_lines, totals_line}
+use Rattle.console_lines.specs.declared.end.End.{End}
+use Rattle.console_lines.specs.declared.end.End.TheVariants.{OutputFault, Told}
+use Rattle.console_lines.specs.declared.fault.Fault.{Fault}
+use Rattle.console_lines.specs.declared.fault.Fault.TheVariants.{Input, Full}
 use Rattle.output_files.specs.Outputs.{IsPartWritten}
 use Rattle.plain_commands.specs.Totals.{totals_of, IsWithinLimits}
-use Rattle.plain_commands.specs.Loading.{IsLoaded}
+use Rattle.plain_commands.specs.Loading.{EndsLoading, IsLoaded, IsFullAt}
 use Rattle.plain_commands.specs.declared.ready.Ready.{Ready}
 
 -- what the console is told of a file
@@ -23,32 +31,40 @@ abbrev pub exported : List Entry → List ℕ
 exported accepted = export_of all_keys (state_of accepted)
 
 -- what is to be written, and told, of a file with these bytes
-pub record IsReady (library file bytes : List ℕ) (ready : Ready) : Type 0 where
-  pub loaded : IsLoaded library (items bytes) ready.loaded
-  pub text : string_bytes ready.text ≡ results file ready.loaded.accepted ready.loaded.refused
+pub record IsReady (library : Library) (bytes : List ℕ) (ready : Ready) : Type 0 where
+  pub loaded : IsLoaded library.code (items bytes) ready.loaded
+  pub text : string_bytes ready.text ≡ results library.file ready.loaded.accepted ready.loaded.refused
 
 -- a file with these bytes was passed: its accepted entries were committed to an empty catalogue, whose export was written, the
--- console was told the results, and the status is 1 exactly where something was refused
-pub record IsPassed (library file bytes : List ℕ) (written : Option (List ℕ)) (before after : Option (List ℕ)) (status : ℕ) : Type 0 where
+-- console was told the results, and the end says whether something was refused
+pub record IsPassed (library : Library) (bytes : List ℕ) (written told now : Option (List ℕ)) (end : End) : Type 0 where
   pub accepted : List Entry
   pub refused : List RefusedItem
-  pub judged : IsJudged library 0 (items bytes) accepted refused
+  pub judged : IsJudged library.code 0 (items bytes) accepted refused
   pub within : IsWithinLimits accepted
   pub export : written ≡ Some (exported accepted)
-  pub told : Appends before after (results file accepted refused)
-  pub status_is : status ≡ (if nat_lt 0 (length refused) then 1 else 0)
+  pub console : Appends told now (results library.file accepted refused)
+  pub end_is : end ≡ end_of (nat_lt 0 (length refused))
 
 -- an output failed: the file is as it was, or holds a front of what is due there, and the console was told a front of the results
-pub record IsPassedInPart (library file bytes : List ℕ) (old new : Option (List ℕ)) (before after : Option (List ℕ)) : Type 0 where
+pub record IsPassedInPart (library : Library) (bytes : List ℕ) (old new told now : Option (List ℕ)) : Type 0 where
   pub accepted : List Entry
   pub refused : List RefusedItem
-  pub judged : IsJudged library 0 (items bytes) accepted refused
+  pub judged : IsJudged library.code 0 (items bytes) accepted refused
   pub within : IsWithinLimits accepted
   pub part : IsPartWritten old new (exported accepted)
-  pub told : WritesFront before after (results file accepted refused)
+  pub console : WritesFront told now (results library.file accepted refused)
 
--- a pass ended with this status, where the file to read has these bytes
-pub data IsEndOfPass (library file bytes : List ℕ) (old new : Option (List ℕ)) (before after : Option (List ℕ)) : ℕ → Type 0 where
-  Whole : (status : ℕ) → status ≤ 1 → IsPassed library file bytes new before after status
-      → IsEndOfPass library file bytes old new before after status
-  InPart : IsPassedInPart library file bytes old new before after → IsEndOfPass library file bytes old new before after 4
+-- The command `pass`: one file through an empty catalogue, into the file OUT.
+pub record Passes (library : Library) (out : List ℕ) (o : Outcome) : Type 0 where
+  -- a fault that is told is one of loading, and leaves the room as it was
+  pub told : (why : Fault) → o.end ≡ Told why → IsTold why o × EndsLoading why × SameBut o.old o.new []
+  -- each fault has its cause
+  pub input : o.end ≡ Told Input → Rose (o.old.in_faults library.file) (o.new.in_faults library.file)
+  pub output : o.end ≡ OutputFault → Rose (o.old.out_faults out) (o.new.out_faults out) ⊎ Rose o.faults o.faults_now
+  pub full : o.end ≡ Told Full → o.old.tells ≡ true → IsSomeAnd (o.old.file library.file) (λ bytes. IsFullAt library.code (items bytes))
+  -- the file was there, and was passed
+  pub whole : IsAllDone o.end → o.old.tells ≡ true
+      → IsSomeAnd (o.old.file library.file) (λ bytes. IsPassed library bytes (o.new.file out) o.told o.now o.end)
+  pub part : o.end ≡ OutputFault → o.old.tells ≡ true
+      → IsSomeAnd (o.old.file library.file) (λ bytes. IsPassedInPart library bytes (o.old.file out) (o.new.file out) o.told o.now)

@@ -4,9 +4,6 @@
 pub use making::make;
 pub use passing::pass;
 
-/// The exit status where a file or the console could not be written.
-pub(crate) const OUTPUT_FAULT: u8 = 4;
-
 mod loaded;
 mod loading;
 mod making;

@@ -1,4 +1,4 @@
-ghost use Rattle.std.specs.Prelude.{◌≡◌, ◌<◌, ◌≤◌, ℕ, List, true, false, Some, None, IsSome, IsTrue, OnOk, IfOk, IfErr, []};
+ghost use Rattle.std.specs.Prelude.{◌≡◌, ◌<◌, ◌≤◌, ℕ, List, true, false, Some, None, IsSomeAnd, IsTrue, IfOk, IfErr, []};
 ghost use Rattle.marc_types.specs.Valid.{is_code};
 ghost use Rattle.outside.specs.Fault.{Rose};
 ghost use Rattle.outside.specs.Room.{SameBut};
@@ -103,12 +103,10 @@ pub fn load_file<R: Room>(
     requires free { (R.seen room.old).open_as name.now ≡ None }
     requires library { IsTrue (is_code library) }
     ensures stays { SameBut (R.seen room.old) (R.seen room.new) [] }
-    ensures there { OnOk result ((R.seen room.old).tells ≡ true → IsSome ((R.seen room.old).file name.now)) }
-    ensures there_full { IfErr result (λ fault. fault ≡ Fault.Full → (R.seen room.old).tells ≡ true → IsSome ((R.seen room.old).file name.now)) }
-    ensures loaded { IfOk result (λ loaded. (bytes : List ℕ) → (R.seen room.old).tells ≡ true → (R.seen room.old).file name.now ≡ Some bytes →
-        IsLoaded library (items bytes) loaded) }
-    ensures full { IfErr result (λ fault. fault ≡ Fault.Full → (bytes : List ℕ) → (R.seen room.old).tells ≡ true →
-        (R.seen room.old).file name.now ≡ Some bytes → IsFullAt library (items bytes)) }
+    ensures loaded { IfOk result (λ loaded. (R.seen room.old).tells ≡ true →
+        IsSomeAnd ((R.seen room.old).file name.now) (λ bytes. IsLoaded library (items bytes) loaded)) }
+    ensures full { IfErr result (λ fault. fault ≡ Fault.Full → (R.seen room.old).tells ≡ true →
+        IsSomeAnd ((R.seen room.old).file name.now) (λ bytes. IsFullAt library (items bytes))) }
     ensures cause { IfErr result (λ fault. fault ≡ Fault.Input →
         Rose ((R.seen room.old).in_faults name.now) ((R.seen room.new).in_faults name.now)) }
     ensures kind { IfErr result EndsLoading }

@@ -1,21 +1,16 @@
-ghost use Rattle.std.specs.Prelude.{◌≡◌, ◌≤◌, ◌⊎◌, ◌==◌, ℕ, List, [], ◌∷◌, true, Some, None, IsTrue, OnOk};
-ghost use Rattle.std.specs.List.{list_any};
-ghost use Rattle.outside.specs.Fault.{Rose, HasWriteCause};
+ghost use Rattle.std.specs.Prelude.{◌≡◌, ◌≤◌, ℕ, List, true, Some, None, OnOk, ◌∷◌, []};
+ghost use Rattle.outside.specs.Fault.{HasWriteCause};
 ghost use Rattle.outside.specs.Room.{SameBut};
 ghost use Rattle.workload.specs.Workload.{workload_bytes};
-ghost use Rattle.console_lines.specs.Faults.{fault_line, IsFaultTold};
+ghost use Rattle.console_lines.specs.Ends.{outcome};
 ghost use Rattle.output_files.specs.Outputs.{IsPartWritten};
-ghost use Rattle.plain_commands.specs.Making.{IsEndOfMake};
+ghost use Rattle.plain_commands.specs.Making.{Makes};
 
-use crate::OUTPUT_FAULT;
 use crate::summing::workload_text;
-use console_lines::{Fault, tell};
+use console_lines::{End, Fault, tell};
 use marc_types::NoMemory;
 use outside::{Room, Sink, WriteFault};
 use std::alloc::Global;
-
-/// The exit status where all was written.
-const MADE: u8 = 0;
 
 /// Writes a workload into the file of that name, which is closed again on every path.
 fn write_workload<R: Room>(
@@ -43,7 +38,7 @@ fn write_workload<R: Room>(
 }
 
 /// The command `make`: writes a workload of at most 1,048,576 records into the file `out`, and tells what their commits to an
-/// empty catalogue answer. It answers the exit status: 0, 4 where an output failed, 8 where memory ran out.
+/// empty catalogue answer.
 #[tactic(auto, using(crate::proofs::Ends::closed_everywhere))]
 pub fn make<R: Room>(
     alloc: Global,
@@ -52,19 +47,13 @@ pub fn make<R: Room>(
     seed: u64,
     count: u64,
     out: &str,
-) -> u8
+) -> End
     requires few { count ≤ 1048576 }
     requires closed { (name : List ℕ) → (R.seen room.old).open_as name ≡ None }
-    ensures statuses { IsTrue (list_any (λ s. s == result) (0 ∷ 4 ∷ 8 ∷ [])) }
     ensures closed { (name : List ℕ) → (R.seen room.new).open_as name ≡ None }
     ensures apart { SameBut (R.seen room.old) (R.seen room.new) (out.now ∷ []) }
-    ensures output { result ≡ 4 → Rose ((R.seen room.old).out_faults out.now) ((R.seen room.new).out_faults out.now)
-        ⊎ Rose (R.Out.faults console.old) (R.Out.faults console.new) }
-    ensures told { result ≡ 8 → IsFaultTold (R.Out.written console.old) (R.Out.written console.new)
-        (R.Out.faults console.old) (R.Out.faults console.new) (fault_line Fault.Memory) }
-    ensures end { (R.seen room.old).tells ≡ true →
-        IsEndOfMake seed count ((R.seen room.old).file out.now) ((R.seen room.new).file out.now)
-        (R.Out.written console.old) (R.Out.written console.new) result }
+    ensures ends { Makes seed count out.now
+        (outcome R.seen R.Out.written R.Out.faults room.old room.new console.old console.new result) }
 {
     let text = match workload_text(alloc, seed, count) {
         Ok(text) => text,
@@ -72,11 +61,11 @@ pub fn make<R: Room>(
     };
     match write_workload(alloc, room, out, seed, count) {
         Ok(()) => {}
-        Err(WriteFault::OutputFault) => return OUTPUT_FAULT,
+        Err(WriteFault::OutputFault) => return End::OutputFault,
         Err(WriteFault::NoMemory) => return tell(console, Fault::Memory),
     }
     match console.write_all(text.as_bytes()) {
-        Ok(()) => MADE,
-        Err(_) => OUTPUT_FAULT,
+        Ok(()) => End::Done,
+        Err(_) => End::OutputFault,
     }
 }

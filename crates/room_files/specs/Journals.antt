@@ -11,6 +11,7 @@ use Rattle.durable_catalogue.specs.Logs.{HasHistory}
 use Rattle.durable_catalogue.specs.Images.{Holds}
 use Rattle.durable_catalogue.specs.Refused.{LeavesAlone}
 use Rattle.durable_catalogue.specs.Durables.{Opening, IsLeft, marked}
+use Rattle.durable_catalogue.specs.Views.{DurableView}
 
 -- the most that a history has: entries, and bytes
 abbrev pub journal_limits : Limits
@@ -44,6 +45,13 @@ pub record IsClosedTo (room : RoomView) (name : List ℕ) (entries : List Entry)
   pub file : room.file name ≡ Some bytes
   pub content : (room.log name).content ≡ Some bytes
   pub holds : Holds (length entries) entries (marked mark) bytes
+
+-- the same of a catalogue as it is seen
+abbrev pub IsOpenedAs : RoomView → List ℕ → DurableView → Type 0
+IsOpenedAs room name d = IsOpenedFrom room name d.entries d.mark d.opened
+
+abbrev pub IsClosedAs : RoomView → List ℕ → DurableView → Type 0
+IsClosedAs room name d = IsClosedTo room name d.entries d.mark d.opened
 
 -- the file of that name, and the log that was closed as it, are as they were
 pub record IsUntouched (old new : RoomView) (name : List ℕ) : Type 0 where

@@ -4,9 +4,10 @@ ghost use Rattle.outside.specs.Fault.{Rose};
 ghost use Rattle.outside.specs.Room.{AsLog, SameBut};
 ghost use Rattle.durable_catalogue.specs.declared.fault.OpenFault.TheVariants.{DeviceFault, Full};
 ghost use Rattle.commit_journal.specs.Log.{version_of};
-ghost use Rattle.durable_catalogue.specs.Durables.{mark_of, opening};
+ghost use Rattle.durable_catalogue.specs.Durables.{mark_of};
+ghost use Rattle.durable_catalogue.specs.Views.{durable_view};
 ghost use Rattle.durable_catalogue.specs.Openings.{IsUnopened};
-ghost use Rattle.room_files.specs.Journals.{journal_limits, log_bytes, IsOpenedFrom, IsClosedTo, KeepsHistory};
+ghost use Rattle.room_files.specs.Journals.{journal_limits, log_bytes, IsOpenedAs, IsClosedAs, KeepsHistory};
 
 use durable_catalogue::{Durable, OpenFault};
 use marc_types::Limits;
@@ -30,8 +31,7 @@ pub fn open_journal<R: Room>(
     ensures apart { SameBut (R.seen room.old) (R.seen room.new) (name.now ∷ []) }
     ensures opened { OnOk result ((R.seen room.new).open_as name.now ≡ Some AsLog) }
     ensures closed { OnErr result ((R.seen room.new).open_as name.now ≡ None) }
-    ensures catalogue { IfOk result (λ d. IsOpenedFrom (R.seen room.old) name.now d.core.history (mark_of d.mark)
-        (opening d.limits d.run d.opened (R.Log.seen d.before.value) (R.Log.seen d.first.value.disk))) }
+    ensures catalogue { IfOk result (λ d. IsOpenedAs (R.seen room.old) name.now (durable_view d)) }
 
     // Each fault comes only where the log is so, and Full only where it is of version 2; a device fault only where the count of
     // faults rose.
@@ -65,8 +65,7 @@ pub fn close_journal<R: Room>(room: &mut R, name: &str, durable: Durable<R::Log>
 
     // The file and the closed log, where the room tells and the log told when it was opened.
     ensures log { (R.seen room.old).tells ≡ true → is_some (R.Log.seen durable.before.value).content ≡ true →
-        IsClosedTo (R.seen room.new) name.now durable.core.history (mark_of durable.mark)
-        (opening durable.limits durable.run durable.opened (R.Log.seen durable.before.value) (R.Log.seen durable.first.value.disk)) }
+        IsClosedAs (R.seen room.new) name.now (durable_view durable) }
 
     // A mark has its cause in the count of faults.
     ensures cause { is_some (mark_of durable.mark) ≡ true → (R.Log.seen durable.before.value).faults ≡ 0 →

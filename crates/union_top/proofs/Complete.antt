@@ -1,94 +1,88 @@
 -- A command that nothing hinders ends well, or memory ran out.
-use Rattle.std.proofs.Common.{◌≡◌, ◌≢◌, ◌⊎◌, inl, inr, ℕ, ◌+◌, ◌<◌, ◌≤◌, Bool, true, false, ◌||◌, true≢false, List, [], ◌∷◌, ◌++◌, length, Some, refl, sym, ap, subst, ◌∙◌, arith, append-nil, append_assoc}
-use Rattle.std.specs.Prelude.{IsTrue, nat_lt, nat_le, ◌==◌}
-use Rattle.std.specs.List.{list_any}
+use Rattle.std.proofs.Common.{◌≡◌, ◌≢◌, ◌⊎◌, inl, inr, ℕ, zero, suc, ◌+◌, ◌≤◌, true, false, ◌||◌, true≢false, List, [], ◌∷◌, ◌++◌, length, Some, refl, sym, ap, subst, ◌∙◌, arith, append-nil, append_assoc}
+use Rattle.std.specs.Prelude.{nat_lt, IsSomeAnd, All, slice_get}
 use Rattle.std.proofs.lemmas.List.{length-append}
+use Rattle.std.proofs.lemmas.List.Elements.{All-head, All-tail}
 use Rattle.std.proofs.lemmas.List.Sums.{sum_by-append}
 use Rattle.std.proofs.lemmas.Bool.Decides.{nat_tests}
 use Rattle.marc_types.specs.declared.entry.Entry.{Entry}
 use Rattle.outside.specs.Room.{RoomView}
-use Rattle.marc_stream.specs.Pieces.{Item}
-use Rattle.command_words.specs.Command.{Command, Pass, Run, Load, Export, Report, Make, command_of}
+use Rattle.marc_stream.specs.Pieces.{Item, items}
+use Rattle.command_words.specs.declared.library.Library.{Library}
+use Rattle.command_words.specs.Command.{Command, Pass, Run, Load, Export, Report, Make, command_of, libraries_of}
 use Rattle.entry_record.specs.History.{entry_size, entries_size}
 use Rattle.file_entries.specs.Files.{IsJudged, Accepts}
 use Rattle.file_entries.specs.declared.refused.RefusedItem.{RefusedItem}
-use Rattle.console_lines.specs.Faults.{fault_status}
+use Rattle.console_lines.specs.Ends.{Outcome, IsAllDone, end_status}
+use Rattle.console_lines.specs.declared.end.End.{End}
+use Rattle.console_lines.specs.declared.end.End.TheVariants.{Done, Refused, OutputFault, Told}
 use Rattle.console_lines.specs.declared.fault.Fault.{Fault}
 use Rattle.console_lines.specs.declared.fault.Fault.TheVariants as fault
 use Rattle.durable_catalogue.specs.declared.fault.OpenFault.{OpenFault}
 use Rattle.durable_catalogue.specs.declared.fault.OpenFault.TheVariants as opening
+use Rattle.room_files.specs.Faults.{fault_of_opening}
 use Rattle.room_files.specs.Journals.{log_bytes}
 use Rattle.archive_commands.specs.Archives.{HasFittingHistory, WhyUnopened}
-use Rattle.room_files.specs.Faults.{fault_of_opening}
-use Rattle.plain_commands.specs.Loading.{IsFullAt}
+use Rattle.archive_commands.specs.Reads.{DueView, Reads, EndsReading}
+use Rattle.plain_commands.specs.Loading.{IsFullAt, EndsLoading}
+use Rattle.plain_commands.specs.Making.{Makes, EndsMake}
 use Rattle.plain_commands.specs.Totals.{IsWithinLimits, most_entries, most_bytes}
-use Rattle.union_top.specs.Commands.{Outcome, Makes, Reads, Loads, Runs, Ends}
-use Rattle.union_top.specs.Complete.{IsUnhinderedPass, IsUnhinderedMake, IsUnhinderedReading, IsUnhinderedLoad, IsUnhinderedRun, IsUnhindered}
+use Rattle.journal_loading.specs.Inputs.{IsInputFault}
+use Rattle.union_top.specs.Commands.{Loads, Runs, Ends, EndsWith}
+use Rattle.union_top.specs.Complete.{Stayed, Around, InputsStayed, IsUnhinderedPass, IsUnhinderedMake, IsUnhinderedReading, IsUnhinderedLoad, IsUnhinderedRun, IsUnhindered}
 use Rattle.union_top.proofs.Made.{made, made_first}
 use Rattle.union_top.proofs.Unopened.{MayBe, may_be}
 use Rattle.union_top.proofs.Remaining.{Remains, of_load, of_run}
 
--- the status is one of these
-abbrev OneOf : ℕ → List ℕ → Type 0
-OneOf n [] = ⊥
-OneOf n (x ∷ xs) = (n ≡ x) ⊎ OneOf n xs
+-- the ends that are left where nothing hinders a command
+abbrev EndsWell : End → Type 0
+EndsWell end = IsAllDone end ⊎ (end ≡ Told fault.Memory)
 
-first_or_later : (n x : ℕ) (xs : List ℕ) (b : Bool) → (x == n) ≡ b → b || list_any (λ s. s == n) xs ≡ true → (IsTrue (list_any (λ s. s == n) xs) → OneOf n xs) → OneOf n (x ∷ xs)
-first_or_later n x xs true is any later = let same : n ≡ x = grind (arith, nat_tests) in inl same
-first_or_later n x xs false is any later = inr (later any)
+well_status : (end : End) → EndsWell end → (end_status end ≤ 1) ⊎ (end_status end ≡ 8)
+well_status Done well = inl (omega arith)
+well_status Refused well = inl (omega arith)
+well_status OutputFault (inl all) = absurd all
+well_status OutputFault (inr memory) = cc
+well_status (Told why) (inl all) = absurd all
+well_status (Told why) (inr memory) = inr (ap end_status memory)
 
-one_of : (n : ℕ) (xs : List ℕ) → IsTrue (list_any (λ s. s == n) xs) → OneOf n xs
-one_of n [] any = absurd (true≢false (sym any))
-one_of n (x ∷ xs) any = first_or_later n x xs (x == n) refl any (one_of n xs)
-
--- the statuses that are left where nothing hinders a command
-abbrev pub EndsWell : ℕ → Type 0
-EndsWell status = (status ≤ 1) ⊎ (status ≡ 8)
-
-low_or_high : (n : ℕ) → (n ≤ 1) ⊎ ((n ≡ 4) ⊎ ((1 < n) × (n ≢ 4)))
-low_or_high n = decided (nat_le n 1) (n == 4) refl refl
-  where
-    decided : (low four : Bool) → nat_le n 1 ≡ low → (n == 4) ≡ four → (n ≤ 1) ⊎ ((n ≡ 4) ⊎ ((1 < n) × (n ≢ 4)))
-    decided true four low_is four_is = let low : n ≤ 1 = grind (arith, nat_tests) in inl low
-    decided false true low_is four_is = let four : n ≡ 4 = grind (arith, nat_tests) in inr (inl four)
-    decided false false low_is four_is =
-        let high : 1 < n = grind (arith, nat_tests) in
-        let other : n ≢ 4 = λ four. true≢false (sym (ap (λ x. x == 4) four) ∙ four_is) in
-        inr (inr (high, other))
-
--- a status is low, that of an output's fault, or that of a fault which is told
-by_status : (status : ℕ) → (status ≡ 4 → ⊥) → (1 < status → status ≢ 4 → EndsWell status) → EndsWell status
-by_status status four high = decided (low_or_high status)
-  where
-    decided : (status ≤ 1) ⊎ ((status ≡ 4) ⊎ ((1 < status) × (status ≢ 4))) → EndsWell status
-    decided (inl low) = inl low
-    decided (inr (inl is)) = absurd (four is)
-    decided (inr (inr (more, other))) = high more other
+by_end : (end : End) → (end ≡ OutputFault → ⊥) → ((why : Fault) → end ≡ Told why → why ≡ fault.Memory) → EndsWell end
+by_end Done output told = inl tt
+by_end Refused output told = inl tt
+by_end OutputFault output told = absurd (output refl)
+by_end (Told why) output told = inr (ap Told (told why refl))
 
 neither : {A B : Type 0} → (A → ⊥) → (B → ⊥) → A ⊎ B → ⊥
 neither first second (inl a) = first a
 neither first second (inr b) = second b
 
--- the status of a fault that remains, where no count rose
-by_fault : (status : ℕ) (why : Fault) → Remains why → status ≡ fault_status why → status ≢ 2 → (status ≡ 3 → ⊥) → (status ≡ 5 → ⊥) → EndsWell status
-by_fault status fault.Usage remains is two three five = absurd (two is)
-by_fault status fault.Input remains is two three five = absurd (three is)
-by_fault status fault.Device remains is two three five = absurd (five is)
-by_fault status (fault.NotAJournal place) remains is two three five = absurd remains
-by_fault status fault.Full remains is two three five = absurd remains
-by_fault status fault.Memory remains is two three five = inr is
-by_fault status fault.OldVersion remains is two three five = absurd remains
+-- a fault of a pass that remains
+pass_why : (why : Fault) → EndsLoading why → (why ≡ fault.Input → ⊥) → (why ≡ fault.Full → ⊥) → why ≡ fault.Memory
+pass_why fault.Input kind input full = absurd (input refl)
+pass_why fault.Full kind input full = absurd (full refl)
+pass_why fault.Memory kind input full = refl
+pass_why fault.Usage kind input full = absurd kind
+pass_why fault.Device kind input full = absurd kind
+pass_why (fault.NotAJournal place) kind input full = absurd kind
+pass_why fault.OldVersion kind input full = absurd kind
 
--- no status is that of an opening's fault
-by_opening : (log : List ℕ) (of : OpenFault) (status : ℕ) → MayBe log of → status ≡ fault_status (fault_of_opening of) → (status ≡ 6) ⊎ (status ≡ 7) → ⊥
-by_opening log opening.DeviceFault status may is (inl six) = omega (arith, is, six)
-by_opening log opening.DeviceFault status may is (inr seven) = omega (arith, is, seven)
-by_opening log (opening.NotAJournal place) status may is which = may
-by_opening log opening.OldVersion status may is (inl six) = omega (arith, is, six)
-by_opening log opening.OldVersion status may is (inr seven) = omega (arith, is, seven)
-by_opening log opening.Full status may is which = may
-by_opening log opening.NoMemory status may is (inl six) = omega (arith, is, six)
-by_opening log opening.NoMemory status may is (inr seven) = omega (arith, is, seven)
+-- one of loading that does
+load_why : (why : Fault) → Remains why → why ≢ fault.Usage → (why ≡ fault.Input → ⊥) → (why ≡ fault.Device → ⊥) → why ≡ fault.Memory
+load_why fault.Usage remains usage input device = absurd (usage refl)
+load_why fault.Input remains usage input device = absurd (input refl)
+load_why fault.Device remains usage input device = absurd (device refl)
+load_why (fault.NotAJournal place) remains usage input device = absurd remains
+load_why fault.Full remains usage input device = absurd remains
+load_why fault.Memory remains usage input device = refl
+load_why fault.OldVersion remains usage input device = absurd remains
+
+-- one of an opening that does, where an old version is read too
+read_why : (log : List ℕ) (of : OpenFault) → MayBe log of → EndsReading (Told (fault_of_opening of)) → (fault_of_opening of ≡ fault.Device → ⊥) → fault_of_opening of ≡ fault.Memory
+read_why log opening.DeviceFault may ends device = absurd (device refl)
+read_why log (opening.NotAJournal place) may ends device = absurd may
+read_why log opening.OldVersion may ends device = absurd ends
+read_why log opening.Full may ends device = absurd may
+read_why log opening.NoMemory may ends device = refl
 
 -- a file whose accepted entries are within the limits leaves no next one that passes them
 never_full_at : (library : List ℕ) (items : List Item) (accepted : List Entry) (refused : List RefusedItem) → IsJudged library 0 items accepted refused → IsWithinLimits accepted
@@ -110,92 +104,75 @@ never_full_at library items accepted refused judged within f =
     let full = subst (λ es. nat_lt most_entries (length es + 1) || nat_lt most_bytes (entries_size es + entry_size f.next) ≡ true) (append-nil f.accepted) f.full in
     true≢false (sym full ∙ ap (λ b. b || nat_lt most_bytes (entries_size f.accepted + entry_size f.next)) no_more ∙ no_larger)
 
-pass_left : (status : ℕ) → OneOf status (0 ∷ 1 ∷ 3 ∷ 4 ∷ 7 ∷ 8 ∷ []) → (status ≡ 3 → ⊥) → (status ≡ 4 → ⊥) → (status ≡ 7 → ⊥) → EndsWell status
-pass_left status (inl is) three four seven = inl (omega (arith, is))
-pass_left status (inr (inl is)) three four seven = inl (omega (arith, is))
-pass_left status (inr (inr (inl is))) three four seven = absurd (three is)
-pass_left status (inr (inr (inr (inl is)))) three four seven = absurd (four is)
-pass_left status (inr (inr (inr (inr (inl is))))) three four seven = absurd (seven is)
-pass_left status (inr (inr (inr (inr (inr (inl is)))))) three four seven = inr is
-pass_left status (inr (inr (inr (inr (inr (inr none)))))) three four seven = absurd none
+-- an element of a list of which all are so
+at_index : {A : Type 0} (P : A → Type 0) (xs : List A) (n : ℕ) (x : A) → All P xs → slice_get xs n ≡ Some x → P x
+at_index P [] n x all at = cc
+at_index P (y ∷ ys) zero x all at = let same : y ≡ x = cc in subst P same (All-head P y ys all)
+at_index P (y ∷ ys) (suc n) x all at = at_index P ys n x (All-tail P y ys all) at
 
-passes_well : (words : List (List ℕ)) (out : List ℕ) (o : Outcome) → Ends words (Pass out) o → o.old.tells ≡ true → IsUnhinderedPass words out o → EndsWell o.status
-passes_well words out o ends tells u =
-    let p = ends u.library u.named in
-    pass_left o.status (one_of o.status (0 ∷ 1 ∷ 3 ∷ 4 ∷ 7 ∷ 8 ∷ []) p.statuses) (λ is. u.input (p.input is))
-    (λ is. neither u.output u.console (p.output is))
-    (λ is. never_full_at u.library.code _ u.fits.accepted u.fits.refused u.fits.judged u.fits.within (p.full u.fits.bytes tells u.fits.there is))
+module _ (o : Outcome) where
+  abbrev seen : Around
+  seen = record { old = o.old; new = o.new; faults = o.faults; faults_now = o.faults_now }
 
-make_left : (status : ℕ) → OneOf status (0 ∷ 4 ∷ 8 ∷ []) → (status ≡ 4 → ⊥) → EndsWell status
-make_left status (inl is) four = inl (omega (arith, is))
-make_left status (inr (inl is)) four = absurd (four is)
-make_left status (inr (inr (inl is))) four = inr is
-make_left status (inr (inr (inr none))) four = absurd none
+  passes_well : (words : List (List ℕ)) (out : List ℕ) → Ends words (Pass out) o → o.old.tells ≡ true → IsUnhinderedPass (libraries_of words) out seen → EndsWell o.end
+  passes_well words out ends tells u =
+      let p = ends u.library u.named in
+      by_end o.end (λ is. neither u.output u.console (p.output is))
+      (λ why is. pass_why why (p.told why is).1.0 (λ same. u.input (p.input (is ∙ ap Told same)))
+      (λ same. never_full_at u.library.code (items u.fits.bytes) u.fits.accepted u.fits.refused u.fits.judged u.fits.within
+      (subst (λ f. IsSomeAnd f (λ bytes. IsFullAt u.library.code (items bytes))) u.fits.there (p.full (is ∙ ap Told same) tells))))
 
-makes_well : (seed count : ℕ) (out : List ℕ) (o : Outcome) → Makes seed count out o → IsUnhinderedMake out o → EndsWell o.status
-makes_well seed count out o m u =
-    make_left o.status (one_of o.status (0 ∷ 4 ∷ 8 ∷ []) m.statuses) (λ is. neither u.output u.console (m.output is))
+  makes_well : (seed count : ℕ) (out : List ℕ) → Makes seed count out o → IsUnhinderedMake out seen → EndsWell o.end
+  makes_well seed count out m u = by_end o.end (λ is. neither u.output u.console (m.output is)) (λ why is. subst EndsMake is m.ends)
 
-reading_left : (status : ℕ) → OneOf status (0 ∷ 4 ∷ 5 ∷ 6 ∷ 7 ∷ 8 ∷ []) → (status ≡ 4 → ⊥) → (status ≡ 5 → ⊥) → ((status ≡ 6) ⊎ (status ≡ 7) → ⊥) → EndsWell status
-reading_left status (inl is) four five other = inl (omega (arith, is))
-reading_left status (inr (inl is)) four five other = absurd (four is)
-reading_left status (inr (inr (inl is))) four five other = absurd (five is)
-reading_left status (inr (inr (inr (inl is)))) four five other = absurd (other (inl is))
-reading_left status (inr (inr (inr (inr (inl is))))) four five other = absurd (other (inr is))
-reading_left status (inr (inr (inr (inr (inr (inl is)))))) four five other = inr is
-reading_left status (inr (inr (inr (inr (inr (inr none)))))) four five other = absurd none
+  reads_well : (journal out : List ℕ) (due : DueView) → Reads journal out due o → o.old.tells ≡ true → IsUnhinderedReading journal out seen → EndsWell o.end
+  reads_well journal out due r tells u =
+      by_end o.end (λ is. u.output (r.output is))
+      (λ why is.
+      let w = (r.told why is).1 in
+      w.is ∙ read_why (log_bytes o.old journal) w.reason (may_be (log_bytes o.old journal) w.reason u.fits (w.so tells))
+      (subst EndsReading (is ∙ ap Told w.is) r.ends) (λ device. u.device (r.device (is ∙ ap Told (w.is ∙ device)))))
 
-unopened : (room : RoomView) (journal : List ℕ) (told : Fault) (status : ℕ) → room.tells ≡ true → HasFittingHistory (log_bytes room journal) → WhyUnopened room journal told
-    → status ≡ fault_status told → (status ≡ 6) ⊎ (status ≡ 7) → ⊥
-unopened room journal told status tells fits w is which =
-    by_opening (log_bytes room journal) w.reason status (may_be (log_bytes room journal) w.reason fits (w.so tells)) (is ∙ ap fault_status w.is) which
+  input_stayed : (libraries : List Library) → InputsStayed libraries o.old o.new → IsInputFault libraries o.old o.new → ⊥
+  input_stayed libraries stayed i = at_index (λ (l : Library). Stayed (o.old.in_faults l.file) (o.new.in_faults l.file)) libraries i.index i.library stayed i.named i.rose
 
-told_status : (status : ℕ) → (status ≡ 6) ⊎ (status ≡ 7) → (2 ≤ status) × (status ≢ 4)
-told_status status (inl is) = (omega (arith, is), λ four. let no : 6 ≡ 4 = sym is ∙ four in cc)
-told_status status (inr is) = (omega (arith, is), λ four. let no : 7 ≡ 4 = sym is ∙ four in cc)
+  loads_well : (libraries : List Library) (journal : List ℕ) → Loads libraries journal o → o.old.tells ≡ true → IsUnhinderedLoad libraries journal seen → EndsWell o.end
+  loads_well libraries journal l tells u =
+      by_end o.end (λ is. u.console (l.output is))
+      (λ why is. load_why why (of_load o.old o.new journal libraries tells u.fits why (l.because why is tells)) (l.told why is).1
+      (λ same. input_stayed libraries u.input (l.input (is ∙ ap Told same))) (λ same. u.device (l.device (is ∙ ap Told same))))
 
-reads_well : (journal out : List ℕ) (due : List Entry → List ℕ) (o : Outcome) → Reads journal out due o → o.old.tells ≡ true → IsUnhinderedReading journal out o → EndsWell o.status
-reads_well journal out due o r tells u =
-    reading_left o.status (one_of o.status (0 ∷ 4 ∷ 5 ∷ 6 ∷ 7 ∷ 8 ∷ []) r.statuses) (λ is. u.output (r.output is)) (λ is. u.device (r.device is))
-    (λ which.
-    let (more, other) = told_status o.status which in
-    let t = r.told more other in
-    unopened o.old journal t.fault o.status tells u.fits t.because t.is which)
+  runs_well : (libraries : List Library) (journal out report : List ℕ) → Runs libraries journal out report o → o.old.tells ≡ true
+      → IsUnhinderedRun libraries journal out report seen → EndsWell o.end
+  runs_well libraries journal out report r tells u =
+      by_end o.end (λ is. neither u.output (neither u.report_output u.load.console) (r.output is))
+      (λ why is. load_why why (of_run o.old o.new journal libraries tells u.load.fits out report why (r.because why is tells)) (r.told why is).1
+      (λ same. input_stayed libraries u.load.input (r.input (is ∙ ap Told same))) (λ same. u.load.device (r.device (is ∙ ap Told same))))
 
-loads_well : (words : List (List ℕ)) (journal : List ℕ) (files : ℕ) (o : Outcome) → Loads words journal files o → o.status ≢ 2 → o.old.tells ≡ true → IsUnhinderedLoad words journal files o
-    → EndsWell o.status
-loads_well words journal files o l two tells u =
-    by_status o.status (λ four. u.console (l.output four)) (λ more other.
-    let t = l.told u.libraries u.are u.count tells more other in
-    by_fault o.status t.fault (of_load o.old o.new journal u.libraries tells u.fits t.fault t.because) t.is two
-    (λ is. let i = l.input is in u.input i.index i.library i.named i.rose) (λ is. u.device (l.device is)))
+  ends_well : (words : List (List ℕ)) (command : Command) → Ends words command o → o.old.tells ≡ true → IsUnhindered words command seen → EndsWell o.end
+  ends_well words (Pass out) ends tells u = passes_well words out ends tells u
+  ends_well words (Run journal out report files) ends tells u = runs_well (libraries_of words) journal out report ends tells u
+  ends_well words (Load journal files) ends tells u = loads_well (libraries_of words) journal ends tells u
+  ends_well words (Export journal out code) ends tells u = reads_well journal out _ ends tells u
+  ends_well words (Report journal out) ends tells u = reads_well journal out _ ends tells u
+  ends_well words (Make seed count out) ends tells u = makes_well seed count out ends u
 
-runs_well : (words : List (List ℕ)) (journal out report : List ℕ) (files : ℕ) (o : Outcome) → Runs words journal out report files o → o.status ≢ 2 → o.old.tells ≡ true
-    → IsUnhinderedRun words journal out report files o → EndsWell o.status
-runs_well words journal out report files o r two tells u =
-    by_status o.status (λ four. neither u.output (neither u.report_output u.load.console) (r.output four)) (λ more other.
-    let t = r.told u.load.libraries u.load.are u.load.count tells more other in
-    by_fault o.status t.fault (of_run o.old o.new journal u.load.libraries tells u.load.fits out report t.fault t.because) t.is two
-    (λ is. let i = r.input is in u.load.input i.index i.library i.named i.rose) (λ is. u.load.device (r.device is)))
+  pub complete : (words : List (List ℕ)) (command : Command) → Ends words command o → o.old.tells ≡ true → IsUnhindered words command seen
+      → (end_status o.end ≤ 1) ⊎ (end_status o.end ≡ 8)
+  complete words command ends tells u = well_status o.end (ends_well words command ends tells u)
 
-ends_well : (words : List (List ℕ)) (command : Command) (o : Outcome) → Ends words command o → o.status ≢ 2 → o.old.tells ≡ true → IsUnhindered words command o → EndsWell o.status
-ends_well words (Pass out) o ends two tells u = passes_well words out o ends tells u
-ends_well words (Run journal out report files) o ends two tells u = runs_well words journal out report files o ends two tells u
-ends_well words (Load journal files) o ends two tells u = loads_well words journal files o ends two tells u
-ends_well words (Export journal out code) o ends two tells u = reads_well journal out _ o ends tells u
-ends_well words (Report journal out) o ends two tells u = reads_well journal out _ o ends tells u
-ends_well words (Make seed count out) o ends two tells u = makes_well seed count out o ends u
+-- the status of words that are no command is that of no other end
+pub two_is_usage : (end : End) → end_status end ≡ 2 → end ≡ Told fault.Usage
+two_is_usage Done two = cc
+two_is_usage Refused two = cc
+two_is_usage OutputFault two = cc
+two_is_usage (Told fault.Usage) two = refl
+two_is_usage (Told fault.Input) two = cc
+two_is_usage (Told fault.Device) two = cc
+two_is_usage (Told (fault.NotAJournal place)) two = cc
+two_is_usage (Told fault.Full) two = cc
+two_is_usage (Told fault.Memory) two = cc
+two_is_usage (Told fault.OldVersion) two = cc
 
--- the statuses of a command are not that of words which are none
-not_two : (status : ℕ) → IsTrue (list_any (λ s. s == status) (0 ∷ 1 ∷ 3 ∷ 4 ∷ 5 ∷ 6 ∷ 7 ∷ 8 ∷ 9 ∷ [])) → status ≢ 2
-not_two status is two = true≢false (sym (subst (λ n. list_any (λ s. s == n) (0 ∷ 1 ∷ 3 ∷ 4 ∷ 5 ∷ 6 ∷ 7 ∷ 8 ∷ 9 ∷ []) ≡ true) two is))
-
-same_command : (one other : Command) → Some one ≡ Some other → one ≡ other
+pub same_command : (one other : Command) → Some one ≡ Some other → one ≡ other
 same_command one other is = cc
-
-pub complete : (words : List (List ℕ)) (asked : Command) (o : Outcome) → command_of words ≡ Some asked → Ends words asked o
-    → IsTrue (list_any (λ s. s == o.status) (0 ∷ 1 ∷ 3 ∷ 4 ∷ 5 ∷ 6 ∷ 7 ∷ 8 ∷ 9 ∷ []))
-    → (command : Command) → command_of words ≡ Some command → o.old.tells ≡ true → IsUnhindered words command o → EndsWell o.status
-complete words asked o asks ends statuses command is tells u =
-    let same = same_command asked command (sym asks ∙ is) in
-    ends_well words command o (subst (λ c. Ends words c o) same ends) (not_two o.status statuses) tells u

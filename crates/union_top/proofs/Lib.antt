@@ -8,4 +8,4 @@ mod Crowded
 mod Unopened
 mod Remaining
 mod Complete
-mod Libraries
+mod Asked

@@ -4,14 +4,15 @@ use Rattle.std.specs.Prelude.{All, is_some}
 use Rattle.std.proofs.Math.Logic.{∥∥₁_map}
 use Rattle.marc_types.specs.declared.entry.Entry.{Entry}
 use Rattle.outside.specs.Room.{RoomView, bytes_or_none}
-use Rattle.command_words.specs.Command.{Library}
+use Rattle.command_words.specs.declared.library.Library.{Library}
 use Rattle.entry_record.specs.History.{IsMerged, brought_by, with_run, next_run, IsWithin}
 use Rattle.durable_catalogue.specs.Logs.{HasHistory}
 use Rattle.durable_catalogue.specs.Images.{Holds}
 use Rattle.durable_catalogue.specs.Durables.{Opening}
 use Rattle.durable_catalogue.proofs.Images.{front_of, whole_is}
 use Rattle.loader_workers.specs.declared.result.FileResult.{FileResult}
-use Rattle.room_files.specs.Journals.{journal_limits, IsOpenedFrom, IsClosedTo}
+use Rattle.durable_catalogue.specs.Views.{DurableView}
+use Rattle.room_files.specs.Journals.{journal_limits, IsOpenedFrom, IsClosedTo, IsClosedAs}
 use Rattle.journal_loading.specs.Outcomes.{IsLoadedWhole}
 use Rattle.union_top.specs.Merged.{IsOneHistory}
 use Rattle.union_top.specs.Console.{any_refused, refused_part}
@@ -70,11 +71,12 @@ pub record MergedBy (old new : RoomView) (journal : List ℕ) (libraries : List 
   pub text_is : files_text libraries results ≡ told_of merged
   pub any_is : has_refused results ≡ any_refused merged.refused
 
-pub merged_by : (old new : RoomView) (journal : List ℕ) (libraries : List Library) (entries : List Entry) (mark : Option (List Entry)) (o : Opening) (results : List FileResult)
-    → old.tells ≡ true → IsLoadedWhole old journal libraries entries mark o results → (o.tells ≡ true → IsClosedTo new journal entries mark o)
-    → IsWithin o.origin.limits entries → MergedBy old new journal libraries entries results
-merged_by old new journal libraries entries mark o results tells w closing within =
-    let closed = subst (λ m. IsClosedTo new journal (w.before ++ w.added) m o) w.unmarked (subst (λ es. IsClosedTo new journal es mark o) w.entries_are (closing (w.opened.tells tells))) in
+pub merged_by : (old new : RoomView) (journal : List ℕ) (libraries : List Library) (d : DurableView) (results : List FileResult)
+    → IsWithin d.opened.origin.limits d.entries → IsLoadedWhole old journal libraries d results → (d.opened.tells ≡ true → IsClosedAs new journal d) → old.tells ≡ true
+    → MergedBy old new journal libraries d.entries results
+merged_by old new journal libraries d results within w closing tells =
+    let o = d.opened in
+    let closed = subst (λ m. IsClosedTo new journal (w.before ++ w.added) m o) w.unmarked (subst (λ es. IsClosedTo new journal es d.mark o) w.entries_are (closing (w.opened.tells tells))) in
     let made = merges old w.before w.added 0 libraries results w.loaded.files (all_done results w.faultless) in
     let loaders = subst (λ es. All (λ (e : Entry). e.loader < length libraries) es) (append-nil w.added) w.loaded.loaders in
     record {
@@ -84,7 +86,7 @@ merged_by old new journal libraries entries mark o results tells w closing withi
         accepted = made.accepted;
         refused = made.refused;
         history = one_history old new journal libraries w.before w.added o results tells w.opened closed made loaders
-            (subst (λ es. IsWithin journal_limits es) w.entries_are (subst (λ limits. IsWithin limits entries) w.opened.limits within));
+            (subst (λ es. IsWithin journal_limits es) w.entries_are (subst (λ limits. IsWithin limits d.entries) w.opened.limits within));
       };
       entries_are = w.entries_are;
       text_is = ap (λ text. text ++ totals_text libraries results) made.refused_is ∙ ap (λ text. refused_part libraries made.refused ++ text) made.totals_is;

@@ -6,7 +6,7 @@ use Rattle.std.proofs.Math.Logic.{∥∥₁_elim}
 use Rattle.std.proofs.lemmas.List.Elements.{All-nil, All-cons, All-head, All-tail}
 use Rattle.marc_types.specs.declared.entry.Entry.{Entry}
 use Rattle.outside.specs.Room.{RoomView}
-use Rattle.command_words.specs.Command.{Library}
+use Rattle.command_words.specs.declared.library.Library.{Library}
 use Rattle.commit_journal.specs.Log.{version_of}
 use Rattle.entry_record.specs.History.{entries_size, IsWithin}
 use Rattle.console_lines.specs.declared.fault.Fault.{Fault}

@@ -1,7 +1,7 @@
 -- The console's lines, one file at a time.
 use Rattle.std.proofs.Common.{◌≡◌, ℕ, ◌+◌, ◌<◌, ◌≤◌, suc, zero, List, [], ◌∷◌, ◌++◌, length, drop, slice_get, get_or, Some, sym, ap, ◌∙◌, arith, append_assoc, append-nil}
 use Rattle.std.proofs.lemmas.List.{drop_all}
-use Rattle.command_words.specs.Command.{Library}
+use Rattle.command_words.specs.declared.library.Library.{Library}
 use Rattle.console_lines.specs.Lines.{refused_lines, totals_line}
 use Rattle.loader_workers.specs.declared.result.FileResult.{FileResult}
 use Rattle.union_top.specs.Texts.{totals_in, refused_text, totals_text}

@@ -1,13 +1,14 @@
 -- When nothing hinders a command: no fault was counted of what it uses, its journal is one that is opened, its files are there, and
 -- no limit is met. The rules are this project's own.
-use Rattle.std.specs.Prelude.{◌≡◌, ℕ, ◌+◌, ◌≤◌, List, length, Some}
+use Rattle.std.specs.Prelude.{◌≡◌, ℕ, ◌+◌, ◌≤◌, List, [], ◌∷◌, length, All, Some}
 use Rattle.std.specs.List.{sum_by}
 use Rattle.marc_types.specs.declared.entry.Entry.{Entry}
 use Rattle.outside.specs.Fault.{Rose}
 use Rattle.outside.specs.Room.{RoomView}
 use Rattle.marc_stream.specs.Pieces.{items}
 use Rattle.commit_journal.specs.Log.{version_of}
-use Rattle.command_words.specs.Command.{Library, Command, Pass, Run, Load, Export, Report, Make, library_at}
+use Rattle.command_words.specs.declared.library.Library.{Library}
+use Rattle.command_words.specs.Command.{Command, Pass, Run, Load, Export, Report, Make, libraries_of}
 use Rattle.file_entries.specs.Files.{IsJudged}
 use Rattle.file_entries.specs.declared.refused.RefusedItem.{RefusedItem}
 use Rattle.entry_record.specs.History.{entries_size}
@@ -15,17 +16,15 @@ use Rattle.durable_catalogue.specs.Logs.{HasHistory}
 use Rattle.room_files.specs.Journals.{journal_limits, log_bytes}
 use Rattle.archive_commands.specs.Archives.{HasFittingHistory}
 use Rattle.plain_commands.specs.Totals.{IsWithinLimits}
-use Rattle.journal_loading.specs.Inputs.{AreLibraries}
 use Rattle.union_top.specs.Merged.{AreJudged}
-use Rattle.union_top.specs.Commands.{Outcome}
 
 -- a count of faults did not rise
 abbrev pub Stayed : ℕ → ℕ → Type 0
 Stayed before now = Rose before now → ⊥
 
--- no count of the inputs of a command's files rose
-abbrev pub InputsStayed : List (List ℕ) → RoomView → RoomView → Type 0
-InputsStayed words old new = (index : ℕ) (library : Library) → library_at words index ≡ Some library → Stayed (old.in_faults library.file) (new.in_faults library.file)
+-- no count of the inputs of these libraries' files rose
+abbrev pub InputsStayed : List Library → RoomView → RoomView → Type 0
+InputsStayed libraries old new = All (λ library. Stayed (old.in_faults library.file) (new.in_faults library.file)) libraries
 
 -- the file is there, and its accepted entries are within the limits
 pub record FitsAlone (room : RoomView) (library : Library) : Type 0 where
@@ -48,47 +47,59 @@ pub record FitsTogether (room : RoomView) (journal : List ℕ) (libraries : List
   pub count : length before + sum_by length accepted ≤ journal_limits.entries
   pub size : entries_size before + sum_by entries_size accepted ≤ journal_limits.bytes
 
+-- what the room and the console were before and after a command
+pub record Around : Type 1 where
+  pub old : RoomView
+  pub new : RoomView
+  pub faults : ℕ
+  pub faults_now : ℕ
+
+abbrev pub around : {R K : Type 0} → (R → RoomView) → (K → ℕ) → R → R → K → K → Around
+around seen faults room room_now console console_now = record {
+  old = seen room;
+  new = seen room_now;
+  faults = faults console;
+  faults_now = faults console_now;
+}
+
 -- nothing hinders the pass of a file
-pub record IsUnhinderedPass (words : List (List ℕ)) (out : List ℕ) (o : Outcome) : Type 0 where
+pub record IsUnhinderedPass (libraries : List Library) (out : List ℕ) (a : Around) : Type 0 where
   pub library : Library
-  pub named : library_at words 0 ≡ Some library
-  pub input : Stayed (o.old.in_faults library.file) (o.new.in_faults library.file)
-  pub output : Stayed (o.old.out_faults out) (o.new.out_faults out)
-  pub console : Stayed o.faults o.faults_now
-  pub fits : FitsAlone o.old library
+  pub named : libraries ≡ library ∷ []
+  pub input : Stayed (a.old.in_faults library.file) (a.new.in_faults library.file)
+  pub output : Stayed (a.old.out_faults out) (a.new.out_faults out)
+  pub console : Stayed a.faults a.faults_now
+  pub fits : FitsAlone a.old library
 
 -- nothing hinders the making of a workload
-pub record IsUnhinderedMake (out : List ℕ) (o : Outcome) : Type 0 where
-  pub output : Stayed (o.old.out_faults out) (o.new.out_faults out)
-  pub console : Stayed o.faults o.faults_now
+pub record IsUnhinderedMake (out : List ℕ) (a : Around) : Type 0 where
+  pub output : Stayed (a.old.out_faults out) (a.new.out_faults out)
+  pub console : Stayed a.faults a.faults_now
 
 -- nothing hinders an export or a report
-pub record IsUnhinderedReading (journal out : List ℕ) (o : Outcome) : Type 0 where
-  pub device : Stayed (o.old.log_faults journal) (o.new.log_faults journal)
-  pub output : Stayed (o.old.out_faults out) (o.new.out_faults out)
-  pub fits : HasFittingHistory (log_bytes o.old journal)
+pub record IsUnhinderedReading (journal out : List ℕ) (a : Around) : Type 0 where
+  pub device : Stayed (a.old.log_faults journal) (a.new.log_faults journal)
+  pub output : Stayed (a.old.out_faults out) (a.new.out_faults out)
+  pub fits : HasFittingHistory (log_bytes a.old journal)
 
 -- nothing hinders the loading of files
-pub record IsUnhinderedLoad (words : List (List ℕ)) (journal : List ℕ) (files : ℕ) (o : Outcome) : Type 0 where
-  pub libraries : List Library
-  pub are : AreLibraries words libraries
-  pub count : length libraries ≡ files
-  pub device : Stayed (o.old.log_faults journal) (o.new.log_faults journal)
-  pub input : InputsStayed words o.old o.new
-  pub console : Stayed o.faults o.faults_now
-  pub fits : FitsTogether o.old journal libraries
+pub record IsUnhinderedLoad (libraries : List Library) (journal : List ℕ) (a : Around) : Type 0 where
+  pub device : Stayed (a.old.log_faults journal) (a.new.log_faults journal)
+  pub input : InputsStayed libraries a.old a.new
+  pub console : Stayed a.faults a.faults_now
+  pub fits : FitsTogether a.old journal libraries
 
 -- nor the export and the report behind it
-pub record IsUnhinderedRun (words : List (List ℕ)) (journal out report : List ℕ) (files : ℕ) (o : Outcome) : Type 0 where
-  pub load : IsUnhinderedLoad words journal files o
-  pub output : Stayed (o.old.out_faults out) (o.new.out_faults out)
-  pub report_output : Stayed (o.old.out_faults report) (o.new.out_faults report)
+pub record IsUnhinderedRun (libraries : List Library) (journal out report : List ℕ) (a : Around) : Type 0 where
+  pub load : IsUnhinderedLoad libraries journal a
+  pub output : Stayed (a.old.out_faults out) (a.new.out_faults out)
+  pub report_output : Stayed (a.old.out_faults report) (a.new.out_faults report)
 
 -- nothing hinders the command of some words
-abbrev pub IsUnhindered : List (List ℕ) → Command → Outcome → Type 0
-IsUnhindered words (Pass out) o = IsUnhinderedPass words out o
-IsUnhindered words (Run journal out report files) o = IsUnhinderedRun words journal out report files o
-IsUnhindered words (Load journal files) o = IsUnhinderedLoad words journal files o
-IsUnhindered words (Export journal out code) o = IsUnhinderedReading journal out o
-IsUnhindered words (Report journal out) o = IsUnhinderedReading journal out o
-IsUnhindered words (Make seed count out) o = IsUnhinderedMake out o
+abbrev pub IsUnhindered : List (List ℕ) → Command → Around → Type 0
+IsUnhindered words (Pass out) a = IsUnhinderedPass (libraries_of words) out a
+IsUnhindered words (Run journal out report files) a = IsUnhinderedRun (libraries_of words) journal out report a
+IsUnhindered words (Load journal files) a = IsUnhinderedLoad (libraries_of words) journal a
+IsUnhindered words (Export journal out code) a = IsUnhinderedReading journal out a
+IsUnhindered words (Report journal out) a = IsUnhinderedReading journal out a
+IsUnhindered words (Make seed count out) a = IsUnhinderedMake out a

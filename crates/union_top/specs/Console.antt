@@ -2,7 +2,7 @@
 use Rattle.std.specs.Prelude.{ℕ, ◌+◌, Bool, List, [], ◌∷◌, ◌++◌, length, nat_lt}
 use Rattle.std.specs.List.{list_any}
 use Rattle.marc_types.specs.declared.entry.Entry.{Entry}
-use Rattle.command_words.specs.Command.{Library}
+use Rattle.command_words.specs.declared.library.Library.{Library}
 use Rattle.file_entries.specs.declared.refused.RefusedItem.{RefusedItem}
 use Rattle.catalogue_rules.specs.Receipts.{receipts_of_loader}
 use Rattle.console_lines.specs.Lines.{refused_lines, totals_line}

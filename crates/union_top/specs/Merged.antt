@@ -2,7 +2,7 @@
 use Rattle.std.specs.Prelude.{◌≡◌, ℕ, ◌+◌, true, List, [], ◌∷◌, ◌++◌, length, Some, is_some}
 use Rattle.marc_types.specs.declared.entry.Entry.{Entry}
 use Rattle.outside.specs.Room.{RoomView}
-use Rattle.command_words.specs.Command.{Library}
+use Rattle.command_words.specs.declared.library.Library.{Library}
 use Rattle.marc_stream.specs.Pieces.{items}
 use Rattle.commit_journal.specs.Log.{version_of}
 use Rattle.file_entries.specs.Files.{IsJudged}

@@ -1,13 +1,15 @@
 -- How the commands end that load files into a journal. The rules are this project's own.
-use Rattle.std.specs.Prelude.{◌≡◌, ℕ, List, ◌++◌, Option, Some, if◌then◌else◌}
+use Rattle.std.specs.Prelude.{◌≡◌, ℕ, List, ◌++◌, Option, Some}
 use Rattle.std.specs.Io.KnownBytes.{Appends}
 use Rattle.marc_types.specs.declared.entry.Entry.{Entry}
 use Rattle.outside.specs.Room.{RoomView}
 use Rattle.outside.specs.Sink.{WritesFront}
-use Rattle.command_words.specs.Command.{Library}
+use Rattle.command_words.specs.declared.library.Library.{Library}
 use Rattle.file_entries.specs.declared.refused.RefusedItem.{RefusedItem}
 use Rattle.catalogue_rules.specs.Settle.{state_of}
 use Rattle.catalogue_rules.specs.Output.{export_of, all_keys, report_of}
+use Rattle.console_lines.specs.Ends.{end_of}
+use Rattle.console_lines.specs.declared.end.End.{End}
 use Rattle.console_lines.specs.declared.fault.Fault.{Fault}
 use Rattle.console_lines.specs.declared.fault.Fault.TheVariants.{Memory}
 use Rattle.output_files.specs.Outputs.{IsPartWritten}
@@ -27,36 +29,44 @@ pub record IsMergedLoad (old new : RoomView) (journal : List ℕ) (libraries : L
 abbrev pub told_of : {old new : RoomView} {journal : List ℕ} {libraries : List Library} → IsMergedLoad old new journal libraries → List ℕ
 told_of {old} {new} {journal} {libraries} m = console_of m.before m.added libraries m.accepted m.refused
 
--- the status where all is written: 1 exactly where an item of some file is refused
-abbrev pub status_of : {old new : RoomView} {journal : List ℕ} {libraries : List Library} → IsMergedLoad old new journal libraries → ℕ
-status_of m = if any_refused m.refused then 1 else 0
+-- the end where all is written: whether an item of some file is refused
+abbrev pub end_after : {old new : RoomView} {journal : List ℕ} {libraries : List Library} → IsMergedLoad old new journal libraries → End
+end_after m = end_of (any_refused m.refused)
 
 -- The files were loaded whole, and the console was told their lines.
-pub record IsWholeLoad (old new : RoomView) (journal : List ℕ) (libraries : List Library) (told now : Option (List ℕ)) (status : ℕ) : Type 0 where
+pub record IsWholeLoad (old new : RoomView) (journal : List ℕ) (libraries : List Library) (told now : Option (List ℕ)) (end : End) : Type 0 where
   pub merged : IsMergedLoad old new journal libraries
   pub console : Appends told now (told_of merged)
-  pub status_is : status ≡ status_of merged
+  pub end_is : end ≡ end_after merged
 
 -- The console could not be written: the files were loaded whole, and it was told a front of their lines.
 pub record IsUntoldLoad (old new : RoomView) (journal : List ℕ) (libraries : List Library) (told now : Option (List ℕ)) : Type 0 where
   pub merged : IsMergedLoad old new journal libraries
   pub console : WritesFront told now (told_of merged)
 
+-- OUT is the export and REPORT the report of the state behind these entries
+pub record AreOutputs (room : RoomView) (out report : List ℕ) (entries : List Entry) : Type 0 where
+  pub export : room.file out ≡ Some (export_of all_keys (state_of entries))
+  pub report_is : room.file report ≡ Some (report_of (state_of entries))
+
+-- each of them is as it was or holds a front of that
+pub record AreInPart (old new : RoomView) (out report : List ℕ) (entries : List Entry) : Type 0 where
+  pub export : IsPartWritten (old.file out) (new.file out) (export_of all_keys (state_of entries))
+  pub report_is : IsPartWritten (old.file report) (new.file report) (report_of (state_of entries))
+
 -- The headline: the files were loaded whole, OUT is the export and REPORT the report of the state behind the one history that they
 -- make, and the console was told the files' lines.
-pub record IsWholeRun (old new : RoomView) (journal out report : List ℕ) (libraries : List Library) (told now : Option (List ℕ)) (status : ℕ) : Type 0 where
+pub record IsWholeRun (old new : RoomView) (journal out report : List ℕ) (libraries : List Library) (told now : Option (List ℕ)) (end : End) : Type 0 where
   pub merged : IsMergedLoad old new journal libraries
-  pub export : new.file out ≡ Some (export_of all_keys (state_of (merged.before ++ merged.added)))
-  pub report_is : new.file report ≡ Some (report_of (state_of (merged.before ++ merged.added)))
+  pub outputs : AreOutputs new out report (merged.before ++ merged.added)
   pub console : Appends told now (told_of merged)
-  pub status_is : status ≡ status_of merged
+  pub end_is : end ≡ end_after merged
 
 -- An output failed, or memory ran out behind loading: the files were loaded whole, and each of OUT and REPORT is as it was or holds
 -- a front of what is due there.
 pub record IsPartOfRun (old new : RoomView) (journal out report : List ℕ) (libraries : List Library) : Type 0 where
   pub merged : IsMergedLoad old new journal libraries
-  pub export : IsPartWritten (old.file out) (new.file out) (export_of all_keys (state_of (merged.before ++ merged.added)))
-  pub report_is : IsPartWritten (old.file report) (new.file report) (report_of (state_of (merged.before ++ merged.added)))
+  pub outputs : AreInPart old new out report (merged.before ++ merged.added)
 
 -- the same where the console was told a front of the files' lines
 pub record IsUntoldRun (old new : RoomView) (journal out report : List ℕ) (libraries : List Library) (told now : Option (List ℕ)) : Type 0 where

@@ -1,7 +1,7 @@
 -- The console's lines, from the results of loading.
 use Rattle.std.specs.Prelude.{ℕ, List, [], ◌∷◌, ◌++◌, length, Bool, nat_lt}
 use Rattle.std.specs.List.{list_any}
-use Rattle.command_words.specs.Command.{Library}
+use Rattle.command_words.specs.declared.library.Library.{Library}
 use Rattle.console_lines.specs.Lines.{refused_lines, totals_line}
 use Rattle.console_lines.specs.declared.totals.Totals.{Totals}
 use Rattle.loader_workers.specs.declared.result.FileResult.{FileResult}

@@ -1,18 +1,18 @@
-ghost use Rattle.std.specs.Prelude.{◌≡◌, ◌↔◌, ◌⊎◌, ◌==◌, ℕ, ◌≤◌, List, [], ◌∷◌, true, Some, None, IsTrue};
-ghost use Rattle.std.specs.List.{list_any};
+ghost use Rattle.std.specs.Prelude.{◌≡◌, ◌≢◌, ◌↔◌, ◌⊎◌, ℕ, ◌≤◌, List, true, Some, None, []};
 ghost use Rattle.outside.specs.Room.{SameBut};
 ghost use Rattle.command_words.specs.Command.{Command, command_of, names_of};
 ghost use Rattle.command_words.specs.Asked.{command_asked};
+ghost use Rattle.console_lines.specs.Ends.{outcome};
 ghost use Rattle.console_lines.specs.Faults.{IsFaultTold, fault_line};
-ghost use Rattle.console_lines.specs.declared.fault.Fault.TheVariants.{Usage};
-ghost use Rattle.union_top.specs.Commands.{Ends, Passes};
-ghost use Rattle.union_top.specs.Complete.{IsUnhindered};
+ghost use Rattle.union_top.specs.Commands.{Ends, EndsWith};
+ghost use Rattle.union_top.specs.Complete.{around, IsUnhindered};
 
 use crate::loading::{load, run_files};
-use archive_commands::{export, report};
+use archive_commands::{Due, read};
 use command_words::laws::{files_are_named, names_are_apart, numbers_are_bounded};
-use command_words::{Request, Words, library, request};
-use console_lines::{Fault, tell};
+use command_words::{Request, Words, libraries, request};
+use console_lines::{End, Fault, tell};
+use marc_types::NoMemory;
 use outside::{Gate, Room};
 use plain_commands::{make, pass};
 use std::alloc::Global;
@@ -28,47 +28,38 @@ fn carry_out<H: Threads + Wait + Sync, R: Room, G: Gate + Sync>(
     room: &mut R,
     console: &mut R::Out,
     gate: &G,
-) -> u8
+) -> End
     requires asks { command_of words.now ≡ Some (command_asked asked) }
     requires closed { (name : List ℕ) → (R.seen room.old).open_as name ≡ None }
-    ensures statuses { IsTrue (list_any (λ s. s == result) (0 ∷ 1 ∷ 3 ∷ 4 ∷ 5 ∷ 6 ∷ 7 ∷ 8 ∷ 9 ∷ [])) }
     ensures closed { (name : List ℕ) → (R.seen room.new).open_as name ≡ None }
     ensures apart { SameBut (R.seen room.old) (R.seen room.new) (names_of (command_asked asked.entry)) }
-    ensures ends { Ends words.now (command_asked asked.entry) (record {
-      old = R.seen room.old;
-      new = R.seen room.new;
-      told = R.Out.written console.old;
-      now = R.Out.written console.new;
-      faults = R.Out.faults console.old;
-      faults_now = R.Out.faults console.new;
-      status = result;
-    }) }
+    ensures ends { Ends words.now (command_asked asked.entry)
+        (outcome R.seen R.Out.written R.Out.faults room.old room.new console.old console.new result) }
+    ensures command { result ≢ End.Told Fault.Usage }
 {
     files_are_named(words);
     names_are_apart(words);
     numbers_are_bounded(words);
+    let libraries = match libraries(alloc, words) {
+        Ok(libraries) => libraries,
+        Err(NoMemory) => return tell(console, Fault::Memory),
+    };
+    let files = libraries.as_slice();
     match asked {
-        Request::Pass { out } => {
-            let Some((code, file)) = library(words, 0) else {
-                unreachable!()
-            };
-            pass(alloc, room, console, code, file, out)
-        }
+        Request::Pass { out } => pass(alloc, room, console, &files[0], out),
         Request::Run {
             journal,
             out,
             report,
-            files,
-        } => run_files(
-            rt, alloc, words, room, console, journal, out, report, files, gate,
-        ),
-        Request::Load { journal, files } => {
-            load(rt, alloc, words, room, console, journal, files, gate)
-        }
+            ..
+        } => run_files(rt, alloc, files, room, console, journal, out, report, gate),
+        Request::Load { journal, .. } => load(rt, alloc, files, room, console, journal, gate),
         Request::Export { journal, out, code } => {
-            export(alloc, room, console, journal, out, code)
+            read(alloc, room, console, journal, out, Due::Export(code))
         }
-        Request::Report { journal, out } => report(alloc, room, console, journal, out),
+        Request::Report { journal, out } => {
+            read(alloc, room, console, journal, out, Due::Report)
+        }
         Request::Make { seed, count, out } => make(alloc, room, console, seed, count, out),
     }
 }
@@ -85,42 +76,27 @@ pub fn run<H: Threads + Wait + Sync, R: Room, G: Gate + Sync>(
     gate: &G,
 ) -> u8
     requires closed { (name : List ℕ) → (R.seen room.old).open_as name ≡ None }
-    ensures statuses { IsTrue (list_any (λ s. s == result) (0 ∷ 1 ∷ 2 ∷ 3 ∷ 4 ∷ 5 ∷ 6 ∷ 7 ∷ 8 ∷ 9 ∷ [])) }
     ensures closed { (name : List ℕ) → (R.seen room.new).open_as name ≡ None }
 
     // Words that are no command change nothing, and the console is told so.
     ensures usage { result ≡ 2 ↔ command_of words.now ≡ None }
     ensures unchanged { result ≡ 2 → SameBut (R.seen room.old) (R.seen room.new) [] }
     ensures usage_told { result ≡ 2 → IsFaultTold (R.Out.written console.old) (R.Out.written console.new)
-        (R.Out.faults console.old) (R.Out.faults console.new) (fault_line Usage) }
+        (R.Out.faults console.old) (R.Out.faults console.new) (fault_line Fault.Usage) }
 
     // A command changes no file but its log and outputs, and ends as it says.
     ensures apart { (command : Command) → command_of words.now ≡ Some command →
         SameBut (R.seen room.old) (R.seen room.new) (names_of command) }
-    ensures ends { (command : Command) → command_of words.now ≡ Some command → Ends words.now command (record {
-      old = R.seen room.old;
-      new = R.seen room.new;
-      told = R.Out.written console.old;
-      now = R.Out.written console.new;
-      faults = R.Out.faults console.old;
-      faults_now = R.Out.faults console.new;
-      status = result;
-    }) }
+    ensures ends { (command : Command) → command_of words.now ≡ Some command → EndsWith words.now command result
+        (outcome R.seen R.Out.written R.Out.faults room.old room.new console.old console.new) }
 
     // Where nothing hinders a command it ends with 0 or 1, or memory ran out.
     ensures complete { (command : Command) → command_of words.now ≡ Some command → (R.seen room.old).tells ≡ true →
-        IsUnhindered words.now command (record {
-          old = R.seen room.old;
-          new = R.seen room.new;
-          told = R.Out.written console.old;
-          now = R.Out.written console.new;
-          faults = R.Out.faults console.old;
-          faults_now = R.Out.faults console.new;
-          status = result;
-        }) → (result ≤ 1) ⊎ (result ≡ 8) }
+        IsUnhindered words.now command (around R.seen R.Out.faults room.old room.new console.old console.new) →
+        (result ≤ 1) ⊎ (result ≡ 8) }
 {
     match request(words) {
-        None => tell(console, Fault::Usage),
-        Some(asked) => carry_out(rt, alloc, words, asked, room, console, gate),
+        None => tell(console, Fault::Usage).status(),
+        Some(asked) => carry_out(rt, alloc, words, asked, room, console, gate).status(),
     }
 }

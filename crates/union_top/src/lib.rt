@@ -4,7 +4,6 @@
 pub use command::run;
 
 mod command;
-pub mod laws;
 mod loading;
 mod outputs;
 mod texts;

@@ -1,11 +1,9 @@
 //! The outputs of a run.
-ghost use Rattle.std.specs.Prelude.{◌≡◌, ◌≢◌, ◌⊎◌, ℕ, List, [], ◌∷◌, true, Some, None, OnOk, IfErr};
+ghost use Rattle.std.specs.Prelude.{◌≡◌, ◌≢◌, ◌⊎◌, [], ◌∷◌, true, None, OnOk, IfErr};
 ghost use Rattle.outside.specs.Fault.{Rose};
 ghost use Rattle.outside.specs.declared.fault.WriteFault.TheVariants.{OutputFault};
-ghost use Rattle.catalogue_rules.specs.Settle.{state_of};
-ghost use Rattle.catalogue_rules.specs.Output.{export_of, all_keys, report_of};
-ghost use Rattle.output_files.specs.Outputs.{IsPartWritten};
 ghost use Rattle.outside.specs.Room.{SameBut};
+ghost use Rattle.union_top.specs.Runs.{AreOutputs, AreInPart};
 
 use catalogue_core::Catalogue;
 use output_files::{write_all_records, write_report_file};
@@ -30,13 +28,9 @@ pub fn write_outputs<R: Room>(
     ensures cause { IfErr result (λ fault. fault ≡ OutputFault →
         Rose ((R.seen room.old).out_faults out.now) ((R.seen room.new).out_faults out.now)
         ⊎ Rose ((R.seen room.old).out_faults report.now) ((R.seen room.new).out_faults report.now)) }
-    ensures export { OnOk result ((R.seen room.old).tells ≡ true →
-        (R.seen room.new).file out.now ≡ Some (export_of all_keys (state_of core.now.history))) }
-    ensures report { OnOk result ((R.seen room.old).tells ≡ true → (R.seen room.new).file report.now ≡ Some (report_of (state_of core.now.history))) }
-    ensures export_part { (R.seen room.old).tells ≡ true →
-        IsPartWritten ((R.seen room.old).file out.now) ((R.seen room.new).file out.now) (export_of all_keys (state_of core.now.history)) }
-    ensures report_part { (R.seen room.old).tells ≡ true →
-        IsPartWritten ((R.seen room.old).file report.now) ((R.seen room.new).file report.now) (report_of (state_of core.now.history)) }
+    ensures whole { OnOk result ((R.seen room.old).tells ≡ true → AreOutputs (R.seen room.new) out.now report.now core.now.history) }
+    ensures part { (R.seen room.old).tells ≡ true →
+        AreInPart (R.seen room.old) (R.seen room.new) out.now report.now core.now.history }
 {
     match write_all_records(room, out, core) {
         Ok(()) => write_report_file(alloc, room, report, core),

@@ -1,10 +1,8 @@
 //! The console's lines of a command's files.
-ghost use Rattle.std.specs.Prelude.{◌≡◌, ◌++◌, ℕ, ◌<◌, ◌≤◌, List, true, is_some, length, nat_lt, IfOk, string_bytes};
-ghost use Rattle.command_words.specs.Command.{Library, library_at};
-ghost use Rattle.journal_loading.specs.Inputs.{AreLibraries};
+ghost use Rattle.std.specs.Prelude.{◌≡◌, length, nat_lt, IfOk, string_bytes};
 ghost use Rattle.union_top.specs.Texts.{totals_in, refused_text, totals_text, files_text, has_refused};
 
-use command_words::{Words, library};
+use command_words::Library;
 use console_lines::{Sums, Totals, refused_text, totals_text};
 use loader_workers::FileResult;
 use marc_types::NoMemory;
@@ -26,17 +24,17 @@ fn totals_in(file: &FileResult) -> Totals
 }
 
 /// The refused items of each file, in the files' order.
-fn all_refused(alloc: Global, words: &Words, results: &[FileResult]) -> Result<String, NoMemory>
-    requires few { length results.now ≤ 64 }
-    requires there { (index : ℕ) → index < length results.now → is_some (library_at words.now index) ≡ true }
-    ensures { IfOk result (λ text. (libraries : List Library) → AreLibraries words.now libraries → length libraries ≡ length results.now →
-        string_bytes text ≡ refused_text libraries results.now) }
+fn all_refused(
+    alloc: Global,
+    libraries: &[Library],
+    results: &[FileResult],
+) -> Result<String, NoMemory>
+    requires { length libraries.now ≡ length results.now }
+    ensures { IfOk result (λ text. string_bytes text ≡ refused_text libraries.now results.now) }
 {
     let mut text = String::new(alloc);
     for index in 0..results.len() {
-        let Some((_code, file)) = library(words, index as u32) else {
-            unreachable!()
-        };
+        let file = libraries[index].file.as_str();
         let lines = refused_text(alloc, file, results[index].refused.as_slice())?;
         text.push_str(lines.as_str())?;
     }
@@ -44,17 +42,17 @@ fn all_refused(alloc: Global, words: &Words, results: &[FileResult]) -> Result<S
 }
 
 /// What is counted of each file, in the files' order.
-fn all_totals(alloc: Global, words: &Words, results: &[FileResult]) -> Result<String, NoMemory>
-    requires few { length results.now ≤ 64 }
-    requires there { (index : ℕ) → index < length results.now → is_some (library_at words.now index) ≡ true }
-    ensures { IfOk result (λ text. (libraries : List Library) → AreLibraries words.now libraries → length libraries ≡ length results.now →
-        string_bytes text ≡ totals_text libraries results.now) }
+fn all_totals(
+    alloc: Global,
+    libraries: &[Library],
+    results: &[FileResult],
+) -> Result<String, NoMemory>
+    requires { length libraries.now ≡ length results.now }
+    ensures { IfOk result (λ text. string_bytes text ≡ totals_text libraries.now results.now) }
 {
     let mut text = String::new(alloc);
     for index in 0..results.len() {
-        let Some((_code, file)) = library(words, index as u32) else {
-            unreachable!()
-        };
+        let file = libraries[index].file.as_str();
         let line = totals_text(alloc, file, &totals_in(&results[index]))?;
         text.push_str(line.as_str())?;
     }
@@ -62,14 +60,16 @@ fn all_totals(alloc: Global, words: &Words, results: &[FileResult]) -> Result<St
 }
 
 /// What the console is told of files: their refused items, file by file, and then what is counted of each.
-pub fn files_text(alloc: Global, words: &Words, results: &[FileResult]) -> Result<String, NoMemory>
-    requires few { length results.now ≤ 64 }
-    requires there { (index : ℕ) → index < length results.now → is_some (library_at words.now index) ≡ true }
-    ensures { IfOk result (λ text. (libraries : List Library) → AreLibraries words.now libraries → length libraries ≡ length results.now →
-        string_bytes text ≡ files_text libraries results.now) }
+pub fn files_text(
+    alloc: Global,
+    libraries: &[Library],
+    results: &[FileResult],
+) -> Result<String, NoMemory>
+    requires { length libraries.now ≡ length results.now }
+    ensures { IfOk result (λ text. string_bytes text ≡ files_text libraries.now results.now) }
 {
-    let mut text = all_refused(alloc, words, results)?;
-    let totals = all_totals(alloc, words, results)?;
+    let mut text = all_refused(alloc, libraries, results)?;
+    let totals = all_totals(alloc, libraries, results)?;
     text.push_str(totals.as_str())?;
     Ok(text)
 }

@@ -1,7 +1,6 @@
-use Rattle.std.proofs.Common.{rules, ◌≡◌, ◌∷◌, [], ◌+◌, length, Some, slice_get, sym, ap, subst, ◌∙◌, arith, length-append}
-use Rattle.command_words.specs.Command.{library_at}
+use Rattle.std.proofs.Common.{rules, ◌≡◌, ◌∷◌, [], ◌+◌, ◌<◌, get_or, length, Some, slice_get, sym, ap, subst, ◌∙◌, arith, length-append}
 use Rattle.outside.proofs.Rooms.{same_but_then}
-use Rattle.journal_loading.proofs.Opened.{at_end, at_before, closed_more}
+use Rattle.journal_loading.proofs.Opened.{at_end, at_before, closed_more, got}
 use Rattle.journal_loading.proofs.inputs.close_inputs.Goals as goal
 
 pub loop-input-preserved : goal.loop-input-preserved
@@ -14,13 +13,17 @@ loop-input-preserved g c =
     let len : length c.loop-input.inputs.items ≡ length left + 1 = ap length popped ∙ length-append left (last ∷ []) in
     let still = c.close_input.ensures.stays in
     let at : slice_get all (length left) ≡ Some last = sym (same (length left) (omega (arith, len))) ∙ ap (λ items. slice_get items (length left)) popped ∙ at_end left last in
-    let counted : c.len.result ≡ length left = search rules in (
+    let counted : c.len.result ≡ length left = search rules in
+    let libraries = c.args.libraries.now in
+    let library = c.index-libraries.result in
+    let many = c.requires in
+    let within : length left < length libraries = omega (arith, len, few, many, ap length c.into_vec-inputs.ensures) in
+    let of : slice_get libraries (length left) ≡ Some library = got libraries (length left) library within (subst (λ n. library ≡ get_or libraries n library) counted c.index-libraries.is) in (
       same_but_then _ _ _ _ stays still,
       omega (arith, len, few),
       λ index less. sym (at_before left last index less) ∙ ap (λ items. slice_get items index) (sym popped) ∙ same index (omega (arith, len, less)),
-      closed_more g.R.In.Source.faults c.args.words.now all left last (g.R.Room.seen c.args.room.now) (g.R.Room.seen c.loop-input.room) (g.R.Room.seen c.close_input.new.room)
-          (λ index library input from named is had. rises index library input (omega (arith, len, from)) named is had) stays still
-          (λ library named. c.close_input.ensures.rose library (subst (λ n. library_at c.args.words.now n ≡ Some library) (sym counted) named)) at,
+      closed_more g.R.In.Source.faults libraries all left library last (g.R.Room.seen c.args.room.now) (g.R.Room.seen c.loop-input.room) (g.R.Room.seen c.close_input.new.room)
+          (λ index library input from named is had. rises index library input (omega (arith, len, from)) named is had) stays still of c.close_input.ensures.rose at,
     )
 
 pub returns-clause-rose : goal.returns-clause-rose

@@ -6,7 +6,7 @@ use Rattle.journal_loading.proofs.inputs.close_inputs.Given as goal
 abbrev pub invariant-loop-input : goal.invariant-loop-input
 invariant-loop-input g l = SameBut (g.R.Room.seen l.initial.room) (g.R.Room.seen l.room) [] × (length l.inputs.items ≤ length l.initial.inputs.items)
     × ((index : ℕ) → index < length l.inputs.items → slice_get l.inputs.items index ≡ slice_get l.initial.inputs.items index)
-    × RisesFrom g.R.In.Source.faults (length l.inputs.items) l.fn.words l.initial.inputs.items (g.R.Room.seen l.initial.room) (g.R.Room.seen l.room)
+    × RisesFrom g.R.In.Source.faults (length l.inputs.items) l.fn.libraries l.initial.inputs.items (g.R.Room.seen l.initial.room) (g.R.Room.seen l.room)
 
 abbrev pub decreases-loop-input : goal.decreases-loop-input
 decreases-loop-input g l = vec_len l.inputs

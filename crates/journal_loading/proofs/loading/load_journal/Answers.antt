@@ -1,134 +1,131 @@
-use Rattle.std.proofs.Common.{◌≡◌, sym, subst, ◌∙◌, arith}
+use Rattle.std.proofs.Common.{◌≡◌, ◌<◌, ◌≤◌, length, Some, is_some, sym, ap, subst, ◌∙◌, arith}
 use Rattle.outside.proofs.Rooms.{same_but_none, same_but_then}
-use Rattle.command_words.specs.Command.{library_at}
-use Rattle.durable_catalogue.specs.Durables.{mark_of, opening}
+use Rattle.durable_catalogue.specs.Durables.{mark_of}
+use Rattle.durable_catalogue.specs.Views.{durable_view}
 use Rattle.room_files.specs.Journals.{IsOpenedFrom}
-use Rattle.journal_loading.specs.Outcomes.{IsLoadedWhole, NotBegun}
-use Rattle.journal_loading.proofs.Opened.{some_of}
-use Rattle.journal_loading.proofs.Begun.{same_count, result_count, stopped_device, stopped_input, stopped_usage, loaded_whole, loaded_part, if_ok_more, if_err_more, err_at, ok_at}
+use Rattle.journal_loading.specs.Outcomes.{HasLoaded, NotBegun}
+use Rattle.journal_loading.proofs.Opened.{get_within}
+use Rattle.journal_loading.proofs.Loaded.{inputs_count}
+use Rattle.journal_loading.proofs.Begun.{same_count, result_count, stopped_device, stopped_input, stopped_usage, loaded_whole, loaded_part, if_ok_more, if_err_more, on_ok_at, err_at, ok_at}
 use Rattle.journal_loading.proofs.loading.load_journal.Goals as goal
 
-pub returns-in-Err-clause-fault : goal.returns-in-Err-clause-fault
-returns-in-Err-clause-fault g c libraries are count tells = NotBegun (c.in-Err.ensures.fault tells)
+pub returns-in-Err-clause-failed : goal.returns-in-Err-clause-failed
+returns-in-Err-clause-failed g c =
+    let f = c.in-Err.ensures.failed in record {
+      closed = f.closed;
+      because = λ tells. NotBegun (f.because tells);
+      device = f.device;
+      input = f.input;
+      no_usage = f.no_usage;
+    }
+
+pub load_files-durable-requires-clause-some : goal.load_files-durable-requires-clause-some
+load_files-durable-requires-clause-some g c κs within =
+    let count = inputs_count g.R.In.Source.left g.R.In.Source.faults (g.R.Room.seen c.args.room.now) c.args.libraries.now c.in-Ok.begun.1 c.in-Ok.ensures.begun.inputs_are in
+    let some = c.requires.loadable.some in
+    omega (arith, count, some)
+
+pub load_files-durable-requires-clause-few : goal.load_files-durable-requires-clause-few
+load_files-durable-requires-clause-few g c κs within =
+    let count = inputs_count g.R.In.Source.left g.R.In.Source.faults (g.R.Room.seen c.args.room.now) c.args.libraries.now c.in-Ok.begun.1 c.in-Ok.ensures.begun.inputs_are in
+    let few = c.requires.loadable.few in
+    omega (arith, count, few)
 
 pub load_files-durable-requires-clause-proper : goal.load_files-durable-requires-clause-proper
-load_files-durable-requires-clause-proper g c κs within k d less = (c.in-Ok.ensures.fresh k d less).proper
+load_files-durable-requires-clause-proper g c κs within k d less = (c.in-Ok.ensures.begun.fresh k d less).proper
 
-pub close_inputs-requires-clause-there : goal.close_inputs-requires-clause-there
-close_inputs-requires-clause-there g c κs within index less =
+pub load_files-durable-requires-clause-whole : goal.load_files-durable-requires-clause-whole
+load_files-durable-requires-clause-whole g c κs within = c.in-Ok.ensures.begun.catalogue.unmarked
+
+pub load_files-durable-requires-clause-run : goal.load_files-durable-requires-clause-run
+load_files-durable-requires-clause-run g c κs within = c.in-Ok.ensures.begun.catalogue.run
+
+pub load_files-durable-requires-clause-limits : goal.load_files-durable-requires-clause-limits
+load_files-durable-requires-clause-limits g c κs within =
+    let same = ap (λ l. l.entries) c.in-Ok.ensures.begun.catalogue.limits in
+    omega (arith, same)
+
+pub close_inputs-requires : goal.close_inputs-requires
+close_inputs-requires g c κs within =
     let d = c.in-Ok.begun.0 in
     let files = c.in-Ok.begun.1 in
     let (now, after, results) = c.load_files-durable.result in
     let same = same_count g.R.In.Source.left g.R.In.Source.faults (g.R.Room.seen c.args.room.now) files after d.limits d.core.history now.core.history (mark_of now.mark) results
     c.load_files-durable.ensures.loaded c.load_files-durable.ensures.files in
-    let count = c.in-Ok.ensures.count in
-    c.requires.there index (omega (arith, less, same, count))
+    let count = inputs_count g.R.In.Source.left g.R.In.Source.faults (g.R.Room.seen c.args.room.now) c.args.libraries.now files c.in-Ok.ensures.begun.inputs_are in
+    omega (arith, same, count)
 
-pub close_inputs-requires-clause-few : goal.close_inputs-requires-clause-few
-close_inputs-requires-clause-few g c κs within =
-    let d = c.in-Ok.begun.0 in
-    let files = c.in-Ok.begun.1 in
-    let (now, after, results) = c.load_files-durable.result in
-    let same = same_count g.R.In.Source.left g.R.In.Source.faults (g.R.Room.seen c.args.room.now) files after d.limits d.core.history now.core.history (mark_of now.mark) results
-    c.load_files-durable.ensures.loaded c.load_files-durable.ensures.files in
-    let count = c.in-Ok.ensures.count in
-    let few = c.requires.few in
-    omega (arith, few, same, count)
+pub finish-requires : goal.finish-requires
+finish-requires g c κs within = c.close_inputs.ensures.stays.open_names c.args.journal.now tt ∙ c.in-Ok.ensures.begun.is_open
 
 pub returns-clause-apart : goal.returns-clause-apart
 returns-clause-apart g c = same_but_then _ _ _ _ c.in-Ok.ensures.apart (same_but_then _ _ _ _ (same_but_none _ _ _ c.close_inputs.ensures.stays) c.finish.ensures.apart)
 
-pub returns-clause-whole : goal.returns-clause-whole
-returns-clause-whole g c =
-    let seen = g.R.Room.seen in
+pub returns-clause-loaded : goal.returns-clause-loaded
+returns-clause-loaded g c =
+    let left = g.R.In.Source.left in
+    let faults = g.R.In.Source.faults in
+    let old = g.R.Room.seen c.args.room.now in
+    let new = g.R.Room.seen c.finish.new.room in
+    let b = c.in-Ok.ensures.begun in
     let d = c.in-Ok.begun.0 in
     let files = c.in-Ok.begun.1 in
     let (now, after, results) = c.load_files-durable.result in
-    let log = g.R.Log.Disk.seen in
-    let o = opening now.limits now.run now.opened (log now.before.value) (log now.first.value.disk) in
-    let opened = subst (IsOpenedFrom (seen c.args.room.now) c.args.journal.now d.core.history (mark_of d.mark)) (sym c.load_files-durable.ensures.origin) c.in-Ok.ensures.catalogue in
-    if_ok_more c.finish.result (λ l at finished libraries are count tells.
-    subst (λ e. IsLoadedWhole (seen c.args.room.now) c.args.journal.now libraries e.core.history (mark_of e.mark) (opening e.limits e.run e.opened (log e.before.value) (log e.first.value.disk)) l.results)
-    (sym (ok_at (λ l. l.durable ≡ now) c.finish.result l at c.finish.ensures.loaded))
-    (loaded_whole g.R.In.Source.left g.R.In.Source.faults (seen c.args.room.now) c.args.journal.now libraries files after d.limits d.core.history now.core.history (mark_of d.mark) (mark_of now.mark) o
-    tells (c.in-Ok.ensures.inputs libraries are count) c.in-Ok.ensures.catalogue.limits opened results l.results c.load_files-durable.ensures.loaded finished))
-    c.finish.ensures.results
-
-pub returns-clause-fault : goal.returns-clause-fault
-returns-clause-fault g c =
-    let seen = g.R.Room.seen in
-    let d = c.in-Ok.begun.0 in
-    let files = c.in-Ok.begun.1 in
-    let (now, after, results) = c.load_files-durable.result in
-    let log = g.R.Log.Disk.seen in
-    let o = opening now.limits now.run now.opened (log now.before.value) (log now.first.value.disk) in
-    let opened = subst (IsOpenedFrom (seen c.args.room.now) c.args.journal.now d.core.history (mark_of d.mark)) (sym c.load_files-durable.ensures.origin) c.in-Ok.ensures.catalogue in
-    if_err_more c.finish.result (λ why at stopped libraries are count tells.
-    loaded_part g.R.In.Source.left g.R.In.Source.faults (seen c.args.room.now) c.args.journal.now libraries files after d.limits d.core.history now.core.history (mark_of d.mark) (mark_of now.mark) o
-    tells (c.in-Ok.ensures.inputs libraries are count) c.in-Ok.ensures.catalogue.limits opened (seen c.finish.new.room) why results c.load_files-durable.ensures.loaded
-    c.load_files-durable.ensures.unbegun c.load_files-durable.ensures.unmarked stopped
-    (λ told. err_at c.finish.result why at c.finish.ensures.log (c.close_inputs.ensures.stays.tells ∙ (c.in-Ok.ensures.apart.tells ∙ tells)) told))
-    c.finish.ensures.ended
-
-pub returns-clause-device : goal.returns-clause-device
-returns-clause-device g c =
-    let seen = g.R.Room.seen in
-    let d = c.in-Ok.begun.0 in
-    let files = c.in-Ok.begun.1 in
-    let (now, after, results) = c.load_files-durable.result in
-    let log = g.R.Log.Disk.seen in
-    let o = opening now.limits now.run now.opened (log now.before.value) (log now.first.value.disk) in
-    let opened = subst (IsOpenedFrom (seen c.args.room.now) c.args.journal.now d.core.history (mark_of d.mark)) (sym c.load_files-durable.ensures.origin) c.in-Ok.ensures.catalogue in
-    if_err_more c.finish.result (λ why at stopped is.
-    let mark = stopped_device g.R.In.Source.left g.R.In.Source.faults (seen c.args.room.now) files after d.limits d.core.history now.core.history (mark_of now.mark) why results
-    c.load_files-durable.ensures.loaded stopped is in
-    let rose = err_at c.finish.result why at c.finish.ensures.cause mark opened.faults in
-    let first = c.in-Ok.ensures.apart.log_counts c.args.journal.now in
-    let second = c.close_inputs.ensures.stays.log_counts c.args.journal.now in
-    omega (arith, rose, first, second))
-    c.finish.ensures.ended
-
-pub returns-clause-input : goal.returns-clause-input
-returns-clause-input g c =
-    let seen = g.R.Room.seen in
-    let d = c.in-Ok.begun.0 in
-    let files = c.in-Ok.begun.1 in
-    let (now, after, results) = c.load_files-durable.result in
-    let log = g.R.Log.Disk.seen in
-    let o = opening now.limits now.run now.opened (log now.before.value) (log now.first.value.disk) in
-    let opened = subst (IsOpenedFrom (seen c.args.room.now) c.args.journal.now d.core.history (mark_of d.mark)) (sym c.load_files-durable.ensures.origin) c.in-Ok.ensures.catalogue in
-    if_err_more c.finish.result (λ why at stopped is.
-    let had = stopped_input g.R.In.Source.left g.R.In.Source.faults (seen c.args.room.now) files after d.limits d.core.history now.core.history (mark_of now.mark) why results
-    c.load_files-durable.ensures.loaded c.in-Ok.ensures.fresh stopped is in
-    let same = same_count g.R.In.Source.left g.R.In.Source.faults (seen c.args.room.now) files after d.limits d.core.history now.core.history (mark_of now.mark) results
-    c.load_files-durable.ensures.loaded c.load_files-durable.ensures.files in
-    let count = c.in-Ok.ensures.count in
-    let within = had.within in
-    let (library, named) = some_of (library_at c.args.words.now had.index) (c.requires.there had.index (omega (arith, within, same, count))) in
-    let rose = c.close_inputs.ensures.rose had.index library had.input (omega arith) named had.is had.rose in
-    let first = c.in-Ok.ensures.apart.ins library.file in
-    let last = c.finish.ensures.apart.ins library.file in
-    record {
-      index = had.index;
-      library = library;
-      named = named;
-      rose = omega (arith, rose, first, last);
-    })
-    c.finish.ensures.ended
-
-pub returns-clause-usage : goal.returns-clause-usage
-returns-clause-usage g c = if_err_more c.finish.result (λ why at is. stopped_usage why c.load_files-durable.result.2 is) c.finish.ensures.ended
-
-pub returns-clause-count : goal.returns-clause-count
-returns-clause-count g c =
-    let seen = g.R.Room.seen in
-    let d = c.in-Ok.begun.0 in
-    let files = c.in-Ok.begun.1 in
-    let (now, after, results) = c.load_files-durable.result in
-    let log = g.R.Log.Disk.seen in
-    let o = opening now.limits now.run now.opened (log now.before.value) (log now.first.value.disk) in
-    let opened = subst (IsOpenedFrom (seen c.args.room.now) c.args.journal.now d.core.history (mark_of d.mark)) (sym c.load_files-durable.ensures.origin) c.in-Ok.ensures.catalogue in
+    let load = c.load_files-durable.ensures in
+    let o = (durable_view now).opened in
+    let libraries = c.args.libraries.now in
+    let opened = subst (IsOpenedFrom old c.args.journal.now d.core.history (mark_of d.mark)) (sym load.origin) b.catalogue in
     if_ok_more c.finish.result (λ l at finished.
-    result_count g.R.In.Source.left g.R.In.Source.faults (seen c.args.room.now) files after d.limits d.core.history now.core.history (mark_of now.mark) results l.results
-    c.load_files-durable.ensures.loaded finished ∙ c.in-Ok.ensures.count)
-    c.finish.ensures.results
+    subst (λ e. HasLoaded old new c.args.journal.now libraries (durable_view e) l.results) (sym (ok_at (λ l. l.durable ≡ now) c.finish.result l at c.finish.ensures.loaded))
+    (record {
+      is_open = on_ok_at c.finish.result l at c.finish.ensures.opened;
+      whole = λ tells.
+          loaded_whole left faults old c.args.journal.now libraries files after d.limits d.core.history now.core.history (mark_of d.mark) (mark_of now.mark) o
+          tells b.inputs_are b.catalogue.limits opened results l.results load.loaded finished;
+      count = result_count left faults old files after d.limits d.core.history now.core.history (mark_of now.mark) results l.results load.loaded finished
+          ∙ inputs_count left faults old libraries files b.inputs_are;
+    })) c.finish.ensures.results
+
+pub returns-clause-failed : goal.returns-clause-failed
+returns-clause-failed g c =
+    let left = g.R.In.Source.left in
+    let faults = g.R.In.Source.faults in
+    let old = g.R.Room.seen c.args.room.now in
+    let new = g.R.Room.seen c.finish.new.room in
+    let b = c.in-Ok.ensures.begun in
+    let d = c.in-Ok.begun.0 in
+    let files = c.in-Ok.begun.1 in
+    let (now, after, results) = c.load_files-durable.result in
+    let load = c.load_files-durable.ensures in
+    let o = (durable_view now).opened in
+    let libraries = c.args.libraries.now in
+    let opened = subst (IsOpenedFrom old c.args.journal.now d.core.history (mark_of d.mark)) (sym load.origin) b.catalogue in
+    if_err_more c.finish.result (λ why at stopped. record {
+      closed = err_at c.finish.result why at c.finish.ensures.closed;
+      because = λ tells.
+          loaded_part left faults old c.args.journal.now libraries files after d.limits d.core.history now.core.history (mark_of d.mark) (mark_of now.mark) o
+          tells b.inputs_are b.catalogue.limits opened new why results load.loaded load.unbegun load.unmarked stopped
+          (λ told. err_at c.finish.result why at c.finish.ensures.log (c.close_inputs.ensures.stays.tells ∙ (c.in-Ok.ensures.apart.tells ∙ tells)) told);
+      device = λ is.
+          let mark = stopped_device left faults old files after d.limits d.core.history now.core.history (mark_of now.mark) why results load.loaded stopped is in
+          let rose = err_at c.finish.result why at c.finish.ensures.cause mark opened.faults in
+          let first = c.in-Ok.ensures.apart.log_counts c.args.journal.now in
+          let second = c.close_inputs.ensures.stays.log_counts c.args.journal.now in
+          omega (arith, rose, first, second);
+      input = λ is.
+          let had = stopped_input left faults old files after d.limits d.core.history now.core.history (mark_of now.mark) why results load.loaded b.fresh stopped is in
+          let same = same_count left faults old files after d.limits d.core.history now.core.history (mark_of now.mark) results load.loaded load.files in
+          let count = inputs_count left faults old libraries files b.inputs_are in
+          let within = had.within in
+          let (library, named) = get_within libraries had.index (omega (arith, within, same, count)) in
+          let rose = c.close_inputs.ensures.rose had.index library had.input (omega arith) named had.is had.rose in
+          let first = c.in-Ok.ensures.apart.ins library.file in
+          let last = c.finish.ensures.apart.ins library.file in
+          record {
+            index = had.index;
+            library = library;
+            named = named;
+            rose = omega (arith, rose, first, last);
+          };
+      no_usage = stopped_usage why results stopped;
+    }) c.finish.ensures.ended

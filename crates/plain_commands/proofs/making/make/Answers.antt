@@ -1,28 +1,28 @@
-use Rattle.std.proofs.Common.{◌∙◌, refl, subst}
+use Rattle.std.proofs.Common.{◌∙◌, inl, inr, Err, refl, ap, subst}
 use Rattle.std.specs.Io.KnownBytes.{Appends}
 use Rattle.outside.specs.Sink.{WritesFront}
 use Rattle.outside.proofs.Fronts.{front_none}
-use Rattle.plain_commands.specs.Files.{AsItWas}
-use Rattle.plain_commands.specs.Making.{Made, InPart}
-use Rattle.plain_commands.proofs.Made.{ended_without_memory}
+use Rattle.output_files.specs.Outputs.{AsItWas}
+use Rattle.plain_commands.proofs.Made.{makes_no_memory, makes_failed, makes_all}
 use Rattle.plain_commands.proofs.making.make.Goals as goal
 
-pub returns-in-Err-clause-end : goal.returns-in-Err-clause-end
-returns-in-Err-clause-end g c tells = ended_without_memory _ _ _ _ _ _ _ c.tell.ensures.status (AsItWas refl)
+pub returns-in-Err-clause-ends : goal.returns-in-Err-clause-ends
+returns-in-Err-clause-ends g c = makes_no_memory _ _ _ _ c.tell.ensures.end c.tell.ensures.told (λ tells. AsItWas refl)
 
-pub returns-in-Err-OutputFault-clause-end : goal.returns-in-Err-OutputFault-clause-end
-returns-in-Err-OutputFault-clause-end g c tells = InPart (c.write_workload.ensures.part tells) (front_none _ _)
+pub returns-in-Err-OutputFault-clause-ends : goal.returns-in-Err-OutputFault-clause-ends
+returns-in-Err-OutputFault-clause-ends g c =
+    makes_failed _ _ _ _ refl (inl (c.write_workload.ensures.cause.failed (c.in-Err-OutputFault.is ∙ ap Err c.in-Err-OutputFault.field-0-is))) c.write_workload.ensures.part (front_none _ _)
 
-pub returns-in-Err-NoMemory-clause-end : goal.returns-in-Err-NoMemory-clause-end
-returns-in-Err-NoMemory-clause-end g c tells =
-    ended_without_memory _ _ _ _ _ _ _ c.tell-in-Err-NoMemory.ensures.status (c.write_workload.ensures.part tells)
+pub returns-in-Err-NoMemory-clause-ends : goal.returns-in-Err-NoMemory-clause-ends
+returns-in-Err-NoMemory-clause-ends g c =
+    makes_no_memory _ _ _ _ c.tell-in-Err-NoMemory.ensures.end c.tell-in-Err-NoMemory.ensures.told c.write_workload.ensures.part
 
-pub returns-in-Ok-write_all-clause-end : goal.returns-in-Ok-write_all-clause-end
-returns-in-Ok-write_all-clause-end g c tells =
-    Made (c.in-Ok-write_workload.ensures.bytes tells)
-    (subst (Appends _ _) (c.as_bytes.ensures.value ∙ c.in-Ok.ensures) c.in-Ok-write_all.ensures.bytes)
+pub returns-in-Ok-write_all-clause-ends : goal.returns-in-Ok-write_all-clause-ends
+returns-in-Ok-write_all-clause-ends g c =
+    makes_all _ _ _ _ refl c.in-Ok-write_workload.ensures.bytes
+    (subst (Appends _ _) (c.as_bytes.ensures.value ∙ c.in-Ok.ensures) c.in-Ok-write_all.ensures.bytes) c.write_workload.ensures.part
 
-pub returns-clause-end : goal.returns-clause-end
-returns-clause-end g c tells =
-    InPart (c.write_workload.ensures.part tells)
+pub returns-clause-ends : goal.returns-clause-ends
+returns-clause-ends g c =
+    makes_failed _ _ _ _ refl (inr c.in-Err-write_all.ensures.cause.failed) c.write_workload.ensures.part
     (subst (WritesFront _ _) (c.as_bytes.ensures.value ∙ c.in-Ok.ensures) c.write_all.ensures.front)

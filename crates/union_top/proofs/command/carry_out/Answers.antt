@@ -1,71 +1,76 @@
-use Rattle.std.proofs.Common.{◌≡◌, inl, inr, Some, sym, ap, subst, ◌∙◌, arith, true≢false}
-use Rattle.std.specs.Prelude.{is_some}
+use Rattle.std.proofs.Common.{◌≡◌, ◌<◌, ◌≤◌, List, [], ◌∷◌, length, Some, get_or, refl, sym, ap, subst, ◌∙◌, arith}
+use Rattle.std.specs.Prelude.{All, IsTrue}
 use Rattle.std.specs.Option.{option_copied}
+use Rattle.marc_types.specs.Valid.{is_code}
+use Rattle.outside.proofs.Rooms.{same_but_itself}
 use Rattle.command_words.specs.Command as command
-use Rattle.command_words.specs.Command.{command_of, library_at}
+use Rattle.command_words.specs.declared.library.Library.{Library}
+use Rattle.command_words.specs.Command.{command_of, libraries_of}
 use Rattle.command_words.specs.Asked.{command_asked}
-use Rattle.room_files.specs.Rooms.{AsItWas}
-use Rattle.union_top.specs.Commands.{Outcome, Ends}
+use Rattle.console_lines.specs.Ends.{Outcome, outcome}
+use Rattle.console_lines.specs.declared.end.End.TheVariants.{Told}
+use Rattle.console_lines.specs.declared.fault.Fault.TheVariants as fault
+use Rattle.plain_commands.specs.Making.{EndsMake}
+use Rattle.plain_commands.specs.Passing.{Passes}
+use Rattle.archive_commands.specs.Reads.{EndsReading}
+use Rattle.journal_loading.specs.Inputs.{AreLoadable}
+use Rattle.union_top.specs.Commands.{Loads, Runs, Ends}
+use Rattle.union_top.proofs.Asked.{unasked, loadable, only}
 use Rattle.union_top.proofs.command.carry_out.Goals as goal
 
-pub unreachable-requires : goal.unreachable-requires
-unreachable-requires g c =
+pub returns-in-Err-clause-ends : goal.returns-in-Err-clause-ends
+returns-in-Err-clause-ends g c =
+    unasked _ c.tell.ensures.end c.tell.ensures.told (same_but_itself _ []) c.requires.closed c.args.words.now (command_asked c.args.asked)
+    (c.names_are_apart.ensures.names (command_asked c.args.asked) c.requires.asks)
+
+pub returns-in-Err-clause-command : goal.returns-in-Err-clause-command
+returns-in-Err-clause-command g c usage = let no : Told fault.Memory ≡ Told fault.Usage = sym c.tell.ensures.end ∙ usage in cc
+
+pub index-files-requires : goal.index-files-requires
+index-files-requires g c κs within =
     let asked : command_of c.args.words.now ≡ Some (command.Pass c.in-Pass.out.now) = c.requires.asks ∙ ap (λ r. Some (command_asked r)) c.in-Pass.is in
-    let there = c.files_are_named.ensures.each (command.Pass c.in-Pass.out.now) 0 asked (omega arith) in
-    true≢false (sym there ∙ ap is_some c.in_default.ensures.found)
+    let count = c.files_are_named.ensures.count (command.Pass c.in-Pass.out.now) asked in
+    let same = ap length (c.as_slice-files.ensures ∙ c.in-Ok.ensures) in
+    omega (arith, count, same)
 
-pub run_files-requires-clause-some : goal.run_files-requires-clause-some
-run_files-requires-clause-some g c κs within =
+pub pass-requires-clause-proper : goal.pass-requires-clause-proper
+pass-requires-clause-proper g c κs within =
+    let asked : command_of c.args.words.now ≡ Some (command.Pass c.in-Pass.out.now) = c.requires.asks ∙ ap (λ r. Some (command_asked r)) c.in-Pass.is in
+    let count = c.files_are_named.ensures.count (command.Pass c.in-Pass.out.now) asked in
+    let same = c.as_slice-files.ensures ∙ c.in-Ok.ensures in
+    subst (λ (l : Library). IsTrue (is_code l.code)) (sym c.index-files.is)
+    (subst (All (λ (l : Library). IsTrue (is_code l.code))) (sym same) c.files_are_named.ensures.codes 0 c.index-files.result (let len = ap length same in omega (arith, count, len)))
+
+pub run_files-requires-clause-loadable : goal.run_files-requires-clause-loadable
+run_files-requires-clause-loadable g c κs within =
     let asked : command_of c.args.words.now ≡ Some (command.Run c.in-Run.journal.now c.in-Run.out.now c.in-Run.report.now c.in-Run.files) = c.requires.asks ∙ ap (λ r. Some (command_asked r)) c.in-Run.is in
-    let few = (c.numbers_are_bounded.ensures (command.Run c.in-Run.journal.now c.in-Run.out.now c.in-Run.report.now c.in-Run.files) asked).0 in omega (arith, few)
+    let asks = command.Run c.in-Run.journal.now c.in-Run.out.now c.in-Run.report.now c.in-Run.files in
+    let few = c.numbers_are_bounded.ensures asks asked in
+    subst (AreLoadable c.in-Run.journal.now) (sym (c.as_slice-files.ensures ∙ c.in-Ok.ensures))
+    (loadable (libraries_of c.args.words.now) c.in-Run.journal.now (c.in-Run.out.now ∷ c.in-Run.report.now ∷ []) c.in-Run.files
+    (c.files_are_named.ensures.count asks asked) few.0 few.1 c.files_are_named.ensures.codes (c.names_are_apart.ensures.files asks asked))
 
-pub run_files-requires-clause-few : goal.run_files-requires-clause-few
-run_files-requires-clause-few g c κs within =
+pub run_files-requires-clause-names : goal.run_files-requires-clause-names
+run_files-requires-clause-names g c κs within =
     let asked : command_of c.args.words.now ≡ Some (command.Run c.in-Run.journal.now c.in-Run.out.now c.in-Run.report.now c.in-Run.files) = c.requires.asks ∙ ap (λ r. Some (command_asked r)) c.in-Run.is in
-    (c.numbers_are_bounded.ensures (command.Run c.in-Run.journal.now c.in-Run.out.now c.in-Run.report.now c.in-Run.files) asked).1
+    c.names_are_apart.ensures.names (command.Run c.in-Run.journal.now c.in-Run.out.now c.in-Run.report.now c.in-Run.files) asked
 
-pub run_files-requires-clause-apart : goal.run_files-requires-clause-apart
-run_files-requires-clause-apart g c κs within index library named =
-    let asked : command_of c.args.words.now ≡ Some (command.Run c.in-Run.journal.now c.in-Run.out.now c.in-Run.report.now c.in-Run.files) = c.requires.asks ∙ ap (λ r. Some (command_asked r)) c.in-Run.is in
-    (c.names_are_apart.ensures.files (command.Run c.in-Run.journal.now c.in-Run.out.now c.in-Run.report.now c.in-Run.files) index library asked named).0
-
-pub run_files-requires-clause-out_apart : goal.run_files-requires-clause-out_apart
-run_files-requires-clause-out_apart g c κs within is =
-    let asked : command_of c.args.words.now ≡ Some (command.Run c.in-Run.journal.now c.in-Run.out.now c.in-Run.report.now c.in-Run.files) = c.requires.asks ∙ ap (λ r. Some (command_asked r)) c.in-Run.is in
-    (c.names_are_apart.ensures.names (command.Run c.in-Run.journal.now c.in-Run.out.now c.in-Run.report.now c.in-Run.files) asked).1.0 (sym is)
-
-pub run_files-requires-clause-report_apart : goal.run_files-requires-clause-report_apart
-run_files-requires-clause-report_apart g c κs within is =
-    let asked : command_of c.args.words.now ≡ Some (command.Run c.in-Run.journal.now c.in-Run.out.now c.in-Run.report.now c.in-Run.files) = c.requires.asks ∙ ap (λ r. Some (command_asked r)) c.in-Run.is in
-    (c.names_are_apart.ensures.names (command.Run c.in-Run.journal.now c.in-Run.out.now c.in-Run.report.now c.in-Run.files) asked).1.1.0 (sym is)
-
-pub run_files-requires-clause-differ : goal.run_files-requires-clause-differ
-run_files-requires-clause-differ g c κs within is =
-    let asked : command_of c.args.words.now ≡ Some (command.Run c.in-Run.journal.now c.in-Run.out.now c.in-Run.report.now c.in-Run.files) = c.requires.asks ∙ ap (λ r. Some (command_asked r)) c.in-Run.is in
-    (c.names_are_apart.ensures.names (command.Run c.in-Run.journal.now c.in-Run.out.now c.in-Run.report.now c.in-Run.files) asked).2.1.0 (sym is)
-
-pub load-requires-clause-some : goal.load-requires-clause-some
-load-requires-clause-some g c κs within =
+pub load-requires-clause-loadable : goal.load-requires-clause-loadable
+load-requires-clause-loadable g c κs within =
     let asked : command_of c.args.words.now ≡ Some (command.Load c.in-Load.journal.now c.in-Load.files) = c.requires.asks ∙ ap (λ r. Some (command_asked r)) c.in-Load.is in
-    let few = (c.numbers_are_bounded.ensures (command.Load c.in-Load.journal.now c.in-Load.files) asked).0 in omega (arith, few)
+    let asks = command.Load c.in-Load.journal.now c.in-Load.files in
+    let few = c.numbers_are_bounded.ensures asks asked in
+    subst (AreLoadable c.in-Load.journal.now) (sym (c.as_slice-files.ensures ∙ c.in-Ok.ensures))
+    (loadable (libraries_of c.args.words.now) c.in-Load.journal.now [] c.in-Load.files
+    (c.files_are_named.ensures.count asks asked) few.0 few.1 c.files_are_named.ensures.codes (c.names_are_apart.ensures.files asks asked))
 
-pub load-requires-clause-few : goal.load-requires-clause-few
-load-requires-clause-few g c κs within =
-    let asked : command_of c.args.words.now ≡ Some (command.Load c.in-Load.journal.now c.in-Load.files) = c.requires.asks ∙ ap (λ r. Some (command_asked r)) c.in-Load.is in
-    (c.numbers_are_bounded.ensures (command.Load c.in-Load.journal.now c.in-Load.files) asked).1
-
-pub load-requires-clause-apart : goal.load-requires-clause-apart
-load-requires-clause-apart g c κs within index library named =
-    let asked : command_of c.args.words.now ≡ Some (command.Load c.in-Load.journal.now c.in-Load.files) = c.requires.asks ∙ ap (λ r. Some (command_asked r)) c.in-Load.is in
-    (c.names_are_apart.ensures.files (command.Load c.in-Load.journal.now c.in-Load.files) index library asked named).0
-
-pub export-requires-clause-differ : goal.export-requires-clause-differ
-export-requires-clause-differ g c κs within =
+pub read-requires-clause-differ : goal.read-requires-clause-differ
+read-requires-clause-differ g c κs within =
     let asked : command_of c.args.words.now ≡ Some (command.Export c.in-Export.journal.now c.in-Export.out.now (option_copied c.in-Export.code)) = c.requires.asks ∙ ap (λ r. Some (command_asked r)) c.in-Export.is in
     (c.names_are_apart.ensures.names (command.Export c.in-Export.journal.now c.in-Export.out.now (option_copied c.in-Export.code)) asked).1.0
 
-pub report-requires-clause-differ : goal.report-requires-clause-differ
-report-requires-clause-differ g c κs within =
+pub read-in-Report-requires-clause-differ : goal.read-in-Report-requires-clause-differ
+read-in-Report-requires-clause-differ g c κs within =
     let asked : command_of c.args.words.now ≡ Some (command.Report c.in-Report.journal.now c.in-Report.out.now) = c.requires.asks ∙ ap (λ r. Some (command_asked r)) c.in-Report.is in
     (c.names_are_apart.ensures.names (command.Report c.in-Report.journal.now c.in-Report.out.now) asked).1.0
 
@@ -74,59 +79,45 @@ make-requires-clause-few g c κs within =
     let asked : command_of c.args.words.now ≡ Some (command.Make c.in-Make.seed c.in-Make.count c.in-Make.out.now) = c.requires.asks ∙ ap (λ r. Some (command_asked r)) c.in-Make.is in
     c.numbers_are_bounded.ensures (command.Make c.in-Make.seed c.in-Make.count c.in-Make.out.now) asked
 
+pub returns-in-Pass-clause-ends : goal.returns-in-Pass-clause-ends
+returns-in-Pass-clause-ends g c =
+    subst (λ r. Ends c.args.words.now (command_asked r) _) (sym c.in-Pass.is) (λ library is.
+    subst (λ (l : Library). Passes l c.in-Pass.out.now _) (only library c.index-files.result _ (c.as_slice-files.ensures ∙ (c.in-Ok.ensures ∙ is)) c.index-files.is)
+    c.pass.ensures.ends)
+
+pub returns-in-Pass-clause-command : goal.returns-in-Pass-clause-command
+returns-in-Pass-clause-command g c usage = (c.pass.ensures.ends.told fault.Usage usage).1.0
+
+pub returns-in-Run-clause-ends : goal.returns-in-Run-clause-ends
+returns-in-Run-clause-ends g c =
+    subst (λ r. Ends c.args.words.now (command_asked r) _) (sym c.in-Run.is)
+    (subst (λ ls. Runs ls c.in-Run.journal.now c.in-Run.out.now c.in-Run.report.now _) (c.as_slice-files.ensures ∙ c.in-Ok.ensures) c.run_files.ensures.ends)
+
+pub returns-in-Run-clause-command : goal.returns-in-Run-clause-command
+returns-in-Run-clause-command g c usage = (c.run_files.ensures.ends.told fault.Usage usage).1 refl
+
+pub returns-in-Load-clause-ends : goal.returns-in-Load-clause-ends
+returns-in-Load-clause-ends g c =
+    subst (λ r. Ends c.args.words.now (command_asked r) _) (sym c.in-Load.is)
+    (subst (λ ls. Loads ls c.in-Load.journal.now _) (c.as_slice-files.ensures ∙ c.in-Ok.ensures) c.load.ensures.ends)
+
+pub returns-in-Load-clause-command : goal.returns-in-Load-clause-command
+returns-in-Load-clause-command g c usage = (c.load.ensures.ends.told fault.Usage usage).1 refl
+
 pub returns-in-Export-clause-ends : goal.returns-in-Export-clause-ends
-returns-in-Export-clause-ends g c =
-    let e = c.export.ensures in
-    let o : Outcome = record {
-      old = g.R.Room.seen c.args.room.now;
-      new = g.R.Room.seen c.export.new.room;
-      told = g.R.Out.Sink.written c.args.console.now;
-      now = g.R.Out.Sink.written c.export.new.console;
-      faults = g.R.Out.Sink.faults c.args.console.now;
-      faults_now = g.R.Out.Sink.faults c.export.new.console;
-      status = c.export.result;
-    } in
-    let asked : command_of c.args.words.now ≡ Some (command.Export c.in-Export.journal.now c.in-Export.out.now (option_copied c.in-Export.code)) = c.requires.asks ∙ ap (λ r. Some (command_asked r)) c.in-Export.is in
-    let differ = (c.names_are_apart.ensures.names (command.Export c.in-Export.journal.now c.in-Export.out.now (option_copied c.in-Export.code)) asked).1.0 in
-    subst (λ r. Ends c.args.words.now (command_asked r) o) (sym c.in-Export.is) (record {
-      statuses = e.statuses;
-      keeps = e.keeps;
-      untouched = λ zero four eight. e.untouched zero four;
-      unread = λ eight tells. inl (e.untouched (λ zero. let no : 8 ≡ 0 = sym eight ∙ zero in cc) (λ four. let no : 8 ≡ 4 = sym eight ∙ four in cc));
-      device = e.device;
-      output = e.output;
-      told = e.told;
-      silent = e.silent;
-      history = e.history;
-      end = e.end;
-      part = λ entries why tells has. elim why [
-        | inl four ↦ e.part entries four tells has
-        | inr eight ↦ AsItWas ((e.untouched (λ zero. let no : 8 ≡ 0 = sym eight ∙ zero in cc) (λ four. let no : 8 ≡ 4 = sym eight ∙ four in cc)).files c.in-Export.out.now ((λ is. differ (sym is)), tt))
-      ];
-    })
+returns-in-Export-clause-ends g c = subst (λ r. Ends c.args.words.now (command_asked r) _) (sym c.in-Export.is) c.read.ensures.ends
+
+pub returns-in-Export-clause-command : goal.returns-in-Export-clause-command
+returns-in-Export-clause-command g c usage = subst EndsReading usage c.read.ensures.ends.ends
 
 pub returns-in-Report-clause-ends : goal.returns-in-Report-clause-ends
-returns-in-Report-clause-ends g c =
-    let e = c.report.ensures in
-    let o : Outcome = record {
-      old = g.R.Room.seen c.args.room.now;
-      new = g.R.Room.seen c.report.new.room;
-      told = g.R.Out.Sink.written c.args.console.now;
-      now = g.R.Out.Sink.written c.report.new.console;
-      faults = g.R.Out.Sink.faults c.args.console.now;
-      faults_now = g.R.Out.Sink.faults c.report.new.console;
-      status = c.report.result;
-    } in
-    subst (λ r. Ends c.args.words.now (command_asked r) o) (sym c.in-Report.is) (record {
-      statuses = e.statuses;
-      keeps = e.keeps;
-      untouched = e.untouched;
-      unread = e.unread;
-      device = e.device;
-      output = e.output;
-      told = e.told;
-      silent = e.silent;
-      history = e.history;
-      end = e.end;
-      part = e.part;
-    })
+returns-in-Report-clause-ends g c = subst (λ r. Ends c.args.words.now (command_asked r) _) (sym c.in-Report.is) c.read-in-Report.ensures.ends
+
+pub returns-in-Report-clause-command : goal.returns-in-Report-clause-command
+returns-in-Report-clause-command g c usage = subst EndsReading usage c.read-in-Report.ensures.ends.ends
+
+pub returns-clause-ends : goal.returns-clause-ends
+returns-clause-ends g c = subst (λ r. Ends c.args.words.now (command_asked r) _) (sym c.in-Make.is) c.make.ensures.ends
+
+pub returns-clause-command : goal.returns-clause-command
+returns-clause-command g c usage = let no = subst EndsMake usage c.make.ensures.ends.ends in cc

@@ -1,17 +1,28 @@
+use Rattle.std.proofs.Common.{◌≡◌, ◌≤◌, ◌⊎◌, Some, sym, subst, ◌∙◌}
 use Rattle.command_words.specs.Asked.{command_asked}
-use Rattle.union_top.specs.Commands.{Outcome}
-use Rattle.union_top.proofs.Complete.{complete}
+use Rattle.console_lines.specs.Ends.{Outcome, outcome}
+use Rattle.union_top.specs.Commands.{Ends}
+use Rattle.union_top.proofs.Complete.{complete, two_is_usage, same_command}
 use Rattle.union_top.proofs.command.run.Goals as goal
 
+pub returns-in-Some-clause-usage : goal.returns-in-Some-clause-usage
+returns-in-Some-clause-usage g c = (
+  (λ two. absurd (c.carry_out.ensures.command (two_is_usage _ (sym c.status-in-Some.ensures ∙ two)))),
+  λ none. let no = sym none ∙ c.in-Some.ensures in cc,
+)
+
+pub returns-in-Some-clause-unchanged : goal.returns-in-Some-clause-unchanged
+returns-in-Some-clause-unchanged g c two = absurd (c.carry_out.ensures.command (two_is_usage _ (sym c.status-in-Some.ensures ∙ two)))
+
+pub returns-in-Some-clause-usage_told : goal.returns-in-Some-clause-usage_told
+returns-in-Some-clause-usage_told g c two = absurd (c.carry_out.ensures.command (two_is_usage _ (sym c.status-in-Some.ensures ∙ two)))
+
+pub returns-in-Some-clause-ends : goal.returns-in-Some-clause-ends
+returns-in-Some-clause-ends g c command is =
+    (c.carry_out.result, c.status-in-Some.ensures, subst (λ asked. Ends c.args.words.now asked _) (same_command _ command (sym c.in-Some.ensures ∙ is)) c.carry_out.ensures.ends)
+
 pub returns-in-Some-clause-complete : goal.returns-in-Some-clause-complete
-returns-in-Some-clause-complete g c =
-    let o : Outcome = record {
-      old = g.R.Room.seen c.args.room.now;
-      new = g.R.Room.seen c.carry_out.new.room;
-      told = g.R.Out.Sink.written c.args.console.now;
-      now = g.R.Out.Sink.written c.carry_out.new.console;
-      faults = g.R.Out.Sink.faults c.args.console.now;
-      faults_now = g.R.Out.Sink.faults c.carry_out.new.console;
-      status = c.carry_out.result;
-    } in
-    complete c.args.words.now (command_asked c.in-Some.asked) o c.in-Some.ensures c.carry_out.ensures.ends c.carry_out.ensures.statuses
+returns-in-Some-clause-complete g c command is tells u =
+    let o : Outcome = outcome g.R.Room.seen g.R.Out.Sink.written g.R.Out.Sink.faults c.args.room.now c.carry_out.new.room c.args.console.now c.carry_out.new.console c.carry_out.result in
+    let ends = subst (λ asked. Ends c.args.words.now asked o) (same_command _ command (sym c.in-Some.ensures ∙ is)) c.carry_out.ensures.ends in
+    subst (λ s. (s ≤ 1) ⊎ (s ≡ 8)) (sym c.status-in-Some.ensures) (complete o c.args.words.now command ends tells u)

@@ -1,15 +1,28 @@
 use Rattle.std.proofs.Common.{length, refl, sym, ap, ◌∙◌}
-use Rattle.durable_catalogue.specs.Durables.{mark_of, opening}
+use Rattle.durable_catalogue.specs.Views.{durable_view}
+use Rattle.outside.proofs.Rooms.{same_but_then}
 use Rattle.union_top.specs.Texts.{files_text, has_refused}
 use Rattle.union_top.specs.Runs.{NotLoaded, NoMemory}
 use Rattle.union_top.proofs.OneHistory.{merged_by}
-use Rattle.union_top.proofs.Ended.{closed_load, loads_failed, loads_told}
+use Rattle.union_top.proofs.Ended.{closed_load, loads_failed, loads_told, no_memory}
 use Rattle.union_top.proofs.loading.load.Goals as goal
 
 pub returns-in-Err-clause-ends : goal.returns-in-Err-clause-ends
 returns-in-Err-clause-ends g c =
-    loads_failed _ _ _ _ _ _ _ _ _ _ c.in-Err.fault c.tell.ensures.status c.tell.ensures.told c.in-Err.ensures.device c.in-Err.ensures.input
-    (λ libraries are count room. NotLoaded (c.in-Err.ensures.fault libraries are count room))
+    let f = c.in-Err.ensures.failed in
+    loads_failed _ _ _ c.in-Err.fault c.tell.ensures.end c.tell.ensures.told (record {
+      closed = f.closed;
+      because = λ tells. NotLoaded (f.because tells);
+      device = f.device;
+      input = f.input;
+      no_usage = f.no_usage;
+    })
+
+pub files_text-text-requires : goal.files_text-text-requires
+files_text-text-requires g c κs within = sym c.in-Ok.ensures.loaded.count ∙ ap length (sym c.as_slice.ensures)
+
+pub close_journal-requires-after_bounds : goal.close_journal-requires-after_bounds
+close_journal-requires-after_bounds g c κs within = c.in-Ok.ensures.loaded.is_open
 
 pub returns-in-Ok-text-clause-closed : goal.returns-in-Ok-text-clause-closed
 returns-in-Ok-text-clause-closed g c = closed_load _ _ _ _ c.requires.free c.load_journal.ensures.apart c.close_journal.ensures.apart c.close_journal.ensures.closed
@@ -17,17 +30,21 @@ returns-in-Ok-text-clause-closed g c = closed_load _ _ _ _ c.requires.free c.loa
 pub returns-in-Ok-text-clause-ends : goal.returns-in-Ok-text-clause-ends
 returns-in-Ok-text-clause-ends g c =
     let seen = g.R.Room.seen in
-    let d = c.in-Ok.loaded.durable in
-    let results = c.in-Ok.loaded.results in
-    let slice = c.as_slice.ensures in
-    loads_told _ _ _ _ _ _ _ _ _ _ d.core.history results c.as_str.result.now c.has_refused.result c.tell_lines.ensures.statuses c.tell_lines.ensures.status c.tell_lines.ensures.whole
-    c.tell_lines.ensures.front c.tell_lines.ensures.cause (c.has_refused.ensures ∙ ap has_refused c.as_slice-in-Ok-text.ensures)
-    (λ libraries are count room. (
-      merged_by (seen c.args.room.now) (seen c.close_journal.new.room) c.args.journal.now libraries d.core.history (mark_of d.mark)
-          (opening d.limits d.run d.opened (g.R.Log.Disk.seen d.before.value) (g.R.Log.Disk.seen d.first.value.disk)) results room (c.in-Ok.ensures.whole libraries are count room)
-          (λ told. c.close_journal.ensures.log (c.load_journal.ensures.apart.tells ∙ room) told) c.is_within_limits.ensures,
-      c.as_str.ensures.value ∙ (c.in-Ok-text.ensures libraries are (count ∙ (sym c.in-Ok.ensures.count ∙ ap length (sym slice))) ∙ ap (files_text libraries) slice),
-    ))
+    let l = c.in-Ok.ensures.loaded in
+    let t = c.tell_lines.ensures in
+    loads_told _ _ _ c.in-Ok.loaded.durable.core.history c.in-Ok.loaded.results (record {
+      text = c.as_str.result.now;
+      refused = c.has_refused.result;
+      untold = t.untold;
+      done = t.done;
+      whole = t.whole;
+      front = t.front;
+      refused_is = c.has_refused.ensures ∙ ap has_refused c.as_slice-in-Ok-text.ensures;
+      text_is = c.as_str.ensures.value ∙ (c.in-Ok-text.ensures ∙ ap (files_text c.args.libraries.now) c.as_slice.ensures);
+      merged = λ tells.
+          merged_by (seen c.args.room.now) (seen c.close_journal.new.room) c.args.journal.now c.args.libraries.now (durable_view c.in-Ok.loaded.durable) c.in-Ok.loaded.results
+          c.is_within_limits.ensures (l.whole tells) (λ told. c.close_journal.ensures.log (c.load_journal.ensures.apart.tells ∙ tells) told) tells;
+    }) t.cause
 
 pub returns-clause-closed : goal.returns-clause-closed
 returns-clause-closed g c = closed_load _ _ _ _ c.requires.free c.load_journal.ensures.apart c.close_journal.ensures.apart c.close_journal.ensures.closed
@@ -35,9 +52,7 @@ returns-clause-closed g c = closed_load _ _ _ _ c.requires.free c.load_journal.e
 pub returns-clause-ends : goal.returns-clause-ends
 returns-clause-ends g c =
     let seen = g.R.Room.seen in
-    let d = c.in-Ok.loaded.durable in
-    let results = c.in-Ok.loaded.results in
-    loads_failed _ _ _ _ _ _ _ _ _ _ _ c.tell-in-Err-text.ensures.status c.tell-in-Err-text.ensures.told (λ is. cc) (λ is. cc)
-    (λ libraries are count room. NoMemory refl (merged_by (seen c.args.room.now) (seen c.close_journal.new.room) c.args.journal.now libraries d.core.history (mark_of d.mark)
-    (opening d.limits d.run d.opened (g.R.Log.Disk.seen d.before.value) (g.R.Log.Disk.seen d.first.value.disk)) results room (c.in-Ok.ensures.whole libraries are count room)
-    (λ told. c.close_journal.ensures.log (c.load_journal.ensures.apart.tells ∙ room) told) c.is_within_limits.ensures).merged)
+    let l = c.in-Ok.ensures.loaded in
+    loads_failed _ _ _ _ c.tell-in-Err-text.ensures.end c.tell-in-Err-text.ensures.told (no_memory _ _ _ _ _ c.close_journal.ensures.closed (λ tells. NoMemory refl (
+    merged_by (seen c.args.room.now) (seen c.close_journal.new.room) c.args.journal.now c.args.libraries.now (durable_view c.in-Ok.loaded.durable) c.in-Ok.loaded.results
+    c.is_within_limits.ensures (l.whole tells) (λ told. c.close_journal.ensures.log (c.load_journal.ensures.apart.tells ∙ tells) told) tells).merged))

@@ -1,24 +1,33 @@
-use Rattle.std.proofs.Common.{rules, IfErr, Err, string_bytes, ◌≡◌, ◌⊎◌, inl, inr, Some, length, refl, sym, ap, subst, ◌∙◌}
+use Rattle.std.proofs.Common.{rules, IfErr, Err, string_bytes, ◌≡◌, ◌⊎◌, inl, inr, length, refl, sym, ap, subst, ◌∙◌}
 use Rattle.outside.specs.Fault.{Rose}
 use Rattle.outside.specs.declared.fault.WriteFault.TheVariants.{OutputFault}
 use Rattle.outside.proofs.Fronts.{front_none}
 use Rattle.outside.proofs.Rooms.{same_but_then}
-use Rattle.durable_catalogue.specs.Durables.{mark_of, opening}
-use Rattle.catalogue_rules.specs.Settle.{state_of}
-use Rattle.catalogue_rules.specs.Output.{export_of, report_of, all_keys}
-use Rattle.output_files.specs.Outputs.{IsPartWritten, AsItWas}
+use Rattle.durable_catalogue.specs.Views.{durable_view}
 use Rattle.union_top.specs.Texts.{files_text, has_refused}
-use Rattle.union_top.specs.Runs.{NotLoaded, NoMemory}
+use Rattle.union_top.specs.Runs.{AreOutputs, AreInPart, NotLoaded, NoMemory}
 use Rattle.union_top.proofs.OneHistory.{merged_by}
-use Rattle.union_top.proofs.Ended.{closed_load, closed_run, runs_failed, runs_told, part_between, rose_between}
+use Rattle.union_top.proofs.Ended.{closed_load, closed_run, runs_failed, runs_told, no_memory, in_part_between, outputs_closed, in_part_apart, rose_between}
 use Rattle.union_top.proofs.loading.run_files.Goals as goal
 
 pub returns-in-Err-clause-ends : goal.returns-in-Err-clause-ends
 returns-in-Err-clause-ends g c =
-    runs_failed _ _ _ _ _ _ _ _ _ _ _ _ c.in-Err.fault c.tell.ensures.status c.tell.ensures.told (λ other. c.load_journal.ensures.apart)
-    c.in-Err.ensures.device c.in-Err.ensures.input
-    (λ libraries are count room. NotLoaded (c.in-Err.ensures.fault libraries are count room) (c.load_journal.ensures.apart.files c.args.out.now (c.requires.out_apart, tt))
-    (c.load_journal.ensures.apart.files c.args.report.now (c.requires.report_apart, tt)))
+    let f = c.in-Err.ensures.failed in
+    let apart = c.load_journal.ensures.apart in
+    let names = c.requires.names in
+    runs_failed _ _ _ _ _ c.in-Err.fault c.tell.ensures.end c.tell.ensures.told (λ other. apart) (record {
+      closed = f.closed;
+      because = λ tells. NotLoaded (f.because tells) (apart.files c.args.out.now ((λ same. names.1.0 (sym same)), tt)) (apart.files c.args.report.now ((λ same. names.1.1.0 (sym same)), tt));
+      device = f.device;
+      input = f.input;
+      no_usage = f.no_usage;
+    })
+
+pub files_text-requires : goal.files_text-requires
+files_text-requires g c κs within = sym c.in-Ok.ensures.loaded.count ∙ ap length (sym c.as_slice.ensures)
+
+pub close_journal-requires-after_bounds : goal.close_journal-requires-after_bounds
+close_journal-requires-after_bounds g c κs within = c.in-Ok.ensures.loaded.is_open
 
 pub returns-in-Err-files_text-clause-closed : goal.returns-in-Err-files_text-clause-closed
 returns-in-Err-files_text-clause-closed g c = closed_load _ _ _ _ c.requires.free c.load_journal.ensures.apart c.close_journal.ensures.apart c.close_journal.ensures.closed
@@ -26,16 +35,15 @@ returns-in-Err-files_text-clause-closed g c = closed_load _ _ _ _ c.requires.fre
 pub returns-in-Err-files_text-clause-ends : goal.returns-in-Err-files_text-clause-ends
 returns-in-Err-files_text-clause-ends g c =
     let seen = g.R.Room.seen in
-    let d = c.in-Ok.loaded.durable in
+    let l = c.in-Ok.ensures.loaded in
     let apart = same_but_then _ _ _ _ c.load_journal.ensures.apart c.close_journal.ensures.apart in
-    runs_failed _ _ _ _ _ _ _ _ _ _ _ _ _ c.tell-in-Err-files_text.ensures.status c.tell-in-Err-files_text.ensures.told (λ other. apart) (λ is. cc) (λ is. cc)
-    (λ libraries are count room. NoMemory refl (record {
-      merged = (merged_by (seen c.args.room.now) (seen c.close_journal.new.room) c.args.journal.now libraries d.core.history (mark_of d.mark)
-          (opening d.limits d.run d.opened (g.R.Log.Disk.seen d.before.value) (g.R.Log.Disk.seen d.first.value.disk)) c.in-Ok.loaded.results room (c.in-Ok.ensures.whole libraries are count room)
-          (λ told. c.close_journal.ensures.log (c.load_journal.ensures.apart.tells ∙ room) told) c.is_within_limits.ensures).merged;
-      export = AsItWas (apart.files c.args.out.now (c.requires.out_apart, tt));
-      report_is = AsItWas (apart.files c.args.report.now (c.requires.report_apart, tt));
-    }))
+    runs_failed _ _ _ _ _ _ c.tell-in-Err-files_text.ensures.end c.tell-in-Err-files_text.ensures.told (λ other. apart)
+    (no_memory _ _ _ _ _ c.close_journal.ensures.closed (λ tells. NoMemory refl (record {
+      merged = (
+          merged_by (seen c.args.room.now) (seen c.close_journal.new.room) c.args.journal.now c.args.libraries.now (durable_view c.in-Ok.loaded.durable) c.in-Ok.loaded.results
+          c.is_within_limits.ensures (l.whole tells) (λ told. c.close_journal.ensures.log (c.load_journal.ensures.apart.tells ∙ tells) told) tells).merged;
+      outputs = in_part_apart _ _ _ _ _ _ c.requires.names apart;
+    })))
 
 pub returns-in-Ok-written-clause-closed : goal.returns-in-Ok-written-clause-closed
 returns-in-Ok-written-clause-closed g c =
@@ -50,28 +58,29 @@ returns-in-Ok-written-clause-ends g c =
     let wrote = seen c.write_outputs-written.new.room in
     let new = seen c.close_journal-2.new.room in
     let d = c.in-Ok.loaded.durable in
-    let results = c.in-Ok.loaded.results in
+    let l = c.in-Ok.ensures.loaded in
     let w = c.write_outputs-written.ensures in
+    let t = c.tell_lines.ensures in
     let opened = c.load_journal.ensures.apart in
     let closing = c.close_journal-2.ensures.apart in
     let history = ap (λ core. core.history) c.core.ensures.value in
-    let slice = c.as_slice.ensures in
-    runs_told _ _ _ old new _ _ _ _ _ c.args.out.now c.args.report.now d.core.history results c.as_str.result.now c.has_refused.result c.tell_lines.ensures.statuses c.tell_lines.ensures.status
-    c.tell_lines.ensures.whole c.tell_lines.ensures.front (λ four. inr (inr (c.tell_lines.ensures.cause four))) (c.has_refused.ensures ∙ ap has_refused c.as_slice-in-Ok-written.ensures)
-    (λ libraries are count room. (
-      merged_by old new c.args.journal.now libraries d.core.history (mark_of d.mark)
-          (opening d.limits d.run d.opened (g.R.Log.Disk.seen d.before.value) (g.R.Log.Disk.seen d.first.value.disk)) results room (c.in-Ok.ensures.whole libraries are count room)
-          (λ told. c.close_journal-2.ensures.log (w.apart.tells ∙ (opened.tells ∙ room)) told) c.is_within_limits.ensures,
-      c.as_str.ensures.value ∙ (c.in-Ok-files_text.ensures libraries are (count ∙ (sym c.in-Ok.ensures.count ∙ ap length (sym slice))) ∙ ap (files_text libraries) slice),
-    ))
-    (λ room. record {
-      export = part_between old mid wrote new c.args.journal.now c.args.out.now (export_of all_keys (state_of d.core.history)) c.requires.out_apart opened closing
-          (subst (λ es. IsPartWritten (mid.file c.args.out.now) (wrote.file c.args.out.now) (export_of all_keys (state_of es))) history (w.export_part (opened.tells ∙ room)));
-      report_is = part_between old mid wrote new c.args.journal.now c.args.report.now (report_of (state_of d.core.history)) c.requires.report_apart opened closing
-          (subst (λ es. IsPartWritten (mid.file c.args.report.now) (wrote.file c.args.report.now) (report_of (state_of es))) history (w.report_part (opened.tells ∙ room)));
-    })
-    (λ other room. closing.files c.args.out.now (c.requires.out_apart, tt) ∙ subst (λ es. wrote.file c.args.out.now ≡ Some (export_of all_keys (state_of es))) history (c.in-Ok-written.ensures.export (opened.tells ∙ room)))
-    (λ other room. closing.files c.args.report.now (c.requires.report_apart, tt) ∙ subst (λ es. wrote.file c.args.report.now ≡ Some (report_of (state_of es))) history (c.in-Ok-written.ensures.report (opened.tells ∙ room)))
+    runs_told _ _ _ _ _ d.core.history c.in-Ok.loaded.results (record {
+      text = c.as_str.result.now;
+      refused = c.has_refused.result;
+      untold = t.untold;
+      done = t.done;
+      whole = t.whole;
+      front = t.front;
+      refused_is = c.has_refused.ensures ∙ ap has_refused c.as_slice-in-Ok-written.ensures;
+      text_is = c.as_str.ensures.value ∙ (c.in-Ok-files_text.ensures ∙ ap (files_text c.args.libraries.now) c.as_slice.ensures);
+      merged = λ tells.
+          merged_by old new c.args.journal.now c.args.libraries.now (durable_view d) c.in-Ok.loaded.results
+          c.is_within_limits.ensures (l.whole tells) (λ told. c.close_journal-2.ensures.log (w.apart.tells ∙ (opened.tells ∙ tells)) told) tells;
+    }) (λ failed. inr (inr (t.cause failed)))
+    (λ tells. in_part_between old mid wrote new c.args.journal.now c.args.out.now c.args.report.now d.core.history c.requires.names opened closing
+    (subst (AreInPart mid wrote c.args.out.now c.args.report.now) history (w.part (opened.tells ∙ tells))))
+    (λ all tells. outputs_closed wrote new c.args.journal.now c.args.out.now c.args.report.now d.core.history c.requires.names closing
+    (subst (AreOutputs wrote c.args.out.now c.args.report.now) history (c.in-Ok-written.ensures.whole (opened.tells ∙ tells))))
 
 pub returns-in-Err-OutputFault-clause-closed : goal.returns-in-Err-OutputFault-clause-closed
 returns-in-Err-OutputFault-clause-closed g c =
@@ -87,35 +96,35 @@ returns-in-Err-OutputFault-clause-ends g c =
     let new = seen c.close_journal-2.new.room in
     let d = c.in-Ok.loaded.durable in
     let results = c.in-Ok.loaded.results in
+    let l = c.in-Ok.ensures.loaded in
     let w = c.write_outputs-written.ensures in
     let opened = c.load_journal.ensures.apart in
     let closing = c.close_journal-2.ensures.apart in
     let history = ap (λ core. core.history) c.core.ensures.value in
-    let slice = c.as_slice.ensures in
     let fault : c.write_outputs-written.result ≡ Err OutputFault = search rules in
     let rose : Rose (mid.out_faults c.args.out.now) (wrote.out_faults c.args.out.now) ⊎ Rose (mid.out_faults c.args.report.now) (wrote.out_faults c.args.report.now) =
     subst (λ r. IfErr r (λ fault. fault ≡ OutputFault → Rose (mid.out_faults c.args.out.now) (wrote.out_faults c.args.out.now) ⊎ Rose (mid.out_faults c.args.report.now) (wrote.out_faults c.args.report.now)))
     fault w.cause refl in
-    runs_told _ _ _ old new _ _ _ _ _ c.args.out.now c.args.report.now d.core.history results (string_bytes c.in-Ok-files_text.text) (has_refused results) (inr refl) (λ other. absurd (other refl))
-    (λ other. absurd (other refl)) (front_none _ _)
-    (λ four. elim rose [
+    runs_told _ _ _ _ _ d.core.history results (record {
+      text = string_bytes c.in-Ok-files_text.text;
+      refused = has_refused results;
+      untold = tt;
+      done = λ all. absurd all;
+      whole = λ all. absurd all;
+      front = front_none _ _;
+      refused_is = refl;
+      text_is = c.in-Ok-files_text.ensures ∙ ap (files_text c.args.libraries.now) c.as_slice.ensures;
+      merged = λ tells.
+          merged_by old new c.args.journal.now c.args.libraries.now (durable_view d) results
+          c.is_within_limits.ensures (l.whole tells) (λ told. c.close_journal-2.ensures.log (w.apart.tells ∙ (opened.tells ∙ tells)) told) tells;
+    })
+    (λ failed. elim rose [
       | inl first ↦ inl (rose_between old mid wrote new c.args.journal.now c.args.out.now opened closing first)
       | inr second ↦ inr (inl (rose_between old mid wrote new c.args.journal.now c.args.report.now opened closing second))
     ])
-    refl
-    (λ libraries are count room. (
-      merged_by old new c.args.journal.now libraries d.core.history (mark_of d.mark)
-          (opening d.limits d.run d.opened (g.R.Log.Disk.seen d.before.value) (g.R.Log.Disk.seen d.first.value.disk)) results room (c.in-Ok.ensures.whole libraries are count room)
-          (λ told. c.close_journal-2.ensures.log (w.apart.tells ∙ (opened.tells ∙ room)) told) c.is_within_limits.ensures,
-      c.in-Ok-files_text.ensures libraries are (count ∙ (sym c.in-Ok.ensures.count ∙ ap length (sym slice))) ∙ ap (files_text libraries) slice,
-    ))
-    (λ room. record {
-      export = part_between old mid wrote new c.args.journal.now c.args.out.now (export_of all_keys (state_of d.core.history)) c.requires.out_apart opened closing
-          (subst (λ es. IsPartWritten (mid.file c.args.out.now) (wrote.file c.args.out.now) (export_of all_keys (state_of es))) history (w.export_part (opened.tells ∙ room)));
-      report_is = part_between old mid wrote new c.args.journal.now c.args.report.now (report_of (state_of d.core.history)) c.requires.report_apart opened closing
-          (subst (λ es. IsPartWritten (mid.file c.args.report.now) (wrote.file c.args.report.now) (report_of (state_of es))) history (w.report_part (opened.tells ∙ room)));
-    })
-    (λ other. absurd (other refl)) (λ other. absurd (other refl))
+    (λ tells. in_part_between old mid wrote new c.args.journal.now c.args.out.now c.args.report.now d.core.history c.requires.names opened closing
+    (subst (AreInPart mid wrote c.args.out.now c.args.report.now) history (w.part (opened.tells ∙ tells))))
+    (λ all. absurd all)
 
 pub returns-clause-closed : goal.returns-clause-closed
 returns-clause-closed g c =
@@ -130,28 +139,18 @@ returns-clause-ends g c =
     let wrote = seen c.write_outputs-written.new.room in
     let new = seen c.close_journal-2.new.room in
     let d = c.in-Ok.loaded.durable in
-    let results = c.in-Ok.loaded.results in
+    let l = c.in-Ok.ensures.loaded in
     let w = c.write_outputs-written.ensures in
     let opened = c.load_journal.ensures.apart in
     let closing = c.close_journal-2.ensures.apart in
     let history = ap (λ core. core.history) c.core.ensures.value in
-    let slice = c.as_slice.ensures in
-    runs_failed _ _ _ _ _ _ _ _ _ _ _ _ _ c.tell-in-Err-NoMemory.ensures.status c.tell-in-Err-NoMemory.ensures.told (λ other. absurd (other refl)) (λ is. cc) (λ is. cc)
-    (λ libraries are count room. NoMemory refl (record {
-      merged = (
-          merged_by old new c.args.journal.now libraries d.core.history (mark_of d.mark)
-          (opening d.limits d.run d.opened (g.R.Log.Disk.seen d.before.value) (g.R.Log.Disk.seen d.first.value.disk)) results room (c.in-Ok.ensures.whole libraries are count room)
-          (λ told. c.close_journal-2.ensures.log (w.apart.tells ∙ (opened.tells ∙ room)) told) c.is_within_limits.ensures).merged;
-      export = subst (λ es. IsPartWritten (old.file c.args.out.now) (new.file c.args.out.now) (export_of all_keys (state_of es))) (
-          merged_by old new c.args.journal.now libraries d.core.history (mark_of d.mark)
-          (opening d.limits d.run d.opened (g.R.Log.Disk.seen d.before.value) (g.R.Log.Disk.seen d.first.value.disk)) results room (c.in-Ok.ensures.whole libraries are count room)
-          (λ told. c.close_journal-2.ensures.log (w.apart.tells ∙ (opened.tells ∙ room)) told) c.is_within_limits.ensures).entries_are
-          (part_between old mid wrote new c.args.journal.now c.args.out.now (export_of all_keys (state_of d.core.history)) c.requires.out_apart opened closing
-          (subst (λ es. IsPartWritten (mid.file c.args.out.now) (wrote.file c.args.out.now) (export_of all_keys (state_of es))) history (w.export_part (opened.tells ∙ room))));
-      report_is = subst (λ es. IsPartWritten (old.file c.args.report.now) (new.file c.args.report.now) (report_of (state_of es))) (
-          merged_by old new c.args.journal.now libraries d.core.history (mark_of d.mark)
-          (opening d.limits d.run d.opened (g.R.Log.Disk.seen d.before.value) (g.R.Log.Disk.seen d.first.value.disk)) results room (c.in-Ok.ensures.whole libraries are count room)
-          (λ told. c.close_journal-2.ensures.log (w.apart.tells ∙ (opened.tells ∙ room)) told) c.is_within_limits.ensures).entries_are
-          (part_between old mid wrote new c.args.journal.now c.args.report.now (report_of (state_of d.core.history)) c.requires.report_apart opened closing
-          (subst (λ es. IsPartWritten (mid.file c.args.report.now) (wrote.file c.args.report.now) (report_of (state_of es))) history (w.report_part (opened.tells ∙ room))));
-    }))
+    runs_failed _ _ _ _ _ _ c.tell-in-Err-NoMemory.ensures.end c.tell-in-Err-NoMemory.ensures.told (λ other. absurd (other refl))
+    (no_memory _ _ _ _ _ c.close_journal-2.ensures.closed (λ tells.
+    let m = merged_by old new c.args.journal.now c.args.libraries.now (durable_view d) c.in-Ok.loaded.results
+    c.is_within_limits.ensures (l.whole tells) (λ told. c.close_journal-2.ensures.log (w.apart.tells ∙ (opened.tells ∙ tells)) told) tells in
+    NoMemory refl (record {
+      merged = m.merged;
+      outputs = subst (AreInPart old new c.args.out.now c.args.report.now) m.entries_are
+          (in_part_between old mid wrote new c.args.journal.now c.args.out.now c.args.report.now d.core.history c.requires.names opened closing
+          (subst (AreInPart mid wrote c.args.out.now c.args.report.now) history (w.part (opened.tells ∙ tells))));
+    })))

@@ -1,26 +1,29 @@
-use Rattle.std.proofs.Common.{rules, ◌≡◌, ◌≤◌, ◌+◌, ◌++◌, Some, length, drop, slice_get, string_bytes, refl, sym, ap, subst, ◌∙◌}
-use Rattle.command_words.specs.Command.{Library}
+use Rattle.std.proofs.Common.{rules, ◌≡◌, ◌<◌, ◌≤◌, ◌+◌, ◌++◌, Some, length, drop, slice_get, string_bytes, refl, sym, ap, subst, ◌∙◌, arith}
 use Rattle.console_lines.specs.Lines.{totals_line}
 use Rattle.union_top.specs.Texts.{totals_text}
 use Rattle.union_top.proofs.Textual.{got, totals_step, totals_whole}
 use Rattle.union_top.proofs.texts.all_totals.Goals as goal
 
 pub loop-index-init : goal.loop-index-init
-loop-index-init c libraries are count = rw c.new-text.ensures.bytes refl
+loop-index-init c = rw c.new-text.ensures.bytes refl
 
 pub loop-index-preserved : goal.loop-index-preserved
-loop-index-preserved c libraries are count =
+loop-index-preserved c =
     let n = c.loop-index.index in
-    let library : Library = record { code = c.in-Some._code.now; file = c.in-Some.file.now } in
+    let libraries = c.args.libraries.now in
+    let results = c.args.results.now in
+    let library = c.index-libraries-index.result in
     let file = c.index-results-index.result in
-    let named : slice_get libraries n ≡ Some library = sym (are n) ∙ c.in-Some.ensures.found in
-    let at : slice_get c.args.results.now n ≡ Some file = got c.args.results.now n file c.loop-index-test.true c.index-results-index.is in
+    let less : n < length results = c.loop-index-test.true in
+    let count = c.requires in
+    let named : slice_get libraries n ≡ Some library = got libraries n library (omega (arith, less, count)) c.index-libraries-index.is in
+    let at : slice_get results n ≡ Some file = got results n file less c.index-results-index.is in
     let bytes = c.in_ok-push_str.ensures.bytes ∙ ap (λ line. string_bytes c.loop-index.text ++ line) c.as_str.ensures.value in
-    subst (λ text. text ++ totals_text (drop (n + 1) libraries) (drop (n + 1) c.args.results.now) ≡ totals_text libraries c.args.results.now) (sym bytes)
-    (totals_step libraries c.args.results.now n library file named at (string_bytes c.loop-index.text) (string_bytes c.in_ok-line.line)
-    (c.in_ok-line.ensures ∙ ap (totals_line library.file) c.totals_in.ensures) (c.loop-index.invariant libraries are count))
+    subst (λ text. text ++ totals_text (drop (n + 1) libraries) (drop (n + 1) results) ≡ totals_text libraries results) (sym bytes)
+    (totals_step libraries results n library file named at (string_bytes c.loop-index.text) (string_bytes c.in_ok-line.line)
+    (c.in_ok-line.ensures ∙ (ap (λ name. totals_line name _) c.as_str-file.ensures ∙ ap (totals_line library.file) c.totals_in.ensures)) c.loop-index.invariant)
 
 pub returns : goal.returns
-returns c libraries are count =
+returns c =
     let end : length c.args.results.now ≤ c.loop-index.index = search rules in
-    totals_whole libraries c.args.results.now c.loop-index.index (string_bytes c.loop-index.text) count end (c.loop-index.invariant libraries are count)
+    totals_whole c.args.libraries.now c.args.results.now c.loop-index.index (string_bytes c.loop-index.text) c.requires end c.loop-index.invariant

@@ -1,9 +1,7 @@
-use Rattle.std.proofs.Common.{◌≡◌, List, ◌++◌, length, drop, string_bytes}
-use Rattle.command_words.specs.Command.{Library}
-use Rattle.journal_loading.specs.Inputs.{AreLibraries}
+use Rattle.std.proofs.Common.{◌≡◌, ◌++◌, drop, string_bytes}
 use Rattle.union_top.specs.Texts.{totals_text}
 use Rattle.union_top.proofs.texts.all_totals.Given as goal
 
 abbrev pub invariant-loop-index : goal.invariant-loop-index
-invariant-loop-index l = (libraries : List Library) → AreLibraries l.fn.words libraries → length libraries ≡ length l.fn.results
-    → string_bytes l.text ++ totals_text (drop l.index libraries) (drop l.index l.fn.results) ≡ totals_text libraries l.fn.results
+invariant-loop-index l =
+    string_bytes l.text ++ totals_text (drop l.index l.fn.libraries) (drop l.index l.fn.results) ≡ totals_text l.fn.libraries l.fn.results

@@ -1,0 +1,70 @@
+-- How a command ends that reads a journal.
+use Rattle.std.specs.Prelude.{◌≡◌, ◌⊎◌, ℕ, true, List, [], ◌∷◌, Option, Some}
+use Rattle.std.specs.Option.{option_copied}
+use Rattle.marc_types.specs.declared.entry.Entry.{Entry}
+use Rattle.outside.specs.Fault.{Rose}
+use Rattle.catalogue_rules.specs.Settle.{state_of}
+use Rattle.catalogue_rules.specs.Output.{export_of, report_of}
+use Rattle.durable_catalogue.specs.Logs.{HasHistory}
+use Rattle.console_lines.specs.Ends.{Outcome, IsTold, IsUntold}
+use Rattle.console_lines.specs.declared.end.End.{End}
+use Rattle.console_lines.specs.declared.end.End.TheVariants.{Done, Refused, OutputFault, Told}
+use Rattle.console_lines.specs.declared.fault.Fault.{Fault}
+use Rattle.console_lines.specs.declared.fault.Fault.TheVariants.{Usage, Input, Device, NotAJournal, Full, Memory, OldVersion}
+use Rattle.output_files.specs.Outputs.{IsPartWritten}
+use Rattle.outside.specs.Room.{SameBut}
+use Rattle.room_files.specs.Journals.{log_bytes, KeepsHistory}
+use Rattle.archive_commands.specs.Archives.{WhyUnopened, kept_keys, HasFittingHistory}
+use Rattle.archive_commands.specs.declared.due.Due.{Due}
+use Rattle.archive_commands.specs.declared.due.Due.TheVariants as due
+
+-- what is due of a history: the export of all keys or of those with a code, or the report
+pub data DueView : Type 0 where
+  Export : Option (List ℕ) → DueView
+  Report : DueView
+
+abbrev pub due_view : Due → DueView
+due_view (due.Export code) = Export (option_copied code)
+due_view due.Report = Report
+
+abbrev pub due_of : DueView → List Entry → List ℕ
+due_of (Export code) entries = export_of (kept_keys code) (state_of entries)
+due_of Report entries = report_of (state_of entries)
+
+abbrev pub IsReport : DueView → Type 0
+IsReport (Export code) = ⊥
+IsReport Report = Unit {0}
+
+-- how it ends: nothing is refused, and no input is read; a log of an older version is read too
+abbrev pub EndsReading : End → Type 0
+EndsReading Done = Unit {0}
+EndsReading Refused = ⊥
+EndsReading OutputFault = Unit {0}
+EndsReading (Told Usage) = ⊥
+EndsReading (Told Input) = ⊥
+EndsReading (Told Device) = Unit {0}
+EndsReading (Told (NotAJournal place)) = Unit {0}
+EndsReading (Told Full) = Unit {0}
+EndsReading (Told Memory) = Unit {0}
+EndsReading (Told OldVersion) = ⊥
+
+-- The commands `export` and `report`: what is due of a journal's history is written into the file OUT, and the journal keeps it.
+pub record Reads (journal out : List ℕ) (due : DueView) (o : Outcome) : Type 0 where
+  pub ends : EndsReading o.end
+  pub keeps : o.old.tells ≡ true → KeepsHistory (o.end ≡ Told Device) o.old o.new journal
+  -- a fault is told for its reason, and the output is untouched, unless the report ran out of memory
+  pub told : (why : Fault) → o.end ≡ Told why → IsTold why o × WhyUnopened o.old journal why
+  pub untouched : (why : Fault) → o.end ≡ Told why → ((why ≡ Memory) × IsReport due → ⊥) → SameBut o.old o.new (journal ∷ [])
+  pub unread : o.end ≡ Told Memory → o.old.tells ≡ true
+      → SameBut o.old o.new (journal ∷ []) ⊎ HasFittingHistory (log_bytes o.old journal)
+  -- without one the console is as it was
+  pub silent : IsUntold o.end → (o.now ≡ o.told) × (o.faults_now ≡ o.faults)
+  -- the outside's faults have their cause
+  pub device : o.end ≡ Told Device → Rose (o.old.log_faults journal) (o.new.log_faults journal)
+  pub output : o.end ≡ OutputFault → Rose (o.old.out_faults out) (o.new.out_faults out)
+  -- the log has a history within the limits, and the output is what is due of it, or a front of that
+  pub history : IsUntold o.end → o.old.tells ≡ true → HasFittingHistory (log_bytes o.old journal)
+  pub whole : (entries : List Entry) → o.end ≡ Done → o.old.tells ≡ true → HasHistory entries (log_bytes o.old journal)
+      → o.new.file out ≡ Some (due_of due entries)
+  pub part : (entries : List Entry) → (o.end ≡ OutputFault) ⊎ (o.end ≡ Told Memory) → o.old.tells ≡ true
+      → HasHistory entries (log_bytes o.old journal) → IsPartWritten (o.old.file out) (o.new.file out) (due_of due entries)

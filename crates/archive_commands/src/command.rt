@@ -1,0 +1,39 @@
+ghost use Rattle.std.specs.Prelude.{◌≡◌, ◌≢◌, ℕ, List, [], ◌∷◌, None};
+ghost use Rattle.console_lines.specs.Ends.{outcome};
+ghost use Rattle.outside.specs.Room.{SameBut};
+ghost use Rattle.archive_commands.specs.Reads.{due_view, Reads};
+
+use crate::due::Due;
+use crate::writing::write_archive;
+use console_lines::{End, Fault, tell};
+use outside::{Room, WriteFault};
+use room_files::{fault_of_opening, open_archive};
+use std::alloc::Global;
+
+/// The commands `export` and `report`: write what is due of a journal's history into the file `out`. They tell why the journal
+/// is not opened, and want of memory.
+pub fn read<R: Room>(
+    alloc: Global,
+    room: &mut R,
+    console: &mut R::Out,
+    journal: &str,
+    out: &str,
+    due: Due<'_>,
+) -> End
+    requires closed { (name : List ℕ) → (R.seen room.old).open_as name ≡ None }
+    requires differ { journal.now ≢ out.now }
+    ensures closed { (name : List ℕ) → (R.seen room.new).open_as name ≡ None }
+    ensures apart { SameBut (R.seen room.old) (R.seen room.new) (journal.now ∷ out.now ∷ []) }
+    ensures ends { Reads journal.now out.now (due_view due.entry)
+        (outcome R.seen R.Out.written R.Out.faults room.old room.new console.old console.new result) }
+{
+    let archive = match open_archive(alloc, room, journal) {
+        Ok(archive) => archive,
+        Err(fault) => return tell(console, fault_of_opening(fault)),
+    };
+    match write_archive(alloc, room, journal, out, due, archive) {
+        Ok(()) => End::Done,
+        Err(WriteFault::OutputFault) => End::OutputFault,
+        Err(WriteFault::NoMemory) => tell(console, Fault::Memory),
+    }
+}

@@ -1,0 +1,109 @@
+//! What is due of a catalogue, as a file.
+ghost use Rattle.std.specs.Prelude.{◌≡◌, ◌∷◌, [], true, Some, None, OnOk, IfErr};
+ghost use Rattle.std.specs.Option.{option_copied};
+ghost use Rattle.outside.specs.Disk.{SameDisk};
+ghost use Rattle.outside.specs.Fault.{HasCause, HasWriteCause};
+ghost use Rattle.outside.specs.Room.{AsLog, SameBut};
+ghost use Rattle.catalogue_rules.specs.Settle.{state_of};
+ghost use Rattle.catalogue_rules.specs.Output.{export_of};
+ghost use Rattle.output_files.specs.Outputs.{IsPartWritten};
+ghost use Rattle.archive_commands.specs.Archives.{kept_keys};
+ghost use Rattle.archive_commands.specs.Reads.{due_view, due_of, IsReport};
+
+use crate::due::Due;
+use catalogue_core::Catalogue;
+use durable_catalogue::Archive;
+use marc_types::Key;
+use output_files::{write_all_records, write_export, write_report_file};
+use outside::{Failed, Room, WriteFault};
+use room_files::close_archive;
+use selection::Selection;
+use std::alloc::Global;
+
+/// Writes the records of a catalogue into the file `out`: all, or those under keys with that code.
+fn write_kept<R: Room>(
+    room: &mut R,
+    out: &str,
+    core: &Catalogue,
+    code: Option<&str>,
+) -> Result<(), Failed>
+    requires free { (R.seen room.old).open_as out.now ≡ None }
+    requires staged { core.now.staged ≡ [] }
+    ensures apart { SameBut (R.seen room.old) (R.seen room.new) (out.now ∷ []) }
+    ensures closed { (R.seen room.new).open_as out.now ≡ None }
+    ensures cause { HasCause ((R.seen room.old).out_faults out.now) ((R.seen room.new).out_faults out.now) result }
+    ensures bytes { OnOk result ((R.seen room.old).tells ≡ true →
+        (R.seen room.new).file out.now ≡ Some (export_of (kept_keys (option_copied code.entry)) (state_of core.now.history))) }
+    ensures part { (R.seen room.old).tells ≡ true → IsPartWritten ((R.seen room.old).file out.now) ((R.seen room.new).file out.now)
+        (export_of (kept_keys (option_copied code.entry)) (state_of core.now.history)) }
+{
+    match code {
+        None => write_all_records(room, out, core),
+        Some(code) => {
+            let coded = Selection::new(|key: &Key| key.code.as_str() == code);
+            write_export(room, out, core, &coded)
+        }
+    }
+}
+
+/// Writes what is due of a catalogue into the file `out`. Only the report takes memory.
+fn write_due<R: Room>(
+    alloc: Global,
+    room: &mut R,
+    out: &str,
+    core: &Catalogue,
+    due: Due<'_>,
+) -> Result<(), WriteFault>
+    requires free { (R.seen room.old).open_as out.now ≡ None }
+    requires staged { core.now.staged ≡ [] }
+    ensures apart { SameBut (R.seen room.old) (R.seen room.new) (out.now ∷ []) }
+    ensures closed { (R.seen room.new).open_as out.now ≡ None }
+    ensures cause { HasWriteCause ((R.seen room.old).out_faults out.now) ((R.seen room.new).out_faults out.now) result }
+    ensures memory { IfErr result (λ fault. fault ≡ WriteFault.NoMemory → IsReport (due_view due.entry)) }
+    ensures bytes { OnOk result ((R.seen room.old).tells ≡ true →
+        (R.seen room.new).file out.now ≡ Some (due_of (due_view due.entry) core.now.history)) }
+    ensures part { (R.seen room.old).tells ≡ true →
+        IsPartWritten ((R.seen room.old).file out.now) ((R.seen room.new).file out.now) (due_of (due_view due.entry) core.now.history) }
+{
+    match due {
+        Due::Export(code) => match write_kept(room, out, core, code) {
+            Ok(()) => Ok(()),
+            Err(_) => Err(WriteFault::OutputFault),
+        },
+        Due::Report => write_report_file(alloc, room, out, core),
+    }
+}
+
+/// Writes what is due of an archive into the file `out`, and closes its log.
+pub fn write_archive<R: Room>(
+    alloc: Global,
+    room: &mut R,
+    journal: &str,
+    out: &str,
+    due: Due<'_>,
+    archive: Archive<R::Log>,
+) -> Result<(), WriteFault>
+    requires opened { (R.seen room.old).open_as journal.now ≡ Some AsLog }
+    requires free { (R.seen room.old).open_as out.now ≡ None }
+
+    // The room: nothing but these two changes, and both are closed.
+    ensures apart { SameBut (R.seen room.old) (R.seen room.new) (journal.now ∷ out.now ∷ []) }
+    ensures closed { (R.seen room.new).open_as journal.now ≡ None }
+    ensures out_closed { (R.seen room.new).open_as out.now ≡ None }
+
+    // The output, as `write_due` leaves it.
+    ensures cause { HasWriteCause ((R.seen room.old).out_faults out.now) ((R.seen room.new).out_faults out.now) result }
+    ensures memory { IfErr result (λ fault. fault ≡ WriteFault.NoMemory → IsReport (due_view due.entry)) }
+    ensures bytes { OnOk result ((R.seen room.old).tells ≡ true →
+        (R.seen room.new).file out.now ≡ Some (due_of (due_view due.entry) archive.core.history)) }
+    ensures part { (R.seen room.old).tells ≡ true →
+        IsPartWritten ((R.seen room.old).file out.now) ((R.seen room.new).file out.now) (due_of (due_view due.entry) archive.core.history) }
+
+    // The log and its file are what the archive left.
+    ensures file { (R.seen room.old).tells ≡ true → (R.seen room.new).file journal.now ≡ (R.Log.seen archive.journal.disk).content }
+    ensures log { (R.seen room.old).tells ≡ true → SameDisk (R.Log.seen archive.journal.disk) ((R.seen room.new).log journal.now) }
+{
+    let written = write_due(alloc, room, out, archive.core(), due);
+    close_archive(room, journal, archive);
+    written
+}

@@ -1,0 +1,8 @@
+use marc_types::Text;
+
+/// The library of a file that a command reads: its code, which obeys the rule of codes, and the file's name, which isn't empty.
+#[derive(Debug, Drop, PartialEq, Eq)]
+pub struct Library {
+    pub code: Text,
+    pub file: Text,
+}

@@ -1,0 +1,57 @@
+-- How a command ends, and what it did. The statuses are this project's own.
+use Rattle.std.specs.Prelude.{ℕ, Bool, List, Option, if◌then◌else◌}
+use Rattle.outside.specs.Room.{RoomView}
+use Rattle.console_lines.specs.Faults.{fault_status, fault_line, IsFaultTold}
+use Rattle.console_lines.specs.declared.fault.Fault.{Fault}
+use Rattle.console_lines.specs.declared.end.End.{End}
+use Rattle.console_lines.specs.declared.end.End.TheVariants.{Done, Refused, OutputFault, Told}
+
+abbrev pub end_status : End → ℕ
+end_status Done = 0
+end_status Refused = 1
+end_status OutputFault = 4
+end_status (Told fault) = fault_status fault
+
+-- the end where all was done: whether something was refused
+abbrev pub end_of : Bool → End
+end_of refused = if refused then Refused else Done
+
+-- all was done, and something was refused or nothing was
+abbrev pub IsAllDone : End → Type 0
+IsAllDone Done = Unit {0}
+IsAllDone Refused = Unit {0}
+IsAllDone OutputFault = ⊥
+IsAllDone (Told fault) = ⊥
+
+-- no fault was told
+abbrev pub IsUntold : End → Type 0
+IsUntold Done = Unit {0}
+IsUntold Refused = Unit {0}
+IsUntold OutputFault = Unit {0}
+IsUntold (Told fault) = ⊥
+
+-- What a command did: the room before and after, what the console had been told and is told now, its faults, and the end.
+pub record Outcome : Type 1 where
+  pub old : RoomView
+  pub new : RoomView
+  pub told : Option (List ℕ)
+  pub now : Option (List ℕ)
+  pub faults : ℕ
+  pub faults_now : ℕ
+  pub end : End
+
+-- the same from a room and a console, as they are seen before and after
+abbrev pub outcome : {R K : Type 0} → (R → RoomView) → (K → Option (List ℕ)) → (K → ℕ) → R → R → K → K → End → Outcome
+outcome seen written faults room room_now console console_now end = record {
+  old = seen room;
+  new = seen room_now;
+  told = written console;
+  now = written console_now;
+  faults = faults console;
+  faults_now = faults console_now;
+  end = end;
+}
+
+-- the console was told that fault, as far as it could be written
+abbrev pub IsTold : Fault → Outcome → Type 0
+IsTold fault o = IsFaultTold o.told o.now o.faults o.faults_now (fault_line fault)

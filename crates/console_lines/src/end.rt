@@ -1,0 +1,31 @@
+ghost use Rattle.std.specs.Prelude.{◌≡◌};
+ghost use Rattle.console_lines.specs.Ends.{end_status};
+
+use crate::fault::Fault;
+
+/// How a command ends.
+#[derive(Clone, Copy, Debug, PartialEq, Eq)]
+pub enum End {
+    /// All was done, and nothing was refused.
+    Done,
+    /// All was done, and something was refused.
+    Refused,
+    /// An output or the console could not be written, of which nothing is told.
+    OutputFault,
+    /// A fault, which the console was told.
+    Told(Fault),
+}
+
+impl End {
+    /// The exit status.
+    pub fn status(self) -> u8
+        ensures { result ≡ end_status self }
+    {
+        match self {
+            End::Done => 0,
+            End::Refused => 1,
+            End::OutputFault => 4,
+            End::Told(fault) => fault.status(),
+        }
+    }
+}

@@ -1,0 +1,19 @@
+use Rattle.std.proofs.Common.{◌∙◌}
+use Rattle.plain_commands.proofs.Ends.{closed_everywhere}
+use Rattle.plain_commands.proofs.Passes.{passes_told, passes_delivered}
+use Rattle.plain_commands.proofs.passing.pass.Goals as goal
+
+pub returns-in-Ok-clause-closed : goal.returns-in-Ok-clause-closed
+returns-in-Ok-clause-closed g c =
+    closed_everywhere _ _ _ c.deliver.ensures.apart c.deliver.ensures.closed
+    (λ name. c.prepare.ensures.stays.open_names name tt ∙ c.requires.closed name)
+
+pub returns-in-Ok-clause-ends : goal.returns-in-Ok-clause-ends
+returns-in-Ok-clause-ends g c =
+    let mid = g.R.Room.seen c.prepare.new.room in
+    passes_delivered _ _ _ mid c.in-Ok.ready c.prepare.ensures.stays c.deliver.ensures.untold c.deliver.ensures.output c.in-Ok.ensures.ready
+    c.deliver.ensures.whole c.deliver.ensures.part
+
+pub returns-in-Err-clause-ends : goal.returns-in-Err-clause-ends
+returns-in-Err-clause-ends g c =
+    passes_told _ _ _ c.in-Err.fault c.tell.ensures.end c.tell.ensures.told c.in-Err.ensures.kind c.prepare.ensures.stays c.in-Err.ensures.cause c.in-Err.ensures.full

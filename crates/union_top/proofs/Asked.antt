@@ -1,0 +1,63 @@
+-- What a command comes to for whose libraries there is no memory.
+use Rattle.std.proofs.Common.{◌≡◌, ◌≢◌, ℕ, ◌<◌, ◌≤◌, List, [], ◌∷◌, length, get_or, None, refl, ap, ◌∙◌, arith}
+use Rattle.std.specs.Prelude.{All, IsTrue}
+use Rattle.marc_types.specs.Valid.{is_code}
+use Rattle.outside.specs.Room.{RoomView, SameBut}
+use Rattle.outside.proofs.Rooms.{same_but_none}
+use Rattle.command_words.specs.declared.library.Library.{Library}
+use Rattle.command_words.specs.Command.{Command, Pass, Run, Load, Export, Report, Make, libraries_of, names_of, AreNames, IsNoneOf}
+use Rattle.console_lines.specs.Ends.{Outcome, IsTold}
+use Rattle.console_lines.specs.declared.end.End.TheVariants.{Told}
+use Rattle.console_lines.specs.declared.fault.Fault.TheVariants as fault
+use Rattle.durable_catalogue.specs.declared.fault.OpenFault.TheVariants as opening
+use Rattle.room_files.proofs.Journals.{unopened_keeps}
+use Rattle.archive_commands.specs.Reads.{DueView, Reads}
+use Rattle.archive_commands.proofs.Endings.{reads_unopened}
+use Rattle.plain_commands.proofs.Passes.{passes_told}
+use Rattle.plain_commands.proofs.Made.{makes_no_memory}
+use Rattle.output_files.specs.Outputs as files
+use Rattle.journal_loading.specs.Outcomes.{Fails, IsLoadingFault, NotBegun, Unopened}
+use Rattle.journal_loading.specs.Inputs.{AreLoadable}
+use Rattle.union_top.specs.Commands.{Ends}
+use Rattle.union_top.specs.Runs as runs
+use Rattle.union_top.proofs.Ended.{loads_failed, runs_failed, no_memory}
+
+-- the libraries of a command's files can be loaded into its journal, the first of its names
+pub loadable : (libraries : List Library) (journal : List ℕ) (names : List (List ℕ)) (files : ℕ) → length libraries ≡ files → 1 ≤ files → files ≤ 64
+    → All (λ (l : Library). IsTrue (is_code l.code)) libraries → All (λ (l : Library). IsNoneOf l.file (journal ∷ names)) libraries → AreLoadable journal libraries
+loadable libraries journal names files count some few proper apart = record {
+  some = omega (arith, count, some);
+  few = omega (arith, count, few);
+  proper = proper;
+  apart = λ k d less. (apart k d less).0;
+}
+
+-- the only one
+pub only : (library first : Library) (libraries : List Library) → libraries ≡ library ∷ [] → first ≡ get_or libraries 0 first → first ≡ library
+only library first libraries is read = read ∙ ap (λ ls. get_or ls 0 first) is
+
+module _ (o : Outcome) (told : o.end ≡ Told fault.Memory) (tells : IsTold fault.Memory o) (stays : SameBut o.old o.new [])
+    (free : (name : List ℕ) → o.old.open_as name ≡ None) where
+  unbegun : (journal : List ℕ) (libraries : List Library) → IsLoadingFault o.old o.new journal libraries fault.Memory
+  unbegun journal libraries = NotBegun (Unopened opening.NoMemory refl tt (λ full. cc) (unopened_keeps _ o.old o.new journal stays))
+
+  closed : (journal : List ℕ) → o.new.open_as journal ≡ None
+  closed journal = stays.open_names journal tt ∙ free journal
+
+  reads : (journal out : List ℕ) (due : DueView) → journal ≢ out → Reads journal out due o
+  reads journal out due differ =
+      reads_unopened journal out due o opening.NoMemory differ told tells (same_but_none o.old o.new (journal ∷ []) stays) (λ old. cc) (λ room. tt)
+      (λ room. unopened_keeps _ o.old o.new journal stays) (λ device. cc)
+
+  pub unasked : (words : List (List ℕ)) (command : Command) → AreNames (names_of command) → Ends words command o
+  unasked words (Pass out) names = λ library is. passes_told library out o fault.Memory told tells tt stays (λ input. cc) (λ full. cc)
+  unasked words (Run journal out report files) names =
+      runs_failed (libraries_of words) journal o out report fault.Memory told tells (λ other. absurd (other refl))
+      (no_memory o.old o.new journal (libraries_of words) _ (closed journal)
+      (λ room. runs.NotLoaded (unbegun journal (libraries_of words)) (stays.files out tt) (stays.files report tt)))
+  unasked words (Load journal files) names =
+      loads_failed (libraries_of words) journal o fault.Memory told tells
+      (no_memory o.old o.new journal (libraries_of words) _ (closed journal) (λ room. runs.NotLoaded (unbegun journal (libraries_of words))))
+  unasked words (Export journal out code) names = reads journal out _ names.1.0
+  unasked words (Report journal out) names = reads journal out _ names.1.0
+  unasked words (Make seed count out) names = makes_no_memory seed count out o told tells (λ room. files.AsItWas (stays.files out tt))
