@@ -1,8 +1,5 @@
-//! Whole runs over a room in memory.
+//! Tests of catalogues over a disk in memory, and of a command over a sure room. Whole runs are those of `whole_runs`.
 #![tactic(auto)]
 
-pub use rooms::room_of;
-
-mod rooms;
 #[cfg(test)]
 mod tests;

@@ -1,23 +1,17 @@
-//! A catalogue at its limits and over a disk that fails, and a pass of what `make` makes.
-ghost use Rattle.std.specs.Prelude.{◌≡◌, ℕ, List, None, IsTrue};
+//! A catalogue at its limits and over a disk that fails.
+ghost use Rattle.std.specs.Prelude.{IsTrue};
 ghost use Rattle.marc_types.specs.Valid.{is_code};
-ghost use Rattle.outside_mem.specs.Room.{room_view};
 
-use super::{ZOOLOGY, words_of};
-use crate::room_of;
+use super::ZOOLOGY;
 use durable_catalogue::{Durable, OpenFault};
 use entry_history::Batch;
-use marc_types::{CommitFault, Limits, NoMemory, RecordFault, Text, can_be_code};
+use marc_types::{CommitFault, Limits, RecordFault, Text, can_be_code};
 use outside::LARGEST_BATCH;
-use outside_mem::{MemDisk, MemRoom, MemSink};
-use outside_real::OpenGate;
+use outside_mem::MemDisk;
 use reading::prepare;
 use std::alloc::Global;
 use std::process::Abort;
-use std::sync::Wait;
 use std::test::Fail;
-use std::thread::Threads;
-use union_top::run;
 
 const LIMITS: Limits = Limits {
     entries: 3,
@@ -121,38 +115,5 @@ fn a_broken_catalogue(rt: HostRuntime) -> Result<(), Fail> {
         };
         assert_eq!(rt; durable.core().history_len(), if call == 7 { 1 } else { 0 });
     }
-    Ok(())
-}
-
-/// What the console is told of a command that answers 0.
-fn told<H: Threads + Wait + Abort + Sync>(
-    rt: &H,
-    alloc: Global,
-    room: &mut MemRoom,
-    words: &[&str],
-) -> Result<Vec<u8>, NoMemory>
-    requires { (name : List ℕ) → (room_view room.old).open_as name ≡ None }
-    ensures { (name : List ℕ) → (room_view room.new).open_as name ≡ None }
-{
-    let mut console = MemSink::new(alloc, Vec::new(alloc));
-    let words = words_of(alloc, words)?;
-    let status = run(rt, alloc, &words, room, &mut console, &OpenGate);
-    assert_eq!(rt; status, 0);
-    Ok(Vec::from_slice(alloc, console.bytes())?)
-}
-
-/// The program passes what it makes: nothing is refused, and it counts what `make` said.
-#[test]
-fn what_is_made_passes(rt: HostRuntime) -> Result<(), Fail> {
-    let alloc = rt.alloc();
-    let mut room = room_of(alloc, &[], "none", 0)?;
-    let made = told(&rt, alloc, &mut room, &["make", "7", "500", "o"])?;
-    let passed = told(&rt, alloc, &mut room, &["pass", "p", "UCAT=o"])?;
-    let sums = passed.strip_prefix(b"o: accepted 500, refused 0, linked ");
-    assert!(rt; sums.is_some());
-    assert_eq!(rt; made.strip_prefix(b"made 500, linked "), sums);
-    told(&rt, alloc, &mut room, &["make", "7", "500", "o2"])?;
-    assert!(rt; room.file("o").is_some());
-    assert_eq!(rt; room.file("o2"), room.file("o"));
     Ok(())
 }

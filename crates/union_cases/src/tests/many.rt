@@ -1,10 +1,7 @@
-//! As many files as a command takes, and a file of more entries than a turn takes.
+//! As many files as a command takes, over a sure room.
 ghost use Rattle.std.specs.Prelude.{◌≡◌, ℕ, List, None, IfOk};
 ghost use Rattle.outside_sure.specs.SureRoom.{sure_room_view};
 
-use super::turns::one_by_one;
-use super::{BOTH, MADE, ORDERED, carried_out, words_of};
-use crate::room_of;
 use command_words::Words;
 use marc_types::{NoMemory, Text};
 use outside_real::OpenGate;
@@ -12,6 +9,12 @@ use outside_sure::{SureRoom, SureSink};
 use std::alloc::Global;
 use std::test::Fail;
 use union_top::run;
+
+const BOTH: &[u8] =
+    b"00065nam a2200049 a 4500001000300000245001200003\x1eb3\x1e00\x1faZoology\x1e\x1d00065nam a2200049 a 4500001000300000245001200003\x1eb1\x1e00\x1faAlgebra\x1e\x1d";
+
+const ORDERED: &[u8] =
+    b"00065nam a2200049 a 4500001000300000245001200003\x1eb1\x1e00\x1faAlgebra\x1e\x1d00065nam a2200049 a 4500001000300000245001200003\x1eb3\x1e00\x1faZoology\x1e\x1d";
 
 /// The most files of one command.
 const MOST: u32 = 64;
@@ -30,6 +33,14 @@ fn with_files(alloc: Global, count: u32) -> Result<SureRoom, Fail>
         room.put(name.as_str(), Vec::from_slice(alloc, BOTH)?, 1)?;
     }
     Ok(room)
+}
+
+fn words_of(alloc: Global, list: &[&str]) -> Result<Words, NoMemory> {
+    let mut words = Vec::new(alloc);
+    for word in list {
+        words.push(Text::from_str(alloc, word)?)?;
+    }
+    Ok(Words::from_vec(words))
 }
 
 /// The words of a load of so many files, each of a library of its own.
@@ -88,54 +99,5 @@ fn as_many_files_as_a_command_takes(rt: HostRuntime) -> Result<(), Fail> {
     }
     assert_eq!(rt; room.file("j").unwrap_or_default().len(), 11271);
     assert_eq!(rt; room.file("out"), Some(due.as_slice()));
-    Ok(())
-}
-
-/// 33 entries take a frame of 32 and one of 1, or 33 frames of 1.
-#[test]
-fn a_turn_takes_as_many_entries_as_the_gate_says(rt: HostRuntime) -> Result<(), Fail> {
-    let alloc = rt.alloc();
-    let totals = "f: accepted 33, refused 0, linked 0, ambiguous 0, unlinked 33, changed 0\n";
-    let file = copies(alloc, MADE, 33)?;
-    let room = room_of(alloc, &[("f", file.as_slice())], "none", 0)?;
-    let room = carried_out(
-        &rt,
-        alloc,
-        room,
-        &OpenGate,
-        &["load", "j", "ULIB=f"],
-        0,
-        totals,
-        &[],
-    )?;
-    let room = carried_out(
-        &rt,
-        alloc,
-        room,
-        &one_by_one(),
-        &["load", "k", "ULIB=f"],
-        0,
-        totals,
-        &[],
-    )?;
-    let table: [(&str, usize, &[u8]); 2] = [
-        (
-            "j",
-            4287,
-            b"O\0\0\x10\x12\0\0\0\0\0\0\0\x01\0\0\0\0\x04ULIB ",
-        ),
-        (
-            "k",
-            5000,
-            b"O\0\0\0\x92\0\0\0\0\0\0\0\x01\0\0\0\0\x04ULIB\x01",
-        ),
-    ];
-    for (name, len, frame) in table {
-        let Some(log) = room.file(name) else {
-            panic!(rt; "no log")
-        };
-        assert_eq!(rt; log.len(), len);
-        assert_eq!(rt; log.get(16..39), Some(frame));
-    }
     Ok(())
 }

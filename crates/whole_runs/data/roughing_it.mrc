@@ -1,0 +1,1 @@
+00134nam a2200061 a 4500001000300000100005200003245001700055b11 aClemens, Samuel Langhorne,d1835-1910,eauthor.10aRoughing it.
