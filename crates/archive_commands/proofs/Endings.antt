@@ -69,7 +69,7 @@ module _ (journal out : List ℕ) (due : DueView) (o : Outcome) where
 
   -- what is due of the history of a journal that was opened, written so far as it could be
   pub record WasRead (history : List Entry) : Type 0 where
-    pub keeps : (failed : Type 0) → o.old.tells ≡ true → KeepsHistory failed o.old o.new journal
+    pub keeps : o.old.tells ≡ true → KeepsHistory (o.end ≡ Told Device) o.old o.new journal
     pub has : o.old.tells ≡ true → HasHistory history (log_bytes o.old journal)
     pub within : IsWithin journal_limits history
     pub part : o.old.tells ≡ true → IsPartWritten (o.old.file out) (o.new.file out) (due_of due history)
@@ -80,7 +80,7 @@ module _ (journal out : List ℕ) (due : DueView) (o : Outcome) where
       → (o.old.tells ≡ true → KeepsLog (log_bytes o.old journal) disk)
       → (mid.tells ≡ true → IsPartWritten (mid.file out) (o.new.file out) (due_of due history)) → WasRead history
   was_read mid disk history differ opened file log has within kept part = record {
-    keeps = λ failed tells. let then = opened.tells ∙ tells in closed_keeps o.old o.new journal disk (file then) (log then) failed (kept tells);
+    keeps = λ tells. let then = opened.tells ∙ tells in closed_keeps o.old o.new journal disk (file then) (log then) (o.end ≡ Told Device) (kept tells);
     has = has;
     within = within;
     part = λ tells. part_opened o.old mid o.new journal out (due_of due history) differ opened (part (opened.tells ∙ tells));
@@ -96,7 +96,7 @@ module _ (journal out : List ℕ) (due : DueView) (o : Outcome) where
         → (o.old.tells ≡ true → o.new.file out ≡ Some (due_of due history)) → Reads journal out due o
     reads_whole is silent bytes = record {
       ends = subst EndsReading (sym is) tt;
-      keeps = r.keeps (o.end ≡ Told Device);
+      keeps = r.keeps;
       told = λ why also. absurd (told_not_done o.end why also is);
       untouched = λ why also. absurd (told_not_done o.end why also is);
       unread = λ also. absurd (told_not_done o.end Memory also is);
@@ -113,7 +113,7 @@ module _ (journal out : List ℕ) (due : DueView) (o : Outcome) where
         → Rose (o.old.out_faults out) (o.new.out_faults out) → Reads journal out due o
     reads_failed is silent rose = record {
       ends = subst EndsReading (sym is) tt;
-      keeps = r.keeps (o.end ≡ Told Device);
+      keeps = r.keeps;
       told = λ why also. absurd (told_no_output o.end why also is);
       untouched = λ why also. absurd (told_no_output o.end why also is);
       unread = λ also. absurd (told_no_output o.end Memory also is);
@@ -129,7 +129,7 @@ module _ (journal out : List ℕ) (due : DueView) (o : Outcome) where
     pub reads_no_memory : o.end ≡ Told Memory → IsTold Memory o → IsReport due → Reads journal out due o
     reads_no_memory is told report = record {
       ends = subst EndsReading (sym is) tt;
-      keeps = r.keeps (o.end ≡ Told Device);
+      keeps = r.keeps;
       told = λ why also. subst (λ w. IsTold w o × WhyUnopened o.old journal w) (told_once o.end Memory why is also)
           (told, record { reason = opening.NoMemory; is = refl; so = λ tells. tt });
       untouched = λ why also some. absurd (some (told_once o.end why Memory also is, report));

@@ -8,8 +8,12 @@ use Rattle.archive_commands.proofs.command.read.Goals as goal
 pub returns-in-Err-clause-ends : goal.returns-in-Err-clause-ends
 returns-in-Err-clause-ends g c =
     let because = c.in-Err.ensures in
+    let written = g.R.Out.Sink.written in
+    let faults = g.R.Out.Sink.faults in
+    let console = c.args.console.now in
+    let now = c.tell.new.console in
     reads_unopened _ _ _ _ c.in-Err.fault c.requires.differ (c.tell.ensures.end ∙ ap Told c.fault_of_opening.ensures)
-    (subst (λ f. IsFaultTold _ _ _ _ (fault_line f)) c.fault_of_opening.ensures c.tell.ensures.told) c.open_archive.ensures.apart because.current because.fault because.keeps because.cause
+    (subst (λ f. IsFaultTold (written console) (written now) (faults console) (faults now) (fault_line f)) c.fault_of_opening.ensures c.tell.ensures.told) c.open_archive.ensures.apart because.current because.fault because.keeps because.cause
 
 pub returns-in-Ok-write_archive-clause-closed : goal.returns-in-Ok-write_archive-clause-closed
 returns-in-Ok-write_archive-clause-closed g c =
