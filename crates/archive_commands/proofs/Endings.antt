@@ -5,7 +5,8 @@ use Rattle.outside.specs.Disk.{DiskView, SameDisk}
 use Rattle.outside.specs.Fault.{Rose}
 use Rattle.outside.specs.Room.{RoomView, SameBut}
 use Rattle.durable_catalogue.specs.Logs.{HasHistory}
-use Rattle.durable_catalogue.specs.Openings.{IsWithin, IsUnopened}
+use Rattle.entry_record.specs.History.{IsWithin}
+use Rattle.durable_catalogue.specs.Openings.{IsUnopened}
 use Rattle.durable_catalogue.specs.declared.fault.OpenFault.{OpenFault}
 use Rattle.durable_catalogue.specs.declared.fault.OpenFault.TheVariants as opening
 use Rattle.console_lines.specs.Ends.{Outcome, IsTold, IsUntold}

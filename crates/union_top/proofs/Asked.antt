@@ -2,10 +2,10 @@
 use Rattle.std.proofs.Common.{◌≡◌, ◌≢◌, ℕ, ◌<◌, ◌≤◌, List, [], ◌∷◌, length, get_or, None, refl, ap, ◌∙◌, arith}
 use Rattle.std.specs.Prelude.{All, IsTrue}
 use Rattle.marc_types.specs.Valid.{is_code}
-use Rattle.outside.specs.Room.{RoomView, SameBut}
+use Rattle.outside.specs.Room.{RoomView, SameBut, IsNoneOf}
 use Rattle.outside.proofs.Rooms.{same_but_none}
 use Rattle.command_words.specs.declared.library.Library.{Library}
-use Rattle.command_words.specs.Command.{Command, Pass, Run, Load, Export, Report, Make, libraries_of, names_of, AreNames, IsNoneOf}
+use Rattle.command_words.specs.Command.{Command, Pass, Run, Load, Export, Report, Make, libraries_of, names_of, AreNames}
 use Rattle.console_lines.specs.Ends.{Outcome, IsTold}
 use Rattle.console_lines.specs.declared.end.End.TheVariants.{Told}
 use Rattle.console_lines.specs.declared.fault.Fault.TheVariants as fault
