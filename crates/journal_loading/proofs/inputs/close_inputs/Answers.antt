@@ -15,10 +15,10 @@ loop-input-preserved g c =
     let at : slice_get all (length left) ≡ Some last = sym (same (length left) (omega (arith, len))) ∙ ap (λ items. slice_get items (length left)) popped ∙ at_end left last in
     let counted : c.len.result ≡ length left = search rules in
     let libraries = c.args.libraries.now in
-    let library = c.index-libraries.result in
+    let library = c.index-libraries-len.result in
     let many = c.requires in
     let within : length left < length libraries = omega (arith, len, few, many, ap length c.into_vec-inputs.ensures) in
-    let of : slice_get libraries (length left) ≡ Some library = got libraries (length left) library within (subst (λ n. library ≡ get_or libraries n library) counted c.index-libraries.is) in (
+    let of : slice_get libraries (length left) ≡ Some library = got libraries (length left) library within (subst (λ n. library ≡ get_or libraries n library) counted c.index-libraries-len.is) in (
       same_but_then _ _ _ _ stays still,
       omega (arith, len, few),
       λ index less. sym (at_before left last index less) ∙ ap (λ items. slice_get items index) (sym popped) ∙ same index (omega (arith, len, less)),

@@ -25,8 +25,8 @@ pub open_inputs-inputs-requires-clause-free : goal.open_inputs-inputs-requires-c
 open_inputs-inputs-requires-clause-free g c κs within k d less =
     c.open_journal.ensures.apart.open_names _ (c.requires.loadable.apart k d less, tt) ∙ c.requires.free _
 
-pub close_inputs-requires : goal.close_inputs-requires
-close_inputs-requires g c κs within =
+pub close_inputs-requires-after_bounds : goal.close_inputs-requires-after_bounds
+close_inputs-requires-after_bounds g c κs within =
     let few = c.open_inputs-inputs.ensures.few in let len = ap length c.from_vec-inputs.ensures in omega (arith, few, len)
 
 pub close_journal-requires-after_bounds : goal.close_journal-requires-after_bounds

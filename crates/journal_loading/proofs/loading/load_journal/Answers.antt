@@ -45,8 +45,8 @@ load_files-durable-requires-clause-limits g c κs within =
     let same = ap (λ l. l.entries) c.in-Ok.ensures.begun.catalogue.limits in
     omega (arith, same)
 
-pub close_inputs-requires : goal.close_inputs-requires
-close_inputs-requires g c κs within =
+pub close_inputs-requires-after_bounds : goal.close_inputs-requires-after_bounds
+close_inputs-requires-after_bounds g c κs within =
     let d = c.in-Ok.begun.0 in
     let files = c.in-Ok.begun.1 in
     let (now, after, results) = c.load_files-durable.result in
@@ -55,8 +55,8 @@ close_inputs-requires g c κs within =
     let count = inputs_count g.R.In.Source.left g.R.In.Source.faults (g.R.Room.seen c.args.room.now) c.args.libraries.now files c.in-Ok.ensures.begun.inputs_are in
     omega (arith, same, count)
 
-pub finish-requires : goal.finish-requires
-finish-requires g c κs within = c.close_inputs.ensures.stays.open_names c.args.journal.now tt ∙ c.in-Ok.ensures.begun.is_open
+pub finish-requires-after_bounds : goal.finish-requires-after_bounds
+finish-requires-after_bounds g c κs within = c.close_inputs.ensures.stays.open_names c.args.journal.now tt ∙ c.in-Ok.ensures.begun.is_open
 
 pub returns-clause-apart : goal.returns-clause-apart
 returns-clause-apart g c = same_but_then _ _ _ _ c.in-Ok.ensures.apart (same_but_then _ _ _ _ (same_but_none _ _ _ c.close_inputs.ensures.stays) c.finish.ensures.apart)

@@ -24,7 +24,7 @@ returns-in-Err-clause-ends g c =
     })
 
 pub files_text-requires : goal.files_text-requires
-files_text-requires g c κs within = sym c.in-Ok.ensures.loaded.count ∙ ap length (sym c.as_slice.ensures)
+files_text-requires g c = sym c.in-Ok.ensures.loaded.count ∙ ap length (sym c.as_slice.ensures)
 
 pub close_journal-requires-after_bounds : goal.close_journal-requires-after_bounds
 close_journal-requires-after_bounds g c κs within = c.in-Ok.ensures.loaded.is_open
