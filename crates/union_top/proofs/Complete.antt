@@ -118,7 +118,7 @@ module _ (o : Outcome) where
   passes_well words out ends tells u =
       let p = ends u.library u.named in
       by_end o.end (λ is. neither u.output u.console (p.output is))
-      (λ why is. pass_why why (p.told why is).1.0 (λ same. u.input (p.input (is ∙ ap Told same)))
+      (λ why is. pass_why why (p.told why is).1 (λ same. u.input (p.input (is ∙ ap Told same)))
       (λ same. never_full_at u.library.code (items u.fits.bytes) u.fits.accepted u.fits.refused u.fits.judged u.fits.within
       (subst (λ f. IsSomeAnd f (λ bytes. IsFullAt u.library.code (items bytes))) u.fits.there (p.full (is ∙ ap Told same) tells))))
 

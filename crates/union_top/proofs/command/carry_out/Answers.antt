@@ -26,27 +26,27 @@ returns-in-Err-clause-ends g c =
 pub returns-in-Err-clause-command : goal.returns-in-Err-clause-command
 returns-in-Err-clause-command g c usage = let no : Told fault.Memory ≡ Told fault.Usage = sym c.tell.ensures.end ∙ usage in cc
 
-pub index-files-requires : goal.index-files-requires
-index-files-requires g c κs within =
+pub bounds-files-0 : goal.bounds-files-0
+bounds-files-0 g c =
     let asked : command_of c.args.words.now ≡ Some (command.Pass c.in-Pass.out.now) = c.requires.asks ∙ ap (λ r. Some (command_asked r)) c.in-Pass.is in
     let count = c.files_are_named.ensures.count (command.Pass c.in-Pass.out.now) asked in
-    let same = ap length (c.as_slice-files.ensures ∙ c.in-Ok.ensures) in
+    let same = ap length (c.as_slice-files.ensures.value ∙ c.in-Ok.ensures) in
     omega (arith, count, same)
 
 pub pass-requires-clause-proper : goal.pass-requires-clause-proper
 pass-requires-clause-proper g c κs within =
     let asked : command_of c.args.words.now ≡ Some (command.Pass c.in-Pass.out.now) = c.requires.asks ∙ ap (λ r. Some (command_asked r)) c.in-Pass.is in
     let count = c.files_are_named.ensures.count (command.Pass c.in-Pass.out.now) asked in
-    let same = c.as_slice-files.ensures ∙ c.in-Ok.ensures in
-    subst (λ (l : Library). IsTrue (is_code l.code)) (sym c.index-files.is)
-    (subst (All (λ (l : Library). IsTrue (is_code l.code))) (sym same) c.files_are_named.ensures.codes 0 c.index-files.result (let len = ap length same in omega (arith, count, len)))
+    let same = c.as_slice-files.ensures.value ∙ c.in-Ok.ensures in
+    subst (λ (l : Library). IsTrue (is_code l.code)) (sym c.index-files-0.is)
+    (subst (All (λ (l : Library). IsTrue (is_code l.code))) (sym same) c.files_are_named.ensures.codes 0 c.index-files-0.result (let len = ap length same in omega (arith, count, len)))
 
 pub run_files-requires-clause-loadable : goal.run_files-requires-clause-loadable
 run_files-requires-clause-loadable g c κs within =
     let asked : command_of c.args.words.now ≡ Some (command.Run c.in-Run.journal.now c.in-Run.out.now c.in-Run.report.now c.in-Run.files) = c.requires.asks ∙ ap (λ r. Some (command_asked r)) c.in-Run.is in
     let asks = command.Run c.in-Run.journal.now c.in-Run.out.now c.in-Run.report.now c.in-Run.files in
     let few = c.numbers_are_bounded.ensures asks asked in
-    subst (AreLoadable c.in-Run.journal.now) (sym (c.as_slice-files.ensures ∙ c.in-Ok.ensures))
+    subst (AreLoadable c.in-Run.journal.now) (sym (c.as_slice-files.ensures.value ∙ c.in-Ok.ensures))
     (loadable (libraries_of c.args.words.now) c.in-Run.journal.now (c.in-Run.out.now ∷ c.in-Run.report.now ∷ []) c.in-Run.files
     (c.files_are_named.ensures.count asks asked) few.0 few.1 c.files_are_named.ensures.codes (c.names_are_apart.ensures.files asks asked))
 
@@ -60,7 +60,7 @@ load-requires-clause-loadable g c κs within =
     let asked : command_of c.args.words.now ≡ Some (command.Load c.in-Load.journal.now c.in-Load.files) = c.requires.asks ∙ ap (λ r. Some (command_asked r)) c.in-Load.is in
     let asks = command.Load c.in-Load.journal.now c.in-Load.files in
     let few = c.numbers_are_bounded.ensures asks asked in
-    subst (AreLoadable c.in-Load.journal.now) (sym (c.as_slice-files.ensures ∙ c.in-Ok.ensures))
+    subst (AreLoadable c.in-Load.journal.now) (sym (c.as_slice-files.ensures.value ∙ c.in-Ok.ensures))
     (loadable (libraries_of c.args.words.now) c.in-Load.journal.now [] c.in-Load.files
     (c.files_are_named.ensures.count asks asked) few.0 few.1 c.files_are_named.ensures.codes (c.names_are_apart.ensures.files asks asked))
 
@@ -69,8 +69,8 @@ read-requires-clause-differ g c κs within =
     let asked : command_of c.args.words.now ≡ Some (command.Export c.in-Export.journal.now c.in-Export.out.now (option_copied c.in-Export.code)) = c.requires.asks ∙ ap (λ r. Some (command_asked r)) c.in-Export.is in
     (c.names_are_apart.ensures.names (command.Export c.in-Export.journal.now c.in-Export.out.now (option_copied c.in-Export.code)) asked).1.0
 
-pub read-in-Report-requires-clause-differ : goal.read-in-Report-requires-clause-differ
-read-in-Report-requires-clause-differ g c κs within =
+pub read-requires-in-Report-clause-differ : goal.read-requires-in-Report-clause-differ
+read-requires-in-Report-clause-differ g c κs within =
     let asked : command_of c.args.words.now ≡ Some (command.Report c.in-Report.journal.now c.in-Report.out.now) = c.requires.asks ∙ ap (λ r. Some (command_asked r)) c.in-Report.is in
     (c.names_are_apart.ensures.names (command.Report c.in-Report.journal.now c.in-Report.out.now) asked).1.0
 
@@ -81,43 +81,52 @@ make-requires-clause-few g c κs within =
 
 pub returns-in-Pass-clause-ends : goal.returns-in-Pass-clause-ends
 returns-in-Pass-clause-ends g c =
-    subst (λ r. Ends c.args.words.now (command_asked r) _) (sym c.in-Pass.is) (λ library is.
-    subst (λ (l : Library). Passes l c.in-Pass.out.now _) (only library c.index-files.result _ (c.as_slice-files.ensures ∙ (c.in-Ok.ensures ∙ is)) c.index-files.is)
+    let o : Outcome = outcome g.R.Room.seen g.R.Out.Sink.written g.R.Out.Sink.faults c.args.room.now c.pass.new.room c.args.console.now c.pass.new.console c.pass.result in
+    subst (λ r. Ends c.args.words.now (command_asked r) o) (sym c.in-Pass.is) (λ library is.
+    subst (λ (l : Library). Passes l c.in-Pass.out.now o) (only library c.index-files-0.result _ (c.as_slice-files.ensures.value ∙ (c.in-Ok.ensures ∙ is)) c.index-files-0.is)
     c.pass.ensures.ends)
 
 pub returns-in-Pass-clause-command : goal.returns-in-Pass-clause-command
-returns-in-Pass-clause-command g c usage = (c.pass.ensures.ends.told fault.Usage usage).1.0
+returns-in-Pass-clause-command g c usage = (c.pass.ensures.ends.told fault.Usage usage).1
 
 pub returns-in-Run-clause-ends : goal.returns-in-Run-clause-ends
 returns-in-Run-clause-ends g c =
-    subst (λ r. Ends c.args.words.now (command_asked r) _) (sym c.in-Run.is)
-    (subst (λ ls. Runs ls c.in-Run.journal.now c.in-Run.out.now c.in-Run.report.now _) (c.as_slice-files.ensures ∙ c.in-Ok.ensures) c.run_files.ensures.ends)
+    let o : Outcome = outcome g.R.Room.seen g.R.Out.Sink.written g.R.Out.Sink.faults c.args.room.now c.run_files.new.room c.args.console.now c.run_files.new.console c.run_files.result in
+    subst (λ r. Ends c.args.words.now (command_asked r) o) (sym c.in-Run.is)
+    (subst (λ ls. Runs ls c.in-Run.journal.now c.in-Run.out.now c.in-Run.report.now o) (c.as_slice-files.ensures.value ∙ c.in-Ok.ensures) c.run_files.ensures.ends)
 
 pub returns-in-Run-clause-command : goal.returns-in-Run-clause-command
 returns-in-Run-clause-command g c usage = (c.run_files.ensures.ends.told fault.Usage usage).1 refl
 
 pub returns-in-Load-clause-ends : goal.returns-in-Load-clause-ends
 returns-in-Load-clause-ends g c =
-    subst (λ r. Ends c.args.words.now (command_asked r) _) (sym c.in-Load.is)
-    (subst (λ ls. Loads ls c.in-Load.journal.now _) (c.as_slice-files.ensures ∙ c.in-Ok.ensures) c.load.ensures.ends)
+    let o : Outcome = outcome g.R.Room.seen g.R.Out.Sink.written g.R.Out.Sink.faults c.args.room.now c.load.new.room c.args.console.now c.load.new.console c.load.result in
+    subst (λ r. Ends c.args.words.now (command_asked r) o) (sym c.in-Load.is)
+    (subst (λ ls. Loads ls c.in-Load.journal.now o) (c.as_slice-files.ensures.value ∙ c.in-Ok.ensures) c.load.ensures.ends)
 
 pub returns-in-Load-clause-command : goal.returns-in-Load-clause-command
 returns-in-Load-clause-command g c usage = (c.load.ensures.ends.told fault.Usage usage).1 refl
 
 pub returns-in-Export-clause-ends : goal.returns-in-Export-clause-ends
-returns-in-Export-clause-ends g c = subst (λ r. Ends c.args.words.now (command_asked r) _) (sym c.in-Export.is) c.read.ensures.ends
+returns-in-Export-clause-ends g c =
+    let o : Outcome = outcome g.R.Room.seen g.R.Out.Sink.written g.R.Out.Sink.faults c.args.room.now c.read.new.room c.args.console.now c.read.new.console c.read.result in
+    subst (λ r. Ends c.args.words.now (command_asked r) o) (sym c.in-Export.is) c.read.ensures.ends
 
 pub returns-in-Export-clause-command : goal.returns-in-Export-clause-command
 returns-in-Export-clause-command g c usage = subst EndsReading usage c.read.ensures.ends.ends
 
 pub returns-in-Report-clause-ends : goal.returns-in-Report-clause-ends
-returns-in-Report-clause-ends g c = subst (λ r. Ends c.args.words.now (command_asked r) _) (sym c.in-Report.is) c.read-in-Report.ensures.ends
+returns-in-Report-clause-ends g c =
+    let o : Outcome = outcome g.R.Room.seen g.R.Out.Sink.written g.R.Out.Sink.faults c.args.room.now c.read-in-Report.new.room c.args.console.now c.read-in-Report.new.console c.read-in-Report.result in
+    subst (λ r. Ends c.args.words.now (command_asked r) o) (sym c.in-Report.is) c.read-in-Report.ensures.ends
 
 pub returns-in-Report-clause-command : goal.returns-in-Report-clause-command
 returns-in-Report-clause-command g c usage = subst EndsReading usage c.read-in-Report.ensures.ends.ends
 
 pub returns-clause-ends : goal.returns-clause-ends
-returns-clause-ends g c = subst (λ r. Ends c.args.words.now (command_asked r) _) (sym c.in-Make.is) c.make.ensures.ends
+returns-clause-ends g c =
+    let o : Outcome = outcome g.R.Room.seen g.R.Out.Sink.written g.R.Out.Sink.faults c.args.room.now c.make.new.room c.args.console.now c.make.new.console c.make.result in
+    subst (λ r. Ends c.args.words.now (command_asked r) o) (sym c.in-Make.is) c.make.ensures.ends
 
 pub returns-clause-command : goal.returns-clause-command
 returns-clause-command g c usage = let no = subst EndsMake usage c.make.ensures.ends.ends in cc

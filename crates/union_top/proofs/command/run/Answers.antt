@@ -19,7 +19,8 @@ returns-in-Some-clause-usage_told g c two = absurd (c.carry_out.ensures.command 
 
 pub returns-in-Some-clause-ends : goal.returns-in-Some-clause-ends
 returns-in-Some-clause-ends g c command is =
-    (c.carry_out.result, c.status-in-Some.ensures, subst (λ asked. Ends c.args.words.now asked _) (same_command _ command (sym c.in-Some.ensures ∙ is)) c.carry_out.ensures.ends)
+    let o : Outcome = outcome g.R.Room.seen g.R.Out.Sink.written g.R.Out.Sink.faults c.args.room.now c.carry_out.new.room c.args.console.now c.carry_out.new.console c.carry_out.result in
+    (c.carry_out.result, c.status-in-Some.ensures, subst (λ asked. Ends c.args.words.now asked o) (same_command _ command (sym c.in-Some.ensures ∙ is)) c.carry_out.ensures.ends)
 
 pub returns-in-Some-clause-complete : goal.returns-in-Some-clause-complete
 returns-in-Some-clause-complete g c command is tells u =

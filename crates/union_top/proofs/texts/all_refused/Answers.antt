@@ -1,4 +1,5 @@
 use Rattle.std.proofs.Common.{rules, ◌≡◌, ◌<◌, ◌≤◌, ◌+◌, ◌++◌, Some, length, drop, slice_get, string_bytes, refl, sym, ap, subst, ◌∙◌, arith}
+use Rattle.command_words.specs.declared.library.Library.{Library}
 use Rattle.console_lines.specs.Lines.{refused_lines}
 use Rattle.union_top.specs.Texts.{refused_text}
 use Rattle.union_top.proofs.Textual.{got, refused_step, refused_whole}
@@ -21,7 +22,7 @@ loop-index-preserved c =
     let bytes = c.in_ok-push_str.ensures.bytes ∙ ap (λ line. string_bytes c.loop-index.text ++ line) c.as_str.ensures.value in
     subst (λ text. text ++ refused_text (drop (n + 1) libraries) (drop (n + 1) results) ≡ refused_text libraries results) (sym bytes)
     (refused_step libraries results n library file named at (string_bytes c.loop-index.text) (string_bytes c.in_ok-lines.lines)
-    (c.in_ok-lines.ensures ∙ (ap (λ name. refused_lines name _) c.as_str-file.ensures ∙ ap (refused_lines library.file) (c.as_slice.ensures ∙ ap (λ r. r.refused) (sym c.index-results-index.is)))) c.loop-index.invariant)
+    (c.in_ok-lines.ensures ∙ (ap (λ name. refused_lines name c.as_slice.result.now) (c.as_str-file.ensures ∙ ap (λ (l : Library). l.file) (sym c.index-libraries-index.is)) ∙ ap (refused_lines library.file) (c.as_slice.ensures ∙ ap (λ r. r.refused) (sym c.index-results-index.is)))) c.loop-index.invariant)
 
 pub returns : goal.returns
 returns c =

@@ -1,4 +1,5 @@
 use Rattle.std.proofs.Common.{rules, ◌≡◌, ◌<◌, ◌≤◌, ◌+◌, ◌++◌, Some, length, drop, slice_get, string_bytes, refl, sym, ap, subst, ◌∙◌, arith}
+use Rattle.command_words.specs.declared.library.Library.{Library}
 use Rattle.console_lines.specs.Lines.{totals_line}
 use Rattle.union_top.specs.Texts.{totals_text}
 use Rattle.union_top.proofs.Textual.{got, totals_step, totals_whole}
@@ -21,7 +22,7 @@ loop-index-preserved c =
     let bytes = c.in_ok-push_str.ensures.bytes ∙ ap (λ line. string_bytes c.loop-index.text ++ line) c.as_str.ensures.value in
     subst (λ text. text ++ totals_text (drop (n + 1) libraries) (drop (n + 1) results) ≡ totals_text libraries results) (sym bytes)
     (totals_step libraries results n library file named at (string_bytes c.loop-index.text) (string_bytes c.in_ok-line.line)
-    (c.in_ok-line.ensures ∙ (ap (λ name. totals_line name _) c.as_str-file.ensures ∙ ap (totals_line library.file) c.totals_in.ensures)) c.loop-index.invariant)
+    (c.in_ok-line.ensures ∙ (ap (λ name. totals_line name c.totals_in.result) (c.as_str-file.ensures ∙ ap (λ (l : Library). l.file) (sym c.index-libraries-index.is)) ∙ ap (totals_line library.file) c.totals_in.ensures)) c.loop-index.invariant)
 
 pub returns : goal.returns
 returns c =
