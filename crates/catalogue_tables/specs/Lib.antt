@@ -1,0 +1,3 @@
+pub mod Seam
+pub mod Told
+pub mod Tables

@@ -1,0 +1,7 @@
+//! What the tables of a catalogue tell of its records, by keys, forms and places; they work in numbers.
+#![tactic(auto)]
+
+pub use tables::CatalogueTables;
+
+pub mod laws;
+mod tables;
