@@ -1,9 +1,10 @@
 -- What the link table tells of places.
-use Rattle.std.proofs.Common.{◌≡◌, ◌∙◌, ap, refl, subst, ℕ, ◌<◌, arith, length, Bool, true, false, cond, Option, Some, None, IfSome}
+use Rattle.std.proofs.Common.{◌≡◌, ◌∙◌, sym, ap, refl, subst, ℕ, ◌<◌, arith, length, Bool, true, false, cond, Option, Some, None, IfSome}
 use Rattle.std.specs.Prelude.{nat_eq, if◌then◌else◌}
 use Rattle.std.specs.Cmp.{unsigned_Decides}
 use Rattle.std.proofs.lemmas.Cmp.{eq_by_cmp_equiv}
 use Rattle.marc_types.specs.declared.key.Key.{Key}
+use Rattle.marc_types.specs.declared.key.Place.{Place}
 use Rattle.marc_types.specs.Order.{same_key, key_cmp_total}
 use Rattle.numbering.specs.Numbers.{IsNumberOf, number_of}
 use Rattle.numbering.specs.Seats.{same_seat}
@@ -12,9 +13,10 @@ use Rattle.numbering.proofs.Numberlaws.{alike}
 use Rattle.link_table.specs.Links.{Links, is_linked, leads_to, with_key, with_row_taken, with_row_back, IsTaken}
 use Rattle.link_table.specs.declared.link.Link.{Link}
 use Rattle.linking_laws.specs.Partway.{same_place}
-use Rattle.catalogue_tables.specs.Seam.{KeyLists, IsRenumbered}
-use Rattle.catalogue_tables.specs.Told.{linked_by, TellsLink, TellsNoLink, AddsLink, TakesLink, PutsLinkBack}
-use Rattle.catalogue_tables.proofs.Seams.{told_step, within_step, within_less}
+use Rattle.form_index.specs.Order.{key_at}
+use Rattle.catalogue_tables.specs.Seam.{AreDistinct, HasKey, IsRenamed, IsRenumbered, IsSeatOf, KeyLists, seat_of, told}
+use Rattle.catalogue_tables.specs.Told.{LinksFit, linked_by, TellsLink, TellsNoLink, AddsLink, TakesLink, PutsLinkBack}
+use Rattle.catalogue_tables.proofs.Seams.{key_numbered, told_step, within_less, within_step}
 
 leads_by : (n : ℕ) (b : Bool) (x y : Option ℕ) → leads_to n (cond b x y) ≡ cond b (leads_to n x) (leads_to n y)
 leads_by n true x y = refl
@@ -75,3 +77,18 @@ pub takes_if : (o : Option Link) (old new : Links) → IfSome o (λ link. new �
     → IfSome o (λ link. TakesLink link old new)
 takes_if None old new is undone taken = tt
 takes_if (Some link) old new is undone taken = takes link old new is undone taken
+
+-- a place that is linked to no key has no link
+pub unlinked_free : (keys : KeyLists) (links : Links) (place : Place) (seat : Seat) → AreDistinct keys → LinksFit keys links → IsSeatOf keys place seat
+    → ((key : Key) → linked_by keys links key place ≡ false) → links.key_of seat ≡ None
+unlinked_free keys links place seat distinct fit at none = by (links.key_of seat) refl
+  where
+    by : (o : Option ℕ) → links.key_of seat ≡ o → o ≡ None
+    by None e = refl
+    by (Some n) e =
+        let linked : is_linked n links seat ≡ true = ap (leads_to n) e ∙ (unsigned_Decides n n).1 refl in
+        let numbered = key_numbered keys.authorities n distinct.authorities (fit.named n seat linked) in
+        let told : linked_by keys links (key_at keys.authorities n) place ≡ true =
+            ap (λ (m : ℕ). is_linked m links (seat_of keys place)) (sym numbered.is) ∙ ap (λ (s : Seat). is_linked n links s) (sym at.is) ∙ linked in
+        let both : true ≡ false = sym told ∙ none (key_at keys.authorities n) in
+        cc

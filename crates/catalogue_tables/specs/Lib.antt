@@ -1,3 +1,4 @@
 pub mod Seam
-pub mod Told
 pub mod Tables
+pub mod Told
+pub mod Waiting

@@ -11,6 +11,7 @@ use Rattle.numbering.specs.Numbers.{is_known, number_of, Keeps}
 use Rattle.numbering.specs.Seats.{same_seat}
 use Rattle.numbering.specs.declared.seat.Seat.{Seat}
 use Rattle.linking_laws.specs.Partway.{same_place}
+use Rattle.form_index.specs.Order.{key_at}
 
 -- the keys of each class, in the order of their numbers
 pub record KeyLists : Type 0 where
@@ -38,6 +39,10 @@ has_number keys place = is_known same_key (keys_in place.class keys) place.key
 -- the seat of a place
 abbrev pub seat_of : KeyLists → Place → Seat
 seat_of keys place = record { class = place.class; number = number_of same_key (keys_in place.class keys) place.key; field = place.field }
+
+-- the place that a seat stands for
+abbrev pub place_at : KeyLists → Seat → Place
+place_at keys seat = record { class = seat.class; key = key_at (keys_in seat.class keys) seat.number; field = seat.field }
 
 -- the place has a seat, and it is this one
 pub record IsSeatOf (keys : KeyLists) (place : Place) (seat : Seat) : Type 0 where

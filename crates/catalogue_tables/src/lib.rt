@@ -3,5 +3,7 @@
 
 pub use tables::CatalogueTables;
 
+mod gathering;
 pub mod laws;
 mod tables;
+mod waiting;

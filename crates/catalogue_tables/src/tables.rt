@@ -15,10 +15,10 @@ use wait_table::WaitTable;
 /// The tables by which a commit finds the places that it touches, all in numbers: of keys, which the store gives, and of forms.
 #[derive(Drop)]
 pub struct CatalogueTables {
-    forms: Numbering<Form>,
-    index: FormIndex,
-    waits: WaitTable,
-    links: LinkTable,
+    pub(crate) forms: Numbering<Form>,
+    pub(crate) index: FormIndex,
+    pub(crate) waits: WaitTable,
+    pub(crate) links: LinkTable,
 }
 
 impl CatalogueTables {
