@@ -1,3 +1,4 @@
 pub mod Linked
+pub mod Ranked
 pub mod Seams
 pub mod Waited

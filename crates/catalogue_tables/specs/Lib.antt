@@ -1,3 +1,4 @@
+pub mod Rows
 pub mod Seam
 pub mod Tables
 pub mod Told

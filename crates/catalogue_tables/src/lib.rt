@@ -3,6 +3,8 @@
 
 pub use tables::CatalogueTables;
 
+mod authorities;
+mod candidates;
 mod gathering;
 pub mod laws;
 mod tables;
