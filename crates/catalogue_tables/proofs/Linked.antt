@@ -14,7 +14,7 @@ use Rattle.link_table.specs.Links.{Links, is_linked, leads_to, with_key, with_ro
 use Rattle.link_table.specs.declared.link.Link.{Link}
 use Rattle.linking_laws.specs.Partway.{same_place}
 use Rattle.form_index.specs.Order.{key_at}
-use Rattle.catalogue_tables.specs.Seam.{AreDistinct, HasKey, IsRenamed, IsRenumbered, IsSeatOf, KeyLists, seat_of, told}
+use Rattle.catalogue_tables.specs.Seam.{AreDistinct, IsRenumbered, IsSeatOf, KeyLists, seat_of}
 use Rattle.catalogue_tables.specs.Told.{LinksFit, linked_by, TellsLink, TellsNoLink, AddsLink, TakesLink, PutsLinkBack}
 use Rattle.catalogue_tables.proofs.Seams.{key_numbered, told_step, within_less, within_step}
 
@@ -89,6 +89,6 @@ unlinked_free keys links place seat distinct fit at none = by (links.key_of seat
         let linked : is_linked n links seat ≡ true = ap (leads_to n) e ∙ (unsigned_Decides n n).1 refl in
         let numbered = key_numbered keys.authorities n distinct.authorities (fit.named n seat linked) in
         let told : linked_by keys links (key_at keys.authorities n) place ≡ true =
-            ap (λ (m : ℕ). is_linked m links (seat_of keys place)) (sym numbered.is) ∙ ap (λ (s : Seat). is_linked n links s) (sym at.is) ∙ linked in
+        ap (λ (m : ℕ). is_linked m links (seat_of keys place)) (sym numbered.is) ∙ ap (λ (s : Seat). is_linked n links s) (sym at.is) ∙ linked in
         let both : true ≡ false = sym told ∙ none (key_at keys.authorities n) in
         cc

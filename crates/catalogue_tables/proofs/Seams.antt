@@ -1,6 +1,6 @@
 -- What holds of numbers and seats holds of the names and places that they stand for.
 use Rattle.std.proofs.Common.{◌≡◌, ◌∙◌, sym, ap, refl, subst, ℕ, ◌+◌, ◌<◌, ◌≤◌, arith, List, [], ◌∷◌, ◌++◌, length, map, take, get_or, Bool, true, false, ◌&&◌, cond}
-use Rattle.std.specs.Prelude.{◌==◌, ◌||◌, nat_eq, if◌then◌else◌}
+use Rattle.std.specs.Prelude.{◌==◌, ◌||◌, nat_eq}
 use Rattle.std.specs.Cmp.{IsEquivalence, decided, unsigned_Decides}
 use Rattle.std.specs.List.{AllByRecursion, IsDistinct, list_any}
 use Rattle.std.proofs.lemmas.Cmp.{eq_by_cmp_equiv}
@@ -226,7 +226,7 @@ module _ (keys : KeyLists) (distinct : AreDistinct keys) where
   unfolding key_at
   seat_back s low =
       let numbered = number_at same_key (eq_by_cmp_equiv key_cmp_total) (keys_in s.class keys) (key_at (keys_in s.class keys) s.number) s.number (distinct_in keys s.class distinct)
-          (slice_get-get_or (keys_in s.class keys) s.number no_key low) in
+      (slice_get-get_or (keys_in s.class keys) s.number no_key low) in
       record { known = numbered.known; is = λ i. record { class = s.class; number = numbered.is i; field = s.field } }
 
   place_alike : (s : Seat) (q : Place) → HasKey keys s → same_place (place_at keys s) q ≡ same_seat s (seat_of keys q)
@@ -242,12 +242,13 @@ module _ (keys : KeyLists) (distinct : AreDistinct keys) where
   once_each : (seats : List Seat) → AllByRecursion (HasKey keys) seats → IsDistinct same_seat seats → AreOnce (map (place_at keys) seats)
   once_each [] low once = tt
   once_each (s ∷ seats) low once =
-      let back = seat_back s low.0 in
-      (among_places seats (place_at keys s) low.1
-      ∙ ap (λ t. list_any (λ u. same_seat u t) seats) (sym back.is)
-      ∙ turned seats s
-      ∙ none_passes seats s (IsDistinct-head same_seat s seats once),
-      once_each seats low.1 (IsDistinct-tail same_seat s seats once))
+      let back = seat_back s low.0 in (
+        among_places seats (place_at keys s) low.1
+            ∙ ap (λ t. list_any (λ u. same_seat u t) seats) (sym back.is)
+            ∙ turned seats s
+            ∙ none_passes seats s (IsDistinct-head same_seat s seats once),
+        once_each seats low.1 (IsDistinct-tail same_seat s seats once),
+      )
 
   -- the places of the seats that pass a test are all places that pass it, each once
   pub places_listed : (test : Seat → Bool) (seats : List Seat) → ((s : Seat) → test s ≡ true → HasKey keys s) → ListsEach same_seat test seats

@@ -1,7 +1,7 @@
 -- What the waiting table tells of places.
-use Rattle.std.proofs.Common.{◌≡◌, ◌∙◌, sym, ap, refl, subst, ℕ, ◌<◌, arith, List, [], ◌∷◌, length, map, Bool, true, false, cond, Option, Some, None, IfSome}
-use Rattle.std.specs.Prelude.{◌&&◌, ◌||◌, nat_eq, if◌then◌else◌}
-use Rattle.std.specs.List.{AllByRecursion, IsDistinct, list_any}
+use Rattle.std.proofs.Common.{◌≡◌, ◌∙◌, sym, ap, refl, ℕ, List, [], ◌∷◌, length, Bool, true, false, cond, Option, Some, None, IfSome}
+use Rattle.std.specs.Prelude.{◌&&◌, ◌||◌, if◌then◌else◌}
+use Rattle.std.specs.List.{IsDistinct, list_any}
 use Rattle.std.specs.Cmp.{IsEquivalence}
 use Rattle.std.proofs.lemmas.Cmp.{eq_by_cmp_equiv}
 use Rattle.marc_types.specs.declared.form.Form.{Form}
@@ -17,8 +17,8 @@ use Rattle.wait_table.specs.declared.waiting.Waiting.{Waiting}
 use Rattle.wait_table.specs.declared.waiting.WaitRow.{WaitRow}
 use Rattle.place_names.specs.Listed.{ListsEach}
 use Rattle.linking_laws.specs.Partway.{same_place}
-use Rattle.catalogue_tables.specs.Seam.{HasKey, IsRenamed, IsRenumbered, IsSeatOf, KeyLists, seat_of, told}
-use Rattle.catalogue_tables.specs.Waiting.{AddsWait, AreBelow, AreNumbersOf, PutsWaitBack, TakesWait, TellsNoWait, TellsWait, WaitsFit, asking_by, asks_known, naming_by, waits_for}
+use Rattle.catalogue_tables.specs.Seam.{HasKey, IsRenumbered, KeyLists, seat_of}
+use Rattle.catalogue_tables.specs.Waiting.{AddsWait, AreNumbersOf, PutsWaitBack, TakesWait, TellsNoWait, TellsWait, WaitsFit, asking_by, asks_known, naming_by, waits_for}
 use Rattle.catalogue_tables.proofs.Seams.{low_in, numbers_alike, told_step, unnamed, within_less, within_step}
 use Rattle.numbering.proofs.Numberlaws.{keeps_itself}
 
@@ -53,12 +53,12 @@ tells_wait row old new sets = record {
       told_step same_form forms keys (λ n seat. asks n old seat) (λ n seat. asks n new seat) (λ n. asks_form n (Some row.waiting)) place row.seat at
       (asking_set row.seat (Some row.waiting) old new sets) name q
       ∙ ap (λ b. cond (same_place place q) b (asking_by forms keys old name q))
-        (listed_alike same_form (eq_by_cmp_equiv form_cmp_total) forms asked (forms_of row.waiting.forms) name of);
+      (listed_alike same_form (eq_by_cmp_equiv form_cmp_total) forms asked (forms_of row.waiting.forms) name of);
   naming = λ keys named place at of name q.
       told_step same_key keys.authorities keys (λ n seat. names n old seat) (λ n seat. names n new seat) (λ n. names_key n (Some row.waiting)) place row.seat at
       (naming_set row.seat (Some row.waiting) old new sets) name q
       ∙ ap (λ b. cond (same_place place q) b (naming_by keys old name q))
-        (listed_alike same_key (eq_by_cmp_equiv key_cmp_total) keys.authorities named row.waiting.keys name of);
+      (listed_alike same_key (eq_by_cmp_equiv key_cmp_total) keys.authorities named row.waiting.keys name of);
   fits = λ keys forms seated low below fit. record {
     asking = within_step forms keys (λ n seat. asks n old seat) (λ n seat. asks n new seat) (λ n. asks_form n (Some row.waiting)) row.seat
         (asking_set row.seat (Some row.waiting) old new sets) (λ n e. low_in forms (forms_of row.waiting.forms) n low e) seated fit.asking;

@@ -6,9 +6,9 @@ use Rattle.std.specs.Option.{option_map_or}
 use Rattle.marc_types.specs.declared.form.Form.{Form}
 use Rattle.marc_types.specs.declared.key.Key.{Key}
 use Rattle.marc_types.specs.Order.{key_cmp, same_form, same_key}
-use Rattle.numbering.specs.Numbers.{is_known, number_of}
+use Rattle.numbering.specs.Numbers.{is_known, number_of, IsNumberOf}
 use Rattle.form_index.specs.Forms.{Forms, is_among}
-use Rattle.form_index.specs.Index.{Indexed, row_under}
+use Rattle.form_index.specs.Index.{Indexed, Puts, row_under, taken}
 use Rattle.form_index.specs.Order.{has, key_at}
 use Rattle.form_index.specs.declared.among.Among.{Among}
 use Rattle.form_index.specs.declared.candidates.Candidates.{Candidates}
@@ -49,3 +49,11 @@ abbrev pub IsTold : List Key → List IndexRow → Form → Candidates → Type 
 IsTold keys rows form (Established numbers) = map (key_at keys) numbers.now ≡ keys_with (has_established form) rows
 IsTold keys rows form (SeeFrom numbers) = (keys_with (has_established form) rows ≡ []) × (map (key_at keys) numbers.now ≡ keys_with (has_traced form) rows)
 IsTold keys rows form Nobody = (keys_with (has_established form) rows ≡ []) × (keys_with (has_traced form) rows ≡ [])
+
+-- the key with the number has a row now: its heading's form, its see-from forms, which all have numbers, and whether it is bare
+pub record PutsAuthority (names : List Form) (number : ℕ) (established : Form) (see_from : List Form) (bare : Bool) (old new : Indexed) : Type 0 where
+  pub row : Forms
+  pub established_is : IsNumberOf same_form names established row.established
+  pub see_from_are : (form : Form) → has (number_of same_form names form) row.see_from ≡ list_any (same_form form) see_from
+  pub bare_is : row.bare ≡ bare
+  pub puts : Puts (taken number row) old new

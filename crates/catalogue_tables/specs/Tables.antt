@@ -28,3 +28,10 @@ pub record OnlyIndex (keys : List Key) (old new : CatalogueTables) : Type 0 wher
   pub waits : new.waits ≡ old.waits
   pub links : new.links ≡ old.links
   pub ordered : IsInOrder keys new.index
+
+-- and forms may have got numbers
+pub record OnlyIndexAndForms (keys : List Key) (old new : CatalogueTables) : Type 0 where
+  pub forms : Keeps same_form old.forms new.forms
+  pub waits : new.waits ≡ old.waits
+  pub links : new.links ≡ old.links
+  pub ordered : IsInOrder keys new.index

@@ -31,7 +31,12 @@ fn once(found: &Numbering<Seat>)
 
 impl CatalogueTables {
     /// All seats that wait for one of the forms or for the key, each once, in any order: the numbers of the answer go from 0 on.
-    pub fn waiting(&self, alloc: Global, forms: &[Form], key: u32) -> Result<Numbering<Seat>, NoMemory>
+    pub fn waiting(
+        &self,
+        alloc: Global,
+        forms: &[Form],
+        key: u32,
+    ) -> Result<Numbering<Seat>, NoMemory>
         ensures { IfOk result (λ seats. ListsEach same_seat (waits_for self.now.forms forms.now key (waits self.now.waits)) seats) }
     {
         let mut found = Numbering::new(alloc);

@@ -57,7 +57,7 @@ pub fn what_waits_is_told()
     ensures { (known : List Form) (keys : KeyLists) (waits : Waits) (forms : List Form) (key : Key) (number : ℕ) (place : Place)
         → WaitsFit (length known) keys waits → number ≡ number_of same_key keys.authorities key
         → waits_for known forms number waits (seat_of keys place)
-            ≡ (list_any (λ form. asking_by known keys waits form place) forms || naming_by keys waits key place) }
+        ≡ (list_any (λ form. asking_by known keys waits form place) forms || naming_by keys waits key place) }
 {}
 
 /// What waits has a key with a number.
