@@ -1,0 +1,5 @@
+pub mod Linked
+pub mod Numbered
+pub mod Ranked
+pub mod Seams
+pub mod Waited

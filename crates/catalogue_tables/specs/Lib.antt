@@ -1,0 +1,5 @@
+pub mod Rows
+pub mod Seam
+pub mod Tables
+pub mod Told
+pub mod Waiting

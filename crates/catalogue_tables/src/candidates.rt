@@ -1,0 +1,29 @@
+//! Authorities that a form may mean.
+ghost use Rattle.std.specs.Prelude.{◌≡◌, true, List};
+ghost use Rattle.std.specs.List.{IsDistinct};
+ghost use Rattle.marc_types.specs.declared.key.Key.{Key};
+ghost use Rattle.marc_types.specs.Order.{same_form, same_key};
+ghost use Rattle.numbering.specs.Numbers.{is_known, number_of};
+ghost use Rattle.form_index.specs.Candidates.{IsAnswer};
+ghost use Rattle.form_index.specs.Index.{IsInOrder};
+ghost use Rattle.linking_laws.specs.Tables.{IndexRow};
+ghost use Rattle.catalogue_tables.specs.Rows.{IsTold, TellsRows};
+
+use crate::tables::CatalogueTables;
+use form_index::{Among, Candidates};
+use marc_types::Form;
+
+impl CatalogueTables {
+    /// The authorities that the form may mean, by the numbers of their keys, in key order. A form without a number means nobody.
+    pub fn candidates(&self, form: &Form, among: Among) -> Candidates<'_>
+        ensures numbers { is_known same_form self.now.forms form.now ≡ true
+            → IsAnswer among (number_of same_form self.now.forms form.now) self.now.index result }
+        ensures told { (keys : List Key) (rows : List IndexRow) → IsDistinct same_key keys
+            → TellsRows among self.now.forms keys self.now.index rows → IsInOrder keys self.now.index → IsTold keys rows form.now result }
+    {
+        match self.forms.number_of(form) {
+            Some(number) => self.index.candidates(number, among),
+            None => Candidates::Nobody,
+        }
+    }
+}

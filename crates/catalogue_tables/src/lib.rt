@@ -1,0 +1,11 @@
+//! What the tables of a catalogue tell of its records, by keys, forms and places; they work in numbers.
+#![tactic(auto)]
+
+pub use tables::CatalogueTables;
+
+mod authorities;
+mod candidates;
+mod gathering;
+pub mod laws;
+mod tables;
+mod waiting;
