@@ -11,7 +11,7 @@ use Rattle.marc_types.specs.declared.form.Kind.{Kind}
 use Rattle.marc_types.specs.declared.form.Form.{Form}
 use Rattle.heading_fields.specs.Rewriting.{rewriting}
 use Rattle.marc_types.specs.Order.{same_key}
-use Rattle.entry_record.specs.Authority.{Linkable, is_bare, heading_kind, is_heading_field, full_form, base_form}
+use Rattle.entry_record.specs.Authority.{Linkable, is_bare, heading_kind, is_heading_field, full_form, base_form, is_valid_key}
 use Rattle.catalogue_rules.specs.State.{KeptField, State, linkable_authorities, each_field, KeptRecord}
 use Rattle.catalogue_rules.specs.Choice.{has_key, Choice, Link, Unlinked, choice_among, is_established, is_see_from_form, by_form, by_number, by_base_form, takes_subdivisions, asks_base, choice}
 use Rattle.marc_types.specs.Order.{same_form}
@@ -21,8 +21,8 @@ use Rattle.linking_laws.specs.Waiting.{is_form_among, asked_forms, names_key, is
 use Rattle.linking_laws.specs.Stages.{carry_field, carry_by}
 use Rattle.linking_laws.specs.Visits.{waits_for_key}
 use Rattle.linking_laws.specs.Partway.{same_place, swapped, AreOrdered, IsPartway, IsSteadyChange, IsNext}
-use Rattle.linking_laws.specs.Middle.{IsMiddleWith, IsMiddle}
-use Rattle.linking_laws.specs.Tables.{Tables, index_row, asks_at, linked_at, holds_at, Agree, IsRelisted, is_waiting_by, IndexRow, IsReplaced, choice_by_keys, keys_with, has_established, has_traced, form_by_index, choice_by_index}
+use Rattle.linking_laws.specs.Middle.{IsMiddleWith, AreAuthoritiesInOrder}
+use Rattle.linking_laws.specs.Tables.{Tables, index_row, asks_at, linked_at, holds_at, Agree, AreIndexed, IsRelisted, is_waiting_by, IndexRow, IsReplaced, choice_by_keys, keys_with, has_established, has_traced, form_by_index, choice_by_index}
 use Rattle.linking_laws.proofs.Settling.{stage_ready, carry_either}
 use Rattle.linking_laws.proofs.Exchanges.{field_swapped, field_each}
 use Rattle.linking_laws.proofs.Partial.{place_is, partway_more, linkables_partway}
@@ -61,7 +61,7 @@ agree_swapped t u s p old h a there r stay = record {
   forms = r.forms ∙ a.forms ∙ sym (ap (map index_row) stay);
   bare = r.bare ∙ a.bare ∙ sym (ap (λ (l : List Linkable). map index_row (filter is_bare l)) stay);
   asking = λ form q. exchanged (asks_at form) p q old h s (u.asking form q) (t.asking form q) there (r.asking form q) (a.asking form q);
-  naming = λ key q. exchanged (waits_for_key key) p q old h s (u.naming key q) (t.naming key q) there (r.naming key q) (a.naming key q);
+  naming = λ key q valid. exchanged (waits_for_key key) p q old h s (u.naming key q) (t.naming key q) there (r.naming key q valid) (a.naming key q valid);
   linked = λ key q. exchanged (linked_at key) p q old h s (u.linked key q) (t.linked key q) there (r.linked key q) (a.linked key q);
 }
 
@@ -123,7 +123,7 @@ carry_agrees t all key s m a =
       bare = a.bare ∙ sym (ap (λ (l : List Linkable). map index_row (filter is_bare l)) stay);
       asking = λ form q. a.asking form q
           ∙ each_holds (asks_at form) change s q (λ class h. carry_same (asks_at form) key false (λ c x e. asks_linked form c key x e) class h (find (has_key key) all) (is_linked_to key h) refl);
-      naming = λ k q. a.naming k q
+      naming = λ k q valid. a.naming k q valid
           ∙ each_holds (waits_for_key k) change s q (λ class h. carry_same (waits_for_key k) key false (λ c x e. waits_linked k c key x e) class h (find (has_key key) all) (is_linked_to key h) refl);
       linked = λ k q. a.linked k q
           ∙ each_holds (linked_at k) change s q (λ class h. carry_same (linked_at k) key (same_key k key) (λ c x e. linked_to k key x e) class h (find (has_key key) all) (is_linked_to key h) refl);
@@ -181,10 +181,10 @@ waits_place forms key class None = sym (ap (λ (b : Bool). b || false) (none_amo
 waits_place forms key class (Some h) = waits_by forms key class h
 
 -- the tables name exactly the places that wait for the key or for one of the forms
-pub named_by_tables : (t : Tables) (s : State) (forms : List Form) (key : Key) (p : Place) → Agree t s → is_waiting_by t forms key p ≡ holds_at (is_waiting_for forms key) s p
-named_by_tables t s forms key p a =
+pub named_by_tables : (t : Tables) (s : State) (forms : List Form) (key : Key) (p : Place) → is_valid_key key ≡ true → Agree t s → is_waiting_by t forms key p ≡ holds_at (is_waiting_for forms key) s p
+named_by_tables t s forms key p valid a =
     ap (λ (b : Bool). b || t.naming key p) (any_same (λ form. t.asking form p) (λ form. holds_at (asks_at form) s p) forms (λ form. a.asking form p))
-    ∙ ap (λ (b : Bool). list_any (λ form. holds_at (asks_at form) s p) forms || b) (a.naming key p)
+    ∙ ap (λ (b : Bool). list_any (λ form. holds_at (asks_at form) s p) forms || b) (a.naming key p valid)
     ∙ sym (waits_place forms key p.class (field_under p s))
 
 -- ---- a record comes into its place
@@ -206,7 +206,7 @@ agree_placed t u a s g r = record {
   forms = r.forms;
   bare = r.bare;
   asking = λ form q. placed_row (asks_at form) a s q (u.asking form q) (t.asking form q) (r.asking form q) (g.asking form q);
-  naming = λ key q. placed_row (waits_for_key key) a s q (u.naming key q) (t.naming key q) (r.naming key q) (g.naming key q);
+  naming = λ key q valid. placed_row (waits_for_key key) a s q (u.naming key q) (t.naming key q) (r.naming key q valid) (g.naming key q valid);
   linked = λ key q. placed_row (linked_at key) a s q (u.linked key q) (t.linked key q) (r.linked key q) (g.linked key q);
 }
 
@@ -253,12 +253,12 @@ full_at : (takes : Bool) (a b : Option Choice) → a ≡ b → (if takes then a 
 full_at takes a b e = ap (λ (o : Option Choice). if takes then o else None) e
 
 -- the choice of a field, by its names and the rows of the two indexes
-pub choice_found : (t : Tables) (s : State) (class : Class) (kind : Kind) (h : KeptField) → IsMiddle s → Agree t s →
+pub choice_found : (t : Tables) (s : State) (class : Class) (kind : Kind) (h : KeptField) → AreAuthoritiesInOrder s → AreIndexed t s →
     choice (linkable_authorities s) class kind h ≡ choice_by_index t (linkable_authorities s) class kind h
 unfolding choice
 choice_found t s class kind h m g =
     let all = linkable_authorities s in
-    let fits = all_fit s.authorities m.authorities_ascend (recursion_from_All (IsRow Authority) s.authorities m.rows.0) in
+    let fits = all_fit s.authorities m.ascend (recursion_from_All (IsRow Authority) s.authorities m.rows) in
     let found = all_found all fits in
     let full = full_at (takes_subdivisions class h) (by_form all true (full_form kind class h.field)) (form_by_index all t.forms true (full_form kind class h.field))
     (form_by_rows all all true (full_form kind class h.field) t.forms g.forms found) in

@@ -91,7 +91,7 @@ looked_behind first ys [] below there = tt
 looked_behind first ys (row ∷ xs) below there =
     (ap (λ b. cond b (Some first.1) (lookup (same_key row.0) ys)) (below_apart first.0 row.0 below.0) ∙ there.0, looked_behind first ys xs below.1 there.1)
 
-looked : (rows : List Row) → IsAscending rows → Each (λ (row : Row). lookup (same_key row.0) rows ≡ Some row.1) rows
+pub looked : (rows : List Row) → IsAscending rows → Each (λ (row : Row). lookup (same_key row.0) rows ≡ Some row.1) rows
 looked [] order = tt
 looked (row ∷ rows) order = (
   ap (λ b. cond b (Some row.1) (lookup (same_key row.0) rows)) (own_key row.0),

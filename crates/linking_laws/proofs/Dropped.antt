@@ -124,7 +124,7 @@ module _ (all : List Linkable) (key : Key) (successor : Option Key) (class : Cla
   dropped_field DropBases h t spared = dropped_at h true (is_linked_to key h) refl spared t
   dropped_field DropAll h t spared = dropped_at h false (is_linked_to key h) refl spared t
 
-  handled : Each (IsFit all) all → (h g : KeptField) → IsTiedButTo key all class h → IsWithinReach class h → IsLeftOrLoosened all key successor class h g → IsHandled all class h g
+  pub handled : Each (IsFit all) all → (h g : KeptField) → IsTiedButTo key all class h → IsWithinReach class h → IsLeftOrLoosened all key successor class h g → IsHandled all class h g
   handled fits h g t w (inl both) = subst (IsHandled all class h) (sym both.1) (record { tied = both.0; less = omega arith; within = w })
   handled fits h g t w (inr e) =
       let loose = field_loosened key all successor class h (tied_but_of key all class h t) in
@@ -257,7 +257,7 @@ spared_at key before now class h (Some own) e t = λ linked.
     spared_found class h by.0 (find (has_key key) now) by.1.kind_is
     ∙ ap (λ (o : Option Linkable). is_spared (dropping_by o (find (has_key key) now)) h) (sym by.1.found)
 
-but_of : (key : Key) (all : List Linkable) (class : Class) (h : KeptField) → IsTiedBut key all class h → IsTiedButTo key all class h
+pub but_of : (key : Key) (all : List Linkable) (class : Class) (h : KeptField) → IsTiedBut key all class h → IsTiedButTo key all class h
 but_of key all class h t = record { heading = t.heading; kept = t.kept; unawaiting = t.unawaiting; awaits = t.awaits; whole = t.whole }
 
 loose_drop : (d : Dropping) (key : Key) (all : List Linkable) (class : Class) (row : Row) → IsLooseRow key all class row → Each (IsSparedRightly d key all class) row.1.fields →
@@ -274,7 +274,7 @@ new_spared : (d : Dropping) (key : Key) (all : List Linkable) (class : Class) (f
 new_spared d key all class [] = tt
 new_spared d key all class (f ∷ fs) = (λ linked. cc, new_spared d key all class fs)
 
-new_within : (all : List Linkable) (class : Class) → Each (IsFit all) all → (fs : List Field) → Each (IsWithinReach class) (map new_field fs)
+pub new_within : (all : List Linkable) (class : Class) → Each (IsFit all) all → (fs : List Field) → Each (IsWithinReach class) (map new_field fs)
 new_within all class fits [] = tt
 new_within all class fits (f ∷ fs) = (field_within all class fits (new_field f) (tied_new all class (new_field f) refl refl refl, tt), new_within all class fits fs)
 
@@ -291,7 +291,7 @@ old_rows s e class rows r w =
     (each_weaker (IsTied before class) (IsSparedRightly (turned s e) e.key now class) (λ h t. spared_at e.key before now class h h.tie.key refl t) row.1.fields x.0.ties) x.1)
     rows (each_both (IsReadyRow before class) (λ (row : Row). Each (IsWithinReach class) row.1.fields) rows r w)
 
-each_within : (class : Class) (rows : List Row) → All (λ (row : Row). All (IsWithinReach class) row.1.fields) rows → Each (λ (row : Row). Each (IsWithinReach class) row.1.fields) rows
+pub each_within : (class : Class) (rows : List Row) → All (λ (row : Row). All (IsWithinReach class) row.1.fields) rows → Each (λ (row : Row). Each (IsWithinReach class) row.1.fields) rows
 each_within class rows w =
     each_weaker (λ (row : Row). All (IsWithinReach class) row.1.fields) (λ (row : Row). Each (IsWithinReach class) row.1.fields)
     (λ row a. recursion_from_All (IsWithinReach class) row.1.fields a) rows (recursion_from_All (λ (row : Row). All (IsWithinReach class) row.1.fields) rows w)

@@ -39,49 +39,49 @@ got_at xs i j h true e =
     ap (λ (k : ℕ). slice_get (slice_set xs k h) j) same ∙ get_same xs j h
 got_at xs i j h false e = get_other xs i j h (no_number i j e)
 
-set_length : (xs : List KeptField) (i : ℕ) (h : KeptField) → length (slice_set xs i h) ≡ length xs
+pub set_length : (xs : List KeptField) (i : ℕ) (h : KeptField) → length (slice_set xs i h) ≡ length xs
 set_length [] i h = refl
 set_length (x ∷ xs) zero h = refl
 set_length (x ∷ xs) (suc i) h = ap suc (set_length xs i h)
 
 -- ---- the rows of one class
 
-abbrev row_with : Bool → ℕ → KeptField → Row → Row
-row_with c i h row = if c then (row.0, with_field i h row.1) else row
+abbrev row_with : Bool → (KeptRecord → KeptRecord) → Row → Row
+row_with c change row = if c then (row.0, change row.1) else row
 
-found_at : (k : Key) (i : ℕ) (h : KeptField) (row : Row) (o now : Option KeptRecord) (b c d : Bool) → same_key k row.0 ≡ b → (b ≡ true → c ≡ d) →
-    now ≡ (if d then option_map (with_field i h) o else o) →
-    cond (same_key k (row_with c i h row).0) (Some (row_with c i h row).1) now ≡ (if d then option_map (with_field i h) (cond (same_key k row.0) (Some row.1) o) else cond (same_key k row.0) (Some row.1) o)
-found_at k i h row o now true true true e same is =
-    ap (λ (x : Bool). cond x (Some (with_field i h row.1)) now) e ∙ sym (ap (λ (x : Bool). option_map (with_field i h) (cond x (Some row.1) o)) e)
-found_at k i h row o now true false false e same is = ap (λ (x : Bool). cond x (Some row.1) now) e ∙ sym (ap (λ (x : Bool). cond x (Some row.1) o) e)
-found_at k i h row o now true true false e same is = let no_way = same refl in cc
-found_at k i h row o now true false true e same is = let no_way = same refl in cc
-found_at k i h row o now false true true e same is =
-    ap (λ (x : Bool). cond x (Some (with_field i h row.1)) now) e ∙ is ∙ sym (ap (λ (x : Bool). option_map (with_field i h) (cond x (Some row.1) o)) e)
-found_at k i h row o now false true false e same is =
-    ap (λ (x : Bool). cond x (Some (with_field i h row.1)) now) e ∙ is ∙ sym (ap (λ (x : Bool). cond x (Some row.1) o) e)
-found_at k i h row o now false false true e same is =
-    ap (λ (x : Bool). cond x (Some row.1) now) e ∙ is ∙ sym (ap (λ (x : Bool). option_map (with_field i h) (cond x (Some row.1) o)) e)
-found_at k i h row o now false false false e same is =
+found_at : (k : Key) (change : KeptRecord → KeptRecord) (row : Row) (o now : Option KeptRecord) (b c d : Bool) → same_key k row.0 ≡ b → (b ≡ true → c ≡ d) →
+    now ≡ (if d then option_map change o else o) →
+    cond (same_key k (row_with c change row).0) (Some (row_with c change row).1) now ≡ (if d then option_map change (cond (same_key k row.0) (Some row.1) o) else cond (same_key k row.0) (Some row.1) o)
+found_at k change row o now true true true e same is =
+    ap (λ (x : Bool). cond x (Some (change row.1)) now) e ∙ sym (ap (λ (x : Bool). option_map change (cond x (Some row.1) o)) e)
+found_at k change row o now true false false e same is = ap (λ (x : Bool). cond x (Some row.1) now) e ∙ sym (ap (λ (x : Bool). cond x (Some row.1) o) e)
+found_at k change row o now true true false e same is = let no_way = same refl in cc
+found_at k change row o now true false true e same is = let no_way = same refl in cc
+found_at k change row o now false true true e same is =
+    ap (λ (x : Bool). cond x (Some (change row.1)) now) e ∙ is ∙ sym (ap (λ (x : Bool). option_map change (cond x (Some row.1) o)) e)
+found_at k change row o now false true false e same is =
+    ap (λ (x : Bool). cond x (Some (change row.1)) now) e ∙ is ∙ sym (ap (λ (x : Bool). cond x (Some row.1) o) e)
+found_at k change row o now false false true e same is =
+    ap (λ (x : Bool). cond x (Some row.1) now) e ∙ is ∙ sym (ap (λ (x : Bool). option_map change (cond x (Some row.1) o)) e)
+found_at k change row o now false false false e same is =
     ap (λ (x : Bool). cond x (Some row.1) now) e ∙ is ∙ sym (ap (λ (x : Bool). cond x (Some row.1) o) e)
 
 own_alike : (own k : Key) (row : Row) → same_key k row.0 ≡ true → same_key own row.0 ≡ same_key own k
 own_alike own k row e = ap (same_key own) (sym ((key_Decides k row.0).0 e))
 
-no_row : (i : ℕ) (h : KeptField) (b : Bool) → lookup {X = KeptRecord} (λ (key : Key). false) [] ≡ (if b then option_map (with_field i h) None else None)
-no_row i h true = refl
-no_row i h false = refl
+no_row : (change : KeptRecord → KeptRecord) (b : Bool) → lookup {X = KeptRecord} (λ (key : Key). false) [] ≡ (if b then option_map change None else None)
+no_row change true = refl
+no_row change false = refl
 
--- a record that is looked up among rows of which one has another field
-lookup_swapped : (own : Key) (i : ℕ) (h : KeptField) (k : Key) (rows : List Row) →
-    lookup (same_key k) (with_field_under own i h rows) ≡ (if same_key own k then option_map (with_field i h) (lookup (same_key k) rows) else lookup (same_key k) rows)
-lookup_swapped own i h k [] = no_row i h (same_key own k)
-lookup_swapped own i h k (row ∷ rows) =
-    found_at k i h row (lookup (same_key k) rows) (lookup (same_key k) (with_field_under own i h rows)) (same_key k row.0) (same_key own row.0) (same_key own k) refl
-    (own_alike own k row) (lookup_swapped own i h k rows)
+-- a record that is looked up among rows of which one has changed
+pub lookup_changed : (own : Key) (change : KeptRecord → KeptRecord) (k : Key) (rows : List Row) →
+    lookup (same_key k) (map (λ (row : Row). row_with (same_key own row.0) change row) rows) ≡ (if same_key own k then option_map change (lookup (same_key k) rows) else lookup (same_key k) rows)
+lookup_changed own change k [] = no_row change (same_key own k)
+lookup_changed own change k (row ∷ rows) =
+    found_at k change row (lookup (same_key k) rows) (lookup (same_key k) (map (λ (row : Row). row_with (same_key own row.0) change row) rows)) (same_key k row.0) (same_key own row.0) (same_key own k) refl
+    (own_alike own k row) (lookup_changed own change k rows)
 
-outline_at : (own : Key) (i : ℕ) (h : KeptField) (row : Row) (b : Bool) → row_outline (row_with b i h row) ≡ row_outline row
+outline_at : (own : Key) (i : ℕ) (h : KeptField) (row : Row) (b : Bool) → row_outline (row_with b (with_field i h) row) ≡ row_outline row
 outline_at own i h row true = ap (λ (n : ℕ). (row.0, (row.1.leader, n))) (set_length row.1.fields i h)
 outline_at own i h row false = refl
 
@@ -106,7 +106,7 @@ place_at i j h (Some r) false b e = refl
 place_swapped : (own : Key) (i : ℕ) (h : KeptField) (k : Key) (j : ℕ) (rows : List Row) →
     place_of k j (with_field_under own i h rows) ≡ (if same_key own k && (i == j) then option_map (λ (x : KeptField). h) (place_of k j rows) else place_of k j rows)
 place_swapped own i h k j rows =
-    ap (option_and_then (field_at j)) (lookup_swapped own i h k rows) ∙ place_at i j h (lookup (same_key k) rows) (same_key own k) (i == j) refl
+    ap (option_and_then (field_at j)) (lookup_changed own (with_field i h) k rows) ∙ place_at i j h (lookup (same_key k) rows) (same_key own k) (i == j) refl
 
 swapped_in : (c d : Class) (own k : Key) (i j : ℕ) (h : KeptField) (s : State) →
     place_of k j (rows_of d (with_rows c (with_field_under own i h (rows_of c s)) s))
@@ -132,12 +132,12 @@ outlines_swapped p h s class = outlines_in p.class class p.key p.field h s
 
 -- ---- a change of each field
 
-get_mapped : (f : KeptField → KeptField) (xs : List KeptField) (i : ℕ) → slice_get (map f xs) i ≡ option_map f (slice_get xs i)
+pub get_mapped : (f : KeptField → KeptField) (xs : List KeptField) (i : ℕ) → slice_get (map f xs) i ≡ option_map f (slice_get xs i)
 get_mapped f [] i = refl
 get_mapped f (x ∷ xs) zero = refl
 get_mapped f (x ∷ xs) (suc i) = get_mapped f xs i
 
-mapped_length : (f : KeptField → KeptField) (xs : List KeptField) → length (map f xs) ≡ length xs
+pub mapped_length : (f : KeptField → KeptField) (xs : List KeptField) → length (map f xs) ≡ length xs
 mapped_length f [] = refl
 mapped_length f (x ∷ xs) = ap suc (mapped_length f xs)
 

@@ -5,7 +5,9 @@ pub mod Dropped
 pub mod Exchanges
 pub mod Heart
 pub mod Listed
+pub mod Naming
 pub mod Others
+pub mod Owning
 pub mod Pairs
 pub mod Partial
 pub mod Settling
@@ -13,5 +15,7 @@ pub mod Staged
 pub mod Steadily
 pub mod Sums
 pub mod Touched
+pub mod Turning
 pub mod Visited
 pub mod Walked
+pub mod Worked

@@ -9,7 +9,9 @@ use Rattle.marc_types.specs.declared.key.Place.{Place}
 use Rattle.marc_types.specs.declared.form.Form.{Form}
 use Rattle.heading_fields.specs.Numbers.{is_naming}
 use Rattle.marc_types.specs.Fields.{subfields_of}
-use Rattle.marc_types.specs.Order.{same_key}
+use Rattle.std.specs.Ordering.{eq_by_cmp}
+use Rattle.marc_types.specs.Order.{place_cmp, place_Decides, same_key}
+use Rattle.linking_laws.proofs.Naming.{same_tests}
 use Rattle.entry_record.specs.Authority.{Linkable, is_heading_field}
 use Rattle.catalogue_rules.specs.State.{KeptField, State, linkable_authorities}
 use Rattle.catalogue_rules.specs.Settle.{is_linked_to, awaits_key, await, settle_unlinked, settle_field}
@@ -74,25 +76,36 @@ calm_at : (key : Key) (all : List Linkable) (class : Class) (h : KeptField) (b :
 calm_at key all class h true e t off = let on = awaits_waits key all class h t e in cc
 calm_at key all class h false e t off = e
 
-idle : (now : List Linkable) (key : Key) (only_base : Bool) (successor : Option Key) (class : Class) (h : KeptField) → is_linked_to key h ≡ false → awaits_key key h ≡ false →
-    drop_field now key only_base successor class h ≡ h
-idle now key only_base successor class h off calm =
-    drop_off now key only_base successor class h off ∙ ap (λ (b : Bool). if b then option_map_or (λ other. settle_unlinked now class (await h other)) successor h else h) calm
+stays_either : (b : Bool) (h : KeptField) → (if b then h else h) ≡ h
+stays_either true h = refl
+stays_either false h = refl
 
-idle_by : (d : Dropping) (now : List Linkable) (key : Key) (successor : Option Key) (class : Class) (h : KeptField) → is_linked_to key h ≡ false → awaits_key key h ≡ false →
-    drop_by d now key successor class h ≡ h
+-- a field that isn't linked to the key stays, where it doesn't await it or there is no successor
+idle : (now : List Linkable) (key : Key) (only_base : Bool) (successor : Option Key) (class : Class) (h : KeptField) → is_linked_to key h ≡ false →
+    (is_some successor ≡ true → awaits_key key h ≡ false) → drop_field now key only_base successor class h ≡ h
+idle now key only_base None class h off calm = drop_off now key only_base None class h off ∙ stays_either (awaits_key key h) h
+idle now key only_base (Some other) class h off calm =
+    drop_off now key only_base (Some other) class h off ∙ ap (λ (b : Bool). if b then settle_unlinked now class (await h other) else h) (calm refl)
+
+idle_by : (d : Dropping) (now : List Linkable) (key : Key) (successor : Option Key) (class : Class) (h : KeptField) → is_linked_to key h ≡ false →
+    (is_some successor ≡ true → awaits_key key h ≡ false) → drop_by d now key successor class h ≡ h
 idle_by DropNone now key successor class h off calm = refl
 idle_by DropBases now key successor class h off calm = idle now key true successor class h off calm
 idle_by DropAll now key successor class h off calm = idle now key false successor class h off calm
 
--- dropping changes no place but those linked to the key or waiting for it
-pub drop_whole : (d : Dropping) (key : Key) (successor : Option Key) (s : State) (places : List Place) → CanDrop d key s → IsListing (holds_at (dropped_at key) s) places →
+and_off : (a b : Bool) → (a && b) ≡ false → a ≡ true → b ≡ false
+and_off true b e on = e
+and_off false b e on = cc
+
+-- dropping changes no place but those linked to the key or, with a successor, waiting for it
+pub drop_whole : (d : Dropping) (key : Key) (successor : Option Key) (s : State) (places : List Place) → CanDrop d key s → IsListing (holds_at (dropped_at key successor) s) places →
     IsWhole (drop_by d (linkable_authorities s) key successor) places s
 drop_whole d key successor s places m l = record {
   others_stay = λ q h off there.
-      let both = or_false (is_linked_to key h) (waits_for_key key q.class h) (not_listed (dropped_at key) s places q h l off there) in
+      let both = or_false (is_linked_to key h) (is_some successor && waits_for_key key q.class h) (not_listed (dropped_at key successor) s places q h l off there) in
       let tied = tied_at key s q h q.class refl m.ties there in
-      idle_by d (linkable_authorities s) key successor q.class h both.0 (calm_at key (linkable_authorities s) q.class h (awaits_key key h) refl tied both.1);
+      idle_by d (linkable_authorities s) key successor q.class h both.0
+      (λ some. calm_at key (linkable_authorities s) q.class h (awaits_key key h) refl tied (and_off (is_some successor) (waits_for_key key q.class h) both.1 some));
 }
 
 -- ---- each place once
@@ -113,6 +126,12 @@ next_is_new (x ∷ done) p rest once =
     let apart = or_middle (is_place_among done x) (same_place p x) (is_place_among rest x) (sym (any_append (λ y. same_place y x) done (p ∷ rest)) ∙ once.0) in
     let here = place_turned p x (same_place x p) refl apart in
     ap (λ (b : Bool). b || is_place_among done p) here ∙ next_is_new done p rest once.1
+
+-- two places are the same where neither comes before the other
+pub place_by_order : (p q : Place) → same_place p q ≡ eq_by_cmp place_cmp p q
+place_by_order p q =
+    same_tests (same_place p q) (eq_by_cmp place_cmp p q) (λ e. (place_Decides p q).1 (place_is p q e))
+    (λ e. ap (same_place p) (sym ((place_Decides p q).0 e)) ∙ own_place p)
 
 -- ---- the same heading
 

@@ -74,7 +74,7 @@ pub record IsHandled (all : List Linkable) (class : Class) (before now : KeptFie
   pub within : IsWithinReach class now
 
 module _ (all : List Linkable) (class : Class) (fits : Each (IsFit all) all) where
-  handled_at : (h g : KeptField) → IsLeftOrSettled all class h g → IsTied all class h → IsWithinReach class h → IsHandled all class h g
+  pub handled_at : (h g : KeptField) → IsLeftOrSettled all class h g → IsTied all class h → IsWithinReach class h → IsHandled all class h g
   handled_at h g (inl e) t w = subst (IsHandled all class h) (sym e) (record { tied = t; less = omega arith; within = w })
   handled_at h g (inr e) t w =
       let done = field_done all class fits h t in

@@ -20,7 +20,7 @@ use Rattle.linking_laws.specs.Stages.{Dropping, drop_by}
 use Rattle.linking_laws.proofs.Settling.{steady_at}
 use Rattle.linking_laws.proofs.Dropped.{dropped_field, steady_dropped}
 
-got : (P : KeptField → Type 0) (hs : List KeptField) (i : ℕ) (h : KeptField) → Each P hs → slice_get hs i ≡ Some h → P h
+pub got : (P : KeptField → Type 0) (hs : List KeptField) (i : ℕ) (h : KeptField) → Each P hs → slice_get hs i ≡ Some h → P h
 got P [] i h a e = cc
 got P (x ∷ hs) zero h a e = let same : x ≡ h = cc in subst P same a.0
 got P (x ∷ hs) (suc i) h a e = got P hs i h a.1 e
@@ -38,7 +38,7 @@ field_in : (P : KeptField → Type 0) (rows : List Row) (k : Key) (i : ℕ) (h :
 field_in P rows k i h None a is e = cc
 field_in P rows k i h (Some r) a is e = got P r.fields i h (found P rows k r a is) e
 
-each_row_of : (P : KeptField → Type 0) (rows : List Row) → All (λ (row : Row). All P row.1.fields) rows → Each (λ (row : Row). Each P row.1.fields) rows
+pub each_row_of : (P : KeptField → Type 0) (rows : List Row) → All (λ (row : Row). All P row.1.fields) rows → Each (λ (row : Row). Each P row.1.fields) rows
 each_row_of P rows a =
     each_weaker (λ (row : Row). All P row.1.fields) (λ (row : Row). Each P row.1.fields) (λ row b. recursion_from_All P row.1.fields b) rows
     (recursion_from_All (λ (row : Row). All P row.1.fields) rows a)

@@ -8,3 +8,4 @@ pub mod Tables
 pub mod Visits
 pub mod Waiting
 pub mod Weights
+pub mod Worked

@@ -4,6 +4,7 @@ use Rattle.std.specs.Prelude.{◌≡◌, ◌≤◌, ◌⊎◌, Bool, true, false
 use Rattle.marc_types.specs.Valid.{is_record, is_field}
 use Rattle.marc_types.specs.declared.field.Field.{Field}
 use Rattle.marc_types.specs.declared.key.Class.{Class}
+use Rattle.marc_types.specs.declared.key.Class.TheVariants.{Authority}
 use Rattle.marc_types.specs.declared.key.Key.{Key}
 use Rattle.marc_types.specs.Fields.{tag_of}
 use Rattle.heading_fields.specs.Tables.{is_subdividable}
@@ -14,10 +15,17 @@ use Rattle.catalogue_rules.specs.State.{KeptField, Row, State, fields_of, linkab
 use Rattle.catalogue_rules.specs.Settle.{keeps_link, is_linked_to, settle_field}
 use Rattle.linking_laws.specs.Stages.{Dropping, DropNone, DropBases, DropAll}
 use Rattle.catalogue_rules.specs.Valid.{EachRow, EachField, IsAscending, IsRow, IsTied, HasRoom, reach}
+use Rattle.marc_types.specs.declared.key.Place.{Place}
+use Rattle.linking_laws.specs.Partway.{IsNext}
 
 -- a field is no longer than its reach
 abbrev pub IsWithinReach : Class → KeptField → Type 0
 IsWithinReach class h = field_length h.field ≤ reach class h
+
+-- the authority records stand in key order under proper keys
+pub record AreAuthoritiesInOrder (s : State) : Type 0 where
+  pub ascend : IsAscending s.authorities
+  pub rows : All (IsRow Authority) s.authorities
 
 pub record IsMiddle (s : State) : Type 0 where
   pub authorities_ascend : IsAscending s.authorities
@@ -75,3 +83,20 @@ pub record CanDrop (dropping : Dropping) (key : Key) (s : State) : Type 0 where
   pub spared : EachField (IsSparedRightly dropping key (linkable_authorities s)) s
   pub room : EachRow HasRoom s
   pub within : EachField IsWithinReach s
+
+-- Partway through dropping: what a state is before its links to a key are dropped, but that a link to the key is asked for only
+-- where its place isn't done. (A field that is done may be linked to the key again.)
+pub record CanDropOn (dropping : Dropping) (key : Key) (done : List Place) (s : State) : Type 0 where
+  pub authorities_ascend : IsAscending s.authorities
+  pub bibliographic_ascend : IsAscending s.bibliographic
+  pub rows : EachRow IsRow s
+  pub ties : EachField (IsTiedButTo key (linkable_authorities s)) s
+  pub spared : (p : Place) (h : KeptField) → IsNext done p h s →
+      IsSparedRightly dropping key (linkable_authorities s) p.class h
+  pub room : EachRow HasRoom s
+  pub within : EachField IsWithinReach s
+
+-- a turn of dropping leads to such a state with one more place done, and the authorities stay
+pub record IsDroppedOn (dropping : Dropping) (key : Key) (done : List Place) (before now : State) : Type 0 where
+  pub can_go_on : CanDropOn dropping key done now
+  pub authorities_stay : linkable_authorities now ≡ linkable_authorities before

@@ -54,6 +54,15 @@ pub record IsNext (done : List Place) (p : Place) (h : KeptField) (now : State) 
 pub record IsWhole (change : Class → KeptField → KeptField) (done : List Place) (before : State) : Type 0 where
   pub others_stay : (q : Place) (h : KeptField) → is_place_among done q ≡ false → field_under q before ≡ Some h → change q.class h ≡ h
 
+-- a place of the record of a class under a key
+abbrev pub is_place_of : Class → Key → Place → Bool
+is_place_of class key q = same_class class q.class && same_key key q.key
+
+-- of the places that hold a field exactly the record's own are done
+pub record AreOwnDone (class : Class) (key : Key) (done : List Place) (before : State) : Type 0 where
+  pub done_are : (q : Place) (h : KeptField) → field_under q before ≡ Some h →
+      is_place_among done q ≡ is_place_of class key q
+
 -- a field that stays, or one that is a 5XX before and after
 abbrev pub IsSteady : KeptField → KeptField → Type 0
 IsSteady g h = (g.field ≡ h.field) ⊎ (((tag_of g.field).a ≡ 53) × ((tag_of h.field).a ≡ 53))

@@ -1,6 +1,6 @@
 -- What the tables of a catalogue tell of its state, as tests: which fields ask for a form, which name a key, which are linked
 -- to it; and two indexes of the linkable authorities. The rules are this project's own.
-use Rattle.std.specs.Prelude.{◌≡◌, Bool, true, false, ◌||◌, List, [], ◌∷◌, map, filter, find, Option, Some, None, unwrap_or, is_some, if◌then◌else◌}
+use Rattle.std.specs.Prelude.{◌≡◌, Bool, true, false, ◌&&◌, ◌||◌, List, [], ◌∷◌, map, filter, find, Option, Some, None, unwrap_or, is_some, if◌then◌else◌}
 use Rattle.std.specs.List.{list_any}
 use Rattle.std.specs.Option.{option_map_or, option_map, option_or}
 use Rattle.marc_types.specs.declared.key.Class.{Class}
@@ -11,7 +11,7 @@ use Rattle.marc_types.specs.declared.form.Kind.{Kind}
 use Rattle.catalogue_rules.specs.Choice.{Choice, Link, Ambiguous, Unlinked, has_key, takes_subdivisions, asks_base, by_number}
 use Rattle.marc_types.specs.Order.{same_form}
 use Rattle.catalogue_rules.specs.Receipt.{is_committed}
-use Rattle.entry_record.specs.Authority.{Linkable, is_bare, heading_kind, full_form, base_form}
+use Rattle.entry_record.specs.Authority.{Linkable, is_bare, heading_kind, full_form, base_form, is_valid_key}
 use Rattle.catalogue_rules.specs.State.{KeptField, State, linkable_authorities}
 use Rattle.catalogue_rules.specs.Settle.{is_linked_to, Arrival}
 use Rattle.record_store.specs.Store.{field_under}
@@ -45,21 +45,26 @@ asks_at form class h =
 abbrev pub linked_at : Key → Class → KeptField → Bool
 linked_at key class h = is_linked_to key h
 
--- what dropping the links to a key names: each place linked to it, and each that waits for it
-abbrev pub dropped_at : Key → Class → KeptField → Bool
-dropped_at key class h = is_linked_to key h || waits_for_key key class h
+-- what dropping the links to a key names: each place linked to it, and with a successor each that waits for it
+abbrev pub dropped_at : Key → Option Key → Class → KeptField → Bool
+dropped_at key successor class h = is_linked_to key h || (is_some successor && waits_for_key key class h)
 
 -- there is a field at the place, and it passes
 abbrev pub holds_at : (Class → KeptField → Bool) → State → Place → Bool
 holds_at test s p = option_map_or (test p.class) (field_under p s) false
 
--- The tables agree with a state: the indexes list its linkable authorities in key order, all and those with a bare heading,
--- and the other tables list exactly the places that they should.
+-- the indexes list the linkable authorities of a state in key order, all and those with a bare heading
+pub record AreIndexed (t : Tables) (s : State) : Type 0 where
+  pub forms : t.forms ≡ map index_row (linkable_authorities s)
+  pub bare : t.bare ≡ map index_row (filter is_bare (linkable_authorities s))
+
+-- The tables agree with a state: the indexes list its linkable authorities, and the other tables list exactly the places that
+-- they should. Only valid keys are named: the text of a `$0` reads as one of them at most, and an improper key may have the same.
 pub record Agree (t : Tables) (s : State) : Type 0 where
   pub forms : t.forms ≡ map index_row (linkable_authorities s)
   pub bare : t.bare ≡ map index_row (filter is_bare (linkable_authorities s))
   pub asking : (form : Form) (p : Place) → t.asking form p ≡ holds_at (asks_at form) s p
-  pub naming : (key : Key) (p : Place) → t.naming key p ≡ holds_at (waits_for_key key) s p
+  pub naming : (key : Key) (p : Place) → is_valid_key key ≡ true → t.naming key p ≡ holds_at (waits_for_key key) s p
   pub linked : (key : Key) (p : Place) → t.linked key p ≡ holds_at (linked_at key) s p
 
 -- the places are listed, each once
@@ -77,7 +82,7 @@ pub record IsRelisted (p : Place) (h : KeptField) (before after : Tables) : Type
   pub bare : after.bare ≡ before.bare
   pub asking : (form : Form) (q : Place) →
       after.asking form q ≡ (if same_place p q then asks_at form p.class h else before.asking form q)
-  pub naming : (key : Key) (q : Place) →
+  pub naming : (key : Key) (q : Place) → is_valid_key key ≡ true →
       after.naming key q ≡ (if same_place p q then waits_for_key key p.class h else before.naming key q)
   pub linked : (key : Key) (q : Place) →
       after.linked key q ≡ (if same_place p q then linked_at key p.class h else before.linked key q)
@@ -93,7 +98,7 @@ pub record IsReplaced (a : Arrival) (placed : State) (before after : Tables) : T
   pub bare : after.bare ≡ map index_row (filter is_bare (linkable_authorities placed))
   pub asking : (form : Form) (q : Place) →
       after.asking form q ≡ (if is_committed a q.class q.key then holds_at (asks_at form) placed q else before.asking form q)
-  pub naming : (key : Key) (q : Place) →
+  pub naming : (key : Key) (q : Place) → is_valid_key key ≡ true →
       after.naming key q ≡ (if is_committed a q.class q.key then holds_at (waits_for_key key) placed q else before.naming key q)
   pub linked : (key : Key) (q : Place) →
       after.linked key q ≡ (if is_committed a q.class q.key then holds_at (linked_at key) placed q else before.linked key q)

@@ -15,6 +15,7 @@ use Rattle.catalogue_rules.specs.Settle.{Arrival, is_linked_to, awaits_key, end_
 use Rattle.linking_laws.specs.Waiting.{names_key, is_waiting_for, forms_touched}
 use Rattle.linking_laws.specs.Stages.{Dropping, DropNone, DropBases, DropAll, dropping_by, successor_in, drop_by, carry_by, settle_own}
 use Rattle.linking_laws.specs.Weights.{one_if, sum_row, sum_fields, arrival_weight, state_weight}
+use Rattle.linking_laws.specs.Behind.{placed_in}
 use Rattle.linking_laws.specs.Commits.{authorities_behind, placed_by}
 use Rattle.marc_types.specs.declared.entry.Entry.{Entry}
 use Rattle.catalogue_rules.specs.Settle.{arrival_of}
@@ -85,3 +86,21 @@ commit_weight s e = arrival_weight (arrival_of e) + state_weight (arrival_of e) 
 abbrev pub own_commit_visits : State → Entry → ℕ
 own_commit_visits s e =
     sum_by (own_row_visits (linkable_authorities s) Bibliographic e.key) (placed_by Bibliographic s e).bibliographic
+
+-- the visits of a commit, by its class
+abbrev pub visits_in : Class → State → Entry → ℕ
+visits_in Authority s e = commit_visits s e
+visits_in Bibliographic s e = own_commit_visits s e
+
+abbrev pub touched_in : Class → State → Arrival → ℕ
+touched_in Authority s a =
+    arrival_weight a + state_weight a (linkable_authorities s) (linkable_authorities (placed_in Authority a s)) s
+touched_in Bibliographic s a = arrival_weight a
+
+-- What a commit touches over a state, in all: the weights of its own heading fields and, of an authority's commit, those of the
+-- fields that are linked to its key or wait for it.
+abbrev pub touched_by : State → Arrival → ℕ
+touched_by s a = touched_in a.class s a
+
+abbrev pub touched : State → Entry → ℕ
+touched s e = touched_by s (arrival_of e)

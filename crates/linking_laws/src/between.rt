@@ -1,18 +1,19 @@
 //! Laws of the states between the stages of a commit.
-ghost use Rattle.std.specs.Prelude.{ℕ, List, find, Option};
+ghost use Rattle.std.specs.Prelude.{ℕ, List, [], ◌∷◌, ◌++◌, find, Option};
 ghost use Rattle.marc_types.specs.declared.key.Class.{Class};
-ghost use Rattle.marc_types.specs.declared.key.Class.TheVariants.{Authority};
+ghost use Rattle.marc_types.specs.declared.key.Class.TheVariants.{Authority, Bibliographic};
 ghost use Rattle.marc_types.specs.declared.key.Key.{Key};
 ghost use Rattle.marc_types.specs.declared.entry.Entry.{Entry};
 ghost use Rattle.entry_record.specs.Authority.{Linkable};
 ghost use Rattle.catalogue_rules.specs.State.{KeptField, State, linkable_authorities, each_field, Row};
 ghost use Rattle.catalogue_rules.specs.Choice.{has_key};
 ghost use Rattle.catalogue_rules.specs.Valid.{IsValid};
-ghost use Rattle.linking_laws.specs.Partway.{IsSteadyChange};
-ghost use Rattle.linking_laws.specs.Middle.{CanDrop, IsEitherStage, IsMiddle, IsMiddleWith, IsVisited};
+ghost use Rattle.linking_laws.specs.Partway.{IsNext, IsSteadyChange, swapped};
+ghost use Rattle.linking_laws.specs.Middle.{CanDrop, CanDropOn, IsDroppedOn, IsEitherStage, IsMiddle, IsMiddleWith, IsVisited};
 ghost use Rattle.linking_laws.specs.Stages.{Dropping, drop_by, carry_by, choose_field, settle_own};
 ghost use Rattle.marc_types.specs.declared.field.Field.{Field};
 ghost use Rattle.marc_types.specs.declared.form.Form.{Form};
+ghost use Rattle.marc_types.specs.declared.key.Place.{Place};
 ghost use Rattle.record_store.specs.Store.{StaysRecord};
 ghost use Rattle.linking_laws.specs.Commits.{IsCommit, dropping_of, placed_by};
 
@@ -26,6 +27,12 @@ pub fn a_valid_state_is_a_middle()
 pub fn a_stage_leads_between_stages()
     ensures { (all : List Linkable) (change : Class → KeptField → KeptField) (s : State)
         → IsMiddleWith all s → IsEitherStage all change → IsMiddleWith all (each_field change s) }
+{}
+
+/// One turn of such a stage leads between stages as well, with the same authorities.
+pub fn a_turn_leads_between_stages()
+    ensures { (all : List Linkable) (change : Class → KeptField → KeptField) (done : List Place) (now : State) (p : Place) (h : KeptField)
+        → IsMiddleWith all now → IsNext done p h now → IsEitherStage all change → IsMiddleWith all (swapped p (change p.class h) now) }
 {}
 
 /// Carrying leaves each field or settles it, and so does choosing.
@@ -57,10 +64,24 @@ pub fn a_commit_can_drop()
     ensures { (s : State) (e : Entry) → IsCommit Authority s e → CanDrop (dropping_of s e) e.key (placed_by Authority s e) }
 {}
 
+/// A bibliographic record in its place leads from a valid state to one between stages.
+pub fn a_bibliographic_record_leads_to_a_middle()
+    ensures { (s : State) (e : Entry) → IsCommit Bibliographic s e
+        → IsMiddleWith (linkable_authorities s) (placed_by Bibliographic s e) }
+{}
+
 /// Dropping leads from such a state to one between stages, with the same authorities.
 pub fn dropping_leads_between_stages()
     ensures { (d : Dropping) (key : Key) (successor : Option Key) (s : State) → CanDrop d key s
         → IsMiddleWith (linkable_authorities s) (each_field (drop_by d (linkable_authorities s) key successor) s) }
+{}
+
+/// Dropping begins with no place done, and each turn leads on, with the same authorities and room in each record.
+pub fn dropping_goes_on_by_one_place()
+    ensures begins { (d : Dropping) (key : Key) (s : State) → CanDrop d key s → CanDropOn d key [] s }
+    ensures goes_on { (d : Dropping) (key : Key) (successor : Option Key) (done : List Place) (now : State) (p : Place) (h : KeptField)
+        → CanDropOn d key done now → IsNext done p h now
+        → IsDroppedOn d key (done ++ p ∷ []) now (swapped p (drop_by d (linkable_authorities now) key successor p.class h) now) }
 {}
 
 /// Settling the own fields leads from one state between stages to another.

@@ -3,14 +3,16 @@ ghost use Rattle.std.specs.Prelude.{◌≡◌, List, [], ◌∷◌, ◌++◌, Op
 ghost use Rattle.marc_types.specs.declared.key.Class.{Class};
 ghost use Rattle.marc_types.specs.declared.key.Place.{Place};
 ghost use Rattle.catalogue_rules.specs.State.{KeptField, State, linkable_authorities, each_field};
-ghost use Rattle.linking_laws.specs.Partway.{AreOrdered, IsNext, IsPartway, IsSteadyChange, IsWhole, swapped, is_place_among};
+ghost use Rattle.linking_laws.specs.Partway.{same_place, AreOrdered, AreOwnDone, IsNext, IsPartway, IsSteadyChange, IsWhole, swapped, is_place_among};
 ghost use Rattle.marc_types.specs.declared.key.Key.{Key};
 ghost use Rattle.marc_types.specs.declared.form.Form.{Form};
 ghost use Rattle.entry_record.specs.Authority.{Linkable};
 ghost use Rattle.linking_laws.specs.Middle.{CanDrop};
-ghost use Rattle.linking_laws.specs.Stages.{Dropping, drop_by, carry_by, carry_field, choose_field};
+ghost use Rattle.linking_laws.specs.Stages.{Dropping, drop_by, carry_by, carry_field, choose_field, settle_own};
 ghost use Rattle.linking_laws.specs.Tables.{AreOnce, IsListing, dropped_at, holds_at, linked_at};
 ghost use Rattle.linking_laws.specs.Waiting.{is_waiting_for};
+ghost use Rattle.std.specs.Ordering.{eq_by_cmp};
+ghost use Rattle.marc_types.specs.Order.{place_cmp};
 ghost use Rattle.catalogue_rules.specs.Choice.{has_key};
 ghost use Rattle.catalogue_rules.specs.Settle.{settle_field};
 
@@ -35,6 +37,13 @@ pub fn a_change_ends_with_its_last_place()
         → AreOrdered before → IsPartway change done before now → IsWhole change done before → each_field change before ≡ now }
 {}
 
+/// Once the places of one record are done, and no others, its own fields are settled.
+pub fn own_fields_are_settled()
+    ensures { (all : List Linkable) (class : Class) (key : Key) (done : List Place) (before now : State)
+        → AreOrdered before → IsPartway (settle_field all) done before now → AreOwnDone class key done before
+        → settle_own all class key before ≡ now }
+{}
+
 /// However far a change of 5XX fields has come, the linkable authorities are those before, and so no choice elsewhere changes.
 #[tactic(auto, using(crate::proofs::Partial::linkables_partway))]
 pub fn authorities_stay_on_the_way()
@@ -46,6 +55,12 @@ pub fn authorities_stay_on_the_way()
 /// In a listing the next place isn't among those before it.
 pub fn a_listed_place_is_new()
     ensures { (done : List Place) (p : Place) (rest : List Place) → AreOnce (done ++ p ∷ rest) → is_place_among done p ≡ false }
+{}
+
+/// The test of two places is the one by which sorted containers of places stand.
+#[tactic(auto, using(crate::proofs::Listed::place_by_order))]
+pub fn places_are_the_same_by_their_order()
+    ensures { (p q : Place) → same_place p q ≡ eq_by_cmp place_cmp p q }
 {}
 
 /// Carrying changes no place outside a listing of those linked to the key.
@@ -60,10 +75,10 @@ pub fn choosing_is_whole()
         → IsListing (holds_at (is_waiting_for forms key) s) places → IsWhole (choose_field now forms key) places s }
 {}
 
-/// Dropping changes no place outside a listing of those linked to the key and those that wait for it.
+/// Dropping changes no place outside a listing of those linked to the key and, where there is a successor, those that wait for the key.
 pub fn dropping_is_whole()
     ensures { (d : Dropping) (key : Key) (successor : Option Key) (s : State) (places : List Place) → CanDrop d key s
-        → IsListing (holds_at (dropped_at key) s) places → IsWhole (drop_by d (linkable_authorities s) key successor) places s }
+        → IsListing (holds_at (dropped_at key successor) s) places → IsWhole (drop_by d (linkable_authorities s) key successor) places s }
 {}
 
 /// Carrying the heading that the key's authority has leaves a settled field: where it is the same as before, nothing changes.

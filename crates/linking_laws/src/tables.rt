@@ -1,21 +1,26 @@
 //! Laws of the tables by which the touched places are found.
-ghost use Rattle.std.specs.Prelude.{◌≡◌, List, find, Some};
+ghost use Rattle.std.specs.Prelude.{◌≡◌, ◌≤◌, ◌==◌, ◌&&◌, true, false, List, length, find, Some};
 ghost use Rattle.marc_types.specs.declared.key.Class.{Class};
 ghost use Rattle.marc_types.specs.declared.key.Key.{Key};
 ghost use Rattle.marc_types.specs.declared.key.Place.{Place};
 ghost use Rattle.marc_types.specs.declared.form.Kind.{Kind};
-ghost use Rattle.entry_record.specs.Authority.{Linkable};
+ghost use Rattle.entry_record.specs.Authority.{Linkable, is_valid_key, key_of_text};
 ghost use Rattle.catalogue_rules.specs.State.{KeptField, State, linkable_authorities, each_field};
 ghost use Rattle.catalogue_rules.specs.Choice.{choice, has_key};
 ghost use Rattle.catalogue_rules.specs.Settle.{Arrival};
 ghost use Rattle.linking_laws.specs.Behind.{placed_in};
-ghost use Rattle.linking_laws.specs.Waiting.{is_waiting_for};
+ghost use Rattle.linking_laws.specs.Waiting.{asked_forms, is_waiting_for};
+ghost use Rattle.std.specs.Option.{option_map_or};
+ghost use Rattle.marc_types.specs.Order.{same_key};
+ghost use Rattle.marc_types.specs.declared.field.Subfield.{Subfield};
+ghost use Rattle.heading_fields.specs.Numbers.{is_naming, without_blanks};
+ghost use Rattle.catalogue_rules.specs.Valid.{IsTied};
 ghost use Rattle.linking_laws.specs.Partway.{AreOrdered, IsNext, IsPartway, IsSteadyChange, swapped};
-ghost use Rattle.linking_laws.specs.Middle.{IsMiddle, IsMiddleWith};
+ghost use Rattle.linking_laws.specs.Middle.{AreAuthoritiesInOrder, IsMiddleWith};
 ghost use Rattle.linking_laws.specs.Stages.{carry_by};
 ghost use Rattle.marc_types.specs.declared.form.Form.{Form};
 ghost use Rattle.record_store.specs.Store.{field_under};
-ghost use Rattle.linking_laws.specs.Tables.{Tables, Agree, IsRelisted, IsReplaced, choice_by_index, holds_at, is_waiting_by};
+ghost use Rattle.linking_laws.specs.Tables.{Tables, Agree, AreIndexed, IsRelisted, IsReplaced, choice_by_index, holds_at, is_waiting_by};
 
 /// Tables that agree with a state agree with the state in which one field and its rows are exchanged.
 pub fn tables_follow_an_exchange()
@@ -43,16 +48,29 @@ pub fn carrying_changes_no_table()
         → Agree t (each_field (carry_by key (find (has_key key) all)) s) }
 {}
 
-/// Tables that agree with a state name exactly the places that wait for a key or for one of some forms.
+/// Tables that agree with a state name exactly the places that wait for a valid key or for one of some forms.
 #[tactic(auto, using(crate::proofs::Agreeing::named_by_tables))]
 pub fn tables_name_what_waits()
-    ensures { (t : Tables) (s : State) (forms : List Form) (key : Key) (p : Place) → Agree t s
+    ensures { (t : Tables) (s : State) (forms : List Form) (key : Key) (p : Place) → is_valid_key key ≡ true → Agree t s
         → is_waiting_by t forms key p ≡ holds_at (is_waiting_for forms key) s p }
+{}
+
+/// A `$0` names a valid key exactly where its text without blanks reads as that key.
+#[tactic(auto, using(crate::proofs::Naming::naming_is))]
+pub fn a_number_names_the_key_that_it_reads_as()
+    ensures { (key : Key) (s : Subfield) → is_valid_key key ≡ true
+        → is_naming key s ≡ ((s.code == 48) && option_map_or (same_key key) (key_of_text (without_blanks s.text)) false) }
+{}
+
+/// A field that is tied is looked up by one form or by two.
+pub fn a_field_asks_for_one_form_or_two()
+    ensures some { (all : List Linkable) (class : Class) (kind : Kind) (h : KeptField) → IsTied all class h → 1 ≤ length (asked_forms class kind h) }
+    ensures few { (class : Class) (kind : Kind) (h : KeptField) → length (asked_forms class kind h) ≤ 2 }
 {}
 
 /// A choice is found by the field's names and the rows of the two indexes, with no scan of the authorities.
 #[tactic(auto, using(crate::proofs::Agreeing::choice_found))]
 pub fn a_choice_is_found_by_the_indexes()
-    ensures { (t : Tables) (s : State) (class : Class) (kind : Kind) (h : KeptField) → IsMiddle s → Agree t s
+    ensures { (t : Tables) (s : State) (class : Class) (kind : Kind) (h : KeptField) → AreAuthoritiesInOrder s → AreIndexed t s
         → choice (linkable_authorities s) class kind h ≡ choice_by_index t (linkable_authorities s) class kind h }
 {}
