@@ -1,4 +1,4 @@
-ghost use Rattle.std.specs.Prelude.{◌≡◌, OnOk, OnErr, IfOk, IfSome, IfNone, None};
+ghost use Rattle.std.specs.Prelude.{◌≡◌, List, OnOk, OnErr, IfOk, IfSome, IfNone, None};
 ghost use Rattle.link_table.specs.Links.{IsTaken, is_linked, row_of};
 ghost use Rattle.link_table.specs.Table.{links};
 ghost use Rattle.numbering.specs.Seats.{same_seat};
@@ -22,7 +22,29 @@ pub struct CatalogueTables {
 }
 
 impl CatalogueTables {
+    ghost use Rattle.std.specs.Prelude.{[]};
+    ghost use Rattle.marc_types.specs.declared.key.Key.{Key};
+    ghost use Rattle.form_index.specs.Index.{IsInOrder, no_index};
+    ghost use Rattle.link_table.specs.Links.{less_taken, no_links};
+    ghost use Rattle.wait_table.specs.Waits.{no_waits};
+    ghost use Rattle.wait_table.specs.Table.{waits};
     ghost use Rattle.catalogue_tables.specs.Tables.{OnlyLinks};
+
+    /// No forms and no rows.
+    pub fn new(alloc: Global) -> CatalogueTables
+        ensures forms { result.forms ≡ [] }
+        ensures index { result.index ≡ no_index }
+        ensures ordered { (keys : List Key) → IsInOrder keys result.index }
+        ensures waits { waits result.waits ≡ no_waits }
+        ensures links { links result.links ≡ no_links }
+    {
+        CatalogueTables {
+            forms: Numbering::new(alloc),
+            index: FormIndex::new(alloc),
+            waits: WaitTable::new(alloc),
+            links: LinkTable::new(alloc),
+        }
+    }
 
     #[tactic(auto, using(crate::proofs::Linked::adds))]
     /// Links a seat to an authority. `NoMemory` leaves everything as it was.
@@ -56,6 +78,15 @@ impl CatalogueTables {
         ensures back { PutsLinkBack link (links self.old.links) (links self.new.links) }
     {
         self.links.put_back(link);
+    }
+
+    /// Lets a link go that was taken, and gives back its room.
+    pub fn let_link_go(&mut self, link: Link)
+        requires { IsTaken link (links self.old.links) }
+        ensures only { OnlyLinks self.old self.new }
+        ensures gone { links self.new.links ≡ less_taken link (links self.old.links) }
+    {
+        self.links.let_go(link);
     }
 
     /// All seats that are linked to the authority, each once, in any order.
