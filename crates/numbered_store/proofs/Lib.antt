@@ -1,0 +1,4 @@
+pub mod Ordered
+pub mod Slotted
+pub mod Fielded
+pub mod Shelving
