@@ -2,3 +2,5 @@ pub mod Ordered
 pub mod Slotted
 pub mod Fielded
 pub mod Shelving
+pub mod Back
+pub mod Growing

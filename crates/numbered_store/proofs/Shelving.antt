@@ -16,16 +16,10 @@ use Rattle.catalogue_rules.specs.State.{KeptField, KeptRecord, Row, kept_field, 
 use Rattle.record_store.specs.Store.{StaysRecord, field_at, with_field}
 use Rattle.record_store.proofs.Joined.{joined_length, valid_field}
 use Rattle.marc_types.specs.Valid.{is_record}
-use Rattle.numbered_store.specs.Rows.{HaveSlots, in_key_order, present, row_under, shelved, slot_at, slot_records, with_row, with_row_field}
+use Rattle.numbered_store.specs.Rows.{HaveSlots, count_in, in_key_order, present, row_under, rows_by, slot_at, slot_records, with_row, with_row_field}
 use Rattle.numbered_store.proofs.Ordered.{lookup_ordered, ordered, row_back, row_changed}
 use Rattle.numbered_store.proofs.Slotted.{length_present, length_rows, length_set, present_at, present_more, rows_set}
 use Rattle.numbered_store.proofs.Fielded.{set_back, within}
-
-abbrev pub rows_by : List Key → List (Option Kept) → List Row
-rows_by keys slots = in_key_order (present keys (slot_records slots))
-
-abbrev pub count_in : List Key → List (Option Kept) → ℕ
-count_in keys slots = length (present keys (slot_records slots))
 
 -- ---- slots as a state has them
 
@@ -130,6 +124,15 @@ module _ (keys : List Key) (slots : List (Option Kept)) (have : HaveSlots keys s
       let new = ap {B = ℕ} (λ b. if b then 1 else 0) (some_kept x) in
       omega (arith, same, now, old, new)
 
+  pub count_there : (n : ℕ) (was : Option Kept) → n < length keys → slice_get slots n ≡ Some was → (if is_some was then 1 else 0) ≤ count_in keys slots
+  count_there n was low stood = let counts = count_set n None was low stood in omega (arith, counts)
+
+  pub count_low : count_in keys slots ≤ length keys
+  count_low = length_present keys (slot_records slots)
+
+  pub count_rows : count_in keys slots ≡ length (rows_by keys slots)
+  count_rows = sym (length_rows keys (slot_records slots) have.once)
+
   -- ---- another field in a slot's record
 
   swapped_at : (n at : ℕ) (h : KeptField) (kept after : Kept) (key : Option Key) → slice_get keys n ≡ key → slice_get slots n ≡ Some (Some kept)
@@ -159,8 +162,8 @@ set_get (y ∷ xs) (suc n) x low = set_get xs n x (omega (arith, low))
 
 -- ---- what one exchange of a field leaves, by the record before and after it
 
-module _ (keys : List Key) (slots now : List (Option Kept)) (have : HaveSlots keys slots) (n at : ℕ) (h old : KeptField) (kept after : Kept)
-    (stood : slice_get slots n ≡ Some (Some kept)) (is : now ≡ slice_set (slice_set slots n None) n (Some after))
+module _ (keys : List Key) (slots middle now : List (Option Kept)) (have : HaveSlots keys slots) (n at : ℕ) (h old : KeptField) (kept after : Kept)
+    (stood : slice_get slots n ≡ Some (Some kept)) (out : middle ≡ slice_set slots n None) (back : now ≡ slice_set middle n (Some after))
     (same : kept_record after ≡ with_field at h (kept_record kept)) (was : slice_get (kept_record kept).fields at ≡ Some old) where
   low : n < length slots
   low = get_low slots n (Some kept) stood
@@ -169,7 +172,7 @@ module _ (keys : List Key) (slots now : List (Option Kept)) (have : HaveSlots ke
   low_key = omega (arith, low, have.long)
 
   once : now ≡ slice_set slots n (Some after)
-  once = is ∙ set_again slots n None (Some after)
+  once = back ∙ ap (λ l. slice_set l n (Some after)) out ∙ set_again slots n None (Some after)
 
   pub swap_have : HaveSlots keys now
   swap_have = subst (λ l. HaveSlots keys l) (sym once) (have_set keys slots have n (Some after))
@@ -183,9 +186,15 @@ module _ (keys : List Key) (slots now : List (Option Kept)) (have : HaveSlots ke
   pub swap_back : with_row_field (slice_get keys n) at old (rows_by keys now) ≡ rows_by keys slots
   swap_back =
       let held : slice_get now n ≡ Some (Some after) = ap (λ l. slice_get l n) once ∙ set_get slots n (Some after) low in
-      let back : kept_record kept ≡ with_field at old (kept_record after) = sym (ap (with_field at old) same ∙ record_back (kept_record kept) at h old was) in
+      let reset : kept_record kept ≡ with_field at old (kept_record after) = sym (ap (with_field at old) same ∙ record_back (kept_record kept) at h old was) in
       let whole : slice_set now n (Some kept) ≡ slots = ap (λ l. slice_set l n (Some kept)) once ∙ set_back slots n (Some after) (Some kept) stood in
-      sym (rows_swapped keys now swap_have n at old after kept low_key held back) ∙ ap (rows_by keys) whole
+      sym (rows_swapped keys now swap_have n at old after kept low_key held reset) ∙ ap (rows_by keys) whole
+
+  pub swap_after : option_and_then (field_at at) (row_under (slice_get keys n) (rows_by keys now)) ≡ Some h
+  swap_after =
+      let held : slice_get now n ≡ Some (Some after) = ap (λ l. slice_get l n) once ∙ set_get slots n (Some after) low in
+      ap (option_and_then (field_at at)) (sym (row_held keys now swap_have n (Some after) held)) ∙ ap (λ r. slice_get r.fields at) same
+      ∙ set_get (kept_record kept).fields at h (get_low (kept_record kept).fields at old was)
 
   pub swap_stays : (field : Field) → StaysRecord at field (kept_record after) → IfSome (row_under (slice_get keys n) (rows_by keys now)) (StaysRecord at field)
   swap_stays field stays =

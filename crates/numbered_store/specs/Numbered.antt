@@ -51,10 +51,9 @@ record_at class number s = row_under (key_at class number s) (rows_of class s.st
 abbrev pub field_of : Seat → Numbered → Option KeptField
 field_of seat s = option_and_then (field_at seat.field) (record_at seat.class seat.number s)
 
--- a field stands at the seat, and with this one in its place the record stays one
-pub record Suits (seat : Seat) (field : Field) (s : Numbered) : Type 0 where
-  pub stands : IsSome (field_of seat s)
-  pub stays : IfSome (record_at seat.class seat.number s) (StaysRecord seat.field field)
+-- with this field at the seat the record there stays one
+abbrev pub SuitsSeat : Seat → Field → Numbered → Type 0
+SuitsSeat seat field s = IfSome (record_at seat.class seat.number s) (StaysRecord seat.field field)
 
 -- the keys with one more of a class, where it has no number yet
 abbrev pub with_key : Class → Key → KeyNumbers → KeyNumbers
@@ -78,3 +77,9 @@ with_field_of seat h s = record {
   state = with_rows seat.class (with_row_field (key_at seat.class seat.number s) seat.field h (rows_of seat.class s.state)) s.state;
   keys = s.keys;
 }
+
+-- more keys may have numbers; each number stands for the key that it stood for, and no record differs
+pub record Grows (old new : Numbered) : Type 0 where
+  pub state : new.state ≡ old.state
+  pub longer : (class : Class) (number : ℕ) → IsNumber class number old → IsNumber class number new
+  pub same_key : (class : Class) (number : ℕ) → IsNumber class number old → key_at class number new ≡ key_at class number old

@@ -35,8 +35,15 @@ pub record Shelved : Type 0 where
 abbrev pub slot_records : List (Option Kept) → List (Option KeptRecord)
 slot_records slots = map (option_map kept_record) slots
 
+-- the rows of a shelf with these keys and slots, and how many they are
+abbrev pub rows_by : List Key → List (Option Kept) → List Row
+rows_by keys slots = in_key_order (present keys (slot_records slots))
+
+abbrev pub count_in : List Key → List (Option Kept) → ℕ
+count_in keys slots = length (present keys (slot_records slots))
+
 abbrev pub shelved : List Key → List (Option Kept) → Shelved
-shelved keys slots = record { keys = keys; rows = in_key_order (present keys (slot_records slots)) }
+shelved keys slots = record { keys = keys; rows = rows_by keys slots }
 
 -- each key has a slot, and no key has two
 pub record HaveSlots (keys : List Key) (slots : List (Option Kept)) : Type 0 where
