@@ -4,3 +4,4 @@ pub mod Fielded
 pub mod Shelving
 pub mod Back
 pub mod Growing
+pub mod Listed

@@ -6,7 +6,8 @@ use Rattle.std.specs.Borrow.{Bor}
 use Rattle.std.specs.Option.{is_some, option_and_then, option_copied, option_map}
 use Rattle.std.specs.List.{IsDistinct}
 use Rattle.std.specs.Map.{lookup}
-use Rattle.numbering.specs.Numbers.{is_known, with_thing}
+use Rattle.numbering.specs.Numbers.{IsNumberOf, is_known, with_thing}
+use Rattle.numbering.proofs.Numberlaws.{number_below}
 use Rattle.marc_types.specs.Order.{same_key}
 use Rattle.marc_types.specs.declared.key.Key.{Key}
 use Rattle.marc_types.specs.declared.entry.Kept.{Kept}
@@ -266,3 +267,6 @@ module _ (old new : List Key) (key : Key) (slots now : List (Option Kept)) (have
 
       long : length now ≡ length new
       long = ap length items ∙ push_long slots None ∙ ap suc have.long ∙ sym (ap length keys_are ∙ push_long old key)
+
+pub low_number : (keys : List Key) (key : Key) (number : ℕ) → IsNumberOf same_key keys key number → number < length keys
+low_number keys key number is = let low = number_below same_key keys key is.known in omega (arith, low, is.is)

@@ -45,6 +45,12 @@ count_in keys slots = length (present keys (slot_records slots))
 abbrev pub shelved : List Key → List (Option Kept) → Shelved
 shelved keys slots = record { keys = keys; rows = rows_by keys slots }
 
+-- the rows with that of a slot put in, if it has one
+abbrev pub with_slot : Option Key → Option Kept → List Row → List Row
+with_slot None slot rows = rows
+with_slot (Some key) None rows = rows
+with_slot (Some key) (Some kept) rows = insert_entry key_cmp rows key (kept_record kept)
+
 -- each key has a slot, and no key has two
 pub record HaveSlots (keys : List Key) (slots : List (Option Kept)) : Type 0 where
   pub long : length slots ≡ length keys

@@ -3,13 +3,17 @@
 #![tactic(auto)]
 
 pub use change::Change;
+pub use listing::RowMap;
 pub use log::ChangeLog;
 pub use store::NumberedStore;
 
 mod change;
 mod exchange;
 pub mod laws;
+mod listing;
 mod log;
 mod shelf;
 mod slots;
 mod store;
+#[cfg(test)]
+mod tests;

@@ -1,11 +1,12 @@
-ghost use Rattle.std.specs.Prelude.{◌≡◌, ◌<◌, ◌^◌, [], length, IsSome, IfSome, IfOk, OnOk, OnErr, slice_get, Some, None, if◌then◌else◌};
+ghost use Rattle.std.specs.Prelude.{◌≡◌, ◌<◌, ◌^◌, [], length, map, IsSome, IfSome, IfOk, OnOk, OnErr, slice_get, Some, None, if◌then◌else◌};
 ghost use Rattle.std.specs.Option.{option_map, option_and_then};
 ghost use Rattle.marc_types.specs.Order.{same_key};
 ghost use Rattle.numbering.specs.Numbers.{is_known, number_of, with_thing, IsNumberOf};
 ghost use Rattle.catalogue_rules.specs.State.{kept_field, kept_record};
-ghost use Rattle.record_store.specs.Store.{StaysRecord, field_at};
+ghost use Rattle.record_store.specs.Store.{StaysRecord, field_at, shown_row};
 ghost use Rattle.numbered_store.specs.Rows.{row_under, with_row, with_row_field};
 
+use crate::listing::{RowMap, in_order};
 use crate::slots::{Slots, exchange_slot, kept_at, recounted, swap_slot};
 use marc_types::{Field, Kept, Key, NoMemory, Tie};
 use numbering::Numbering;
@@ -59,8 +60,10 @@ impl Shelf {
     }
 
     /// The number of a key, which gets the next one and a blank slot if it had none.
+    #[tactic(auto, using(crate::proofs::Shelving::low_number))]
     pub(crate) fn number(&mut self, alloc: Global, key: &Key) -> Result<u32, NoMemory>
         ensures number { IfOk result (IsNumberOf same_key self.new.keys key.now) }
+        ensures low { IfOk result (λ number. number < length self.new.keys) }
         ensures ok { OnOk result (self.new.keys ≡ with_thing same_key self.old.keys key.now) }
         ensures rows { self.new.rows ≡ self.old.rows }
         ensures err { OnErr result (self.new ≡ self.old) }
@@ -72,6 +75,13 @@ impl Shelf {
             self.slots.push_reserved(None);
         }
         Ok(number)
+    }
+
+    /// The records in the order of their keys.
+    pub(crate) fn rows(&self, alloc: Global) -> Result<RowMap<'_>, NoMemory>
+        ensures { IfOk result (λ rows. map shown_row rows.entries ≡ self.now.rows) }
+    {
+        in_order(alloc, &self.keys, &self.slots)
     }
 
     pub(crate) fn get(&self, number: u32) -> Option<&Kept>

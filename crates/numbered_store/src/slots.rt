@@ -19,7 +19,8 @@ pub(crate) fn kept_at<'a>(keys: &Numbering<Key>, slots: &'a Slots, number: u32) 
     slot(slots, number)
 }
 
-fn slot(slots: &Slots, number: u32) -> Option<&Kept>
+/// The record in the slot with a number.
+pub(crate) fn slot(slots: &Slots, number: u32) -> Option<&Kept>
     ensures { option_copied result ≡ slot_at slots.now.items number }
 {
     match slots.get(number as usize) {

@@ -1,10 +1,12 @@
-ghost use Rattle.std.specs.Prelude.{◌≡◌, ◌+◌, ◌<◌, ◌^◌, length, IsSome, IfOk, OnOk, OnErr, Some, None, if◌then◌else◌};
+ghost use Rattle.std.specs.Prelude.{◌≡◌, ◌+◌, ◌<◌, ◌^◌, length, map, IsSome, IfOk, OnOk, OnErr, Some, None, if◌then◌else◌};
 ghost use Rattle.std.specs.Option.{option_map};
 ghost use Rattle.marc_types.specs.Order.{same_key};
 ghost use Rattle.numbering.specs.Numbers.{is_known, number_of, IsNumberOf};
 ghost use Rattle.catalogue_rules.specs.State.{rows_of, kept_field, kept_record};
+ghost use Rattle.record_store.specs.Store.{shown_row};
 ghost use Rattle.numbered_store.specs.Numbered.{IsNumber, SuitsSeat, empty_numbered, field_of, keys_in, record_at, with_field_of, with_number, with_record};
 
+use crate::listing::RowMap;
 use crate::shelf::Shelf;
 use marc_types::{Class, Field, Kept, Key, NoMemory, Tie};
 use numbering::{Numbering, Seat};
@@ -59,6 +61,7 @@ impl NumberedStore {
     /// `NoMemory` leaves everything as it was.
     pub fn number(&mut self, alloc: Global, class: Class, key: &Key) -> Result<u32, NoMemory>
         ensures number { IfOk result (IsNumberOf same_key (keys_in class self.new.keys) key.now) }
+        ensures low { IfOk result (λ number. IsNumber class number self.new) }
         ensures ok { OnOk result (self.new ≡ with_number class key.now self.old) }
         ensures err { OnErr result (self.new ≡ self.old) }
     {
@@ -89,6 +92,13 @@ impl NumberedStore {
     {
         steps.tick();
         self.shelf(class).get(number)
+    }
+
+    /// The records of a class in key order, for those who only read. It is made anew at each call.
+    pub fn rows(&self, alloc: Global, class: Class) -> Result<RowMap<'_>, NoMemory>
+        ensures { IfOk result (λ rows. map shown_row rows.entries ≡ rows_of class self.now.state) }
+    {
+        self.shelf(class).rows(alloc)
     }
 
     /// Puts a record, or none, under the key that has the number, and gives what stood there. It takes no memory, and the
