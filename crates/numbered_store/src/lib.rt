@@ -15,5 +15,3 @@ mod log;
 mod shelf;
 mod slots;
 mod store;
-#[cfg(test)]
-mod tests;
