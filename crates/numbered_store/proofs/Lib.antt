@@ -1,0 +1,7 @@
+pub mod Ordered
+pub mod Slotted
+pub mod Fielded
+pub mod Shelving
+pub mod Back
+pub mod Growing
+pub mod Listed

@@ -1,0 +1,123 @@
+ghost use Rattle.std.specs.Prelude.{◌≡◌, ◌<◌, ◌^◌, [], length, map, IsSome, IfSome, IfOk, OnOk, OnErr, slice_get, Some, None, if◌then◌else◌};
+ghost use Rattle.std.specs.Option.{option_map, option_and_then};
+ghost use Rattle.marc_types.specs.Order.{same_key};
+ghost use Rattle.numbering.specs.Numbers.{is_known, number_of, with_thing, IsNumberOf};
+ghost use Rattle.catalogue_rules.specs.State.{kept_field, kept_record};
+ghost use Rattle.record_store.specs.Store.{StaysRecord, field_at, shown_row};
+ghost use Rattle.numbered_store.specs.Rows.{row_under, with_row, with_row_field};
+
+use crate::listing::{RowMap, in_order};
+use crate::slots::{Slots, exchange_slot, kept_at, recounted, swap_slot};
+use marc_types::{Field, Kept, Key, NoMemory, Tie};
+use numbering::Numbering;
+use std::alloc::Global;
+use std::marker::Model;
+
+/// The records of one class. Each known key has a slot at its number, which holds its record or is blank.
+#[derive(Drop)]
+pub(crate) struct Shelf {
+    keys: Numbering<Key>,
+    slots: Slots,
+    count: u64,
+}
+
+impl Model for Shelf {
+    ghost use Rattle.std.specs.Prelude.{◌≡◌};
+    ghost use Rattle.numbered_store.specs.Rows.{HaveSlots, Shelved, count_in, shelved};
+
+    ghost Value = { Shelved };
+
+    ghost view = { λ s. shelved s.keys s.slots.items };
+
+    ghost invariant = { λ s. HaveSlots s.keys s.slots.items × (s.count ≡ count_in s.keys s.slots.items) };
+}
+
+impl Shelf {
+    pub(crate) fn new(alloc: Global) -> Shelf
+        ensures keys { result.keys ≡ [] }
+        ensures rows { result.rows ≡ [] }
+    {
+        Shelf {
+            keys: Numbering::new(alloc),
+            slots: Vec::new(alloc),
+            count: 0,
+        }
+    }
+
+    pub(crate) fn keys(&self) -> &Numbering<Key>
+        ensures { result.now ≡ self.now.keys }
+    {
+        &self.keys
+    }
+
+    /// How many records there are.
+    pub(crate) fn len(&self) -> u64
+        ensures count { result ≡ length self.now.rows }
+        ensures fits { result < 2 ^ 32 }
+    {
+        let _known = self.keys.len();
+        self.count
+    }
+
+    /// The number of a key, which gets the next one and a blank slot if it had none.
+    #[tactic(auto, using(crate::proofs::Shelving::low_number))]
+    pub(crate) fn number(&mut self, alloc: Global, key: &Key) -> Result<u32, NoMemory>
+        ensures number { IfOk result (IsNumberOf same_key self.new.keys key.now) }
+        ensures low { IfOk result (λ number. number < length self.new.keys) }
+        ensures ok { OnOk result (self.new.keys ≡ with_thing same_key self.old.keys key.now) }
+        ensures rows { self.new.rows ≡ self.old.rows }
+        ensures err { OnErr result (self.new ≡ self.old) }
+    {
+        // room first: a key that has its number has its slot
+        self.slots.reserve(1)?;
+        let number = self.keys.add(alloc, key)?;
+        if self.slots.len() < self.keys.len() {
+            self.slots.push_reserved(None);
+        }
+        Ok(number)
+    }
+
+    /// The records in the order of their keys.
+    pub(crate) fn rows(&self, alloc: Global) -> Result<RowMap<'_>, NoMemory>
+        ensures { IfOk result (λ rows. map shown_row rows.entries ≡ self.now.rows) }
+    {
+        in_order(alloc, &self.keys, &self.slots)
+    }
+
+    pub(crate) fn get(&self, number: u32) -> Option<&Kept>
+        ensures { option_map (λ kept. kept_record kept.now) result ≡ row_under (slice_get self.now.keys number) self.now.rows }
+    {
+        kept_at(&self.keys, &self.slots, number)
+    }
+
+    /// Puts a record, or none, under the key that has the number, and gives what stood there.
+    pub(crate) fn exchange(&mut self, number: u32, kept: Option<Kept>) -> Option<Kept>
+        requires { number < length self.old.keys }
+        ensures rows { self.new.rows ≡ with_row (slice_get self.old.keys number) (option_map kept_record kept) self.old.rows }
+        ensures before { option_map kept_record result ≡ row_under (slice_get self.old.keys number) self.old.rows }
+        ensures back { with_row (slice_get self.new.keys number) (option_map kept_record result) self.new.rows ≡ self.old.rows }
+        ensures keys { self.new.keys ≡ self.old.keys }
+    {
+        let more = kept.is_some();
+        // a numbering is short, and so the count fits
+        let _known = self.keys.len();
+        let before = exchange_slot(&self.keys, &mut self.slots, number, kept);
+        self.count = recounted(self.count, &before, more);
+        before
+    }
+
+    /// Puts a field and its tie into a place of the record under the key that has the number, and gives those that stood
+    /// there.
+    pub(crate) fn swap(&mut self, number: u32, at: usize, field: Field, tie: Tie) -> (Field, Tie)
+        requires stands { IsSome (option_and_then (field_at at) (row_under (slice_get self.old.keys number) self.old.rows)) }
+        requires stays { IfSome (row_under (slice_get self.old.keys number) self.old.rows) (StaysRecord at field) }
+        ensures rows { self.new.rows ≡ with_row_field (slice_get self.old.keys number) at (kept_field field tie) self.old.rows }
+        ensures before { option_and_then (field_at at) (row_under (slice_get self.old.keys number) self.old.rows) ≡ Some (kept_field result.0 result.1) }
+        ensures back { with_row_field (slice_get self.new.keys number) at (kept_field result.0 result.1) self.new.rows ≡ self.old.rows }
+        ensures after { option_and_then (field_at at) (row_under (slice_get self.new.keys number) self.new.rows) ≡ Some (kept_field field tie) }
+        ensures stays { IfSome (row_under (slice_get self.new.keys number) self.new.rows) (StaysRecord at result.0) }
+        ensures keys { self.new.keys ≡ self.old.keys }
+    {
+        swap_slot(&self.keys, &mut self.slots, number, at, field, tie)
+    }
+}

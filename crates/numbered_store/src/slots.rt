@@ -1,0 +1,102 @@
+ghost use Rattle.std.specs.Prelude.{◌≡◌, ◌+◌, ◌<◌, ◌≤◌, ◌^◌, length, is_some, IsSome, IfSome, slice_get, slice_set, Some, if◌then◌else◌};
+ghost use Rattle.std.specs.Option.{option_and_then, option_copied, option_map};
+ghost use Rattle.catalogue_rules.specs.State.{kept_field, kept_record};
+ghost use Rattle.record_store.specs.Store.{StaysRecord, field_at};
+ghost use Rattle.numbered_store.specs.Rows.{HaveSlots, count_in, row_under, rows_by, slot_at, with_row, with_row_field};
+
+use crate::exchange::exchange;
+use marc_types::{Field, Kept, Key, Tie};
+use numbering::Numbering;
+use std::mem;
+
+pub(crate) type Slots = Vec<Option<Kept>>;
+
+/// The record under the key that has the number.
+pub(crate) fn kept_at<'a>(keys: &Numbering<Key>, slots: &'a Slots, number: u32) -> Option<&'a Kept>
+    requires { HaveSlots keys.now slots.now.items }
+    ensures { option_map (λ kept. kept_record kept.now) result ≡ row_under (slice_get keys.now number) (rows_by keys.now slots.now.items) }
+{
+    slot(slots, number)
+}
+
+/// The record in the slot with a number.
+pub(crate) fn slot(slots: &Slots, number: u32) -> Option<&Kept>
+    ensures { option_copied result ≡ slot_at slots.now.items number }
+{
+    match slots.get(number as usize) {
+        Some(slot) => slot.as_ref(),
+        None => None,
+    }
+}
+
+/// Puts a record, or none, under the key that has the number, and gives what stood there.
+pub(crate) fn exchange_slot(
+    keys: &Numbering<Key>,
+    slots: &mut Slots,
+    number: u32,
+    kept: Option<Kept>,
+) -> Option<Kept>
+    requires slots { HaveSlots keys.now slots.old.items }
+    requires known { number < length keys.now }
+    ensures slots { HaveSlots keys.now slots.new.items }
+    ensures rows { rows_by keys.now slots.new.items ≡ with_row (slice_get keys.now number) (option_map kept_record kept) (rows_by keys.now slots.old.items) }
+    ensures before { option_map kept_record result ≡ row_under (slice_get keys.now number) (rows_by keys.now slots.old.items) }
+    ensures back { with_row (slice_get keys.now number) (option_map kept_record result) (rows_by keys.now slots.new.items) ≡ rows_by keys.now slots.old.items }
+    ensures count { count_in keys.now slots.new.items + (if is_some result then 1 else 0) ≡ count_in keys.now slots.old.items + (if is_some kept then 1 else 0) }
+    ensures there { (if is_some result then 1 else 0) ≤ count_in keys.now slots.old.items }
+{
+    replaced(slots, number, kept)
+}
+
+/// Puts a field and its tie into a place of the record under the key that has the number, and gives those that stood there.
+pub(crate) fn swap_slot(
+    keys: &Numbering<Key>,
+    slots: &mut Slots,
+    number: u32,
+    at: usize,
+    field: Field,
+    tie: Tie,
+) -> (Field, Tie)
+    requires slots { HaveSlots keys.now slots.old.items }
+    requires stands { IsSome (option_and_then (field_at at) (row_under (slice_get keys.now number) (rows_by keys.now slots.old.items))) }
+    requires stays { IfSome (row_under (slice_get keys.now number) (rows_by keys.now slots.old.items)) (StaysRecord at field) }
+    ensures slots { HaveSlots keys.now slots.new.items }
+    ensures rows { rows_by keys.now slots.new.items ≡ with_row_field (slice_get keys.now number) at (kept_field field tie) (rows_by keys.now slots.old.items) }
+    ensures before { option_and_then (field_at at) (row_under (slice_get keys.now number) (rows_by keys.now slots.old.items)) ≡ Some (kept_field result.0 result.1) }
+    ensures back { with_row_field (slice_get keys.now number) at (kept_field result.0 result.1) (rows_by keys.now slots.new.items) ≡ rows_by keys.now slots.old.items }
+    ensures after { option_and_then (field_at at) (row_under (slice_get keys.now number) (rows_by keys.now slots.new.items)) ≡ Some (kept_field field tie) }
+    ensures stays { IfSome (row_under (slice_get keys.now number) (rows_by keys.now slots.new.items)) (StaysRecord at result.0) }
+    ensures count { count_in keys.now slots.new.items ≡ count_in keys.now slots.old.items }
+{
+    match replaced(slots, number, None) {
+        Some(kept) => {
+            let (kept, before) = exchange(kept, at, field, tie);
+            let _blank = replaced(slots, number, Some(kept));
+            before
+        }
+        // not reached: a field stands at the place
+        None => (field, tie),
+    }
+}
+
+// Puts a thing into a slot, and gives what stood there.
+fn replaced(slots: &mut Slots, number: u32, kept: Option<Kept>) -> Option<Kept>
+    requires { number < length slots.old.items }
+    ensures after { slots.new.items ≡ slice_set slots.old.items number kept }
+    ensures before { slice_get slots.old.items number ≡ Some result }
+{
+    mem::replace(&mut slots[number as usize], kept)
+}
+
+/// How many rows there are once a thing has come into a slot, and what stood there has gone.
+pub(crate) fn recounted(count: u64, before: &Option<Kept>, more: bool) -> u64
+    requires fits { count < 2 ^ 32 }
+    requires there { (if is_some before.now then 1 else 0) ≤ count }
+    ensures { result + (if is_some before.now then 1 else 0) ≡ count + (if more then 1 else 0) }
+{
+    let count = if more { count + 1 } else { count };
+    match before {
+        Some(_gone) => count - 1,
+        None => count,
+    }
+}

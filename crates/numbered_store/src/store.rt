@@ -1,0 +1,145 @@
+ghost use Rattle.std.specs.Prelude.{◌≡◌, ◌+◌, ◌<◌, ◌^◌, length, map, IsSome, IfOk, OnOk, OnErr, Some, None, if◌then◌else◌};
+ghost use Rattle.std.specs.Option.{option_map};
+ghost use Rattle.marc_types.specs.Order.{same_key};
+ghost use Rattle.numbering.specs.Numbers.{is_known, number_of, IsNumberOf};
+ghost use Rattle.catalogue_rules.specs.State.{rows_of, kept_field, kept_record};
+ghost use Rattle.record_store.specs.Store.{shown_row};
+ghost use Rattle.numbered_store.specs.Numbered.{IsNumber, SuitsSeat, empty_numbered, field_of, keys_in, record_at, with_field_of, with_number, with_record};
+
+use crate::listing::RowMap;
+use crate::shelf::Shelf;
+use marc_types::{Class, Field, Kept, Key, NoMemory, Tie};
+use numbering::{Numbering, Seat};
+use record_store::Steps;
+use std::alloc::Global;
+use std::marker::Model;
+use std::sync::ledger::Ledger;
+
+/// The kept records of a catalogue, for each class by the numbers of their keys. A key that has a number has a place for
+/// its record; numbers are never taken back.
+#[derive(Drop)]
+pub struct NumberedStore {
+    authorities: Shelf,
+    bibliographic: Shelf,
+}
+
+impl Model for NumberedStore {
+    ghost use Rattle.numbered_store.specs.Numbered.{Numbered, numbered};
+
+    ghost Value = { Numbered };
+
+    ghost view = { λ s. numbered s.authorities s.bibliographic };
+}
+
+impl NumberedStore {
+    pub fn new(alloc: Global) -> NumberedStore
+        ensures { result ≡ empty_numbered }
+    {
+        NumberedStore {
+            authorities: Shelf::new(alloc),
+            bibliographic: Shelf::new(alloc),
+        }
+    }
+
+    /// The keys of a class by their numbers.
+    pub fn keys(&self, class: Class) -> &Numbering<Key>
+        ensures { result.now ≡ keys_in class self.now.keys }
+    {
+        self.shelf(class).keys()
+    }
+
+    /// How many records of the class there are.
+    pub fn count(&self, class: Class) -> u64
+        ensures count { result ≡ length (rows_of class self.now.state) }
+        ensures fits { result < 2 ^ 32 }
+    {
+        self.shelf(class).len()
+    }
+
+    /// The number of a key, which gets the next one and a place if it had none. No record changes.
+    ///
+    /// `NoMemory` leaves everything as it was.
+    pub fn number(&mut self, alloc: Global, class: Class, key: &Key) -> Result<u32, NoMemory>
+        ensures number { IfOk result (IsNumberOf same_key (keys_in class self.new.keys) key.now) }
+        ensures low { IfOk result (λ number. IsNumber class number self.new) }
+        ensures ok { OnOk result (self.new ≡ with_number class key.now self.old) }
+        ensures err { OnErr result (self.new ≡ self.old) }
+    {
+        match class {
+            Class::Authority => self.authorities.number(alloc, key),
+            Class::Bibliographic => self.bibliographic.number(alloc, key),
+        }
+    }
+
+    /// The number of a key, if it has one.
+    pub fn number_of(&self, class: Class, key: &Key) -> Option<u32>
+        ensures { result ≡ (if is_known same_key (keys_in class self.now.keys) key.now then Some (number_of same_key (keys_in class self.now.keys) key.now) else None) }
+    {
+        self.keys(class).number_of(key)
+    }
+
+    /// The record under the key that has the number, for those who only read. It counts no step.
+    pub fn look(&self, class: Class, number: u32) -> Option<&Kept>
+        ensures { option_map (λ kept. kept_record kept.now) result ≡ record_at class number self.now }
+    {
+        self.shelf(class).get(number)
+    }
+
+    /// The record under the key that has the number. It counts one step.
+    pub fn visit<L: Ledger>(&self, class: Class, number: u32, steps: &mut Steps<L>) -> Option<&Kept>
+        ensures kept { option_map (λ kept. kept_record kept.now) result ≡ record_at class number self.now }
+        ensures step { steps.new ≡ steps.old + 1 }
+    {
+        steps.tick();
+        self.shelf(class).get(number)
+    }
+
+    /// The records of a class in key order, for those who only read. It is made anew at each call.
+    pub fn rows(&self, alloc: Global, class: Class) -> Result<RowMap<'_>, NoMemory>
+        ensures { IfOk result (λ rows. map shown_row rows.entries ≡ rows_of class self.now.state) }
+    {
+        self.shelf(class).rows(alloc)
+    }
+
+    /// Puts a record, or none, under the key that has the number, and gives what stood there. It takes no memory, and the
+    /// same call with the result undoes it.
+    pub fn exchange(&mut self, class: Class, number: u32, kept: Option<Kept>) -> Option<Kept>
+        requires { IsNumber class number self.old }
+        ensures now { self.new ≡ with_record class number (option_map kept_record kept) self.old }
+        ensures before { option_map kept_record result ≡ record_at class number self.old }
+        ensures back { with_record class number (option_map kept_record result) self.new ≡ self.old }
+    {
+        match class {
+            Class::Authority => self.authorities.exchange(number, kept),
+            Class::Bibliographic => self.bibliographic.exchange(number, kept),
+        }
+    }
+
+    /// Puts a field and its tie at a seat, and gives those that stood there. It takes no memory, and the same call with
+    /// the result undoes it.
+    pub fn swap(&mut self, seat: Seat, field: Field, tie: Tie) -> (Field, Tie)
+        requires stands { IsSome (field_of seat self.old) }
+        requires suits { SuitsSeat seat field self.old }
+        ensures now { self.new ≡ with_field_of seat (kept_field field tie) self.old }
+        ensures before { field_of seat self.old ≡ Some (kept_field result.0 result.1) }
+        ensures after { field_of seat self.new ≡ Some (kept_field field tie) }
+        ensures back { with_field_of seat (kept_field result.0 result.1) self.new ≡ self.old }
+        ensures suits { SuitsSeat seat result.0 self.new }
+    {
+        let at = seat.field as usize;
+        match seat.class {
+            Class::Authority => self.authorities.swap(seat.number, at, field, tie),
+            Class::Bibliographic => self.bibliographic.swap(seat.number, at, field, tie),
+        }
+    }
+
+    fn shelf(&self, class: Class) -> &Shelf
+        ensures rows { result.now.rows ≡ rows_of class self.now.state }
+        ensures keys { result.now.keys ≡ keys_in class self.now.keys }
+    {
+        match class {
+            Class::Authority => &self.authorities,
+            Class::Bibliographic => &self.bibliographic,
+        }
+    }
+}
