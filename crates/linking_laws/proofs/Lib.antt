@@ -14,6 +14,7 @@ pub mod Settling
 pub mod Staged
 pub mod Steadily
 pub mod Sums
+pub mod Taken
 pub mod Touched
 pub mod Turning
 pub mod Visited

@@ -22,7 +22,7 @@ use Rattle.linking_laws.proofs.Exchanges.{field_swapped, outlines_swapped, field
 use Rattle.linking_laws.proofs.Heart.{any_append}
 use Rattle.linking_laws.proofs.Pairs.{Both, place_of, rows_from, rows_same, both_same, linkables_same}
 
-class_same : (c d : Class) → same_class c d ≡ true → c ≡ d
+pub class_same : (c d : Class) → same_class c d ≡ true → c ≡ d
 class_same Authority Authority e = refl
 class_same Bibliographic Bibliographic e = refl
 class_same Authority Bibliographic e = cc

@@ -179,6 +179,9 @@ choose_at all forms key class h false e = inl (choose_off all forms key class h 
 pub choose_either : (all : List Linkable) (forms : List Form) (key : Key) → IsEitherStage all (choose_field all forms key)
 choose_either all forms key = record { either = λ class h. choose_at all forms key class h (is_waiting_for forms key class h) refl }
 
+pub settle_either : (all : List Linkable) → IsEitherStage all (settle_field all)
+settle_either all = record { either = λ class h. inr refl }
+
 pub within_fields : (all : List Linkable) (class : Class) (rows : List Row) → Each (IsFit all) all → All (λ (row : Row). All (IsTied all class) row.1.fields) rows →
     All (λ (row : Row). All (IsRewritten all class) row.1.fields) rows → All (λ (row : Row). All (IsWithinReach class) row.1.fields) rows
 within_fields all class rows fits t r =

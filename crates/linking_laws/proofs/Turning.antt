@@ -1,5 +1,6 @@
 -- One turn of a stage: a field is exchanged at one place, and the state is still one between stages.
-use Rattle.std.proofs.Common.{◌≡◌, ℕ, zero, suc, ◌≤◌, Bool, true, false, ◌||◌, List, [], ◌∷◌, ◌++◌, Option, Some, None, refl, sym, ap, ◌∙◌, subst, if◌then◌else◌, arith, inl}
+use Rattle.catalogue_rules.specs.Receipt.{kept_under}
+use Rattle.std.proofs.Common.{cond, ◌≡◌, ℕ, zero, suc, ◌≤◌, Bool, true, false, ◌||◌, List, [], ◌∷◌, ◌++◌, Option, Some, None, refl, sym, ap, ◌∙◌, subst, if◌then◌else◌, arith, inl}
 use Rattle.std.specs.Prelude.{All, slice_get, slice_set}
 use Rattle.std.specs.List.{sum_by}
 use Rattle.std.specs.Map.{lookup}
@@ -12,14 +13,14 @@ use Rattle.marc_types.specs.declared.key.Class.TheVariants.{Authority, Bibliogra
 use Rattle.marc_types.specs.declared.key.Key.{Key}
 use Rattle.marc_types.specs.declared.key.Place.{Place}
 use Rattle.entry_record.specs.Authority.{Linkable}
-use Rattle.catalogue_rules.specs.State.{KeptField, Row, State, rows_of, linkable_authorities}
+use Rattle.catalogue_rules.specs.State.{KeptField, KeptRecord, Row, State, rows_of, linkable_authorities}
 use Rattle.catalogue_rules.specs.Valid.{EachRow, EachField, IsAscending, IsRow, IsTied, HasRoom, reach}
-use Rattle.catalogue_rules.proofs.Elements.{Each, each_both, each_map}
+use Rattle.catalogue_rules.proofs.Elements.{Each, each_weaker, each_both, each_map}
 use Rattle.catalogue_rules.proofs.Fit.{IsFit}
 use Rattle.catalogue_rules.proofs.Proper.{all_fit}
 use Rattle.catalogue_rules.proofs.Put.{tied_but}
-use Rattle.record_store.specs.Store.{field_at, field_under, with_field, with_field_under, with_rows}
-use Rattle.linking_laws.specs.Middle.{IsWithinReach, IsMiddle, IsLeftOrSettled, IsEitherStage, IsMiddleWith, IsTiedButTo, IsSparedRightly, CanDrop, CanDropOn, IsDroppedOn}
+use Rattle.record_store.specs.Store.{StaysRecord, field_at, field_under, with_field, with_field_under, with_rows}
+use Rattle.linking_laws.specs.Middle.{IsWithinReach, IsMiddle, IsLeftOrSettled, IsEitherStage, IsMiddleWith, IsTiedButTo, IsSparedRightly, CanDrop, CanDropOn, IsDroppedOn, IsLentAt}
 use Rattle.linking_laws.specs.Partway.{same_place, is_place_among, swapped, IsNext, IsSteady}
 use Rattle.linking_laws.specs.Stages.{Dropping, drop_by}
 use Rattle.linking_laws.proofs.Counts.{looked}
@@ -27,7 +28,7 @@ use Rattle.linking_laws.proofs.Exchanges.{field_swapped, outlines_swapped, set_l
 use Rattle.linking_laws.proofs.Heart.{or_false, any_append}
 use Rattle.linking_laws.proofs.Pairs.{Both, place_of, rows_from, linkables_same}
 use Rattle.linking_laws.proofs.Partial.{place_is, ascend_by}
-use Rattle.linking_laws.proofs.Settling.{handled_at, steady_at}
+use Rattle.linking_laws.proofs.Settling.{stays_record, handled_at, steady_at}
 use Rattle.linking_laws.proofs.Steadily.{got, each_row_of, field_of_authority, field_of_bibliographic}
 use Rattle.linking_laws.proofs.Dropped.{handled, dropped_field, steady_dropped}
 
@@ -282,3 +283,63 @@ drop_goes_on d key successor done now p h m next =
         (steady_dropped (linkable_authorities now) key successor h (drop_by d (linkable_authorities now) key successor Authority h) tied
         (dropped_field (linkable_authorities now) key successor Authority d h tied spared))
     steady_by Bibliographic g tied spared is own = cc
+
+-- ---- the record of the place stays one
+
+record_found : (Q : KeptRecord → Type 0) (k : Key) (r : KeptRecord) (rows : List Row) → Each (λ (row : Row). Q row.1) rows → lookup (same_key k) rows ≡ Some r → Q r
+record_found Q k r [] a e = cc
+record_found Q k r (row ∷ rows) a e = at (same_key k row.0) a.0 (record_found Q k r rows a.1) e
+  where
+    at : (b : Bool) → Q row.1 → (lookup (same_key k) rows ≡ Some r → Q r) → cond b (Some row.1) (lookup (same_key k) rows) ≡ Some r → Q r
+    at true own rest e = let same : row.1 ≡ r = cc in subst Q same own
+    at false own rest e = rest e
+
+-- what a lent record has in a state within a stage
+record HasRoomFor (class : Class) (key : Key) (r : KeptRecord) : Type 0 where
+  room : HasRoom class (key, r)
+  within : All (IsWithinReach class) r.fields
+
+roomy_rows : (class : Class) (key : Key) (rows : List Row) → All (HasRoom class) rows → All (λ (row : Row). All (IsWithinReach class) row.1.fields) rows →
+    Each (λ (row : Row). HasRoomFor class key row.1) rows
+roomy_rows class key rows m w =
+    let W = λ (row : Row). All (IsWithinReach class) row.1.fields in
+    each_weaker (λ row. HasRoom class row × W row) (λ (row : Row). HasRoomFor class key row.1)
+    (λ row x. record { room = record { record_fits = x.0.record_fits; fields_fit = x.0.fields_fit }; within = x.1 }) rows
+    (each_both (HasRoom class) W rows (recursion_from_All (HasRoom class) rows m) (recursion_from_All W rows w))
+
+roomy_at : (class : Class) (key : Key) (r : KeptRecord) (s : State) → EachRow HasRoom s → EachField IsWithinReach s → kept_under class key s ≡ Some r → HasRoomFor class key r
+roomy_at Authority key r s m w e = record_found (HasRoomFor Authority key) key r s.authorities (roomy_rows Authority key s.authorities m.0 w.0) e
+roomy_at Bibliographic key r s m w e = record_found (HasRoomFor Bibliographic key) key r s.bibliographic (roomy_rows Bibliographic key s.bibliographic m.1 w.1) e
+
+exchange_stays : (p : Place) (h g : KeptField) (r : KeptRecord) (s : State) → EachRow HasRoom s → EachField IsWithinReach s → field_under p s ≡ Some h →
+    reach p.class g ≤ reach p.class h → IsWithinReach p.class g → IsLentAt p r g.field s → StaysRecord p.field g.field r
+exchange_stays p h g r s m w stands less short lent =
+    let has = roomy_at p.class p.key r s m w lent.kept in
+    let there : slice_get r.fields p.field ≡ Some h = sym (ap (option_and_then (field_at p.field)) lent.kept) ∙ stands in
+    let was : reach p.class h ≤ 9999 =
+    got (λ x. reach p.class x ≤ 9999) r.fields p.field h (recursion_from_All (λ x. reach p.class x ≤ 9999) r.fields has.room.fields_fit) there in
+    stays_record p.class (p.key, r) p.field g.field
+    (record { visited = lent.visited; room = has.room; within = has.within; proper = lent.proper; short = omega arith })
+
+-- in a turn of a stage the record of the place stays one
+pub turn_stays : (all : List Linkable) (change : Class → KeptField → KeptField) (now : State) (p : Place) (h : KeptField) (r : KeptRecord) → IsMiddleWith all now →
+    IsEitherStage all change → field_under p now ≡ Some h → IsLentAt p r (change p.class h).field now → StaysRecord p.field (change p.class h).field r
+turn_stays all change now p h r m either stands lent =
+    let fits : Each (IsFit all) all = subst (λ (l : List Linkable). Each (IsFit l) l) m.authorities_are (fits_of now m.middle.authorities_ascend m.middle.rows.0) in
+    let ties : EachField (IsTied all) now = subst (λ (l : List Linkable). EachField (IsTied l) now) m.authorities_are m.middle.ties in
+    let done = handled_at all p.class fits h (change p.class h) (either.either p.class h) (field_at_place (IsTied all) now p h p.class refl ties stands)
+    (field_at_place IsWithinReach now p h p.class refl m.middle.within stands) in
+    exchange_stays p h (change p.class h) r now m.middle.room m.middle.within stands done.less done.within lent
+
+-- and so in a turn of dropping
+pub drop_stays : (d : Dropping) (key : Key) (successor : Option Key) (done : List Place) (now : State) (p : Place) (h : KeptField) (r : KeptRecord) → CanDropOn d key done now →
+    IsNext done p h now → IsLentAt p r (drop_by d (linkable_authorities now) key successor p.class h).field now →
+    StaysRecord p.field (drop_by d (linkable_authorities now) key successor p.class h).field r
+drop_stays d key successor done now p h r m next lent =
+    let all = linkable_authorities now in
+    let g = drop_by d all key successor p.class h in
+    let fits = fits_of now m.authorities_ascend m.rows.0 in
+    let tied = field_at_place (IsTiedButTo key all) now p h p.class refl m.ties next.stands in
+    let short = field_at_place IsWithinReach now p h p.class refl m.within next.stands in
+    let is = handled all key successor p.class fits h g tied short (dropped_field all key successor p.class d h tied (m.spared p h next)) in
+    exchange_stays p h g r now m.room m.within next.stands is.less is.within lent

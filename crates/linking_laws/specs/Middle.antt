@@ -11,7 +11,8 @@ use Rattle.heading_fields.specs.Tables.{is_subdividable}
 use Rattle.iso2709_record.specs.Written.{field_length}
 use Rattle.marc_types.specs.Order.{same_key}
 use Rattle.entry_record.specs.Authority.{Linkable, is_heading_field}
-use Rattle.catalogue_rules.specs.State.{KeptField, Row, State, fields_of, linkable_authorities}
+use Rattle.catalogue_rules.specs.State.{KeptField, KeptRecord, Row, State, fields_of, linkable_authorities}
+use Rattle.catalogue_rules.specs.Receipt.{kept_under}
 use Rattle.catalogue_rules.specs.Settle.{keeps_link, is_linked_to, settle_field}
 use Rattle.linking_laws.specs.Stages.{Dropping, DropNone, DropBases, DropAll}
 use Rattle.catalogue_rules.specs.Valid.{EachRow, EachField, IsAscending, IsRow, IsTied, HasRoom, reach}
@@ -100,3 +101,9 @@ pub record CanDropOn (dropping : Dropping) (key : Key) (done : List Place) (s : 
 pub record IsDroppedOn (dropping : Dropping) (key : Key) (done : List Place) (before now : State) : Type 0 where
   pub can_go_on : CanDropOn dropping key done now
   pub authorities_stay : linkable_authorities now ≡ linkable_authorities before
+
+-- the record that stands at a place is one as it was visited, and so is a field that comes into it
+pub record IsLentAt (p : Place) (r : KeptRecord) (field : Field) (s : State) : Type 0 where
+  pub kept : kept_under p.class p.key s ≡ Some r
+  pub visited : is_record r.leader (fields_of r) ≡ true
+  pub proper : is_field field ≡ true

@@ -1,5 +1,5 @@
 -- A change of many fields, place by place and in any order, and how far it has come. The rules are this project's own.
-use Rattle.std.specs.Prelude.{◌≡◌, ℕ, ◌==◌, Bool, false, ◌&&◌, ◌⊎◌, List, length, map, Some, if◌then◌else◌}
+use Rattle.std.specs.Prelude.{◌≡◌, ◌≤◌, ℕ, zero, suc, ◌==◌, Bool, false, ◌&&◌, ◌⊎◌, List, [], ◌∷◌, ◌++◌, length, map, Some, if◌then◌else◌}
 use Rattle.std.specs.List.{list_any}
 use Rattle.std.specs.Option.{option_map}
 use Rattle.marc_types.specs.Fields.{tag_of}
@@ -9,8 +9,8 @@ use Rattle.marc_types.specs.declared.key.Class.TheVariants.{Authority}
 use Rattle.marc_types.specs.declared.key.Key.{Key}
 use Rattle.marc_types.specs.declared.key.Place.{Place}
 use Rattle.marc_types.specs.Order.{same_key}
-use Rattle.catalogue_rules.specs.State.{KeptField, Row, State, rows_of}
-use Rattle.catalogue_rules.specs.Receipt.{same_class}
+use Rattle.catalogue_rules.specs.State.{KeptField, KeptRecord, Row, State, rows_of}
+use Rattle.catalogue_rules.specs.Receipt.{kept_under, same_class}
 use Rattle.catalogue_rules.specs.Valid.{IsAscending}
 use Rattle.record_store.specs.Store.{field_under, with_field_under, with_rows}
 
@@ -57,6 +57,15 @@ pub record IsWhole (change : Class → KeptField → KeptField) (done : List Pla
 -- a place of the record of a class under a key
 abbrev pub is_place_of : Class → Key → Place → Bool
 is_place_of class key q = same_class class q.class && same_key key q.key
+
+-- the places of the first fields of the record of a class under a key, in turn
+abbrev pub own_places : Class → Key → ℕ → List Place
+own_places class key zero = []
+own_places class key (suc n) = own_places class key n ++ (record { class = class; key = key; field = n }) ∷ []
+
+-- the record under the key, if there is one, has at most so many fields
+abbrev pub HasAtMost : Class → Key → ℕ → State → Type 0
+HasAtMost class key n s = (r : KeptRecord) → kept_under class key s ≡ Some r → length r.fields ≤ n
 
 -- of the places that hold a field exactly the record's own are done
 pub record AreOwnDone (class : Class) (key : Key) (done : List Place) (before : State) : Type 0 where

@@ -1,20 +1,21 @@
 //! Laws of the states between the stages of a commit.
-ghost use Rattle.std.specs.Prelude.{ℕ, List, [], ◌∷◌, ◌++◌, find, Option};
+ghost use Rattle.std.specs.Prelude.{◌≡◌, ℕ, Some, List, [], ◌∷◌, ◌++◌, find, Option};
 ghost use Rattle.marc_types.specs.declared.key.Class.{Class};
 ghost use Rattle.marc_types.specs.declared.key.Class.TheVariants.{Authority, Bibliographic};
 ghost use Rattle.marc_types.specs.declared.key.Key.{Key};
 ghost use Rattle.marc_types.specs.declared.entry.Entry.{Entry};
 ghost use Rattle.entry_record.specs.Authority.{Linkable};
-ghost use Rattle.catalogue_rules.specs.State.{KeptField, State, linkable_authorities, each_field, Row};
+ghost use Rattle.catalogue_rules.specs.State.{KeptField, KeptRecord, State, linkable_authorities, each_field, Row};
 ghost use Rattle.catalogue_rules.specs.Choice.{has_key};
+ghost use Rattle.catalogue_rules.specs.Settle.{settle_field};
 ghost use Rattle.catalogue_rules.specs.Valid.{IsValid};
 ghost use Rattle.linking_laws.specs.Partway.{IsNext, IsSteadyChange, swapped};
-ghost use Rattle.linking_laws.specs.Middle.{CanDrop, CanDropOn, IsDroppedOn, IsEitherStage, IsMiddle, IsMiddleWith, IsVisited};
+ghost use Rattle.linking_laws.specs.Middle.{CanDrop, CanDropOn, IsDroppedOn, IsEitherStage, IsLentAt, IsMiddle, IsMiddleWith, IsVisited};
 ghost use Rattle.linking_laws.specs.Stages.{Dropping, drop_by, carry_by, choose_field, settle_own};
 ghost use Rattle.marc_types.specs.declared.field.Field.{Field};
 ghost use Rattle.marc_types.specs.declared.form.Form.{Form};
 ghost use Rattle.marc_types.specs.declared.key.Place.{Place};
-ghost use Rattle.record_store.specs.Store.{StaysRecord};
+ghost use Rattle.record_store.specs.Store.{StaysRecord, field_under};
 ghost use Rattle.linking_laws.specs.Commits.{IsCommit, dropping_of, placed_by};
 
 /// A valid state may stand between two stages.
@@ -35,16 +36,27 @@ pub fn a_turn_leads_between_stages()
         → IsMiddleWith all now → IsNext done p h now → IsEitherStage all change → IsMiddleWith all (swapped p (change p.class h) now) }
 {}
 
-/// Carrying leaves each field or settles it, and so does choosing.
+/// Carrying leaves each field or settles it, and so do choosing and settling.
 pub fn carrying_and_choosing_settle()
     ensures carry { (key : Key) (all : List Linkable) → IsEitherStage all (carry_by key (find (has_key key) all)) }
     ensures choose { (all : List Linkable) (forms : List Form) (key : Key) → IsEitherStage all (choose_field all forms key) }
+    ensures settle { (all : List Linkable) → IsEitherStage all (settle_field all) }
 {}
 
 /// A visited record with room stays a record with another field at one place.
 #[tactic(auto, using(crate::proofs::Settling::stays_record))]
 pub fn a_record_stays_one()
     ensures { (class : Class) (row : Row) (i : ℕ) (field : Field) → IsVisited class row field → StaysRecord i field row.1 }
+{}
+
+/// In a turn of such a stage the record of the place stays one, and so it does in a turn of dropping.
+pub fn a_turn_leaves_a_record()
+    ensures stage { (all : List Linkable) (change : Class → KeptField → KeptField) (now : State) (p : Place) (h : KeptField) (r : KeptRecord)
+        → IsMiddleWith all now → IsEitherStage all change → field_under p now ≡ Some h → IsLentAt p r (change p.class h).field now
+        → StaysRecord p.field (change p.class h).field r }
+    ensures dropping { (d : Dropping) (key : Key) (successor : Option Key) (done : List Place) (now : State) (p : Place) (h : KeptField) (r : KeptRecord)
+        → CanDropOn d key done now → IsNext done p h now → IsLentAt p r (drop_by d (linkable_authorities now) key successor p.class h).field now
+        → StaysRecord p.field (drop_by d (linkable_authorities now) key successor p.class h).field r }
 {}
 
 /// Such a stage changes no field of an authority record but a 5XX, so that the authorities stay also on its way.

@@ -1,9 +1,9 @@
 //! Laws of a change of many fields, place by place.
-ghost use Rattle.std.specs.Prelude.{◌≡◌, List, [], ◌∷◌, ◌++◌, Option, false, find, Some};
+ghost use Rattle.std.specs.Prelude.{◌≡◌, ℕ, List, [], ◌∷◌, ◌++◌, Option, false, find, Some};
 ghost use Rattle.marc_types.specs.declared.key.Class.{Class};
 ghost use Rattle.marc_types.specs.declared.key.Place.{Place};
 ghost use Rattle.catalogue_rules.specs.State.{KeptField, State, linkable_authorities, each_field};
-ghost use Rattle.linking_laws.specs.Partway.{same_place, AreOrdered, AreOwnDone, IsNext, IsPartway, IsSteadyChange, IsWhole, swapped, is_place_among};
+ghost use Rattle.linking_laws.specs.Partway.{same_place, AreOrdered, AreOwnDone, HasAtMost, own_places, IsNext, IsPartway, IsSteadyChange, IsWhole, swapped, is_place_among};
 ghost use Rattle.marc_types.specs.declared.key.Key.{Key};
 ghost use Rattle.marc_types.specs.declared.form.Form.{Form};
 ghost use Rattle.entry_record.specs.Authority.{Linkable};
@@ -12,6 +12,7 @@ ghost use Rattle.linking_laws.specs.Stages.{Dropping, drop_by, carry_by, carry_f
 ghost use Rattle.linking_laws.specs.Tables.{AreOnce, IsListing, dropped_at, holds_at, linked_at};
 ghost use Rattle.linking_laws.specs.Waiting.{is_waiting_for};
 ghost use Rattle.std.specs.Ordering.{eq_by_cmp};
+ghost use Rattle.linking_laws.specs.Receipts.{place_in};
 ghost use Rattle.marc_types.specs.Order.{place_cmp};
 ghost use Rattle.catalogue_rules.specs.Choice.{has_key};
 ghost use Rattle.catalogue_rules.specs.Settle.{settle_field};
@@ -42,6 +43,12 @@ pub fn own_fields_are_settled()
     ensures { (all : List Linkable) (class : Class) (key : Key) (done : List Place) (before now : State)
         → AreOrdered before → IsPartway (settle_field all) done before now → AreOwnDone class key done before
         → settle_own all class key before ≡ now }
+{}
+
+/// One record's fields are taken in turn: each place is new, and behind its last field exactly its own places are done.
+pub fn own_places_are_taken_in_turn()
+    ensures new { (class : Class) (key : Key) (n : ℕ) → is_place_among (own_places class key n) (place_in class key n) ≡ false }
+    ensures done { (class : Class) (key : Key) (n : ℕ) (s : State) → HasAtMost class key n s → AreOwnDone class key (own_places class key n) s }
 {}
 
 /// However far a change of 5XX fields has come, the linkable authorities are those before, and so no choice elsewhere changes.
