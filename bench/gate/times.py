@@ -6,9 +6,11 @@ time of each crate's proof, of its tests' proofs and of its must-fail edits, the
 
 The log of `rt ci` tells no times, so the processes of the prover are looked at twice a second: which crate each checks
 stands among its words, an edit is tried in a folder /tmp/rt-edit.., and a crate's tests are checked with --test. What a
-process does in its last half second is lost. The log itself goes to /tmp/gate.log.
+process does in its last half second is lost. The log itself goes to /tmp/gate.log. Where the run is ended from outside, the
+table says what was done until then.
 """
 import os
+import signal
 import subprocess
 import sys
 import time
@@ -38,17 +40,31 @@ def kind_of(words, folder):
     return "tests" if "--test" in words else "proof"
 
 
-def main():
-    log = open("/tmp/gate.log", "w")
-    start = time.time()
-    gate = subprocess.Popen(["rt", "ci", *sys.argv[1:]], stdout=log, stderr=subprocess.STDOUT)
-    seen = {}
+def end(_number, _frame):
+    raise KeyboardInterrupt
+
+
+def watch(gate, seen):
+    """Notes what each process of the prover has used, until the run ends."""
     while gate.poll() is None:
         for number, began, words, folder, seconds in processes():
             if "--crate-name" in words:
                 crate = words[words.index("--crate-name") + 1]
                 seen[number, began] = crate, kind_of(words, folder), seconds
         time.sleep(0.5)
+
+
+def main():
+    signal.signal(signal.SIGTERM, end)
+    log = open("/tmp/gate.log", "w")
+    start = time.time()
+    gate = subprocess.Popen(["rt", "ci", *sys.argv[1:]], stdout=log, stderr=subprocess.STDOUT)
+    seen = {}
+    try:
+        watch(gate, seen)
+    except KeyboardInterrupt:
+        gate.terminate()
+        gate.wait()
     rows = {}
     for crate, kind, seconds in seen.values():
         rows.setdefault(crate, {}).setdefault(kind, 0.0)
