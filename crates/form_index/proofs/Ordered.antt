@@ -18,6 +18,10 @@ use Rattle.form_index.specs.Order.{Ascends, has, key_at, no_key, number_cmp, ins
 pub number_total : (keys : List Key) → IsTotalOrder (number_cmp keys)
 number_total keys = on_total (key_at keys) key_cmp_total
 
+-- a number ties with itself
+pub order_of_one : (keys : List Key) (n : ℕ) → number_cmp keys n n ≡ Equal
+order_of_one keys n = tied_itself (number_total keys) n
+
 module _ (P : ℕ → Type 0) where
   pub all_insert : (l : List ℕ) (i x : ℕ) → AllByRecursion P l → P x → AllByRecursion P (insert l i x)
   all_insert [] zero x all p = (p, tt)
