@@ -65,8 +65,10 @@ fn numbers(count: u32, seed: u64) -> Vec<u32> {
 }
 
 fn show(what: &str, start: Instant, count: usize, sum: u64) {
-    let each = start.elapsed().as_nanos() / count.max(1) as u128;
-    println!("plain {what}: {each} ns (sum {sum})");
+    if count > 0 {
+        let each = start.elapsed().as_nanos() / count as u128;
+        println!("plain {what}: {each} ns (sum {sum})");
+    }
 }
 
 struct Steps(Vec<u32>);
