@@ -12,9 +12,9 @@ use Rattle.marc_types.specs.declared.key.Key.{Key}
 use Rattle.numbering.specs.Numbers.{Keeps, number_of}
 use Rattle.numbering.proofs.Numberlaws.{number_at, thing_at}
 use Rattle.std.specs.Ordering.{is_lt}
-use Rattle.form_index.specs.Order.{Ascends, has, key_at, no_key, number_cmp, placed, without}
+use Rattle.form_index.specs.Order.{Ascends, has, key_at, no_key, number_cmp, inserted, without}
 use Rattle.form_index.specs.Trimmed.{trimmed}
-use Rattle.form_index.specs.Listed.{Listed, each_from, each_of, is_no_list, list_at, seated}
+use Rattle.form_index.specs.Listed.{Listed, each_from, each_of, is_no_list, list_at, entered}
 use Rattle.form_index.specs.Forms.{forms_by}
 use Rattle.form_index.specs.declared.among.Among.TheVariants.{All, Bare}
 use Rattle.form_index.specs.declared.among.By.{By}
@@ -72,21 +72,21 @@ module _ (old new : List Key) (keeps : Keeps (eq_by_cmp key_cmp) old new) (disti
   pub order_kept : (x : Indexed) → IsInOrder old x → IsInOrder new x
   order_kept x ordered among by form = ascends_kept _ (ordered among by form)
 
-  placed_kept : (n : ℕ) (l : List ℕ) → n < length old → AllByRecursion (λ m. m < length old) l → placed new n l ≡ placed old n l
-  placed_kept n [] low known = refl
-  placed_kept n (m ∷ ms) low known =
-      ap (λ r. if is_lt r then n ∷ m ∷ ms else m ∷ placed new n ms) (sym (cmp_kept n m low known.0))
-      ∙ ap (λ rest. if is_lt (number_cmp old n m) then n ∷ m ∷ ms else m ∷ rest) (placed_kept n ms low known.1)
+  inserted_kept : (n : ℕ) (l : List ℕ) → n < length old → AllByRecursion (λ m. m < length old) l → inserted new n l ≡ inserted old n l
+  inserted_kept n [] low known = refl
+  inserted_kept n (m ∷ ms) low known =
+      ap (λ r. if is_lt r then n ∷ m ∷ ms else m ∷ inserted new n ms) (sym (cmp_kept n m low known.0))
+      ∙ ap (λ rest. if is_lt (number_cmp old n m) then n ∷ m ∷ ms else m ∷ rest) (inserted_kept n ms low known.1)
 
-  seated_kept : (n : ℕ) (l : Listed) → n < length old → Ascends old l.live → seated new n l ≡ seated old n l
-  seated_kept n l low ascends =
-      ap (λ live. if has n l.held && not (has n l.live) then record { live = live; held = without n l.held } else l) (placed_kept n l.live low ascends.known)
+  entered_kept : (n : ℕ) (l : Listed) → n < length old → Ascends old l.live → entered new n l ≡ entered old n l
+  entered_kept n l low ascends =
+      ap (λ live. if has n l.held && not (has n l.live) then record { live = live; held = without n l.held } else l) (inserted_kept n l.live low ascends.known)
 
   headed_kept : (row : Taken) (h : Headed) → row.number < length old → ((by : By) (form : ℕ) → Ascends old (list_at (headed_by by h) form).live)
-      → headed_step row.forms (seated new row.number) h ≡ headed_step row.forms (seated old row.number) h
+      → headed_step row.forms (entered new row.number) h ≡ headed_step row.forms (entered old row.number) h
   headed_kept row h low ordered = λ i. record {
-    established = all_alike (forms_by Established row.forms) (seated new row.number) (seated old row.number) h.established (λ form. seated_kept row.number _ low (ordered Established form)) i;
-    see_from = all_alike (forms_by SeeFrom row.forms) (seated new row.number) (seated old row.number) h.see_from (λ form. seated_kept row.number _ low (ordered SeeFrom form)) i;
+    established = all_alike (forms_by Established row.forms) (entered new row.number) (entered old row.number) h.established (λ form. entered_kept row.number _ low (ordered Established form)) i;
+    see_from = all_alike (forms_by SeeFrom row.forms) (entered new row.number) (entered old row.number) h.see_from (λ form. entered_kept row.number _ low (ordered SeeFrom form)) i;
   }
 
   -- a row that was taken comes back to the same places

@@ -7,7 +7,7 @@ use Rattle.std.proofs.lemmas.Bool.{true≢false, eqb-true}
 use Rattle.marc_types.specs.declared.key.Key.{Key}
 use Rattle.form_index.specs.Order.{Ascends, has}
 use Rattle.form_index.specs.Trimmed.{trimmed, with_at}
-use Rattle.form_index.specs.Listed.{Listed, released, seated, unseated, with_held}
+use Rattle.form_index.specs.Listed.{Listed, released, entered, withdrawn, with_held}
 use Rattle.form_index.specs.Forms.{Forms, belongs}
 use Rattle.form_index.specs.Index.{ExchangesRow, Indexed, IsBlankScan, IsHeld, IsScan, IsShortListing, Listing, ListingInOrder, Puts, PutsBack, TakesOut, Took, listed, listing_step, no_index, slot_at, taken, with_slot}
 use Rattle.form_index.specs.Stands.{Fits, HasSlots, Stands}
@@ -16,7 +16,7 @@ use Rattle.form_index.specs.declared.among.Among.TheVariants.{All, Bare}
 use Rattle.form_index.specs.declared.among.By.{By}
 use Rattle.form_index.specs.declared.among.By.TheVariants.{Established, SeeFrom}
 use Rattle.form_index.proofs.Listing.{listing_short, listing_took, same_listing}
-use Rattle.form_index.proofs.Places.{held_after_hold, held_after_seat, held_after_unseat, held_unseated, live_seated, live_unseated, put_undone, reseated, still_has}
+use Rattle.form_index.proofs.Places.{held_after_hold, held_after_enter, held_after_withdraw, held_withdrawn, live_entered, live_withdrawn, put_undone, reentered, still_has}
 use Rattle.form_index.proofs.Trims.{same_trimmed, trimmed_again, trimmed_at, with_at_at}
 
 -- ---- rows
@@ -115,12 +115,12 @@ module _ (n : ℕ) (r : Forms) (step : Listed → Listed) (old new : Listing) (t
 -- ---- a row is taken out
 
 module _ (keys : List Key) (n : ℕ) (r : Forms) (rows more : List (Option Forms)) (old new : Listing) (stands : Stands rows old) (at : slot_at rows n ≡ Some r)
-    (slots : (m : ℕ) → slot_at more m ≡ (if m == n then None else slot_at rows m)) (ordered : ListingInOrder keys old) (is : new ≡ listing_step r (unseated n) old) where
+    (slots : (m : ℕ) → slot_at more m ≡ (if m == n then None else slot_at rows m)) (ordered : ListingInOrder keys old) (is : new ≡ listing_step r (withdrawn n) old) where
   there : (a : Among) (b : By) (f : ℕ) → has n (listed a b f old).live ≡ belongs a b f r
   there a b f = stands.fits a b f n ∙ ap (λ o. option_map_or (belongs a b f) o false) at
 
-  took_unseat : Took r (unseated n) old new
-  took_unseat = subst (Took r (unseated n) old) (sym is) (listing_took r (unseated n) old refl)
+  took_withdraw : Took r (withdrawn n) old new
+  took_withdraw = subst (Took r (withdrawn n) old) (sym is) (listing_took r (withdrawn n) old refl)
 
   within : (rows : List (Option Forms)) (n : ℕ) → slot_at rows n ≡ Some r → n < length rows
   within [] n e = cc
@@ -129,35 +129,35 @@ module _ (keys : List Key) (n : ℕ) (r : Forms) (rows more : List (Option Forms
 
   pub take_stands : length more ≡ length rows → Stands more new
   take_stands long = record {
-    fits = fits_after n r (unseated n) old new took_unseat rows more None slots stands.fits
-        (λ a b f e m. live_unseated n (listed a b f old) keys (ordered a b f) (there a b f ∙ e) m)
+    fits = fits_after n r (withdrawn n) old new took_withdraw rows more None slots stands.fits
+        (λ a b f e m. live_withdrawn n (listed a b f old) keys (ordered a b f) (there a b f ∙ e) m)
         (λ a b f e. there a b f ∙ e);
     slots = let low : n < length rows = within rows n at in
-        slots_after n r (unseated n) old new took_unseat (λ l m h. held_after_unseat n l m h) rows more (omega arith) (omega arith) stands.slots;
-    short = subst IsShortListing (sym is) (listing_short r (unseated n) old stands.short);
+        slots_after n r (withdrawn n) old new took_withdraw (λ l m h. held_after_withdraw n l m h) rows more (omega arith) (omega arith) stands.slots;
+    short = subst IsShortListing (sym is) (listing_short r (withdrawn n) old stands.short);
   }
 
-  lists_back : listing_step r (seated keys n) new ≡ old
+  lists_back : listing_step r (entered keys n) new ≡ old
   lists_back =
-      same_listing old (listing_step r (seated keys n) new) stands.short
-      (listing_short r (seated keys n) new (subst IsShortListing (sym is) (listing_short r (unseated n) old stands.short)))
+      same_listing old (listing_step r (entered keys n) new) stands.short
+      (listing_short r (entered keys n) new (subst IsShortListing (sym is) (listing_short r (withdrawn n) old stands.short)))
       (λ a b f. by a b f (belongs a b f r) refl)
     where
-      took_seat : Took r (seated keys n) new (listing_step r (seated keys n) new)
-      took_seat = listing_took r (seated keys n) new refl
+      took_enter : Took r (entered keys n) new (listing_step r (entered keys n) new)
+      took_enter = listing_took r (entered keys n) new refl
 
-      by : (a : Among) (b : By) (f : ℕ) (t : Bool) → belongs a b f r ≡ t → listed a b f (listing_step r (seated keys n) new) ≡ listed a b f old
+      by : (a : Among) (b : By) (f : ℕ) (t : Bool) → belongs a b f r ≡ t → listed a b f (listing_step r (entered keys n) new) ≡ listed a b f old
       by a b f true e =
-          took_in n r (seated keys n) new (listing_step r (seated keys n) new) took_seat a b f e
-          ∙ ap (seated keys n) (took_in n r (unseated n) old new took_unseat a b f e)
-          ∙ reseated n (listed a b f old) keys (ordered a b f) (there a b f ∙ e)
-      by a b f false e = took_out n r (seated keys n) new (listing_step r (seated keys n) new) took_seat a b f e ∙ took_out n r (unseated n) old new took_unseat a b f e
+          took_in n r (entered keys n) new (listing_step r (entered keys n) new) took_enter a b f e
+          ∙ ap (entered keys n) (took_in n r (withdrawn n) old new took_withdraw a b f e)
+          ∙ reentered n (listed a b f old) keys (ordered a b f) (there a b f ∙ e)
+      by a b f false e = took_out n r (entered keys n) new (listing_step r (entered keys n) new) took_enter a b f e ∙ took_out n r (withdrawn n) old new took_withdraw a b f e
 
   pub take_takes : TakesOut keys (taken n r) (shown rows old) (shown more new)
   take_takes = record {
     is = λ i. record { rows = rows_with n None rows more slots i; lists = is i };
     rows = λ m. slots_at more m ∙ slots m ∙ ap (λ z. if m == n then None else z) (sym (slots_at rows m));
-    held = λ a b f e. ap (λ l. has n l.held) (took_in n r (unseated n) old new took_unseat a b f e) ∙ held_unseated n (listed a b f old) (there a b f ∙ e);
+    held = λ a b f e. ap (λ l. has n l.held) (took_in n r (withdrawn n) old new took_withdraw a b f e) ∙ held_withdrawn n (listed a b f old) (there a b f ∙ e);
     undone =
         let rows_back : with_slot n (Some r) (trimmed is_none more) ≡ trimmed is_none rows =
         ap (with_slot n (Some r)) (rows_with n None rows more slots)
@@ -165,37 +165,37 @@ module _ (keys : List Key) (n : ℕ) (r : Forms) (rows more : List (Option Forms
         λ i. record { rows = rows_back i; lists = lists_back i };
   }
 
--- ---- a row is seated, whose places are held
+-- ---- a row is entered, whose places are held
 
 module _ (keys : List Key) (n : ℕ) (r : Forms) (rows more : List (Option Forms)) (old new : Listing) (fits : Fits rows old) (free : slot_at rows n ≡ None)
-    (slots : (m : ℕ) → slot_at more m ≡ (if m == n then Some r else slot_at rows m)) (is : new ≡ listing_step r (seated keys n) old)
+    (slots : (m : ℕ) → slot_at more m ≡ (if m == n then Some r else slot_at rows m)) (is : new ≡ listing_step r (entered keys n) old)
     (held : (a : Among) (b : By) (f : ℕ) → belongs a b f r ≡ true → has n (listed a b f old).held ≡ true) where
   absent : (a : Among) (b : By) (f : ℕ) → has n (listed a b f old).live ≡ false
   absent a b f = fits a b f n ∙ ap (λ o. option_map_or (belongs a b f) o false) free
 
-  pub took_seated : Took r (seated keys n) old new
-  took_seated = subst (Took r (seated keys n) old) (sym is) (listing_took r (seated keys n) old refl)
+  pub took_entered : Took r (entered keys n) old new
+  took_entered = subst (Took r (entered keys n) old) (sym is) (listing_took r (entered keys n) old refl)
 
-  seat_fits : Fits more new
-  seat_fits =
-      fits_after n r (seated keys n) old new took_seated rows more (Some r) slots fits
-      (λ a b f e m. live_seated n (listed a b f old) keys (held a b f e) (absent a b f) m ∙ ap (λ t. if m == n then t else has m (listed a b f old).live) (sym e))
+  enter_fits : Fits more new
+  enter_fits =
+      fits_after n r (entered keys n) old new took_entered rows more (Some r) slots fits
+      (λ a b f e m. live_entered n (listed a b f old) keys (held a b f e) (absent a b f) m ∙ ap (λ t. if m == n then t else has m (listed a b f old).live) (sym e))
       (λ a b f e. absent a b f ∙ sym e)
 
-  pub seat_stands : IsShortListing old → HasSlots rows old → n < length more → length rows ≤ length more → Stands more new
-  seat_stands short places known longer = record {
-    fits = seat_fits;
-    slots = slots_after n r (seated keys n) old new took_seated (λ l m h. held_after_seat n l keys m h) rows more known longer places;
-    short = subst IsShortListing (sym is) (listing_short r (seated keys n) old short);
+  pub enter_stands : IsShortListing old → HasSlots rows old → n < length more → length rows ≤ length more → Stands more new
+  enter_stands short places known longer = record {
+    fits = enter_fits;
+    slots = slots_after n r (entered keys n) old new took_entered (λ l m h. held_after_enter n l keys m h) rows more known longer places;
+    short = subst IsShortListing (sym is) (listing_short r (entered keys n) old short);
   }
 
-  pub seat_exchanges : ExchangesRow n (Some r) (shown rows old) (shown more new)
-  seat_exchanges m = slots_at more m ∙ slots m ∙ ap (λ z. if m == n then Some r else z) (sym (slots_at rows m))
+  pub enter_exchanges : ExchangesRow n (Some r) (shown rows old) (shown more new)
+  enter_exchanges m = slots_at more m ∙ slots m ∙ ap (λ z. if m == n then Some r else z) (sym (slots_at rows m))
 
-  pub seat_puts_back : PutsBack keys (taken n r) (shown rows old) (shown more new)
-  seat_puts_back = record {
+  pub enter_puts_back : PutsBack keys (taken n r) (shown rows old) (shown more new)
+  enter_puts_back = record {
     is = λ i. record { rows = rows_with n (Some r) rows more slots i; lists = is i };
-    rows = seat_exchanges;
+    rows = enter_exchanges;
   }
 
 -- a place that is held has a slot
@@ -255,32 +255,32 @@ module _ (n : ℕ) (r : Forms) (rows : List (Option Forms)) (old new : Listing) 
 -- ---- a row that was put is taken out and let go
 
 module _ (keys : List Key) (n : ℕ) (r : Forms) (rows more : List (Option Forms)) (old mid new : Listing) (stands : Stands rows old) (free : slot_at rows n ≡ None)
-    (slots : (m : ℕ) → slot_at more m ≡ (if m == n then Some r else slot_at rows m)) (held : Took r (with_held n) old mid) (is : new ≡ listing_step r (seated keys n) mid) where
-  put_lists : IsShortListing mid → listing_step r (released n) (listing_step r (unseated n) new) ≡ old
+    (slots : (m : ℕ) → slot_at more m ≡ (if m == n then Some r else slot_at rows m)) (held : Took r (with_held n) old mid) (is : new ≡ listing_step r (entered keys n) mid) where
+  put_lists : IsShortListing mid → listing_step r (released n) (listing_step r (withdrawn n) new) ≡ old
   put_lists short =
-      same_listing old (listing_step r (released n) (listing_step r (unseated n) new)) stands.short
-      (listing_short r (released n) (listing_step r (unseated n) new) (listing_short r (unseated n) new (subst IsShortListing (sym is) (listing_short r (seated keys n) mid short))))
+      same_listing old (listing_step r (released n) (listing_step r (withdrawn n) new)) stands.short
+      (listing_short r (released n) (listing_step r (withdrawn n) new) (listing_short r (withdrawn n) new (subst IsShortListing (sym is) (listing_short r (entered keys n) mid short))))
       (λ a b f. by a b f (belongs a b f r) refl)
     where
-      seat : Took r (seated keys n) mid new
-      seat = subst (Took r (seated keys n) mid) (sym is) (listing_took r (seated keys n) mid refl)
+      enter : Took r (entered keys n) mid new
+      enter = subst (Took r (entered keys n) mid) (sym is) (listing_took r (entered keys n) mid refl)
 
-      out : Took r (unseated n) new (listing_step r (unseated n) new)
-      out = listing_took r (unseated n) new refl
+      out : Took r (withdrawn n) new (listing_step r (withdrawn n) new)
+      out = listing_took r (withdrawn n) new refl
 
-      go : Took r (released n) (listing_step r (unseated n) new) (listing_step r (released n) (listing_step r (unseated n) new))
-      go = listing_took r (released n) (listing_step r (unseated n) new) refl
+      go : Took r (released n) (listing_step r (withdrawn n) new) (listing_step r (released n) (listing_step r (withdrawn n) new))
+      go = listing_took r (released n) (listing_step r (withdrawn n) new) refl
 
-      by : (a : Among) (b : By) (f : ℕ) (t : Bool) → belongs a b f r ≡ t → listed a b f (listing_step r (released n) (listing_step r (unseated n) new)) ≡ listed a b f old
+      by : (a : Among) (b : By) (f : ℕ) (t : Bool) → belongs a b f r ≡ t → listed a b f (listing_step r (released n) (listing_step r (withdrawn n) new)) ≡ listed a b f old
       by a b f true e =
-          took_in n r (released n) (listing_step r (unseated n) new) (listing_step r (released n) (listing_step r (unseated n) new)) go a b f e
-          ∙ ap (released n) (took_in n r (unseated n) new (listing_step r (unseated n) new) out a b f e
-          ∙ ap (unseated n) (took_in n r (seated keys n) mid new seat a b f e ∙ ap (seated keys n) (took_in n r (with_held n) old mid held a b f e)))
+          took_in n r (released n) (listing_step r (withdrawn n) new) (listing_step r (released n) (listing_step r (withdrawn n) new)) go a b f e
+          ∙ ap (released n) (took_in n r (withdrawn n) new (listing_step r (withdrawn n) new) out a b f e
+          ∙ ap (withdrawn n) (took_in n r (entered keys n) mid new enter a b f e ∙ ap (entered keys n) (took_in n r (with_held n) old mid held a b f e)))
           ∙ put_undone n (listed a b f old) keys (stands.fits a b f n ∙ ap (λ o. option_map_or (belongs a b f) o false) free)
       by a b f false e =
-          took_out n r (released n) (listing_step r (unseated n) new) (listing_step r (released n) (listing_step r (unseated n) new)) go a b f e
-          ∙ took_out n r (unseated n) new (listing_step r (unseated n) new) out a b f e
-          ∙ took_out n r (seated keys n) mid new seat a b f e ∙ took_out n r (with_held n) old mid held a b f e
+          took_out n r (released n) (listing_step r (withdrawn n) new) (listing_step r (released n) (listing_step r (withdrawn n) new)) go a b f e
+          ∙ took_out n r (withdrawn n) new (listing_step r (withdrawn n) new) out a b f e
+          ∙ took_out n r (entered keys n) mid new enter a b f e ∙ took_out n r (with_held n) old mid held a b f e
 
   pub put_puts : IsShortListing mid → Puts (taken n r) (shown rows old) (shown more new)
   put_puts short = record {

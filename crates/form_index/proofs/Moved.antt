@@ -11,9 +11,9 @@ use Rattle.std.proofs.lemmas.Map.Keys.{any_passes_from_place}
 use Rattle.std.proofs.lemmas.List.Quantifiers.{position-Some}
 use Rattle.std.proofs.lemmas.Option.{get_or_from_slice_get}
 use Rattle.marc_types.specs.declared.key.Key.{Key}
-use Rattle.form_index.specs.Order.{Ascends, has, number_cmp, placed, without}
-use Rattle.form_index.specs.Listed.{Listed, released, seated, unseated}
-use Rattle.form_index.proofs.Ordered.{ascends_insert, ascends_remove, has_not, number_total, place_from, placed_is, without_is}
+use Rattle.form_index.specs.Order.{Ascends, has, number_cmp, inserted, without}
+use Rattle.form_index.specs.Listed.{Listed, released, entered, withdrawn}
+use Rattle.form_index.proofs.Ordered.{ascends_insert, ascends_remove, has_not, number_total, place_from, inserted_is, without_is}
 
 module _ (items : List ℕ) (live : ℕ) (within : live ≤ length items) where
   front : List ℕ
@@ -157,41 +157,41 @@ module _ (items : List ℕ) (live : ℕ) (within : live ≤ length items) (n : �
       let back : drop live new ≡ without n (drop live items) = ap (drop live) is ∙ back_gone items live within place ∙ sym (found_without n (drop live items) place e) in
       λ i. record { live = front i; held = back i }
 
-  pub seated_none : (keys : List Key) → position (λ m. m == n) (drop live items) ≡ None → shown items live ≡ seated keys n (shown items live)
-  seated_none keys e = sym (ap (λ b. if b && not (has n (take live items)) then record { live = placed keys n (take live items); held = without n (drop live items) } else shown items live) (absent_has n (drop live items) e))
+  pub entered_none : (keys : List Key) → position (λ m. m == n) (drop live items) ≡ None → shown items live ≡ entered keys n (shown items live)
+  entered_none keys e = sym (ap (λ b. if b && not (has n (take live items)) then record { live = inserted keys n (take live items); held = without n (drop live items) } else shown items live) (absent_has n (drop live items) e))
 
-  pub seated_there : (keys : List Key) (at : ℕ) → slice_get (take live items) at ≡ Some n → shown items live ≡ seated keys n (shown items live)
-  seated_there keys at e =
+  pub entered_there : (keys : List Key) (at : ℕ) → slice_get (take live items) at ≡ Some n → shown items live ≡ entered keys n (shown items live)
+  entered_there keys at e =
       let here : has n (take live items) ≡ true = any_passes_from_place (λ m. m == n) (take live items) at n e (eq-eqb n n refl) in
       sym (by (has n (drop live items)) (has n (take live items)) here)
     where
-      by : (b c : Bool) → c ≡ true → (if b && not c then record { live = placed keys n (take live items); held = without n (drop live items) } else shown items live) ≡ shown items live
+      by : (b c : Bool) → c ≡ true → (if b && not c then record { live = inserted keys n (take live items); held = without n (drop live items) } else shown items live) ≡ shown items live
       by true true e = refl
       by false true e = refl
       by b false e = absurd (true≢false (sym e))
 
-  pub seated_moved : (keys : List Key) (from to : ℕ) (new : List ℕ) → position (λ m. m == n) (drop live items) ≡ Some from → to ≤ live
+  pub entered_moved : (keys : List Key) (from to : ℕ) (new : List ℕ) → position (λ m. m == n) (drop live items) ≡ Some from → to ≤ live
       → IsPartitionPoint (λ m. number_cmp keys m n ≡ Less) (λ m. number_cmp keys m n ≡ Greater) (take live items) to
-      → new ≡ insert (remove items (live + from)) to n → shown new (live + 1) ≡ seated keys n (shown items live)
-  seated_moved keys from to new e place part is =
+      → new ≡ insert (remove items (live + from)) to n → shown new (live + 1) ≡ entered keys n (shown items live)
+  entered_moved keys from to new e place part is =
       let point = place_from keys n (take live items) to part in
       let held : has n (drop live items) ≡ true = found_has n (drop live items) from e in
       let out : has n (take live items) ≡ false = has_not (number_cmp keys) (number_total keys) n (take live items) to point in
-      let front : take (live + 1) new ≡ placed keys n (take live items) = ap (take (live + 1)) is ∙ front_into items live within from to n place ∙ sym (placed_is keys n (take live items) to point) in
+      let front : take (live + 1) new ≡ inserted keys n (take live items) = ap (take (live + 1)) is ∙ front_into items live within from to n place ∙ sym (inserted_is keys n (take live items) to point) in
       let back : drop (live + 1) new ≡ without n (drop live items) = ap (drop (live + 1)) is ∙ back_into items live within from to n place ∙ sym (found_without n (drop live items) from e) in
-      let new_is : shown new (live + 1) ≡ record { live = placed keys n (take live items); held = without n (drop live items) } = λ i. record { live = front i; held = back i } in
-      new_is ∙ sym (ap (λ b. if b && not (has n (take live items)) then record { live = placed keys n (take live items); held = without n (drop live items) } else shown items live) held
-      ∙ ap (λ c. if true && not c then record { live = placed keys n (take live items); held = without n (drop live items) } else shown items live) out)
+      let new_is : shown new (live + 1) ≡ record { live = inserted keys n (take live items); held = without n (drop live items) } = λ i. record { live = front i; held = back i } in
+      new_is ∙ sym (ap (λ b. if b && not (has n (take live items)) then record { live = inserted keys n (take live items); held = without n (drop live items) } else shown items live) held
+      ∙ ap (λ c. if true && not c then record { live = inserted keys n (take live items); held = without n (drop live items) } else shown items live) out)
 
-  pub unseated_none : (keys : List Key) (to : ℕ) → IsPartitionPoint (λ m. number_cmp keys m n ≡ Less) (λ m. number_cmp keys m n ≡ Greater) (take live items) to
-      → shown items live ≡ unseated n (shown items live)
-  unseated_none keys to part =
+  pub withdrawn_none : (keys : List Key) (to : ℕ) → IsPartitionPoint (λ m. number_cmp keys m n ≡ Less) (λ m. number_cmp keys m n ≡ Greater) (take live items) to
+      → shown items live ≡ withdrawn n (shown items live)
+  withdrawn_none keys to part =
       let out : has n (take live items) ≡ false = has_not (number_cmp keys) (number_total keys) n (take live items) to (place_from keys n (take live items) to part) in
       sym (ap (λ b. if b then record { live = without n (take live items); held = n ∷ drop live items } else shown items live) out)
 
-  pub unseated_moved : (keys : List Key) (from : ℕ) (new : List ℕ) → IsStrictlySortedBy (number_cmp keys) (take live items) → from < live → slice_get (take live items) from ≡ Some n
-      → new ≡ insert (remove items from) (live - 1) n → shown new (live - 1) ≡ unseated n (shown items live)
-  unseated_moved keys from new sorted low e is =
+  pub withdrawn_moved : (keys : List Key) (from : ℕ) (new : List ℕ) → IsStrictlySortedBy (number_cmp keys) (take live items) → from < live → slice_get (take live items) from ≡ Some n
+      → new ≡ insert (remove items from) (live - 1) n → shown new (live - 1) ≡ withdrawn n (shown items live)
+  withdrawn_moved keys from new sorted low e is =
       let here : has n (take live items) ≡ true = any_passes_from_place (λ m. m == n) (take live items) from n e (eq-eqb n n refl) in
       let front : take (live - 1) new ≡ without n (take live items) = ap (take (live - 1)) is ∙ front_out items live within from n low ∙ sym (without_is keys n (take live items) from sorted e) in
       let back : drop (live - 1) new ≡ n ∷ drop live items = ap (drop (live - 1)) is ∙ back_out items live within from n low in

@@ -12,11 +12,15 @@ use Rattle.std.proofs.lemmas.Cmp.{tied_itself}
 use Rattle.std.proofs.lemmas.Map.Keys.{apart_from_distinct, Less-from_sorted}
 use Rattle.marc_types.specs.Order.{key_cmp, key_cmp_total}
 use Rattle.marc_types.specs.declared.key.Key.{Key}
-use Rattle.form_index.specs.Order.{Ascends, has, key_at, no_key, number_cmp, placed, without}
+use Rattle.form_index.specs.Order.{Ascends, has, key_at, no_key, number_cmp, inserted, without}
 
 -- the keys' order is one of numbers
 pub number_total : (keys : List Key) → IsTotalOrder (number_cmp keys)
 number_total keys = on_total (key_at keys) key_cmp_total
+
+-- a number ties with itself
+pub order_of_one : (keys : List Key) (n : ℕ) → number_cmp keys n n ≡ Equal
+order_of_one keys n = tied_itself (number_total keys) n
 
 module _ (P : ℕ → Type 0) where
   pub all_insert : (l : List ℕ) (i x : ℕ) → AllByRecursion P l → P x → AllByRecursion P (insert l i x)
@@ -129,13 +133,13 @@ module _ (R : ℕ → ℕ → Ordering) (o : IsTotalOrder R) where
 -- ---- lists in key order
 
 module _ (keys : List Key) where
-  pub placed_is : (n : ℕ) (l : List ℕ) (i : ℕ) → IsPlace (number_cmp keys) (number_total keys) n l i → placed keys n l ≡ insert l i n
-  placed_is n [] zero place = refl
-  placed_is n [] (suc i) place = refl
-  placed_is n (m ∷ ms) zero place = less_first (number_cmp keys) (number_total keys) n m _ _ (greater_back (number_cmp keys) (number_total keys) m n place.1.0)
-  placed_is n (m ∷ ms) (suc i) place =
+  pub inserted_is : (n : ℕ) (l : List ℕ) (i : ℕ) → IsPlace (number_cmp keys) (number_total keys) n l i → inserted keys n l ≡ insert l i n
+  inserted_is n [] zero place = refl
+  inserted_is n [] (suc i) place = refl
+  inserted_is n (m ∷ ms) zero place = less_first (number_cmp keys) (number_total keys) n m _ _ (greater_back (number_cmp keys) (number_total keys) m n place.1.0)
+  inserted_is n (m ∷ ms) (suc i) place =
       greater_next (number_cmp keys) (number_total keys) n m _ _ (less_back (number_cmp keys) (number_total keys) m n place.0.0)
-      ∙ ap (λ l. m ∷ l) (placed_is n ms i (place.0.1, place.1))
+      ∙ ap (λ l. m ∷ l) (inserted_is n ms i (place.0.1, place.1))
 
   pub place_from : (n : ℕ) (l : List ℕ) (i : ℕ) → IsPartitionPoint (λ m. number_cmp keys m n ≡ Less) (λ m. number_cmp keys m n ≡ Greater) l i → IsPlace (number_cmp keys) (number_total keys) n l i
   place_from n l i part = split_all (λ m. number_cmp keys m n ≡ Less) (λ m. number_cmp keys m n ≡ Greater) l i part

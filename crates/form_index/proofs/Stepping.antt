@@ -5,7 +5,7 @@ use Rattle.std.proofs.lemmas.Bool.{both_ways, eqb-true, and_parts, and_from, not
 use Rattle.std.proofs.lemmas.List.{take_all, take_more}
 use Rattle.marc_types.specs.declared.key.Key.{Key}
 use Rattle.form_index.specs.declared.key_list.Step.{Step}
-use Rattle.form_index.specs.declared.key_list.Step.TheVariants.{Seat, Unseat}
+use Rattle.form_index.specs.declared.key_list.Step.TheVariants.{Enter, Withdraw}
 use Rattle.form_index.specs.Order.{Ascends, has, without}
 use Rattle.form_index.specs.Trimmed.{trimmed}
 use Rattle.form_index.specs.Listed.{InOrder, IsShort, Listed, SameLists, Stepped, SteppedAt, each_from, each_of, is_empty, is_no_list, is_once, list_at, no_list, released, stepped, with_held}
@@ -90,8 +90,8 @@ pub step_all : (forms : List ℕ) (step : Listed → Listed) (old new : List Lis
 step_all forms step old new i all stepped = subst (λ l. Stepped l step old new) (take_all i forms all) stepped
 
 pub step_stays : (keys : List Key) (n : ℕ) (step : Step) → stepped keys n step no_list ≡ no_list
-step_stays keys n Seat = refl
-step_stays keys n Unseat = refl
+step_stays keys n Enter = refl
+step_stays keys n Withdraw = refl
 
 -- what is seen of the lists is in order with them, and takes the steps that they take
 pub order_inside : (keys : List Key) (lists : List Listed) → InOrder keys (trimmed is_no_list lists) → InOrder keys lists

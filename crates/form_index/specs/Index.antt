@@ -4,7 +4,7 @@ use Rattle.std.specs.Option.{option_map_or}
 use Rattle.marc_types.specs.declared.key.Key.{Key}
 use Rattle.form_index.specs.Order.{Ascends, has}
 use Rattle.form_index.specs.Trimmed.{trimmed, with_at}
-use Rattle.form_index.specs.Listed.{InOrder, IsShort, Listed, Stepped, each_of, list_at, released, seated, unseated}
+use Rattle.form_index.specs.Listed.{InOrder, IsShort, Listed, Stepped, each_of, list_at, released, entered, withdrawn}
 use Rattle.form_index.specs.Forms.{Forms, belongs, forms_by}
 use Rattle.form_index.specs.declared.among.Among.{Among}
 use Rattle.form_index.specs.declared.among.Among.TheVariants.{All, Bare}
@@ -72,7 +72,10 @@ listed among by form l = list_at (lists_by among by l) form
 
 -- a step at the lists of a row's forms, established and see-from
 abbrev pub headed_step : Forms → (Listed → Listed) → Headed → Headed
-headed_step row step h = record { established = each_of (forms_by Established row) step h.established; see_from = each_of (forms_by SeeFrom row) step h.see_from }
+headed_step row step h = record {
+  established = each_of (forms_by Established row) step h.established;
+  see_from = each_of (forms_by SeeFrom row) step h.see_from;
+}
 
 -- a step at each list to which the row belongs
 abbrev pub listing_step : Forms → (Listed → Listed) → Listing → Listing
@@ -80,7 +83,9 @@ listing_step row step l = record { all = headed_step row step l.all; bare = if r
 
 -- the lists to which the row belongs took the step, and the others are as they were
 abbrev pub Took : Forms → (Listed → Listed) → Listing → Listing → Type 0
-Took row step old new = (among : Among) (by : By) (form : ℕ) → listed among by form new ≡ (if belongs among by form row then step (listed among by form old) else listed among by form old)
+Took row step old new =
+    (among : Among) (by : By) (form : ℕ) →
+    listed among by form new ≡ (if belongs among by form row then step (listed among by form old) else listed among by form old)
 
 -- the same of the lists of some rows
 pub record TookHeaded (row : Forms) (step : Listed → Listed) (old new : Headed) : Type 0 where
@@ -109,11 +114,11 @@ IsInOrder keys x = ListingInOrder keys x.lists
 
 -- the index without a row that stands under the number; the lists hold its places
 abbrev pub taken_out : Taken → Indexed → Indexed
-taken_out row x = record { rows = with_slot row.number None x.rows; lists = listing_step row.forms (unseated row.number) x.lists }
+taken_out row x = record { rows = with_slot row.number None x.rows; lists = listing_step row.forms (withdrawn row.number) x.lists }
 
 -- the index with a row that was taken out of it
 abbrev pub put_back : List Key → Taken → Indexed → Indexed
-put_back keys row x = record { rows = with_slot row.number (Some row.forms) x.rows; lists = listing_step row.forms (seated keys row.number) x.lists }
+put_back keys row x = record { rows = with_slot row.number (Some row.forms) x.rows; lists = listing_step row.forms (entered keys row.number) x.lists }
 
 -- the index without the places that it held for a row
 abbrev pub let_go : Taken → Indexed → Indexed
@@ -121,7 +126,9 @@ let_go row x = record { rows = x.rows; lists = listing_step row.forms (released 
 
 -- each list to which the row belongs holds a place for it
 abbrev pub IsHeld : Taken → Indexed → Type 0
-IsHeld row x = (among : Among) (by : By) (form : ℕ) → belongs among by form row.forms ≡ true → has row.number (listed among by form x.lists).held ≡ true
+IsHeld row x =
+    (among : Among) (by : By) (form : ℕ) →
+    belongs among by form row.forms ≡ true → has row.number (listed among by form x.lists).held ≡ true
 
 -- a row was taken out: others stay, and putting it back gives the old value
 pub record TakesOut (keys : List Key) (row : Taken) (old new : Indexed) : Type 0 where

@@ -1,10 +1,10 @@
 -- The list of a form, the steps of a number in it, and lists by form number.
 use Rattle.std.specs.Prelude.{◌≡◌, ℕ, suc, Bool, true, false, not, ◌&&◌, ◌==◌, List, [], ◌∷◌, slice_index_or, if◌then◌else◌}
 use Rattle.marc_types.specs.declared.key.Key.{Key}
-use Rattle.form_index.specs.Order.{Ascends, has, placed, without}
+use Rattle.form_index.specs.Order.{Ascends, has, inserted, without}
 use Rattle.form_index.specs.Trimmed.{trimmed}
 use Rattle.form_index.specs.declared.key_list.Step.{Step}
-use Rattle.form_index.specs.declared.key_list.Step.TheVariants.{Seat, Unseat}
+use Rattle.form_index.specs.declared.key_list.Step.TheVariants.{Enter, Withdraw}
 
 -- the numbers whose rows have the form, in key order, and those for which a taken row holds a place
 pub record Listed : Type 0 where
@@ -30,16 +30,17 @@ abbrev pub released : ℕ → Listed → Listed
 released n l = record { live = l.live; held = without n l.held }
 
 -- the number goes from a place that was held for it to its place in key order
-abbrev pub seated : List Key → ℕ → Listed → Listed
-seated keys n l = if has n l.held && not (has n l.live) then record { live = placed keys n l.live; held = without n l.held } else l
+abbrev pub entered : List Key → ℕ → Listed → Listed
+entered keys n l =
+    if has n l.held && not (has n l.live) then record { live = inserted keys n l.live; held = without n l.held } else l
 
 -- the number goes out of the order, and a place is held for it
-abbrev pub unseated : ℕ → Listed → Listed
-unseated n l = if has n l.live then record { live = without n l.live; held = n ∷ l.held } else l
+abbrev pub withdrawn : ℕ → Listed → Listed
+withdrawn n l = if has n l.live then record { live = without n l.live; held = n ∷ l.held } else l
 
 abbrev pub stepped : List Key → ℕ → Step → Listed → Listed
-stepped keys n Seat = seated keys n
-stepped keys n Unseat = unseated n
+stepped keys n Enter = entered keys n
+stepped keys n Withdraw = withdrawn n
 
 -- ---- lists by form number
 

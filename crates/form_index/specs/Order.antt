@@ -33,9 +33,9 @@ abbrev pub IsGap : List Key → List ℕ → ℕ → ℕ → Type 0
 IsGap keys numbers n place = IsPartitionPoint (λ m. number_cmp keys m n ≡ Less) (λ m. number_cmp keys m n ≡ Greater) numbers place
 
 -- the numbers with one more, put before the first whose key is greater
-abbrev pub placed : List Key → ℕ → List ℕ → List ℕ
-placed keys n [] = n ∷ []
-placed keys n (m ∷ ms) = if is_lt (number_cmp keys n m) then n ∷ m ∷ ms else m ∷ placed keys n ms
+abbrev pub inserted : List Key → ℕ → List ℕ → List ℕ
+inserted keys n [] = n ∷ []
+inserted keys n (m ∷ ms) = if is_lt (number_cmp keys n m) then n ∷ m ∷ ms else m ∷ inserted keys n ms
 
 -- the numbers without the first that is n
 abbrev pub without : ℕ → List ℕ → List ℕ

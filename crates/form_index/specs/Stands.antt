@@ -11,7 +11,9 @@ use Rattle.form_index.specs.declared.among.By.TheVariants.{Established}
 
 -- each list has the numbers of the rows that belong to it
 abbrev pub Fits : List (Option Forms) → Listing → Type 0
-Fits rows lists = (among : Among) (by : By) (form n : ℕ) → has n (listed among by form lists).live ≡ option_map_or (belongs among by form) (slot_at rows n) false
+Fits rows lists =
+    (among : Among) (by : By) (form n : ℕ) →
+    has n (listed among by form lists).live ≡ option_map_or (belongs among by form) (slot_at rows n) false
 
 -- a number for which a place is held has a slot
 abbrev pub HasSlots : List (Option Forms) → Listing → Type 0

@@ -1,4 +1,5 @@
-ghost use Rattle.std.specs.Prelude.{◌≡◌, ℕ, ◌<◌, ◌≤◌, ◌==◌, [], List, length, None, Some, IfSome, IfNone, OnOk, OnErr, if◌then◌else◌};
+ghost use Rattle.std.specs.Prelude.{◌≡◌, ℕ, ◌<◌, ◌≤◌, ◌==◌, [], List, length, if◌then◌else◌};
+ghost use Rattle.std.specs.Prelude.{None, Some, IfSome, IfNone, OnOk, OnErr};
 ghost use Rattle.std.specs.Option.{option_copied, option_map};
 ghost use Rattle.form_index.specs.Index.{IsHeld, IsInOrder, Puts, PutsBack, TakesOut, let_go, no_index, row_under, slot_at, taken};
 ghost use Rattle.form_index.specs.Candidates.{IsAnswer};
@@ -88,7 +89,7 @@ impl FormIndex {
     {
         reach(&mut self.rows, number)?;
         self.lists.hold(alloc, number, &forms)?;
-        self.lists.step(Step::Seat, keys, number, &forms);
+        self.lists.step(Step::Enter, keys, number, &forms);
         set_slot(&mut self.rows, number, forms);
         Ok(())
     }
@@ -105,7 +106,7 @@ impl FormIndex {
         let Some(forms) = empty_slot(&mut self.rows, number) else {
             return None;
         };
-        self.lists.step(Step::Unseat, keys, number, &forms);
+        self.lists.step(Step::Withdraw, keys, number, &forms);
         Some(FormRow { number, forms })
     }
 
@@ -119,7 +120,7 @@ impl FormIndex {
         ensures ordered { IsInOrder keys.now self.new }
     {
         let FormRow { number, forms } = row;
-        self.lists.step(Step::Seat, keys, number, &forms);
+        self.lists.step(Step::Enter, keys, number, &forms);
         set_slot(&mut self.rows, number, forms);
     }
 

@@ -1,7 +1,8 @@
-ghost use Rattle.std.specs.Prelude.{◌≡◌, ◌==◌, ◌<◌, ◌≤◌, length, MatchResult, OnOk, OnErr, IfOk, IfErr, slice_get, insert, remove, Some, slice_index_or};
+ghost use Rattle.std.specs.Prelude.{◌≡◌, ◌==◌, ◌<◌, ◌≤◌, length, slice_get, slice_index_or, insert, remove};
+ghost use Rattle.std.specs.Prelude.{MatchResult, OnOk, OnErr, IfOk, IfErr, Some};
 ghost use Rattle.std.specs.List.{position};
 ghost use Rattle.form_index.specs.Order.{Ascends, IsGap, number_cmp};
-ghost use Rattle.form_index.specs.Listed.{no_list, with_held, released, seated, stepped, unseated};
+ghost use Rattle.form_index.specs.Listed.{no_list, with_held, released, entered, stepped, withdrawn};
 
 use marc_types::{Key, NoMemory};
 use numbering::Numbering;
@@ -12,8 +13,8 @@ use std::marker::Model;
 /// Where a number goes: into the order, or out of it.
 #[derive(Clone, Copy, Debug)]
 pub(crate) enum Step {
-    Seat,
-    Unseat,
+    Enter,
+    Withdraw,
 }
 
 /// The numbers of the rows that have one form: first those of the live rows in key order, then those for which a taken
@@ -78,10 +79,10 @@ impl KeyList {
     }
 
     /// Moves the number from a place that is held for it to its place in key order.
-    pub(crate) fn seat(&mut self, keys: &Numbering<Key>, number: u32)
+    pub(crate) fn enter(&mut self, keys: &Numbering<Key>, number: u32)
         requires known { number < length keys.now }
         requires ascends { Ascends keys.now self.old.live }
-        ensures seated { self.new ≡ seated keys.now number self.old }
+        ensures entered { self.new ≡ entered keys.now number self.old }
         ensures ascends { Ascends keys.now self.new.live }
     {
         let Some(from) = place_of(self.held(), number) else {
@@ -94,10 +95,10 @@ impl KeyList {
     }
 
     /// Moves the number out of the order, and holds a place for it.
-    pub(crate) fn unseat(&mut self, keys: &Numbering<Key>, number: u32)
+    pub(crate) fn withdraw(&mut self, keys: &Numbering<Key>, number: u32)
         requires known { number < length keys.now }
         requires ascends { Ascends keys.now self.old.live }
-        ensures unseated { self.new ≡ unseated number self.old }
+        ensures withdrawn { self.new ≡ withdrawn number self.old }
         ensures ascends { Ascends keys.now self.new.live }
     {
         if let Ok(from) = search(keys, self.live(), number) {
@@ -113,8 +114,8 @@ impl KeyList {
         ensures ascends { Ascends keys.now self.new.live }
     {
         match step {
-            Step::Seat => self.seat(keys, number),
-            Step::Unseat => self.unseat(keys, number),
+            Step::Enter => self.enter(keys, number),
+            Step::Withdraw => self.withdraw(keys, number),
         }
     }
 }
@@ -127,12 +128,16 @@ fn place_of(numbers: &[u32], number: u32) -> Option<usize>
 }
 
 // The order of the keys that two numbers stand for.
-#[tactic(auto, unfolding(crate::specs::Order::key_at))]
+#[tactic(auto, using(crate::proofs::Ordered::order_of_one), unfolding(crate::specs::Order::key_at))]
 fn order(keys: &Numbering<Key>, number: u32, other: u32) -> Ordering
     requires number { number < length keys.now }
     requires other { other < length keys.now }
     ensures { result ≡ number_cmp keys.now number other }
 {
+    if number == other {
+        // the keys' texts lie far away
+        return Ordering::Equal;
+    }
     match (keys.at(number), keys.at(other)) {
         (Some(key), Some(other_key)) => key.cmp(other_key),
         // not reached: both numbers are known

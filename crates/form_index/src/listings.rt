@@ -1,6 +1,7 @@
 ghost use Rattle.std.specs.Prelude.{◌≡◌, ◌<◌, length, OnOk, OnErr};
 ghost use Rattle.form_index.specs.Listed.{released, stepped, with_held};
-ghost use Rattle.form_index.specs.Index.{HeadedInOrder, IsShortHeaded, IsShortListing, ListingInOrder, Took, TookHeaded, headed_by, headed_step, listed, listing_step, no_headed};
+ghost use Rattle.form_index.specs.Index.{HeadedInOrder, IsShortHeaded, IsShortListing, ListingInOrder, Took, TookHeaded};
+ghost use Rattle.form_index.specs.Index.{headed_by, headed_step, listed, listing_step, no_headed};
 
 use crate::among::{Among, By};
 use crate::key_list::Step;

@@ -9,7 +9,7 @@ use Rattle.place_names.specs.Counts.{once}
 use Rattle.place_names.proofs.Rows.{itself, itself_one, put_here, put_again, there_and_back, more_than, took_left, came_left, came_sound, went_left, went_sound}
 use Rattle.link_table.specs.declared.link.Link.{Link}
 use Rattle.link_table.specs.Links.{Links, with_key, more_taken, less_taken, with_row_taken, with_row_back, leads_to, row_of, IsTaken}
-use Rattle.link_table.specs.Sound.{IsSound, seen, leading}
+use Rattle.link_table.specs.Sound.{LinksAgree, seen, leading}
 
 once_itself : (link : Link) → ◌≡◌ {A = ℕ} (once nat_eq same_seat link.number link.seat link.number link.seat) 1
 once_itself link =
@@ -20,7 +20,7 @@ one_le : (b : Bool) (n : ℕ) → (b ≡ true → 1 ≤ n) → (if b then 1 else
 one_le true n h = h refl
 one_le false n h = omega arith
 
-module _ {row : Seat → Option ℕ} {rooms : Seat → ℕ} {times : ℕ → Seat → ℕ} (sound : IsSound row rooms times) (link : Link) where
+module _ {row : Seat → Option ℕ} {rooms : Seat → ℕ} {times : ℕ → Seat → ℕ} (sound : LinksAgree row rooms times) (link : Link) where
   -- what is taken under the link's own number is enough for any
   taken_under : IsTaken link (seen row rooms times) → (number : ℕ) → leading number (Some link.number) ≤ times number link.seat - leading number (row link.seat)
   taken_under taken number =
@@ -46,7 +46,7 @@ module _ {row : Seat → Option ℕ} {rooms : Seat → ℕ} {times : ℕ → Sea
   }
 
   pub back_sound : {row' : Seat → Option ℕ} {rooms' : Seat → ℕ} → IsTaken link (seen row rooms times) → row link.seat ≡ None
-      → ((seat : Seat) → row' seat ≡ put same_seat link.seat (Some link.number) row seat) → ((seat : Seat) → rooms' seat ≡ rooms seat) → IsSound row' rooms' times
+      → ((seat : Seat) → row' seat ≡ put same_seat link.seat (Some link.number) row seat) → ((seat : Seat) → rooms' seat ≡ rooms seat) → LinksAgree row' rooms' times
   back_sound taken free rows room = record {
     roomy = came_sound seat_Decides standing refl link.seat link.number row rooms sound.roomy taken.room free rows room;
     counted = λ number. came_sound seat_Decides (leading number) refl link.seat link.number row (times number) (sound.counted number) (taken_under taken number) free rows (λ s. refl);
@@ -65,14 +65,14 @@ module _ {row : Seat → Option ℕ} {rooms : Seat → ℕ} {times : ℕ → Sea
 
   pub gone_sound : {row' : Seat → Option ℕ} {rooms' : Seat → ℕ} {times' : ℕ → Seat → ℕ} → IsTaken link (seen row rooms times) → ((seat : Seat) → row' seat ≡ row seat)
       → ((seat : Seat) → rooms' seat ≡ rooms seat - (if same_seat link.seat seat then 1 else 0))
-      → ((number : ℕ) (seat : Seat) → times' number seat ≡ times number seat - once nat_eq same_seat link.number link.seat number seat) → IsSound row' rooms' times'
+      → ((number : ℕ) (seat : Seat) → times' number seat ≡ times number seat - once nat_eq same_seat link.number link.seat number seat) → LinksAgree row' rooms' times'
   gone_sound taken rows room fewer = record {
     roomy = went_sound seat_Decides standing refl link.seat link.number row rooms sound.roomy taken.room rows room;
     counted = λ number. went_sound seat_Decides (leading number) refl link.seat link.number row (times number) (sound.counted number) (taken_under taken number) rows (fewer number);
   }
 
 -- what leads there is counted
-module _ {row : Seat → Option ℕ} {rooms : Seat → ℕ} {times : ℕ → Seat → ℕ} (sound : IsSound row rooms times) where
+module _ {row : Seat → Option ℕ} {rooms : Seat → ℕ} {times : ℕ → Seat → ℕ} (sound : LinksAgree row rooms times) where
   pub counted_once : (number : ℕ) (seat : Seat) → leads_to number (row seat) ≡ true → 1 ≤ times number seat
   counted_once number seat e = let one : ◌≡◌ {A = ℕ} (leading number (row seat)) 1 = ap (λ b. if b then 1 else 0) e in let low = sound.counted number seat in omega arith
 

@@ -9,7 +9,7 @@ abbrev pub leading : ℕ → Option ℕ → ℕ
 leading number row = if leads_to number row then 1 else 0
 
 -- what stands has room, and is counted
-pub record IsSound (row : Seat → Option ℕ) (rooms : Seat → ℕ) (times : ℕ → Seat → ℕ) : Type 0 where
+pub record LinksAgree (row : Seat → Option ℕ) (rooms : Seat → ℕ) (times : ℕ → Seat → ℕ) : Type 0 where
   pub roomy : (seat : Seat) → standing (row seat) ≤ rooms seat
   pub counted : (number : ℕ) (seat : Seat) → leading number (row seat) ≤ times number seat
 

@@ -5,7 +5,7 @@ ghost use Rattle.numbering.specs.Seats.{same_seat};
 ghost use Rattle.place_names.specs.Slots.{row_at, rooms_at};
 ghost use Rattle.place_names.specs.Counts.{times};
 ghost use Rattle.place_names.specs.Listed.{ListsEach};
-ghost use Rattle.link_table.specs.Sound.{IsSound};
+ghost use Rattle.link_table.specs.Sound.{LinksAgree};
 
 use crate::Link;
 use marc_types::NoMemory;
@@ -19,7 +19,7 @@ use std::collections::HashMap;
 pub struct LinkTable {
     slots: Slots<Seat, u32>,
     names: Counts<u32, Seat>,
-    ghost sound: { IsSound (row_at same_seat slots.slots) (rooms_at same_seat slots.slots) (times nat_eq same_seat names.groups) },
+    ghost sound: { LinksAgree (row_at same_seat slots.slots) (rooms_at same_seat slots.slots) (times nat_eq same_seat names.groups) },
 }
 
 #[tactic(auto, unfolding(crate::specs::Table::links))]

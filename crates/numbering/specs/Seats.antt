@@ -24,8 +24,12 @@ pub seat_Decides : (x y : Seat) → Decides (same_seat x y) (x ≡ y)
 unfolding same_seat
 seat_Decides x y =
     let to : same_seat x y ≡ true → x ≡ y = λ h.
-    let class : x.class ≡ y.class = class_rank_same x.class y.class ((unsigned_Decides (class_rank x.class) (class_rank y.class)).0 (first_so (class_rank x.class == class_rank y.class) ((x.number == y.number) && (x.field == y.field)) h)) in
-    let numbers : ((x.number == y.number) && (x.field == y.field)) ≡ true = second_so (class_rank x.class == class_rank y.class) ((x.number == y.number) && (x.field == y.field)) h in
+    let ranks : (class_rank x.class == class_rank y.class) ≡ true =
+    first_so (class_rank x.class == class_rank y.class) ((x.number == y.number) && (x.field == y.field)) h in
+    let class : x.class ≡ y.class =
+    class_rank_same x.class y.class ((unsigned_Decides (class_rank x.class) (class_rank y.class)).0 ranks) in
+    let numbers : ((x.number == y.number) && (x.field == y.field)) ≡ true =
+    second_so (class_rank x.class == class_rank y.class) ((x.number == y.number) && (x.field == y.field)) h in
     let number : x.number ≡ y.number = (unsigned_Decides x.number y.number).0 (first_so (x.number == y.number) (x.field == y.field) numbers) in
     let field : x.field ≡ y.field = (unsigned_Decides x.field y.field).0 (second_so (x.number == y.number) (x.field == y.field) numbers) in
     λ i. record { class = class i; number = number i; field = field i } in

@@ -1,5 +1,5 @@
 -- How often a thing is counted under a name.
-use Rattle.std.specs.Prelude.{ℕ, Bool, List, Option, None, Some, unwrap_or, if◌then◌else◌}
+use Rattle.std.specs.Prelude.{◌≡◌, ℕ, ◌+◌, ◌-◌, Bool, List, Option, None, Some, unwrap_or, if◌then◌else◌}
 use Rattle.std.specs.List.{count_by}
 use Rattle.std.specs.HashMap.{HashMap, get}
 
@@ -24,3 +24,14 @@ module _ {N P : Type 0} (same_name : N → N → Bool) (same : P → P → Bool)
   -- how often one name and one thing count
   abbrev pub once : N → P → N → P → ℕ
   once one_name one name thing = if same one thing then (if same_name one_name name then 1 else 0) else 0
+
+module _ {N P : Type 0} where
+  -- each thing is counted under each name as often as before, or more often by this, or less often by this
+  abbrev pub TimesSame : (old new : N → P → ℕ) → Type 0
+  TimesSame old new = (name : N) (thing : P) → new name thing ≡ old name thing
+
+  abbrev pub TimesMore : (more old new : N → P → ℕ) → Type 0
+  TimesMore more old new = (name : N) (thing : P) → new name thing ≡ old name thing + more name thing
+
+  abbrev pub TimesLess : (less old new : N → P → ℕ) → Type 0
+  TimesLess less old new = (name : N) (thing : P) → new name thing ≡ old name thing - less name thing

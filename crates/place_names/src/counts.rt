@@ -1,6 +1,6 @@
 ghost use Rattle.std.specs.Prelude.{◌≡◌, if◌then◌else◌, ◌+◌, ◌-◌, OnOk, OnErr, Option, option_copied, Some, None};
 ghost use Rattle.std.specs.HashMap.{get};
-ghost use Rattle.place_names.specs.Counts.{times_in, times, once, brought};
+ghost use Rattle.place_names.specs.Counts.{times_in, times, once, brought, TimesSame, TimesMore, TimesLess};
 
 use marc_types::NoMemory;
 use std::alloc::Global;
@@ -54,8 +54,8 @@ impl<N: Eq + Hash + Copy, P: Eq + Hash + Copy> Counts<N, P> {
 
     /// One more of the thing under the name. `NoMemory` leaves all counts as they were.
     pub fn note(&mut self, alloc: Global, name: N, thing: P) -> Result<(), NoMemory>
-        ensures ok { OnOk result ((n : N) (p : P) → times N.eq P.eq self.new.groups n p ≡ times N.eq P.eq self.old.groups n p + once N.eq P.eq name thing n p) }
-        ensures err { OnErr result ((n : N) (p : P) → times N.eq P.eq self.new.groups n p ≡ times N.eq P.eq self.old.groups n p) }
+        ensures ok { OnOk result (TimesMore (once N.eq P.eq name thing) (times N.eq P.eq self.old.groups) (times N.eq P.eq self.new.groups)) }
+        ensures err { OnErr result (TimesSame (times N.eq P.eq self.old.groups) (times N.eq P.eq self.new.groups)) }
     {
         if let Some(group) = self.groups.get_mut(&name) {
             note_in(group, thing)?;
@@ -69,7 +69,7 @@ impl<N: Eq + Hash + Copy, P: Eq + Hash + Copy> Counts<N, P> {
 
     /// One less of the thing under the name, if there is one.
     pub fn forget(&mut self, name: N, thing: P)
-        ensures { (n : N) (p : P) → times N.eq P.eq self.new.groups n p ≡ times N.eq P.eq self.old.groups n p - once N.eq P.eq name thing n p }
+        ensures { TimesLess (once N.eq P.eq name thing) (times N.eq P.eq self.old.groups) (times N.eq P.eq self.new.groups) }
     {
         let Some(group) = self.groups.get_mut(&name) else {
             return;
@@ -80,10 +80,11 @@ impl<N: Eq + Hash + Copy, P: Eq + Hash + Copy> Counts<N, P> {
         }
         self.groups.remove(&name);
     }
+
     /// One more of the thing under each of the names. `NoMemory` leaves all counts as they were.
     pub fn note_all(&mut self, alloc: Global, names: &[N], thing: P) -> Result<(), NoMemory>
-        ensures ok { OnOk result ((n : N) (p : P) → times N.eq P.eq self.new.groups n p ≡ times N.eq P.eq self.old.groups n p + brought N.eq P.eq names.now thing n p) }
-        ensures err { OnErr result ((n : N) (p : P) → times N.eq P.eq self.new.groups n p ≡ times N.eq P.eq self.old.groups n p) }
+        ensures ok { OnOk result (TimesMore (brought N.eq P.eq names.now thing) (times N.eq P.eq self.old.groups) (times N.eq P.eq self.new.groups)) }
+        ensures err { OnErr result (TimesSame (times N.eq P.eq self.old.groups) (times N.eq P.eq self.new.groups)) }
     {
         for i in 0..names.len() {
             if let Err(error) = self.note(alloc, names[i], thing) {
@@ -96,7 +97,7 @@ impl<N: Eq + Hash + Copy, P: Eq + Hash + Copy> Counts<N, P> {
 
     /// One less of the thing under each of the names, as far as there are any.
     pub fn forget_all(&mut self, names: &[N], thing: P)
-        ensures { (n : N) (p : P) → times N.eq P.eq self.new.groups n p ≡ times N.eq P.eq self.old.groups n p - brought N.eq P.eq names.now thing n p }
+        ensures { TimesLess (brought N.eq P.eq names.now thing) (times N.eq P.eq self.old.groups) (times N.eq P.eq self.new.groups) }
     {
         for i in 0..names.len() {
             self.forget(names[i], thing);

@@ -10,9 +10,9 @@ use Rattle.place_names.proofs.Rows.{itself_one, brought_itself, put_here, put_ag
 use Rattle.wait_table.specs.declared.waiting.Waiting.{Waiting}
 use Rattle.wait_table.specs.declared.waiting.WaitRow.{WaitRow}
 use Rattle.wait_table.specs.Waits.{Waits, forms_of, times_of, has, asks_form, names_key, with_waiting, more_taken, less_taken, with_row_taken, with_row_back, row_of, IsTaken}
-use Rattle.wait_table.specs.Sound.{IsSound, seen, asking, naming}
+use Rattle.wait_table.specs.Sound.{WaitsAgree, seen, asking, naming}
 
-module _ {row : Seat → Option Waiting} {rooms : Seat → ℕ} {forms keys : ℕ → Seat → ℕ} (sound : IsSound row rooms forms keys) (one : WaitRow) where
+module _ {row : Seat → Option Waiting} {rooms : Seat → ℕ} {forms keys : ℕ → Seat → ℕ} (sound : WaitsAgree row rooms forms keys) (one : WaitRow) where
   -- the row leaves its slot
   pub took : {row' : Seat → Option Waiting} {rooms' : Seat → ℕ} → row one.seat ≡ Some one.waiting → ((seat : Seat) → row' seat ≡ put same_seat one.seat None row seat)
       → ((seat : Seat) → rooms' seat ≡ rooms seat) → seen row' rooms' forms keys ≡ with_row_taken one (seen row rooms forms keys)
@@ -34,7 +34,7 @@ module _ {row : Seat → Option Waiting} {rooms : Seat → ℕ} {forms keys : �
   }
 
   pub back_sound : {row' : Seat → Option Waiting} {rooms' : Seat → ℕ} → IsTaken one (seen row rooms forms keys) → row one.seat ≡ None
-      → ((seat : Seat) → row' seat ≡ put same_seat one.seat (Some one.waiting) row seat) → ((seat : Seat) → rooms' seat ≡ rooms seat) → IsSound row' rooms' forms keys
+      → ((seat : Seat) → row' seat ≡ put same_seat one.seat (Some one.waiting) row seat) → ((seat : Seat) → rooms' seat ≡ rooms seat) → WaitsAgree row' rooms' forms keys
   back_sound taken free rows room = record {
     roomy = came_sound seat_Decides standing refl one.seat one.waiting row rooms sound.roomy taken.room free rows room;
     asked = λ form. came_sound seat_Decides (asking form) refl one.seat one.waiting row (forms form) (sound.asked form) (taken.forms form) free rows (λ s. refl);
@@ -44,7 +44,7 @@ module _ {row : Seat → Option Waiting} {rooms : Seat → ℕ} {forms keys : �
   pub gone_sound : {row' : Seat → Option Waiting} {rooms' : Seat → ℕ} {forms' keys' : ℕ → Seat → ℕ} → IsTaken one (seen row rooms forms keys) → ((seat : Seat) → row' seat ≡ row seat)
       → ((seat : Seat) → rooms' seat ≡ rooms seat - (if same_seat one.seat seat then 1 else 0))
       → ((form : ℕ) (seat : Seat) → forms' form seat ≡ forms form seat - brought nat_eq same_seat (forms_of one.waiting.forms) one.seat form seat)
-      → ((key : ℕ) (seat : Seat) → keys' key seat ≡ keys key seat - brought nat_eq same_seat one.waiting.keys one.seat key seat) → IsSound row' rooms' forms' keys'
+      → ((key : ℕ) (seat : Seat) → keys' key seat ≡ keys key seat - brought nat_eq same_seat one.waiting.keys one.seat key seat) → WaitsAgree row' rooms' forms' keys'
   gone_sound taken rows room fewer_forms fewer_keys = record {
     roomy = went_sound seat_Decides standing refl one.seat one.waiting row rooms sound.roomy taken.room rows room;
     asked = λ form. went_sound seat_Decides (asking form) refl one.seat one.waiting row (forms form) (sound.asked form) (taken.forms form) rows (fewer_forms form);
@@ -114,7 +114,7 @@ has_once (n ∷ ns) number h =
     subst (λ k. 1 ≤ k) (sym (sum_by-cons (λ m. cond (nat_eq m number) 1 0) n ns)) (has_by (nat_eq n number) ns number (λ g. has_once ns number g) h)
 
 -- what waits is counted
-module _ {row : Seat → Option Waiting} {rooms : Seat → ℕ} {forms keys : ℕ → Seat → ℕ} (sound : IsSound row rooms forms keys) where
+module _ {row : Seat → Option Waiting} {rooms : Seat → ℕ} {forms keys : ℕ → Seat → ℕ} (sound : WaitsAgree row rooms forms keys) where
   pub asked_once : (form : ℕ) (seat : Seat) → asks_form form (row seat) ≡ true → 1 ≤ forms form seat
   asked_once form seat h = by (row seat) (forms form seat) h (sound.asked form seat)
     where

@@ -15,7 +15,7 @@ naming key None = 0
 naming key (Some waiting) = times_of waiting.keys key
 
 -- what stands has room, and is counted
-pub record IsSound (row : Seat → Option Waiting) (rooms : Seat → ℕ) (forms keys : ℕ → Seat → ℕ) : Type 0 where
+pub record WaitsAgree (row : Seat → Option Waiting) (rooms : Seat → ℕ) (forms keys : ℕ → Seat → ℕ) : Type 0 where
   pub roomy : (seat : Seat) → standing (row seat) ≤ rooms seat
   pub asked : (form : ℕ) (seat : Seat) → asking form (row seat) ≤ forms form seat
   pub named : (key : ℕ) (seat : Seat) → naming key (row seat) ≤ keys key seat

@@ -1,13 +1,12 @@
-ghost use Rattle.std.specs.Prelude.{◌≡◌, ◌+◌, ◌-◌, ℕ, nat_eq, OnOk, OnErr, IfOk, IfSome, IfNone, None, Some, filter, option_copied};
+ghost use Rattle.std.specs.Prelude.{◌≡◌, nat_eq, OnOk, OnErr, IfOk, IfSome, IfNone, None, Some, filter, option_copied};
 ghost use Rattle.std.specs.HashMap.{keys as things};
 ghost use Rattle.std.specs.List.{IsDistinct};
 ghost use Rattle.numbering.specs.Seats.{same_seat};
-ghost use Rattle.numbering.specs.declared.seat.Seat.{Seat as AnySeat};
 ghost use Rattle.place_names.specs.Slots.{row_at, rooms_at};
-ghost use Rattle.place_names.specs.Counts.{times, brought};
+ghost use Rattle.place_names.specs.Counts.{times, brought, TimesSame, TimesMore, TimesLess};
 ghost use Rattle.place_names.specs.Listed.{ListsEach};
 ghost use Rattle.wait_table.specs.Waits.{forms_of};
-ghost use Rattle.wait_table.specs.Sound.{IsSound};
+ghost use Rattle.wait_table.specs.Sound.{WaitsAgree};
 
 use crate::{Asked, WaitRow, Waiting};
 use marc_types::NoMemory;
@@ -22,7 +21,8 @@ pub struct WaitTable {
     slots: Slots<Seat, Waiting>,
     forms: Counts<u32, Seat>,
     keys: Counts<u32, Seat>,
-    ghost sound: { IsSound (row_at same_seat slots.slots) (rooms_at same_seat slots.slots) (times nat_eq same_seat forms.groups) (times nat_eq same_seat keys.groups) },
+    ghost sound: { WaitsAgree (row_at same_seat slots.slots) (rooms_at same_seat slots.slots) (times nat_eq same_seat forms.groups)
+        (times nat_eq same_seat keys.groups) },
 }
 
 // One more of the seat under each form that is asked for.
@@ -32,8 +32,9 @@ fn note_forms(
     asked: Asked,
     seat: Seat,
 ) -> Result<(), NoMemory>
-    ensures ok { OnOk result ((n : ℕ) (p : AnySeat) → times nat_eq same_seat forms.new.groups n p ≡ times nat_eq same_seat forms.old.groups n p + brought nat_eq same_seat (forms_of asked) seat n p) }
-    ensures err { OnErr result ((n : ℕ) (p : AnySeat) → times nat_eq same_seat forms.new.groups n p ≡ times nat_eq same_seat forms.old.groups n p) }
+    ensures ok { OnOk result (TimesMore (brought nat_eq same_seat (forms_of asked) seat)
+        (times nat_eq same_seat forms.old.groups) (times nat_eq same_seat forms.new.groups)) }
+    ensures err { OnErr result (TimesSame (times nat_eq same_seat forms.old.groups) (times nat_eq same_seat forms.new.groups)) }
 {
     match asked {
         Asked::One(own) => forms.note_all(alloc, &[own], seat)?,
@@ -44,7 +45,8 @@ fn note_forms(
 
 // One less of the seat under each form that is asked for.
 fn forget_forms(forms: &mut Counts<u32, Seat>, asked: Asked, seat: Seat)
-    ensures { (n : ℕ) (p : AnySeat) → times nat_eq same_seat forms.new.groups n p ≡ times nat_eq same_seat forms.old.groups n p - brought nat_eq same_seat (forms_of asked) seat n p }
+    ensures { TimesLess (brought nat_eq same_seat (forms_of asked) seat)
+        (times nat_eq same_seat forms.old.groups) (times nat_eq same_seat forms.new.groups) }
 {
     match asked {
         Asked::One(own) => forms.forget_all(&[own], seat),

@@ -1,7 +1,7 @@
 use Rattle.std.proofs.Common.{◌≡◌, ◌==◌, ◌∙◌, ◌<◌, sym, ap, subst, arith, length, Some, None}
 use Rattle.std.specs.Prelude.{if◌then◌else◌}
 use Rattle.form_index.specs.Index.{ListingInOrder, Puts, row_under, slot_at, taken}
-use Rattle.form_index.proofs.Indexing.{hold_fits, hold_held, hold_ordered, hold_slots, on_err, put_puts, rows_same, seat_stands, shown, slots_at}
+use Rattle.form_index.proofs.Indexing.{hold_fits, hold_held, hold_ordered, hold_slots, on_err, put_puts, rows_same, enter_stands, shown, slots_at}
 use Rattle.form_index.proofs.index.FormIndex.put.Goals as goal
 
 pub returns-in_err-reach-clause-ordered : goal.returns-in_err-reach-clause-ordered
@@ -31,7 +31,7 @@ invariant_of-self-2 c =
     let free : slot_at c.self.inside.rows.items c.args.number ≡ None =
     sym (slots_at c.self.inside.rows.items c.args.number) ∙ ap (row_under c.args.number) c.self.view_is ∙ c.requires.free in
     let known : c.args.number < length c.reach.new.rows.items = c.in_ok-reach.ensures.long in
-    seat_stands c.args.keys.now c.args.number c.args.forms c.reach.new.rows.items c.set_slot.new.rows.items c.hold.new.self c.step.new.self
+    enter_stands c.args.keys.now c.args.number c.args.forms c.reach.new.rows.items c.set_slot.new.rows.items c.hold.new.self c.step.new.self
     (hold_fits c.args.number c.args.forms c.self.inside.rows.items c.self.inside.lists c.hold.new.self c.self.invariant c.reach.new.rows.items c.reach.ensures.same c.in_ok-hold.ensures.ok)
     (c.reach.ensures.same c.args.number ∙ free) c.set_slot.ensures.slots c.step.ensures.stepped
     (hold_held c.args.number c.args.forms c.self.inside.rows.items c.self.inside.lists c.hold.new.self c.self.invariant c.in_ok-hold.ensures.ok)

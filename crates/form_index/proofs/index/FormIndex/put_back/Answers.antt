@@ -1,6 +1,6 @@
 use Rattle.std.proofs.Common.{◌≡◌, ◌∙◌, ◌<◌, sym, ap, subst, arith, length, None}
 use Rattle.form_index.specs.Index.{IsHeld, ListingInOrder, PutsBack, Taken, row_under, slot_at, taken}
-use Rattle.form_index.proofs.Indexing.{held_slot, seat_puts_back, seat_stands, shown, slots_at}
+use Rattle.form_index.proofs.Indexing.{held_slot, enter_puts_back, enter_stands, shown, slots_at}
 use Rattle.form_index.proofs.index.FormIndex.put_back.Goals as goal
 
 pub step-requires-clause-ordered : goal.step-requires-clause-ordered
@@ -19,7 +19,7 @@ invariant_of-self c =
     let free : slot_at c.self.inside.rows.items c.row.inside.number ≡ None =
     sym (slots_at c.self.inside.rows.items c.row.inside.number) ∙ ap (row_under c.row.inside.number) c.self.view_is ∙ ap (λ (r : Taken). row_under r.number c.args.self.now) c.row.view_is ∙ c.requires.free in
     let low : c.row.inside.number < length c.self.inside.rows.items = held_slot c.row.inside.number c.row.inside.forms c.self.inside.rows.items c.self.inside.lists c.self.invariant held in
-    seat_stands c.args.keys.now c.row.inside.number c.row.inside.forms c.self.inside.rows.items c.set_slot.new.rows.items c.self.inside.lists c.step.new.self c.self.invariant.fits free
+    enter_stands c.args.keys.now c.row.inside.number c.row.inside.forms c.self.inside.rows.items c.set_slot.new.rows.items c.self.inside.lists c.step.new.self c.self.invariant.fits free
     c.set_slot.ensures.slots c.step.ensures.stepped held c.self.invariant.short c.self.invariant.slots (omega (arith, c.set_slot.ensures.long)) (omega (arith, c.set_slot.ensures.long))
 
 pub returns-clause-back : goal.returns-clause-back
@@ -30,5 +30,5 @@ returns-clause-back c =
     sym (slots_at c.self.inside.rows.items c.row.inside.number) ∙ ap (row_under c.row.inside.number) c.self.view_is ∙ ap (λ (r : Taken). row_under r.number c.args.self.now) c.row.view_is ∙ c.requires.free in
     subst (λ x. PutsBack c.args.keys.now c.args.row x (shown c.set_slot.new.rows.items c.step.new.self)) c.self.view_is
     (subst (λ r. PutsBack c.args.keys.now r (shown c.self.inside.rows.items c.self.inside.lists) (shown c.set_slot.new.rows.items c.step.new.self)) c.row.view_is
-    (seat_puts_back c.args.keys.now c.row.inside.number c.row.inside.forms c.self.inside.rows.items c.set_slot.new.rows.items c.self.inside.lists c.step.new.self c.self.invariant.fits free
+    (enter_puts_back c.args.keys.now c.row.inside.number c.row.inside.forms c.self.inside.rows.items c.set_slot.new.rows.items c.self.inside.lists c.step.new.self c.self.invariant.fits free
     c.set_slot.ensures.slots c.step.ensures.stepped held))
