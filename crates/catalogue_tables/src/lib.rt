@@ -6,6 +6,7 @@ pub use tables::CatalogueTables;
 mod authorities;
 mod candidates;
 mod gathering;
+pub mod index_laws;
 pub mod laws;
 mod tables;
 mod waiting;
