@@ -35,7 +35,7 @@ use Rattle.catalogue_tables.proofs.Seams.{key_numbered}
 abbrev pub IsAbove : Key → List Linkable → Type 0
 IsAbove key cs = AllByRecursion (λ k. key_cmp key k ≡ Less) (row_keys (map index_row cs))
 
-abbrev AreInOrder : List Linkable → Type 0
+abbrev pub AreInOrder : List Linkable → Type 0
 AreInOrder cs = IsStrictlySortedBy key_cmp (row_keys (map index_row cs))
 
 above_with : (key : Key) (row : Row) (cs : List Linkable) (o : Option Linkable) → row_linkable row ≡ o → key_cmp key row.0 ≡ Less → IsAbove key cs → IsAbove key (cons_option o cs)
@@ -51,7 +51,7 @@ unfolding IsStrictlySortedBy
 ordered_with row cs None e above ordered = ordered
 ordered_with row cs (Some c) e above ordered = (subst (λ k. IsAbove k cs) (sym (proper_linkable row.0 (fields_of row.1) c e).key_is) above, ordered)
 
-ordered_rows : (rows : List Row) → IsAscending rows → AreInOrder (filter_map row_linkable rows)
+pub ordered_rows : (rows : List Row) → IsAscending rows → AreInOrder (filter_map row_linkable rows)
 unfolding IsStrictlySortedBy
 ordered_rows [] s = tt
 ordered_rows (row ∷ rows) s = ordered_with row (filter_map row_linkable rows) (row_linkable row) refl (above_rows row.0 rows s.0) (ordered_rows rows s.1)
@@ -250,7 +250,7 @@ module _ (names : List Form) (keys : List Key) (x : Indexed) (all : List Linkabl
       by true e = blank (find (has_key (key_at keys n)) all) (row_under n x) (row_at n (ltb-true n (length keys) e))
       by false e = ap (λ o. option_map_or belongs o false) (tells.given n (ltb-false n (length keys) e))
 
-  unknown_nobody : (key : Key) → is_known same_key keys key ≡ false → find (has_key key) all ≡ None
+  pub unknown_nobody : (key : Key) → is_known same_key keys key ≡ false → find (has_key key) all ≡ None
   unknown_nobody key unknown =
       let high = (keeps_itself same_key keys).new_number key unknown in
       nobody names (find (has_key key) all) (subst (IsRowFor names (find (has_key key) all)) (tells.given (number_of same_key keys key) high) (tells.each key))

@@ -1,3 +1,4 @@
+pub mod Choosing
 pub mod Following
 pub mod Rows
 pub mod Seam

@@ -1,5 +1,5 @@
 -- What the index in numbers tells of the rows of authorities.
-use Rattle.std.specs.Prelude.{◌≡◌, ℕ, ◌<◌, ◌≤◌, Bool, true, false, ◌&&◌, List, [], ◌∷◌, length, map, filter}
+use Rattle.std.specs.Prelude.{◌≡◌, ◌≢◌, ℕ, ◌<◌, ◌≤◌, Bool, true, false, ◌&&◌, List, [], ◌∷◌, length, map, filter}
 use Rattle.std.specs.List.{AllByRecursion, list_any}
 use Rattle.std.specs.List.Sorted.{IsStrictlySortedBy}
 use Rattle.std.specs.Option.{option_map_or}
@@ -51,11 +51,17 @@ pub record TellsRows (among : Among) (names : List Form) (keys : List Key) (x : 
   pub named : (form : ℕ) → length names ≤ form → IsBlank (is_headed among form) x
   pub named_too : (form : ℕ) → length names ≤ form → IsBlank (is_traced among form) x
 
+-- these are the numbers of keys, in the keys' order, and there is one at least
+pub record ListsKeys (keys listed : List Key) (numbers : List ℕ) : Type 0 where
+  pub are : map (key_at keys) numbers ≡ listed
+  pub given : AllByRecursion (λ n. n < length keys) numbers
+  pub some : numbers ≢ []
+
 -- the keys that the rows give for a form, in key order: those with it as their heading; where there is none, those with it as a
 -- see-from heading
 abbrev pub IsTold : List Key → List IndexRow → Form → Candidates → Type 0
-IsTold keys rows form (Established numbers) = map (key_at keys) numbers.now ≡ keys_with (has_established form) rows
-IsTold keys rows form (SeeFrom numbers) = (keys_with (has_established form) rows ≡ []) × (map (key_at keys) numbers.now ≡ keys_with (has_traced form) rows)
+IsTold keys rows form (Established numbers) = ListsKeys keys (keys_with (has_established form) rows) numbers.now
+IsTold keys rows form (SeeFrom numbers) = (keys_with (has_established form) rows ≡ []) × ListsKeys keys (keys_with (has_traced form) rows) numbers.now
 IsTold keys rows form Nobody = (keys_with (has_established form) rows ≡ []) × (keys_with (has_traced form) rows ≡ [])
 
 -- the key with the number has a row now, with these forms
