@@ -1,3 +1,4 @@
+pub mod Brought
 pub mod Chosens
 pub mod Comings
 pub mod Followed
@@ -9,3 +10,4 @@ pub mod Rowed
 pub mod Seams
 pub mod Takers
 pub mod Waited
+pub mod WaysBack

@@ -1,14 +1,18 @@
 -- Which authorities the index tells of, and how it follows one that comes, changes or goes.
-use Rattle.std.specs.Prelude.{◌≡◌, ℕ, ◌<◌, ◌≤◌, Bool, true, false, List, length, find, Option, Some, None, if◌then◌else◌}
+use Rattle.std.specs.Prelude.{◌≡◌, ℕ, ◌<◌, ◌≤◌, Bool, true, false, List, length, find, not, Option, Some, None, IfSome, if◌then◌else◌}
 use Rattle.std.specs.List.{list_any}
+use Rattle.std.specs.Option.{option_map_or}
+use Rattle.marc_types.specs.Fields.{subfields_of}
+use Rattle.marc_types.specs.declared.field.Field.{Field}
 use Rattle.marc_types.specs.declared.form.Form.{Form}
 use Rattle.marc_types.specs.declared.key.Key.{Key}
 use Rattle.marc_types.specs.Order.{same_form, same_key}
 use Rattle.numbering.specs.Numbers.{number_of, IsNumberOf}
 use Rattle.form_index.specs.Forms.{Forms}
-use Rattle.form_index.specs.Index.{ExchangesRow, Indexed, IsInOrder, row_under}
+use Rattle.form_index.specs.Index.{ExchangesRow, Indexed, IsHeld, IsInOrder, Taken, let_go, put_back, row_under, taken, taken_out}
 use Rattle.form_index.specs.Order.{has}
-use Rattle.entry_record.specs.Authority.{Linkable, is_bare, linkable_of}
+use Rattle.heading_fields.specs.Parts.{is_subdivided}
+use Rattle.entry_record.specs.Authority.{Linkable, heading_of, is_bare, linkable_of}
 use Rattle.entry_record.specs.Identity.{is_deletion}
 use Rattle.catalogue_rules.specs.Choice.{has_key}
 use Rattle.catalogue_rules.specs.Settle.{Arrival}
@@ -46,3 +50,32 @@ pub record IsExchanged (key : Key) (authority : Option Linkable) (before now : L
 -- the authority that a record brings, if it can be linked to; a deletion brings none
 abbrev pub authority_brought : Arrival → Option Linkable
 authority_brought a = if is_deletion a.leader then None else linkable_of a.key a.fields
+
+-- ---- the way back
+
+-- the index without the row under the number, which is let go
+abbrev pub without_row : ℕ → Indexed → Indexed
+without_row number x = option_map_or (λ forms. let_go (taken number forms) (taken_out (taken number forms) x)) (row_under number x) x
+
+-- the index with a row put back, if there is one
+abbrev pub with_row_back : List Key → Option Taken → Indexed → Indexed
+with_row_back keys None x = x
+with_row_back keys (Some row) x = put_back keys row x
+
+-- the index with the row that was taken in place of the one under the number
+abbrev pub restored : List Key → ℕ → Option Taken → Indexed → Indexed
+restored keys number row x = with_row_back keys row (without_row number x)
+
+-- the row that was taken, if there is one, can come back in place of the one under the number
+abbrev pub CanRestore : ℕ → Option Taken → Indexed → Type 0
+CanRestore number row x = IfSome row (λ r. (r.number ≡ number) × IsHeld r (without_row number x))
+
+-- the row that was taken leads back to what the index was
+pub record IsWayBack (keys : List Key) (number : ℕ) (row : Option Taken) (before now : Indexed) : Type 0 where
+  pub held : CanRestore number row now
+  pub restores : restored keys number row now ≡ before
+  pub ordered : IsInOrder keys (without_row number now)
+
+-- the heading of an authority's fields has no subdivision
+abbrev pub has_bare_heading : List Field → Bool
+has_bare_heading fields = option_map_or (λ f. not (is_subdivided (subfields_of f))) (heading_of fields) true

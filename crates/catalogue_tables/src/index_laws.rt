@@ -1,5 +1,5 @@
 //! Laws of the index: how it follows the authorities of a catalogue. Each is the contract of a function that does nothing.
-ghost use Rattle.std.specs.Prelude.{◌≡◌, ℕ, List, [], Option, Some, None};
+ghost use Rattle.std.specs.Prelude.{◌≡◌, ℕ, ◌<◌, List, [], length, Option, Some, None};
 ghost use Rattle.std.specs.List.{IsDistinct};
 ghost use Rattle.marc_types.specs.declared.form.Form.{Form};
 ghost use Rattle.marc_types.specs.declared.key.Key.{Key};
@@ -13,7 +13,7 @@ ghost use Rattle.catalogue_rules.specs.Settle.{Arrival};
 ghost use Rattle.catalogue_rules.specs.State.{State, linkable_authorities};
 ghost use Rattle.catalogue_rules.specs.Valid.{IsAscending};
 ghost use Rattle.linking_laws.specs.Behind.{placed_in};
-ghost use Rattle.catalogue_tables.specs.Following.{FollowsAuthority, IsExchanged, TellsAuthorities, authority_brought};
+ghost use Rattle.catalogue_tables.specs.Following.{FollowsAuthority, IsExchanged, IsWayBack, TellsAuthorities, authority_brought};
 ghost use Rattle.catalogue_tables.specs.Rows.{PutsAuthority, TellsRows, rows_among};
 
 /// An index without rows tells of nobody.
@@ -69,4 +69,10 @@ pub fn the_index_tells_the_rows_of_a_state()
     ensures { (names : List Form) (keys : List Key) (x : Indexed) (s : State) (among : Among) → IsDistinct same_key keys
         → IsAscending s.authorities → TellsAuthorities names keys x (linkable_authorities s)
         → TellsRows among names keys x (rows_among among (linkable_authorities s)) }
+{}
+
+/// A way back stays one while keys get numbers.
+pub fn a_way_back_stays()
+    ensures { (keys more : List Key) (number : ℕ) (row : Option Taken) (before now : Indexed) → IsDistinct same_key keys → Keeps same_key keys more
+        → number < length keys → IsWayBack keys number row before now → IsWayBack more number row before now }
 {}

@@ -8,6 +8,7 @@ pub use tables::CatalogueTables;
 mod authorities;
 mod candidates;
 mod choosing;
+mod following;
 mod gathering;
 pub mod index_laws;
 pub mod laws;
