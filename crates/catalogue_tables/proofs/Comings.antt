@@ -1,8 +1,8 @@
 -- A record comes into its place, or goes: what becomes of the authorities.
-use Rattle.std.proofs.Common.{◌≡◌, ◌∙◌, sym, ap, refl, subst, List, [], ◌∷◌, map, Bool, true, false, cond, Option, Some, None, if◌then◌else◌}
+use Rattle.std.proofs.Common.{◌≡◌, ℕ, ◌∙◌, sym, ap, refl, subst, List, [], ◌∷◌, map, Bool, true, false, cond, Option, Some, None, if◌then◌else◌}
 use Rattle.std.specs.Prelude.{find, filter_map}
 use Rattle.std.specs.BTreeMap.{insert_entry}
-use Rattle.std.specs.List.{AllByRecursion, cons_option}
+use Rattle.std.specs.List.{AllByRecursion, IsDistinct, cons_option}
 use Rattle.std.specs.List.Sorted.{IsStrictlySortedBy}
 use Rattle.std.specs.Map.{keys_of, remove_entry}
 use Rattle.std.specs.Ordering.{is_eq, match_ordering}
@@ -10,9 +10,13 @@ use Rattle.std.specs.declared.cmp.Ordering.{Ordering}
 use Rattle.std.specs.declared.cmp.Ordering.TheVariants.{Less, Equal, Greater}
 use Rattle.std.proofs.lemmas.Map.Keys.{sorted_head, sorted_tail}
 use Rattle.marc_types.specs.declared.field.Field.{Field}
+use Rattle.marc_types.specs.declared.form.Form.{Form}
 use Rattle.marc_types.specs.declared.key.Class.TheVariants.{Authority}
 use Rattle.marc_types.specs.declared.key.Key.{Key}
-use Rattle.marc_types.specs.Order.{key_Decides, key_cmp, key_cmp_total, same_key}
+use Rattle.marc_types.specs.Order.{key_Decides, key_cmp, key_cmp_total, same_form, same_key}
+use Rattle.numbering.specs.Numbers.{IsNumberOf, Keeps}
+use Rattle.numbering.proofs.Numberlaws.{keeps_itself}
+use Rattle.form_index.specs.Index.{Indexed, IsInOrder}
 use Rattle.entry_record.specs.Authority.{Linkable, linkable_of}
 use Rattle.entry_record.specs.Identity.{is_deletion}
 use Rattle.catalogue_rules.specs.Choice.{has_key}
@@ -23,7 +27,8 @@ use Rattle.catalogue_rules.proofs.Proper.{proper_linkable}
 use Rattle.catalogue_rules.proofs.Rows.{other_place}
 use Rattle.linking_laws.specs.Behind.{placed_in}
 use Rattle.linking_laws.proofs.Others.{above, below_equal, own_key}
-use Rattle.catalogue_tables.specs.Following.{IsExchanged, authority_brought}
+use Rattle.catalogue_tables.specs.Following.{FollowsAuthority, IsExchanged, TellsAuthorities, authority_brought}
+use Rattle.catalogue_tables.proofs.Followed.{tells_exchanged, tells_kept}
 use Rattle.catalogue_tables.proofs.Rowed.{above_none, above_rows}
 
 none_above : (key : Key) (rows : List Row) → AllByRecursion (λ k. key_cmp key k ≡ Less) (keys_of rows) → find (has_key key) (filter_map row_linkable rows) ≡ None
@@ -89,3 +94,12 @@ placing_exchanges a s ascend = record {
   own = own_placed a s.authorities ascend;
   others = λ other differs. other_place other a s.authorities differs;
 }
+
+-- the index that follows the entry of an authority tells of the authorities of the state with its record in place
+pub follows_arrival : (names more : List Form) (keys : List Key) (number : ℕ) (a : Arrival) (s : State) (old new : Indexed) → IsDistinct same_key keys
+    → IsAscending s.authorities → IsNumberOf same_key keys a.key number → Keeps same_form names more
+    → TellsAuthorities names keys old (linkable_authorities s) → FollowsAuthority more number (authority_brought a) old new
+    → IsInOrder keys new → TellsAuthorities more keys new (linkable_authorities (placed_in Authority a s))
+follows_arrival names more keys number a s old new distinct ascend numbered keeps tells follows ordered =
+    tells_exchanged more keys a.key number (authority_brought a) (linkable_authorities s) (linkable_authorities (placed_in Authority a s)) old new numbered
+    (tells_kept names more keys keys old (linkable_authorities s) distinct keeps (keeps_itself same_key keys) tells) (placing_exchanges a s ascend) follows ordered

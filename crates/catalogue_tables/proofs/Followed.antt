@@ -156,3 +156,12 @@ module _ (names : List Form) (keys : List Key) (key : Key) (number : ℕ) (autho
   -- the index told of the authorities before, and tells of those now
   pub tells_exchanged : IsInOrder keys new → TellsAuthorities names keys new now
   tells_exchanged ordered = record { each = λ k. told_at k (same_key key k) refl; given = beyond; ordered = ordered }
+
+-- what is told stays where no row changes
+pub tells_rows_kept : (names : List Form) (keys : List Key) (all : List Linkable) (old new : Indexed) → ((n : ℕ) → row_under n new ≡ row_under n old)
+    → IsInOrder keys new → TellsAuthorities names keys old all → TellsAuthorities names keys new all
+tells_rows_kept names keys all old new same ordered tells = record {
+  each = λ key. subst (λ (r : Option Forms). IsRowFor names (find (has_key key) all) r) (sym (same (number_of same_key keys key))) (tells.each key);
+  given = λ n high. same n ∙ tells.given n high;
+  ordered = ordered;
+}

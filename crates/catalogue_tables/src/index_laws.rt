@@ -64,6 +64,21 @@ pub fn placing_a_record_exchanges_its_authority()
         → IsExchanged a.key (authority_brought a) (linkable_authorities s) (linkable_authorities (placed_in Authority a s)) }
 {}
 
+/// An index that told of a state's authorities tells of those of the state with an authority's record in its place, or gone, once it
+/// has followed the entry. Forms may have got numbers.
+pub fn the_index_follows_an_entry()
+    ensures { (names more : List Form) (keys : List Key) (number : ℕ) (a : Arrival) (s : State) (old new : Indexed) → IsDistinct same_key keys
+        → IsAscending s.authorities → IsNumberOf same_key keys a.key number → Keeps same_form names more
+        → TellsAuthorities names keys old (linkable_authorities s) → FollowsAuthority more number (authority_brought a) old new
+        → IsInOrder keys new → TellsAuthorities more keys new (linkable_authorities (placed_in Authority a s)) }
+{}
+
+/// What the index tells stays where no row changes.
+pub fn what_is_told_stays_with_the_rows()
+    ensures { (names : List Form) (keys : List Key) (all : List Linkable) (old new : Indexed) → ((n : ℕ) → row_under n new ≡ row_under n old)
+        → IsInOrder keys new → TellsAuthorities names keys old all → TellsAuthorities names keys new all }
+{}
+
 /// An index that tells of a state's authorities tells of their rows: of all, and of those with a bare heading.
 pub fn the_index_tells_the_rows_of_a_state()
     ensures { (names : List Form) (keys : List Key) (x : Indexed) (s : State) (among : Among) → IsDistinct same_key keys
