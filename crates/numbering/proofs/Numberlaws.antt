@@ -1,6 +1,6 @@
 -- Laws of numbers: they tell things apart, they stay while the list grows, and each place has its thing's number.
-use Rattle.std.proofs.Common.{◌≡◌, ◌∙◌, sym, ap, refl, ℕ, ◌+◌, ◌<◌, arith, List, [], ◌∷◌, ◌++◌, length, length-append, slice_get, Some, IfSome, Bool, true, false, append-nil, ne_eqb, subst, get_or, zero, suc}
-use Rattle.std.specs.Prelude.{◌==◌, ◌||◌, not, cond}
+use Rattle.std.proofs.Common.{◌≡◌, ◌∙◌, sym, ap, refl, ℕ, ◌+◌, ◌<◌, arith, List, [], ◌∷◌, ◌++◌, length, length-append, slice_get, Some, Bool, true, false, append-nil, ne_eqb, subst, get_or, zero, suc}
+use Rattle.std.specs.Prelude.{◌==◌, ◌||◌, not, cond, IsSomeAnd}
 use Rattle.std.specs.Cmp.{IsEquivalence}
 use Rattle.std.specs.List.{IsDistinct}
 use Rattle.std.proofs.lemmas.Grind.{common_steps}
@@ -169,7 +169,7 @@ module _ {T : Type 0} (same : T → T → Bool) where
       }
 
   -- the number of a known thing is the place of one that is the same
-  pub thing_at : (things : List T) (thing : T) → is_known same things thing ≡ true → IfSome (slice_get things (number_of same things thing)) (λ found. same thing found ≡ true)
+  pub thing_at : (things : List T) (thing : T) → is_known same things thing ≡ true → IsSomeAnd (slice_get things (number_of same things thing)) (λ found. same thing found ≡ true)
   thing_at things thing h =
       let low : number_of same things thing < length things = number_below things thing h in
       let found : slice_get things (number_of same things thing) ≡ Some (get_or things (number_of same things thing) thing) = slice_get-get_or things (number_of same things thing) thing low in

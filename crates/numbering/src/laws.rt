@@ -1,5 +1,5 @@
 //! Laws of numbers: each is the contract of a function that does nothing.
-ghost use Rattle.std.specs.Prelude.{◌≡◌, ◌==◌, true, Some, slice_get, IfSome};
+ghost use Rattle.std.specs.Prelude.{◌≡◌, ◌==◌, true, Some, slice_get, IsSomeAnd};
 ghost use Rattle.std.specs.List.{IsDistinct};
 ghost use Rattle.numbering.specs.Numbers.{is_known, number_of, IsNumberOf};
 
@@ -22,5 +22,5 @@ pub fn each_place_is_a_number<T: Eq + Hash>(numbering: &Numbering<T>, number: u3
 /// At the number of a known thing stands one that is the same.
 pub fn each_number_is_a_place<T: Eq + Hash>(numbering: &Numbering<T>, thing: &T)
     requires { is_known T.eq numbering.now thing.now ≡ true }
-    ensures { IfSome (slice_get numbering.now (number_of T.eq numbering.now thing.now)) (λ found. T.eq thing.now found ≡ true) }
+    ensures { IsSomeAnd (slice_get numbering.now (number_of T.eq numbering.now thing.now)) (λ found. T.eq thing.now found ≡ true) }
 {}
