@@ -1,6 +1,6 @@
 -- The authority that takes a field by number, found by the number of a key, is the one of the rules.
-use Rattle.std.proofs.Common.{◌≡◌, ◌∙◌, sym, ap, refl, subst, ℕ, ◌<◌, List, [], ◌∷◌, length, map, Bool, true, false, ◌&&◌, ◌||◌, cond, Option, Some, None, IfSome, slice_get, slice_index_or, if◌then◌else◌}
-use Rattle.std.specs.Prelude.{◌==◌, find, filter_map, option_and_then}
+use Rattle.std.proofs.Common.{◌≡◌, ◌∙◌, sym, ap, refl, subst, ℕ, ◌<◌, List, [], ◌∷◌, length, map, Bool, true, false, ◌&&◌, ◌||◌, cond, Option, Some, None, slice_get, if◌then◌else◌}
+use Rattle.std.specs.Prelude.{◌==◌, IsSomeAnd, find, filter_map, option_and_then}
 use Rattle.std.specs.List.{IsDistinct}
 use Rattle.std.specs.List.Sorted.{IsStrictlySortedBy}
 use Rattle.std.specs.Option.{option_map, option_map_or, option_or}
@@ -8,7 +8,6 @@ use Rattle.std.specs.Ordering.{is_eq}
 use Rattle.std.proofs.lemmas.Bool.{and_from}
 use Rattle.std.proofs.lemmas.Cmp.{eq_by_cmp_equiv}
 use Rattle.std.proofs.lemmas.List.Elements.{recursion_from_All}
-use Rattle.std.proofs.lemmas.Option.{slice_get-get_or}
 use Rattle.marc_types.specs.Fields.{subfields_of}
 use Rattle.marc_types.specs.Order.{form_Decides, key_Decides, key_cmp_total, same_form, same_key}
 use Rattle.marc_types.specs.Valid.{is_code, is_number}
@@ -19,7 +18,7 @@ use Rattle.marc_types.specs.declared.key.Class.{Class}
 use Rattle.marc_types.specs.declared.key.Class.TheVariants.{Authority}
 use Rattle.marc_types.specs.declared.key.Key.{Key}
 use Rattle.numbering.specs.Numbers.{is_known, number_of}
-use Rattle.numbering.proofs.Numberlaws.{number_below, thing_at}
+use Rattle.numbering.proofs.Numberlaws.{thing_at}
 use Rattle.form_index.specs.Forms.{Forms}
 use Rattle.form_index.specs.Index.{Indexed, row_under}
 use Rattle.heading_fields.specs.Numbers.{is_naming, without_blanks}
@@ -65,16 +64,12 @@ find_nobody p (c ∷ cs) none = ap (λ b. cond b (Some c) (find p cs)) none.0 �
 
 -- ---- the row of an authority
 
-form_there : (o : Option Form) (form : Form) → IfSome o (λ found. same_form form found ≡ true) → (d : Form) → o ≡ Some d → o ≡ Some form
-form_there o form same d e =
-    let is : same_form form d ≡ true = subst (λ (x : Option Form). IfSome x (λ found. same_form form found ≡ true)) e same in
-    e ∙ ap (λ (f : Form). Some f) (sym ((form_Decides form d).0 is))
+form_there : (o : Option Form) (form : Form) → IsSomeAnd o (λ found. same_form form found ≡ true) → o ≡ Some form
+form_there None form e = absurd e
+form_there (Some found) form same = ap (λ (f : Form). Some f) (sym ((form_Decides form found).0 same))
 
 form_at : (names : List Form) (form : Form) → is_known same_form names form ≡ true → slice_get names (number_of same_form names form) ≡ Some form
-form_at names form known =
-    let n = number_of same_form names form in
-    form_there (slice_get names n) form (thing_at same_form names form known) (slice_index_or names n form)
-    (slice_get-get_or names n form (number_below same_form names form known))
+form_at names form known = form_there (slice_get names (number_of same_form names form)) form (thing_at same_form names form known)
 
 module _ (names : List Form) (keys : List Key) (class : Class) (kind : Kind) (h : KeptField) where
   row_takes : (key : Key) (o : Option Linkable) (row : Option Forms) → IsRowFor names o row

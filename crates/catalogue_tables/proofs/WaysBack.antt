@@ -1,26 +1,18 @@
 -- The row that was taken leads back.
-use Rattle.std.proofs.Common.{◌≡◌, ◌∙◌, sym, ap, refl, subst, ℕ, suc, ◌<◌, ◌≤◌, arith, List, [], ◌∷◌, length, Bool, true, false, ◌&&◌, not, cond, Option, Some, None, IfSome, IfNone, slice_get, slice_index_or, if◌then◌else◌}
+use Rattle.std.proofs.Common.{◌≡◌, ◌∙◌, sym, ap, refl, subst, ℕ, ◌<◌, List, length, Bool, true, false, cond, Option, Some, None, IfSome, IfNone}
 use Rattle.std.specs.Prelude.{◌==◌}
 use Rattle.std.specs.Cmp.{unsigned_Decides}
-use Rattle.std.specs.List.{AllByRecursion, IsDistinct}
+use Rattle.std.specs.List.{IsDistinct}
 use Rattle.std.specs.Option.{option_map, option_map_or}
-use Rattle.std.specs.Ordering.{is_lt}
-use Rattle.std.proofs.lemmas.Cmp.{eq_by_cmp_equiv}
-use Rattle.std.proofs.lemmas.Option.{slice_get-get_or}
 use Rattle.marc_types.specs.declared.form.Form.{Form}
 use Rattle.marc_types.specs.declared.key.Key.{Key}
-use Rattle.marc_types.specs.Order.{key_Decides, key_cmp, key_cmp_total, same_key}
-use Rattle.numbering.specs.Numbers.{Keeps, number_of}
-use Rattle.numbering.proofs.Numberlaws.{number_at, thing_at}
+use Rattle.marc_types.specs.Order.{same_key}
+use Rattle.numbering.specs.Numbers.{Keeps}
 use Rattle.form_index.specs.Forms.{Forms}
-use Rattle.form_index.specs.Index.{ExchangesRow, Headed, HeadedInOrder, Indexed, IsHeld, IsInOrder, Listing, Taken, TakesOut, headed_step, let_go, listed, listing_step, put_back, row_under, taken, taken_out, with_slot}
-use Rattle.form_index.specs.Listed.{Listed, each_from, each_of, is_no_list, list_at, seated}
-use Rattle.form_index.specs.Order.{has, key_at, no_key, number_cmp, placed, without}
-use Rattle.form_index.specs.Trimmed.{trimmed}
-use Rattle.form_index.proofs.Growing.{order_kept}
-use Rattle.form_index.proofs.Listing.{order_all, order_bare}
+use Rattle.form_index.specs.Index.{ExchangesRow, Indexed, IsHeld, IsInOrder, Taken, TakesOut, let_go, row_under, taken, taken_out}
+use Rattle.form_index.proofs.Growing.{order_kept, put_back_kept}
 use Rattle.entry_record.specs.Authority.{Linkable}
-use Rattle.catalogue_tables.specs.Following.{CanRestore, FollowsAuthority, IsWayBack, restored, with_row_back, without_row}
+use Rattle.catalogue_tables.specs.Following.{FollowsAuthority, IsWayBack, with_row_back, without_row}
 use Rattle.catalogue_tables.specs.Rows.{PutsAuthority}
 use Rattle.catalogue_tables.proofs.Followed.{follows_nobody, follows_taken, follows_then}
 
@@ -92,66 +84,11 @@ module _ (keys : List Key) (number : ℕ) (old middle : Indexed) where
 
 -- ---- keys that got numbers since
 
-module _ (old new : List Key) (keeps : Keeps same_key old new) (distinct : IsDistinct same_key old) where
-  -- a number stands for the key that it stood for
-  kept_key : (n : ℕ) → n < length old → key_at new n ≡ key_at old n
-  unfolding key_at
-  kept_key n low =
-      let key = slice_index_or old n no_key in
-      let numbered = number_at same_key (eq_by_cmp_equiv key_cmp_total) old key n distinct (slice_get-get_or old n no_key low) in
-      let place : number_of same_key new key ≡ n = keeps.same_number key numbered.known ∙ sym numbered.is in
-      let found = subst (λ k. IfSome (slice_get new k) (λ other. same_key key other ≡ true)) place (thing_at same_key new key (keeps.known key numbered.known)) in
-      let long : length old ≤ length new = keeps.longer in
-      let there : slice_get new n ≡ Some (slice_index_or new n no_key) = slice_get-get_or new n no_key (omega (arith, low, long)) in
-      sym ((key_Decides key (slice_index_or new n no_key)).0 (subst (λ o. IfSome o (λ other. same_key key other ≡ true)) there found))
-
-  placed_same : (n : ℕ) → n < length old → (l : List ℕ) → AllByRecursion (λ m. m < length old) l → placed new n l ≡ placed old n l
-  placed_same n low [] given = refl
-  placed_same n low (m ∷ ms) given =
-      ap (λ k. if is_lt (key_cmp k (key_at new m)) then n ∷ m ∷ ms else m ∷ placed new n ms) (kept_key n low)
-      ∙ ap (λ k. if is_lt (key_cmp (key_at old n) k) then n ∷ m ∷ ms else m ∷ placed new n ms) (kept_key m given.0)
-      ∙ ap (λ l. if is_lt (number_cmp old n m) then n ∷ m ∷ ms else m ∷ l) (placed_same n low ms given.1)
-
-  seated_same : (n : ℕ) → n < length old → (l : Listed) → AllByRecursion (λ m. m < length old) l.live → seated new n l ≡ seated old n l
-  seated_same n low l given =
-      ap (λ live. if has n l.held && not (has n l.live) then record { live = live; held = without n l.held } else l) (placed_same n low l.live given)
-
-each_same : (f g : Listed → Listed) (lists : List Listed) → ((i : ℕ) → f (list_at lists i) ≡ g (list_at lists i)) → (form : ℕ) (test : ℕ → Bool) → each_from form test f lists ≡ each_from form test g lists
-each_same f g [] same form test = refl
-each_same f g (l ∷ ls) same form test =
-    ap (λ x. (if test form then x else l) ∷ each_from (suc form) test f ls) (same 0)
-    ∙ ap (λ xs. (if test form then g l else l) ∷ xs) (each_same f g ls (λ i. same (suc i)) (suc form) test)
-
-each_of_same : (f g : Listed → Listed) (forms : List ℕ) (lists : List Listed) → ((i : ℕ) → f (list_at lists i) ≡ g (list_at lists i)) → each_of forms f lists ≡ each_of forms g lists
-unfolding each_of
-each_of_same f g forms lists same = ap (trimmed is_no_list) (each_same f g lists same 0 (λ form. has form forms))
-
-headed_same : (f g : Listed → Listed) (row : Forms) (h : Headed) → ((i : ℕ) → f (list_at h.established i) ≡ g (list_at h.established i)) → ((i : ℕ) → f (list_at h.see_from i) ≡ g (list_at h.see_from i))
-    → headed_step row f h ≡ headed_step row g h
-headed_same f g row h established see_from =
-    let first = each_of_same f g (row.established ∷ []) h.established established in
-    let second = each_of_same f g row.see_from h.see_from see_from in
-    λ i. record { established = first i; see_from = second i }
-
-headed_given : (keys more : List Key) (row : Taken) (h : Headed) → IsDistinct same_key keys → Keeps same_key keys more → row.number < length keys → HeadedInOrder keys h
-    → headed_step row.forms (seated more row.number) h ≡ headed_step row.forms (seated keys row.number) h
-headed_given keys more row h distinct keeps low given =
-    headed_same (seated more row.number) (seated keys row.number) row.forms h
-    (λ i. seated_same keys more keeps distinct row.number low (list_at h.established i) (given.established i).known)
-    (λ i. seated_same keys more keeps distinct row.number low (list_at h.see_from i) (given.see_from i).known)
-
-put_back_same : (keys more : List Key) (row : Taken) (x : Indexed) → IsDistinct same_key keys → Keeps same_key keys more → row.number < length keys → IsInOrder keys x
-    → put_back more row x ≡ put_back keys row x
-put_back_same keys more row x distinct keeps low ordered =
-    let all = headed_given keys more row x.lists.all distinct keeps low (order_all keys x.lists ordered) in
-    let bare = ap (λ h. if row.forms.bare then h else x.lists.bare) (headed_given keys more row x.lists.bare distinct keeps low (order_bare keys x.lists ordered)) in
-    λ i. record { rows = with_slot row.number (Some row.forms) x.rows; lists = record { all = all i; bare = bare i } }
-
 row_back_same : (keys more : List Key) (number : ℕ) (row : Option Taken) (x : Indexed) → IsDistinct same_key keys → Keeps same_key keys more → number < length keys → IsInOrder keys x
     → IfSome row (λ r. (r.number ≡ number) × IsHeld r x) → with_row_back more row x ≡ with_row_back keys row x
 row_back_same keys more number None x distinct keeps low ordered held = refl
 row_back_same keys more number (Some row) x distinct keeps low ordered held =
-    put_back_same keys more row x distinct keeps (subst (λ n. n < length keys) (sym held.0) low) ordered
+    put_back_kept keys more keeps distinct row x (subst (λ n. n < length keys) (sym held.0) low) ordered
 
 -- a way back stays one while keys get numbers
 pub way_stays : (keys more : List Key) (number : ℕ) (row : Option Taken) (before now : Indexed) → IsDistinct same_key keys → Keeps same_key keys more → number < length keys
