@@ -1,5 +1,5 @@
 -- The choice of a field is by a number, else by its full form, else by its base form.
-use Rattle.std.proofs.Common.{◌≡◌, ◌∙◌, sym, ap, refl, List, Bool, true, false, Option, Some, None, unwrap_or, if◌then◌else◌}
+use Rattle.std.proofs.Common.{◌≡◌, ◌∙◌, sym, ap, refl, List, true, Option, Some, None, unwrap_or, if◌then◌else◌}
 use Rattle.std.specs.Option.{option_map, option_map_or, option_or}
 use Rattle.marc_types.specs.Fields.{tag_of}
 use Rattle.marc_types.specs.declared.field.Field.{Field}

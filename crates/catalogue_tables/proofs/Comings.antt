@@ -1,9 +1,8 @@
 -- A record comes into its place, or goes: what becomes of the authorities.
-use Rattle.std.proofs.Common.{◌≡◌, ℕ, ◌∙◌, sym, ap, refl, subst, List, [], ◌∷◌, map, Bool, true, false, cond, Option, Some, None, if◌then◌else◌}
+use Rattle.std.proofs.Common.{◌≡◌, ℕ, ◌∙◌, sym, ap, refl, List, [], ◌∷◌, map, Bool, true, false, cond, Option, Some, None, if◌then◌else◌}
 use Rattle.std.specs.Prelude.{find, filter_map}
 use Rattle.std.specs.BTreeMap.{insert_entry}
 use Rattle.std.specs.List.{AllByRecursion, IsDistinct, cons_option}
-use Rattle.std.specs.List.Sorted.{IsStrictlySortedBy}
 use Rattle.std.specs.Map.{keys_of, remove_entry}
 use Rattle.std.specs.Ordering.{is_eq, match_ordering}
 use Rattle.std.specs.declared.cmp.Ordering.{Ordering}
@@ -13,7 +12,7 @@ use Rattle.marc_types.specs.declared.field.Field.{Field}
 use Rattle.marc_types.specs.declared.form.Form.{Form}
 use Rattle.marc_types.specs.declared.key.Class.TheVariants.{Authority}
 use Rattle.marc_types.specs.declared.key.Key.{Key}
-use Rattle.marc_types.specs.Order.{key_Decides, key_cmp, key_cmp_total, same_form, same_key}
+use Rattle.marc_types.specs.Order.{key_Decides, key_cmp, same_form, same_key}
 use Rattle.numbering.specs.Numbers.{IsNumberOf, Keeps}
 use Rattle.numbering.proofs.Numberlaws.{keeps_itself}
 use Rattle.form_index.specs.Index.{Indexed, IsInOrder}
@@ -26,7 +25,7 @@ use Rattle.catalogue_rules.specs.Valid.{IsAscending}
 use Rattle.catalogue_rules.proofs.Proper.{proper_linkable}
 use Rattle.catalogue_rules.proofs.Rows.{other_place}
 use Rattle.linking_laws.specs.Behind.{placed_in}
-use Rattle.linking_laws.proofs.Others.{above, below_equal, own_key}
+use Rattle.linking_laws.proofs.Others.{above, below_equal}
 use Rattle.catalogue_tables.specs.Following.{FollowsAuthority, IsExchanged, TellsAuthorities, authority_brought}
 use Rattle.catalogue_tables.proofs.Followed.{tells_exchanged, tells_kept}
 use Rattle.catalogue_tables.proofs.Rowed.{above_none, above_rows}

@@ -1,6 +1,6 @@
 -- The index follows an authority that comes, changes or goes, and what it tells stays while keys and forms get numbers.
 use Rattle.std.proofs.Common.{◌≡◌, ◌∙◌, sym, ap, refl, subst, ℕ, ◌<◌, ◌≤◌, arith, List, [], length, Bool, true, false, cond, Option, Some, None}
-use Rattle.std.specs.Prelude.{◌==◌, find, nat_eq, nat_lt}
+use Rattle.std.specs.Prelude.{◌==◌, find}
 use Rattle.std.specs.Cmp.{unsigned_Decides}
 use Rattle.std.specs.List.{IsDistinct, list_any}
 use Rattle.std.proofs.lemmas.Cmp.{eq_by_cmp_equiv}
@@ -10,7 +10,7 @@ use Rattle.marc_types.specs.Order.{key_Decides, key_cmp_total, same_form, same_k
 use Rattle.numbering.specs.Numbers.{is_known, number_of, IsNumberOf, Keeps}
 use Rattle.numbering.proofs.Numberlaws.{alike, keeps_itself, number_below}
 use Rattle.form_index.specs.Forms.{Forms}
-use Rattle.form_index.specs.Index.{ExchangesRow, Indexed, IsInOrder, Puts, PutsBack, Taken, TakesOut, no_index, row_under, taken}
+use Rattle.form_index.specs.Index.{Indexed, IsInOrder, Taken, TakesOut, no_index, row_under}
 use Rattle.form_index.specs.Order.{has}
 use Rattle.form_index.proofs.Growing.{order_kept}
 use Rattle.entry_record.specs.Authority.{Linkable, is_bare}

@@ -1,5 +1,5 @@
 -- The choice by a form in numbers is that of the rules.
-use Rattle.std.proofs.Common.{◌≡◌, ◌≢◌, ◌∙◌, sym, ap, refl, subst, ℕ, ◌<◌, List, [], ◌∷◌, length, map, Bool, true, false, cond, Option, Some, None}
+use Rattle.std.proofs.Common.{◌≡◌, ◌≢◌, ◌∙◌, sym, ap, refl, ℕ, ◌<◌, List, [], ◌∷◌, length, map, Bool, true, false, cond, Option, Some}
 use Rattle.std.specs.Prelude.{filter}
 use Rattle.std.specs.List.{AllByRecursion, IsDistinct}
 use Rattle.std.specs.Option.{option_map, option_or}
@@ -16,8 +16,7 @@ use Rattle.entry_record.specs.Authority.{Linkable}
 use Rattle.catalogue_rules.specs.Choice.{Choice, by_form, choice_among, is_established, is_see_from_form}
 use Rattle.linking_laws.specs.Tables.{IndexRow, has_established, has_traced, index_row, keys_with}
 use Rattle.catalogue_tables.specs.Choosing.{authorities_among, chosen_among, chosen_for, chosen_of}
-use Rattle.catalogue_tables.specs.Rows.{IsTold, ListsKeys, rows_among}
-use Rattle.catalogue_tables.specs.declared.choosing.Chosen.{Chosen}
+use Rattle.catalogue_tables.specs.Rows.{IsTold, rows_among}
 use Rattle.catalogue_tables.specs.declared.choosing.Chosen.TheVariants as chosen
 use Rattle.catalogue_tables.proofs.Seams.{key_numbered}
 

@@ -23,7 +23,7 @@ use Rattle.form_index.specs.declared.among.Among.{Among}
 use Rattle.form_index.specs.declared.candidates.Candidates.{Candidates}
 use Rattle.form_index.specs.declared.candidates.Candidates.TheVariants.{Established, SeeFrom, Nobody}
 use Rattle.linking_laws.specs.Tables.{IndexRow, has_established, has_traced, keys_with}
-use Rattle.catalogue_tables.specs.Rows.{IsBlank, IsTold, ListsKeys, TellsKeys, TellsRows, is_headed, is_traced, row_keys}
+use Rattle.catalogue_tables.specs.Rows.{IsBlank, IsTold, TellsKeys, TellsRows, is_headed, is_traced, row_keys}
 use Rattle.catalogue_tables.proofs.Seams.{key_numbered}
 
 -- ---- two lists in key order with the same members

@@ -27,7 +27,7 @@ use Rattle.catalogue_rules.specs.Valid.{IsAscending}
 use Rattle.catalogue_rules.proofs.Proper.{proper_linkable}
 use Rattle.linking_laws.specs.Tables.{IndexRow, has_established, has_traced, index_row, keys_with}
 use Rattle.catalogue_tables.specs.Following.{HasForms, IsRowFor, TellsAuthorities}
-use Rattle.catalogue_tables.specs.Rows.{IsBlank, TellsKeys, TellsRows, is_headed, is_traced, row_keys, rows_among}
+use Rattle.catalogue_tables.specs.Rows.{IsBlank, TellsRows, is_headed, is_traced, row_keys, rows_among}
 use Rattle.catalogue_tables.proofs.Seams.{key_numbered}
 
 -- ---- the authorities in key order

@@ -1,7 +1,6 @@
 -- The authority that takes a field by number, found by the number of a key, is the one of the rules.
-use Rattle.std.proofs.Common.{◌≡◌, ◌∙◌, sym, ap, refl, subst, ℕ, ◌<◌, List, [], ◌∷◌, length, map, Bool, true, false, ◌&&◌, ◌||◌, cond, Option, Some, None, slice_get, if◌then◌else◌}
-use Rattle.std.specs.Prelude.{◌==◌, IsSomeAnd, find, filter_map, option_and_then}
-use Rattle.std.specs.List.{IsDistinct}
+use Rattle.std.proofs.Common.{◌≡◌, ◌∙◌, sym, ap, refl, subst, List, [], ◌∷◌, Bool, true, false, ◌&&◌, ◌||◌, cond, Option, Some, None, slice_get, if◌then◌else◌}
+use Rattle.std.specs.Prelude.{◌==◌, IsSomeAnd, find, option_and_then}
 use Rattle.std.specs.List.Sorted.{IsStrictlySortedBy}
 use Rattle.std.specs.Option.{option_map, option_map_or, option_or}
 use Rattle.std.specs.Ordering.{is_eq}
@@ -24,17 +23,17 @@ use Rattle.form_index.specs.Index.{Indexed, row_under}
 use Rattle.heading_fields.specs.Numbers.{is_naming, without_blanks}
 use Rattle.entry_record.specs.Authority.{Linkable, is_bare, is_valid_key, key_of_text, option_filter, same_kind}
 use Rattle.catalogue_rules.specs.Choice.{Choice, Link, by_awaited, by_first_name, by_number, can_take, has_key, is_taken_whole, link_where, takes_subdivisions}
-use Rattle.catalogue_rules.specs.State.{KeptField, Row, State, fields_of, linkable_authorities, row_linkable}
+use Rattle.catalogue_rules.specs.State.{KeptField, State, fields_of, linkable_authorities}
 use Rattle.catalogue_rules.specs.Valid.{IsRow}
 use Rattle.catalogue_rules.proofs.Elements.{Each, each_weaker, find_found}
 use Rattle.catalogue_rules.proofs.Fit.{IsFit}
 use Rattle.catalogue_rules.proofs.Proper.{all_fit, each_linkable, proper_linkable}
 use Rattle.linking_laws.proofs.Naming.{naming_is}
-use Rattle.catalogue_tables.specs.Choosing.{TellsState, chosen_for, first_taker, key_named, link_by_taker, named_taker, number_known, taker_by_number, taker_for, taker_of_row, taker_under}
+use Rattle.catalogue_tables.specs.Choosing.{TellsState, chosen_for, first_taker, key_named, link_by_taker, named_taker, taker_by_number, taker_for, taker_of_row, taker_under}
 use Rattle.catalogue_tables.specs.declared.choosing.Chosen.{Chosen}
 use Rattle.catalogue_tables.specs.declared.choosing.Taker.{Taker}
-use Rattle.catalogue_tables.specs.Following.{HasForms, IsRowFor}
-use Rattle.catalogue_tables.proofs.Rowed.{AreInOrder, IsAbove, above_none, ordered_rows, unknown_nobody}
+use Rattle.catalogue_tables.specs.Following.{IsRowFor}
+use Rattle.catalogue_tables.proofs.Rowed.{AreInOrder, IsAbove, ordered_rows, unknown_nobody}
 
 -- ---- one authority a key
 

@@ -8,7 +8,8 @@ ghost use Rattle.entry_record.specs.Headings.{divided_form};
 ghost use Rattle.entry_record.specs.Prepared.{heading_base_form};
 ghost use Rattle.catalogue_rules.specs.Choice.{asks_base, by_base_form, by_form, by_full_form, choice};
 ghost use Rattle.catalogue_rules.specs.State.{State, kept_field, linkable_authorities, new_field};
-ghost use Rattle.catalogue_tables.specs.Choosing.{TellsState, authorities_among, chosen_among, chosen_for, chosen_of, field_choice, first_taker, form_choice, link_by_taker, named_taker, taker_by_number, taker_of_row, taker_under, unlinked};
+ghost use Rattle.catalogue_tables.specs.Choosing.{TellsState, authorities_among, chosen_among, chosen_for, chosen_of, field_choice, form_choice, unlinked};
+ghost use Rattle.catalogue_tables.specs.Choosing.{first_taker, link_by_taker, named_taker, taker_by_number, taker_of_row, taker_under};
 
 use crate::naming::named_key;
 use crate::tables::CatalogueTables;
@@ -205,7 +206,8 @@ impl CatalogueTables {
 
     fn by_base_form(&self, class: Class, field: &Field, tie: &Tie, base: &Form) -> Chosen
         ensures { (keys : List Key) (s : State) → TellsState self.now.forms keys self.now.index s → base.now ≡ base_form base.now.kind field.now
-            → result ≡ unwrap_or (option_map (chosen_for keys) (by_base_form (linkable_authorities s) class base.now.kind (kept_field field.now tie.now))) unlinked }
+            → result ≡ unwrap_or
+            (option_map (chosen_for keys) (by_base_form (linkable_authorities s) class base.now.kind (kept_field field.now tie.now))) unlinked }
     {
         if !asks_base(class, field, tie) {
             return Chosen::Unlinked;

@@ -6,7 +6,8 @@ ghost use Rattle.marc_types.specs.declared.key.Key.{Key};
 ghost use Rattle.form_index.specs.Index.{IsHeld, IsInOrder, let_go, row_under};
 ghost use Rattle.entry_record.specs.Authority.{heading_of};
 ghost use Rattle.catalogue_rules.specs.Settle.{arrival_of};
-ghost use Rattle.catalogue_tables.specs.Following.{CanRestore, FollowsAuthority, IsWayBack, authority_brought, has_bare_heading, restored, with_row_back, without_row};
+ghost use Rattle.catalogue_tables.specs.Following.{FollowsAuthority, authority_brought, has_bare_heading};
+ghost use Rattle.catalogue_tables.specs.Following.{CanRestore, IsWayBack, restored, with_row_back, without_row};
 
 use crate::tables::CatalogueTables;
 use entry_record::Prepared;

@@ -1,4 +1,4 @@
-use Rattle.std.proofs.Common.{◌∙◌, sym}
+use Rattle.std.proofs.Common.{◌∙◌}
 use Rattle.catalogue_rules.specs.State.{kept_field, linkable_authorities}
 use Rattle.catalogue_tables.proofs.Chosens.{base_next, full_first}
 use Rattle.catalogue_tables.proofs.tables.CatalogueTables.choose_by_forms.Goals as goal
