@@ -4,8 +4,10 @@
 
 pub use store::LinkedStore;
 
-mod fields;
-mod lists;
-mod records;
+mod back;
+mod change;
+mod frame;
+mod rows;
 mod store;
+mod turns;
 mod ways_back;
