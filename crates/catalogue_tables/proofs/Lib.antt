@@ -1,5 +1,11 @@
+pub mod Chosens
+pub mod Comings
+pub mod Followed
 pub mod Linked
 pub mod Numbered
+pub mod Picked
 pub mod Ranked
+pub mod Rowed
 pub mod Seams
+pub mod Takers
 pub mod Waited

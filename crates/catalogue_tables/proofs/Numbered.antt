@@ -11,7 +11,7 @@ use Rattle.form_index.specs.Index.{Indexed, Puts, taken}
 use Rattle.form_index.specs.Order.{has}
 use Rattle.catalogue_tables.specs.Rows.{PutsAuthority}
 use Rattle.catalogue_tables.specs.Waiting.{AreNumbersOf}
-use Rattle.catalogue_tables.proofs.Seams.{numbers_alike}
+use Rattle.catalogue_tables.proofs.Seams.{numbers_alike, numbers_low}
 
 module _ (old new : List Form) (one : Form) (number : ℕ) (keeps : Keeps same_form old new) (of : IsNumberOf same_form new one number) where
   known_step : (xs : List Form) → AllByRecursion (λ t. is_known same_form old t ≡ true) xs → AllByRecursion (λ t. is_known same_form new t ≡ true) (xs ++ one ∷ [])
@@ -46,12 +46,15 @@ pub puts_authority : (middle names : List Form) (number own : ℕ) (established 
     → PutsAuthority names number established see_from bare old new
 puts_authority middle names number own established see_from traced bare row old new of keeps are is same is_bare puts = record {
   row = row;
-  established_is = record { known = keeps.known established of.known; is = is ∙ of.is ∙ sym (keeps.same_number established of.known) };
-  see_from_are = λ form.
-      same (number_of same_form names form)
-      ∙ ap (λ (ns : List ℕ). has (number_of same_form names form) ns) are.are
-      ∙ numbers_alike same_form (eq_by_cmp_equiv form_cmp_total) names see_from form are.known;
-  bare_is = is_bare;
+  is = record {
+    established_is = record { known = keeps.known established of.known; is = is ∙ of.is ∙ sym (keeps.same_number established of.known) };
+    see_from_are = λ form.
+        same (number_of same_form names form)
+        ∙ ap (λ (ns : List ℕ). has (number_of same_form names form) ns) are.are
+        ∙ numbers_alike same_form (eq_by_cmp_equiv form_cmp_total) names see_from form are.known;
+    given = λ n h. numbers_low same_form names see_from n are.known (sym (same n ∙ ap (λ (ns : List ℕ). has n ns) are.are) ∙ h);
+    bare_is = is_bare;
+  };
   puts = puts;
 }
 

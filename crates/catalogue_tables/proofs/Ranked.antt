@@ -23,7 +23,7 @@ use Rattle.form_index.specs.declared.among.Among.{Among}
 use Rattle.form_index.specs.declared.candidates.Candidates.{Candidates}
 use Rattle.form_index.specs.declared.candidates.Candidates.TheVariants.{Established, SeeFrom, Nobody}
 use Rattle.linking_laws.specs.Tables.{IndexRow, has_established, has_traced, keys_with}
-use Rattle.catalogue_tables.specs.Rows.{IsBlank, IsTold, TellsKeys, TellsRows, is_headed, is_traced, row_keys}
+use Rattle.catalogue_tables.specs.Rows.{IsBlank, IsTold, ListsKeys, TellsKeys, TellsRows, is_headed, is_traced, row_keys}
 use Rattle.catalogue_tables.proofs.Seams.{key_numbered}
 
 -- ---- two lists in key order with the same members
@@ -178,13 +178,20 @@ module _ (among : Among) (names : List Form) (form : Form) (keys : List Key) (x 
   traced_blank blank = blank_told keys x rows distinct tells.ordered tells.known (is_traced among (number_of same_form names form)) (has_traced form) (tells.see_from form) blank
 
   pub answer_told : IsInOrder keys x → (answer : Candidates) → IsAnswer among (number_of same_form names form) x answer → IsTold keys rows form answer
-  answer_told ordered (Established numbers) found =
-      scan_told keys x rows distinct tells.ordered tells.known (is_headed among (number_of same_form names form)) (has_established form) (tells.established form)
-      numbers.now found.0.members (found.0.ordered keys ordered)
+  answer_told ordered (Established numbers) found = record {
+    are = scan_told keys x rows distinct tells.ordered tells.known (is_headed among (number_of same_form names form)) (has_established form) (tells.established form)
+        numbers.now found.0.members (found.0.ordered keys ordered);
+    given = (found.0.ordered keys ordered).known;
+    some = found.1;
+  }
   answer_told ordered (SeeFrom numbers) found = (
     headed_blank found.0,
-    scan_told keys x rows distinct tells.ordered tells.known (is_traced among (number_of same_form names form)) (has_traced form) (tells.see_from form)
-        numbers.now found.1.members (found.1.ordered keys ordered),
+    record {
+      are = scan_told keys x rows distinct tells.ordered tells.known (is_traced among (number_of same_form names form)) (has_traced form) (tells.see_from form)
+          numbers.now found.1.members (found.1.ordered keys ordered);
+      given = (found.1.ordered keys ordered).known;
+      some = found.2;
+    },
   )
   answer_told ordered Nobody found = (headed_blank found.0, traced_blank found.1)
 

@@ -1,3 +1,5 @@
+pub mod Choosing
+pub mod Following
 pub mod Rows
 pub mod Seam
 pub mod Tables
