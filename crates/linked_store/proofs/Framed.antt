@@ -156,7 +156,7 @@ goes_waiting old new seat waiting steps store only free came =
     (record { links = λ s. refl; keys = λ n s. refl; waits = λ s. refl; forms = λ n s. refl; names = λ n s. refl }) r)))))
     (record { forms = only.forms; index = only.index })
 
-rows_then : (a b c : CatalogueTables) → OnlyRows a b → OnlyRows b c → OnlyRows a c
+pub rows_then : (a b c : CatalogueTables) → OnlyRows a b → OnlyRows b c → OnlyRows a c
 rows_then a b c first second = record { forms = keeps_then same_form a.forms b.forms c.forms first.forms second.forms; index = second.index ∙ first.index }
 
 -- one after another

@@ -4,3 +4,7 @@ pub mod Framed
 pub mod Agreed
 pub mod Turned
 pub mod Sounding
+pub mod Keyed
+pub mod Wanting
+pub mod Fielded
+pub mod Listing

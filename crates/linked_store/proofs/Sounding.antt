@@ -11,7 +11,9 @@ use Rattle.numbered_store.specs.Steps as stored
 use Rattle.numbered_store.proofs.Growing.{grown_back}
 use Rattle.catalogue_tables.specs.Seam.{AreDistinct, KeysKeep}
 use Rattle.linked_store.specs.Contents.{CanGoBack, Contents, Fits, Step, ToField, ToLink, ToRecord, ToWait, apply, apply_back, at_seat}
-use Rattle.linked_store.specs.Frames.{GoesBack, GoesOn, IsKept, IsRoomy, contents, steps_of}
+use Rattle.linked_store.specs.Frames.{GoesBack, GoesOn, IsKept, IsRoomy, OnlyRows, contents, steps_of}
+use Rattle.catalogue_tables.specs.declared.tables.CatalogueTables.{CatalogueTables}
+use Rattle.linked_store.proofs.Framed.{forms_same}
 use Rattle.linked_store.specs.Linked.{Linked}
 use Rattle.linked_store.specs.Sound.{AgreesWith, IsSound, at_mark, at_start, key_lists, keys_of, linked_view, state_in}
 use Rattle.linked_store.specs.declared.frame.Frame.{Frame}
@@ -74,10 +76,10 @@ keys_then more rest c d keep =
     (subst (λ (k : KeyNumbers). KeysKeep (keys_of c) (key_lists k)) (sym (keys_back rest d)) keep)
 
 -- the tables that agreed behind some steps agree there once keys and forms have got numbers
-agrees_behind : (steps : List Step) (old forms : List Form) (c d : Contents) → Keeps same_form old forms → KeysKeep (keys_of c) (keys_of d) → GrowsTo (apply_back steps c) (apply_back steps d)
-    → AgreesWith old (apply_back steps c) → AgreesWith forms (apply_back steps d)
-agrees_behind steps old forms c d keeps keep grows agrees =
-    agrees_grown old forms (apply_back steps c) (apply_back steps d) keeps (keys_then steps steps c d keep) grows.links grows.waits grows.numbered.state agrees
+agrees_behind : (steps : List Step) (old new : CatalogueTables) (c d : Contents) → OnlyRows old new → AreDistinct (keys_of c) → KeysKeep (keys_of c) (keys_of d) → GrowsTo (apply_back steps c) (apply_back steps d)
+    → AgreesWith old (apply_back steps c) → AgreesWith new (apply_back steps d)
+agrees_behind steps old new c d rows distinct keep grows agrees =
+    agrees_grown old new (apply_back steps c) (apply_back steps d) rows (subst (λ (k : KeyNumbers). AreDistinct (key_lists k)) (sym (keys_back steps c)) distinct) (keys_then steps steps c d keep) grows.links grows.waits grows.numbered.state agrees
 
 can_drop : (n : ℕ) (steps : List Step) (c : Contents) → CanGoBack steps c → CanGoBack (drop n steps) c
 can_drop zero steps c can = can
@@ -89,7 +91,7 @@ pub record IsGrown (f g : Frame) : Type 0 where
   pub grows : GrowsTo (contents f) (contents g)
   pub keep : KeysKeep (keys_of (contents f)) (keys_of (contents g))
   pub distinct : AreDistinct (keys_of (contents g))
-  pub forms : Keeps same_form f.tables.forms g.tables.forms
+  pub rows : OnlyRows f.tables g.tables
   pub steps : steps_of g ≡ steps_of f
   pub rooms : IsRoomy f → IsRoomy g
 
@@ -106,13 +108,13 @@ module _ (f g : Frame) (marked : ℕ) (grown : IsGrown f g) (sound : IsSound f m
     low = subst (λ (l : List Step). marked ≤ length l) (sym grown.steps) sound.low;
     can = subst (λ (l : List Step). CanGoBack l (contents g)) (sym grown.steps) along.0;
     rooms = grown.rooms sound.rooms;
-    now = agrees_behind [] f.tables.forms g.tables.forms (contents f) (contents g) grown.forms grown.keep grown.grows sound.now;
+    now = agrees_behind [] f.tables g.tables (contents f) (contents g) grown.rows sound.distinct grown.keep grown.grows sound.now;
     mark =
-      subst (λ (l : List Step). AgreesWith g.tables.forms (apply_back (drop marked l) (contents g))) (sym grown.steps)
-      (agrees_behind (drop marked (steps_of f)) f.tables.forms g.tables.forms (contents f) (contents g) grown.forms grown.keep to_mark.1 sound.mark);
+      subst (λ (l : List Step). AgreesWith g.tables (apply_back (drop marked l) (contents g))) (sym grown.steps)
+      (agrees_behind (drop marked (steps_of f)) f.tables g.tables (contents f) (contents g) grown.rows sound.distinct grown.keep to_mark.1 sound.mark);
     start =
-      subst (λ (l : List Step). AgreesWith g.tables.forms (apply_back l (contents g))) (sym grown.steps)
-      (agrees_behind (steps_of f) f.tables.forms g.tables.forms (contents f) (contents g) grown.forms grown.keep along.1 sound.start);
+      subst (λ (l : List Step). AgreesWith g.tables (apply_back l (contents g))) (sym grown.steps)
+      (agrees_behind (steps_of f) f.tables g.tables (contents f) (contents g) grown.rows sound.distinct grown.keep along.1 sound.start);
   }
 
   pub marked_grown : state_in (at_mark g marked) ≡ state_in (at_mark f marked)
@@ -128,6 +130,12 @@ drop_join zero xs ys low = refl
 drop_join (suc n) [] ys low = absurd (omega (arith, low))
 drop_join (suc n) (x ∷ xs) ys low = drop_join n xs ys (omega (arith, low))
 
+-- what agreed behind some steps agrees by more forms
+pub agrees_still : (old new : CatalogueTables) (steps : List Step) (c : Contents) → OnlyRows old new → AreDistinct (keys_of c) → AgreesWith old (apply_back steps c) → AgreesWith new (apply_back steps c)
+agrees_still old new steps c rows distinct agrees =
+    agrees_grown old new (apply_back steps c) (apply_back steps c) rows (subst (λ (k : KeyNumbers). AreDistinct (key_lists k)) (sym (keys_back steps c)) distinct)
+    (keys_keep (keys_of (apply_back steps c))) refl refl refl agrees
+
 -- the frame went on, and its keys stayed
 module _ (f g : Frame) (marked : ℕ) (goes : GoesOn f g) (keys : g.store.keys ≡ f.store.keys) (sound : IsSound f marked) where
   pub start_stays : at_start g ≡ at_start f
@@ -140,10 +148,10 @@ module _ (f g : Frame) (marked : ℕ) (goes : GoesOn f g) (keys : g.store.keys �
       ∙ back_join (drop marked (steps_of f)) goes.more (contents g) ∙ ap (apply_back (drop marked (steps_of f))) goes.back
 
   -- what agreed agrees by more forms
-  by_forms : (c : Contents) → AgreesWith f.tables.forms c → AgreesWith g.tables.forms c
-  by_forms c agrees = agrees_grown f.tables.forms g.tables.forms c c goes.rows.forms (keys_keep (keys_of c)) refl refl refl agrees
+  by_forms : (steps : List Step) → AgreesWith f.tables (apply_back steps (contents f)) → AgreesWith g.tables (apply_back steps (contents f))
+  by_forms steps agrees = agrees_still f.tables g.tables steps (contents f) goes.rows sound.distinct agrees
 
-  pub sound_on : AgreesWith g.tables.forms (contents g) → IsSound g marked
+  pub sound_on : AgreesWith g.tables (contents g) → IsSound g marked
   sound_on agrees = record {
     distinct = subst (λ (k : KeyNumbers). AreDistinct (key_lists k)) (sym keys) sound.distinct;
     low =
@@ -155,8 +163,8 @@ module _ (f g : Frame) (marked : ℕ) (goes : GoesOn f g) (keys : g.store.keys �
       (can_join (steps_of f) goes.more (contents g) (subst (λ x. CanGoBack (steps_of f) x) (sym goes.back) sound.can) goes.can);
     rooms = goes.rooms sound.rooms;
     now = agrees;
-    mark = subst (λ x. AgreesWith g.tables.forms x) (sym mark_stays) (by_forms (at_mark f marked) sound.mark);
-    start = subst (λ x. AgreesWith g.tables.forms x) (sym start_stays) (by_forms (at_start f) sound.start);
+    mark = subst (λ x. AgreesWith g.tables x) (sym mark_stays) (by_forms (drop marked (steps_of f)) sound.mark);
+    start = subst (λ x. AgreesWith g.tables x) (sym start_stays) (by_forms (steps_of f) sound.start);
   }
 
 -- ---- the way back
@@ -172,18 +180,18 @@ module _ (f g : Frame) (marked : ℕ) (steps : steps_of g ≡ steps_of f) (now :
   pub same_view : linked_view g marked ≡ linked_view f marked
   same_view = λ i. record { state = state_in (now i); keys = keys_of (now i); marked = state_in (same_mark i); before = state_in (same_start i) }
 
-  pub sound_same : Keeps same_form f.tables.forms g.tables.forms → IsRoomy g → IsSound g marked
-  sound_same forms rooms =
-      let by : (c d : Contents) → d ≡ c → AgreesWith f.tables.forms c → AgreesWith g.tables.forms d = λ c d e agrees.
-      subst (λ x. AgreesWith g.tables.forms x) (sym e) (agrees_grown f.tables.forms g.tables.forms c c forms (keys_keep (keys_of c)) refl refl refl agrees) in
+  pub sound_same : OnlyRows f.tables g.tables → IsRoomy g → IsSound g marked
+  sound_same rows rooms =
+      let by : (steps : List Step) (d : Contents) → d ≡ apply_back steps (contents f) → AgreesWith f.tables (apply_back steps (contents f)) → AgreesWith g.tables d = λ steps d e agrees.
+      subst (λ x. AgreesWith g.tables x) (sym e) (agrees_still f.tables g.tables steps (contents f) rows sound.distinct agrees) in
       record {
         distinct = subst (λ (c : Contents). AreDistinct (keys_of c)) (sym now) sound.distinct;
         low = subst (λ (l : List Step). marked ≤ length l) (sym steps) sound.low;
         can = subst (λ (l : List Step). CanGoBack l (contents g)) (sym steps) (subst (λ c. CanGoBack (steps_of f) c) (sym now) sound.can);
         rooms = rooms;
-        now = by (contents f) (contents g) now sound.now;
-        mark = by (at_mark f marked) (at_mark g marked) same_mark sound.mark;
-        start = by (at_start f) (at_start g) same_start sound.start;
+        now = by [] (contents g) now sound.now;
+        mark = by (drop marked (steps_of f)) (at_mark g marked) same_mark sound.mark;
+        start = by (steps_of f) (at_start g) same_start sound.start;
       }
 
 take_join : (xs ys : List Step) → take (length xs) (xs ++ ys) ≡ xs
@@ -229,17 +237,18 @@ module _ (f g : Frame) (marked : ℕ) (back : GoesBack marked f g) (sound : IsSo
 
   pub sound_marked : IsSound g marked
   sound_marked =
-      let forms : (c d : Contents) → d ≡ c → AgreesWith f.tables.forms c → AgreesWith g.tables.forms d = λ c d e agrees.
-      subst (λ x. AgreesWith g.tables.forms x) (sym e) (subst (λ (l : List Form). AgreesWith l c) (sym back.same.forms) agrees) in
+      let by : (steps : List Step) (d : Contents) → d ≡ apply_back steps (contents f) → AgreesWith f.tables (apply_back steps (contents f)) → AgreesWith g.tables d = λ steps d e agrees.
+      subst (λ x. AgreesWith g.tables x) (sym e)
+      (agrees_still f.tables g.tables steps (contents f) (forms_same f.tables g.tables back.same.forms back.same.index) sound.distinct agrees) in
       record {
         distinct =
           subst (λ (k : KeyNumbers). AreDistinct (key_lists k)) (sym (ap (λ (c : Contents). c.numbered.keys) back.now ∙ keys_back (drop marked (steps_of f)) (contents f))) sound.distinct;
         low = subst (λ (l : List Step). marked ≤ length l) (sym back.steps) (taken_long marked (steps_of f) sound.low);
         can = back.can;
         rooms = back.rooms;
-        now = forms (at_mark f marked) (contents g) back.now sound.mark;
-        mark = forms (at_mark f marked) (at_mark g marked) (mark_now ∙ back.now) sound.mark;
-        start = forms (at_start f) (at_start g) start_now sound.start;
+        now = by (drop marked (steps_of f)) (contents g) back.now sound.mark;
+        mark = by (drop marked (steps_of f)) (at_mark g marked) (mark_now ∙ back.now) sound.mark;
+        start = by (steps_of f) (at_start g) start_now sound.start;
       }
 
   pub view_marked : linked_view g marked ≡ record { state = state_in (at_mark f marked); keys = keys_of (contents f); marked = state_in (at_mark f marked); before = state_in (at_start f) }
@@ -250,10 +259,17 @@ module _ (f g : Frame) (marked : ℕ) (back : GoesBack marked f g) (sound : IsSo
     before = state_in (start_now i);
   }
 
+-- what callers see behind the way to the mark, and to the start
+abbrev pub rolled_back : Linked → Linked
+rolled_back x = record { state = x.marked; keys = x.keys; marked = x.marked; before = x.before }
+
+abbrev pub undone : Linked → Linked
+undone x = record { state = x.before; keys = x.keys; marked = x.before; before = x.before }
+
 -- back to what was before all changes
 module _ (f g : Frame) (marked : ℕ) (back : GoesBack 0 f g) (sound : IsSound f marked) where
-  pub sound_start : IsSound g 0
-  sound_start = sound_marked f g 0 back (record {
+  from_start : IsSound f 0
+  from_start = record {
     distinct = sound.distinct;
     low = omega arith;
     can = sound.can;
@@ -261,7 +277,13 @@ module _ (f g : Frame) (marked : ℕ) (back : GoesBack 0 f g) (sound : IsSound f
     now = sound.now;
     mark = sound.start;
     start = sound.start;
-  })
+  }
+
+  pub sound_start : IsSound g 0
+  sound_start = sound_marked f g 0 back from_start
+
+  pub view_start : linked_view g 0 ≡ record { state = state_in (at_start f); keys = keys_of (contents f); marked = state_in (at_start f); before = state_in (at_start f) }
+  view_start = view_marked f g 0 back from_start
 
 -- ---- the mark, and keeping
 
@@ -277,7 +299,7 @@ sound_at f marked now is sound =
       can = sound.can;
       rooms = sound.rooms;
       now = sound.now;
-      mark = subst (λ x. AgreesWith f.tables.forms x) (sym (ap (λ (l : List Step). apply_back l (contents f)) (drop_all (steps_of f)))) sound.now;
+      mark = subst (λ x. AgreesWith f.tables x) (sym (ap (λ (l : List Step). apply_back l (contents f)) (drop_all (steps_of f)))) sound.now;
       start = sound.start;
     })
 
@@ -296,16 +318,17 @@ module _ (f g : Frame) (marked : ℕ) (kept : IsKept f g) (sound : IsSound f mar
 
   pub sound_kept : IsSound g 0
   sound_kept =
-      let forms : (d : Contents) → d ≡ contents f → AgreesWith g.tables.forms d = λ d e.
-      subst (λ x. AgreesWith g.tables.forms x) (sym e) (subst (λ (l : List Form). AgreesWith l (contents f)) (sym kept.same.forms) sound.now) in
+      let by : (d : Contents) → d ≡ contents f → AgreesWith g.tables d = λ d e.
+      subst (λ x. AgreesWith g.tables x) (sym e)
+      (agrees_still f.tables g.tables [] (contents f) (forms_same f.tables g.tables kept.same.forms kept.same.index) sound.distinct sound.now) in
       record {
         distinct = subst (λ (c : Contents). AreDistinct (keys_of c)) (sym kept.now) sound.distinct;
         low = omega arith;
         can = subst (λ (l : List Step). CanGoBack l (contents g)) (sym kept.steps) tt;
         rooms = kept.rooms;
-        now = forms (contents g) kept.now;
-        mark = forms (at_start g) (kept_start ∙ kept.now);
-        start = forms (at_start g) (kept_start ∙ kept.now);
+        now = by (contents g) kept.now;
+        mark = by (at_start g) (kept_start ∙ kept.now);
+        start = by (at_start g) (kept_start ∙ kept.now);
       }
 
   pub view_kept : linked_view g 0 ≡ record { state = state_in (contents f); keys = keys_of (contents f); marked = state_in (contents f); before = state_in (contents f) }

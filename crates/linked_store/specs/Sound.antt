@@ -1,17 +1,20 @@
 -- Tables that agree with a state, now and on the way back.
-use Rattle.std.specs.Prelude.{◌≡◌, ℕ, ◌≤◌, true, List, length, drop, Option}
+use Rattle.std.specs.Prelude.{◌≡◌, ℕ, ◌≤◌, true, length, drop, Option}
 use Rattle.marc_types.specs.declared.form.Form.{Form}
 use Rattle.marc_types.specs.declared.key.Key.{Key}
 use Rattle.marc_types.specs.declared.key.Place.{Place}
 use Rattle.numbering.specs.declared.seat.Seat.{Seat}
 use Rattle.entry_record.specs.Authority.{is_valid_key}
-use Rattle.catalogue_rules.specs.State.{State}
+use Rattle.catalogue_rules.specs.State.{State, linkable_authorities}
 use Rattle.numbered_store.specs.Numbered.{KeyNumbers}
 use Rattle.link_table.specs.Links.{Links}
 use Rattle.wait_table.specs.Waits.{Waits}
 use Rattle.wait_table.specs.declared.waiting.Waiting.{Waiting}
+use Rattle.linking_laws.specs.Partway.{AreOrdered}
 use Rattle.linking_laws.specs.Tables.{asks_at, holds_at, linked_at}
 use Rattle.linking_laws.specs.Visits.{waits_for_key}
+use Rattle.catalogue_tables.specs.Following.{TellsAuthorities}
+use Rattle.catalogue_tables.specs.declared.tables.CatalogueTables.{CatalogueTables}
 use Rattle.catalogue_tables.specs.Seam.{AreDistinct, KeyLists}
 use Rattle.catalogue_tables.specs.Told.{LinksFit, linked_by}
 use Rattle.catalogue_tables.specs.Waiting.{WaitsFit, asking_by, naming_by}
@@ -36,12 +39,15 @@ seen_links links = record { key_of = links; taken = λ seat. 0; taken_from = λ 
 abbrev pub seen_waits : (Seat → Option Waiting) → Waits
 seen_waits waits = record { waiting = waits; taken = λ seat. 0; taken_forms = λ n seat. 0; taken_keys = λ n seat. 0 }
 
--- the tables say of each key, form and place what the state says, within the numbers that were given
-pub record AgreesWith (forms : List Form) (c : Contents) : Type 0 where
+-- The records stand in key order. The index tells of the linkable authorities, and the other tables say of each key, form and
+-- place what the state says, within the numbers that were given.
+pub record AgreesWith (tables : CatalogueTables) (c : Contents) : Type 0 where
+  pub ordered : AreOrdered (state_in c)
+  pub told : TellsAuthorities tables.forms (keys_of c).authorities tables.index (linkable_authorities (state_in c))
   pub links_fit : LinksFit (keys_of c) (seen_links c.links)
-  pub waits_fit : WaitsFit (length forms) (keys_of c) (seen_waits c.waits)
+  pub waits_fit : WaitsFit (length tables.forms) (keys_of c) (seen_waits c.waits)
   pub linked : (key : Key) (p : Place) → linked_by (keys_of c) (seen_links c.links) key p ≡ holds_at (linked_at key) (state_in c) p
-  pub asking : (form : Form) (p : Place) → asking_by forms (keys_of c) (seen_waits c.waits) form p ≡ holds_at (asks_at form) (state_in c) p
+  pub asking : (form : Form) (p : Place) → asking_by tables.forms (keys_of c) (seen_waits c.waits) form p ≡ holds_at (asks_at form) (state_in c) p
   pub naming : (key : Key) (p : Place) → is_valid_key key ≡ true →
       naming_by (keys_of c) (seen_waits c.waits) key p ≡ holds_at (waits_for_key key) (state_in c) p
 
@@ -58,9 +64,9 @@ pub record IsSound (f : Frame) (marked : ℕ) : Type 0 where
   pub low : marked ≤ length (steps_of f)
   pub can : CanGoBack (steps_of f) (contents f)
   pub rooms : IsRoomy f
-  pub now : AgreesWith f.tables.forms (contents f)
-  pub mark : AgreesWith f.tables.forms (at_mark f marked)
-  pub start : AgreesWith f.tables.forms (at_start f)
+  pub now : AgreesWith f.tables (contents f)
+  pub mark : AgreesWith f.tables (at_mark f marked)
+  pub start : AgreesWith f.tables (at_start f)
 
 -- what callers see
 abbrev pub linked_view : Frame → ℕ → Linked

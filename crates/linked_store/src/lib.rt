@@ -6,8 +6,12 @@ pub use store::LinkedStore;
 
 mod back;
 mod change;
+mod choices;
+mod fields;
 mod frame;
+mod lists;
 mod rows;
 mod store;
 mod turns;
+mod wanted;
 mod ways_back;

@@ -1,0 +1,96 @@
+-- Seats that the tables list are the places that the state tells.
+use Rattle.std.proofs.Common.{◌≡◌, ◌∙◌, sym, ap, refl, subst, ℕ, ◌+◌, ◌<◌, Bool, true, false, ◌||◌, List, [], ◌∷◌, ◌++◌, length, map, take, get_or, Option, Some, None}
+use Rattle.std.specs.Prelude.{filter, slice_get}
+use Rattle.std.specs.Cmp.{IsEquivalence, decided}
+use Rattle.std.specs.List.{AllByRecursion, list_any}
+use Rattle.marc_types.specs.declared.form.Form.{Form}
+use Rattle.marc_types.specs.declared.key.Class.TheVariants.{Authority}
+use Rattle.marc_types.specs.declared.key.Key.{Key}
+use Rattle.marc_types.specs.declared.key.Place.{Place}
+use Rattle.marc_types.specs.Order.{same_key}
+use Rattle.numbering.specs.Numbers.{IsNumberOf, number_of}
+use Rattle.numbering.specs.Seats.{same_seat, seat_Decides}
+use Rattle.numbering.specs.declared.seat.Seat.{Seat}
+use Rattle.entry_record.specs.Authority.{is_bare, is_valid_key}
+use Rattle.catalogue_rules.specs.State.{State, linkable_authorities}
+use Rattle.link_table.specs.Links.{Links, is_linked}
+use Rattle.wait_table.specs.Waits.{Waits}
+use Rattle.place_names.specs.Listed.{ListsEach}
+use Rattle.linking_laws.specs.Tables.{Agree, IsListing, Tables, asks_at, holds_at, index_row, linked_at}
+use Rattle.linking_laws.specs.Visits.{waits_for_key}
+use Rattle.linking_laws.specs.Waiting.{is_waiting_for}
+use Rattle.linking_laws.proofs.Agreeing.{named_by_tables}
+use Rattle.form_index.specs.Order.{key_at}
+use Rattle.catalogue_tables.specs.Seam.{AreDistinct, HasKey, KeyLists, place_at, seat_of}
+use Rattle.catalogue_tables.specs.Told.{linked_by}
+use Rattle.catalogue_tables.specs.Waiting.{asking_by, naming_by, waits_for}
+use Rattle.catalogue_tables.proofs.Seams.{key_numbered, places_listed}
+use Rattle.catalogue_tables.proofs.Waited.{waits_seated, waits_told}
+use Rattle.catalogue_tables.specs.declared.tables.CatalogueTables.{CatalogueTables}
+use Rattle.linked_store.specs.Contents.{Contents}
+use Rattle.linked_store.specs.Linked.{ListsSeats}
+use Rattle.linked_store.specs.Sound.{AgreesWith, keys_of, seen_links, seen_waits, state_in}
+
+seat_laws : IsEquivalence same_seat
+seat_laws = decided same_seat seat_Decides
+
+later_passes : (b c : Bool) → c ≡ true → (b || c) ≡ true
+later_passes true c e = refl
+later_passes false c e = e
+
+each_has : (P : Seat → Type 0) (seats : List Seat) → ((s : Seat) → list_any (same_seat s) seats ≡ true → P s) → AllByRecursion P seats
+each_has P [] h = tt
+each_has P (s ∷ seats) h =
+    (h s (ap (λ b. b || list_any (same_seat s) seats) (seat_laws.refl s)), each_has P seats (λ t e. h t (later_passes (same_seat t s) (list_any (same_seat t) seats) e)))
+
+-- seats that are listed by a test, which says of each place what another says
+lists_by : (keys : KeyLists) (distinct : AreDistinct keys) (test : Seat → Bool) (other : Place → Bool) (seats : List Seat) → ((s : Seat) → test s ≡ true → HasKey keys s)
+    → ((p : Place) → test (seat_of keys p) ≡ other p) → ListsEach same_seat test seats → ListsSeats keys other seats
+lists_by keys distinct test other seats keyed same lists =
+    let listing = places_listed keys distinct test seats keyed lists in
+    record {
+      known = each_has (HasKey keys) seats (λ s e. keyed s (sym (lists.each s) ∙ e));
+      places = record { members_are = λ p. listing.members_are p ∙ same p; once = listing.once };
+    }
+
+module _ (tables : CatalogueTables) (c : Contents) (distinct : AreDistinct (keys_of c)) (agrees : AgreesWith tables c) (number : ℕ) (low : number < length (keys_of c).authorities) where
+  own_number : IsNumberOf same_key (keys_of c).authorities (key_at (keys_of c).authorities number) number
+  own_number = key_numbered (keys_of c).authorities number distinct.authorities low
+
+  pub lists_linked : (seats : List Seat) → ListsEach same_seat (λ s. is_linked number (seen_links c.links) s) seats
+      → ListsSeats (keys_of c) (holds_at (linked_at (key_at (keys_of c).authorities number)) (state_in c)) seats
+  lists_linked seats lists =
+      lists_by (keys_of c) distinct (λ s. is_linked number (seen_links c.links) s) (holds_at (linked_at (key_at (keys_of c).authorities number)) (state_in c)) seats
+      (λ s e. agrees.links_fit.seated number s e)
+      (λ p. ap (λ (n : ℕ). is_linked n (seen_links c.links) (seat_of (keys_of c) p)) own_number.is ∙ agrees.linked (key_at (keys_of c).authorities number) p)
+      lists
+
+  -- the tables as the laws of linking see them
+  told_tables : Tables
+  told_tables = record {
+    forms = map index_row (linkable_authorities (state_in c));
+    bare = map index_row (filter is_bare (linkable_authorities (state_in c)));
+    asking = asking_by tables.forms (keys_of c) (seen_waits c.waits);
+    naming = naming_by (keys_of c) (seen_waits c.waits);
+    linked = linked_by (keys_of c) (seen_links c.links);
+  }
+
+  told_agree : Agree told_tables (state_in c)
+  unfolding told_tables
+  told_agree = record { forms = refl; bare = refl; asking = agrees.asking; naming = agrees.naming; linked = agrees.linked }
+
+  waiting_is : (asked : List Form) (p : Place) → is_valid_key (key_at (keys_of c).authorities number) ≡ true
+      → waits_for tables.forms asked number (seen_waits c.waits) (seat_of (keys_of c) p) ≡ holds_at (is_waiting_for asked (key_at (keys_of c).authorities number)) (state_in c) p
+  unfolding told_tables
+  waiting_is asked p valid =
+      waits_told tables.forms (keys_of c) (seen_waits c.waits) agrees.waits_fit asked (key_at (keys_of c).authorities number) number p own_number.is
+      ∙ named_by_tables told_tables (state_in c) asked (key_at (keys_of c).authorities number) p valid told_agree
+
+  pub lists_waiting : (asked : List Form) (seats : List Seat) → is_valid_key (key_at (keys_of c).authorities number) ≡ true
+      → ListsEach same_seat (λ s. waits_for tables.forms asked number (seen_waits c.waits) s) seats
+      → ListsSeats (keys_of c) (holds_at (is_waiting_for asked (key_at (keys_of c).authorities number)) (state_in c)) seats
+  lists_waiting asked seats valid lists =
+      lists_by (keys_of c) distinct (λ s. waits_for tables.forms asked number (seen_waits c.waits) s) (holds_at (is_waiting_for asked (key_at (keys_of c).authorities number)) (state_in c)) seats
+      (λ s e. waits_seated tables.forms (keys_of c) (seen_waits c.waits) agrees.waits_fit s asked number e)
+      (λ p. waiting_is asked p valid)
+      lists
