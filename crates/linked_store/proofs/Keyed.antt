@@ -3,6 +3,7 @@ use Rattle.std.proofs.Common.{◌≡◌, ◌∙◌, sym, ap, refl, subst, ℕ, z
 use Rattle.std.specs.Prelude.{slice_get, if◌then◌else◌}
 use Rattle.std.specs.Map.{lookup}
 use Rattle.std.specs.List.{IsDistinct}
+use Rattle.std.specs.List.Sorted.{IsStrictlySortedBy}
 use Rattle.std.proofs.lemmas.Cmp.{eq_by_cmp_equiv}
 use Rattle.marc_types.specs.declared.form.Form.{Form}
 use Rattle.marc_types.specs.declared.key.Class.{Class}
@@ -121,6 +122,7 @@ within_none : (names : ℕ) (keys : KeyLists) → IsWithin names keys (λ n s. f
 within_none names keys = record { named = λ n s e. absurd (false≢true e); seated = λ n s e. absurd (false≢true e) }
 
 agrees_nothing : (tables : CatalogueTables) → tables.index ≡ no_index → IsInOrder [] tables.index → AgreesWith tables nothing
+unfolding IsStrictlySortedBy
 agrees_nothing tables index order = record {
   ordered = record { authorities = tt; bibliographic = tt };
   told = tells_nobody tables.forms [] tables.index index order;

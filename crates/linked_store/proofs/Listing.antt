@@ -1,10 +1,11 @@
 -- Seats that the tables list are the places that the state tells.
-use Rattle.std.proofs.Common.{◌≡◌, ◌∙◌, sym, ap, refl, subst, ℕ, ◌+◌, ◌<◌, Bool, true, false, ◌||◌, List, [], ◌∷◌, ◌++◌, length, map, take, get_or, Option, Some, None}
+use Rattle.std.proofs.Common.{◌≡◌, ◌∙◌, sym, ap, refl, subst, arith, ℕ, zero, suc, ◌+◌, ◌<◌, Bool, true, false, ◌||◌, List, [], ◌∷◌, ◌++◌, length, map, take, get_or, Option, Some, None}
 use Rattle.std.specs.Prelude.{filter, slice_get}
+use Rattle.std.specs.Option.{option_to_list}
 use Rattle.std.specs.Cmp.{IsEquivalence, decided}
 use Rattle.std.specs.List.{AllByRecursion, list_any}
 use Rattle.marc_types.specs.declared.form.Form.{Form}
-use Rattle.marc_types.specs.declared.key.Class.TheVariants.{Authority}
+use Rattle.marc_types.specs.declared.key.Class.{Class}
 use Rattle.marc_types.specs.declared.key.Key.{Key}
 use Rattle.marc_types.specs.declared.key.Place.{Place}
 use Rattle.marc_types.specs.Order.{same_key}
@@ -12,7 +13,7 @@ use Rattle.numbering.specs.Numbers.{IsNumberOf, number_of}
 use Rattle.numbering.specs.Seats.{same_seat, seat_Decides}
 use Rattle.numbering.specs.declared.seat.Seat.{Seat}
 use Rattle.entry_record.specs.Authority.{is_bare, is_valid_key}
-use Rattle.catalogue_rules.specs.State.{State, linkable_authorities}
+use Rattle.catalogue_rules.specs.State.{KeptField, State, linkable_authorities}
 use Rattle.link_table.specs.Links.{Links, is_linked}
 use Rattle.wait_table.specs.Waits.{Waits}
 use Rattle.place_names.specs.Listed.{ListsEach}
@@ -28,6 +29,9 @@ use Rattle.catalogue_tables.proofs.Seams.{key_numbered, places_listed}
 use Rattle.catalogue_tables.proofs.Waited.{waits_seated, waits_told}
 use Rattle.catalogue_tables.specs.declared.tables.CatalogueTables.{CatalogueTables}
 use Rattle.linked_store.specs.Contents.{Contents}
+use Rattle.catalogue_tables.specs.Choosing.{TellsState, chosen_for, field_choice}
+use Rattle.catalogue_tables.specs.declared.choosing.Chosen.{Chosen}
+use Rattle.linking_laws.specs.Middle.{AreAuthoritiesInOrder}
 use Rattle.linked_store.specs.Linked.{ListsSeats}
 use Rattle.linked_store.specs.Sound.{AgreesWith, keys_of, seen_links, seen_waits, state_in}
 
@@ -94,3 +98,32 @@ module _ (tables : CatalogueTables) (c : Contents) (distinct : AreDistinct (keys
       (λ s e. waits_seated tables.forms (keys_of c) (seen_waits c.waits) agrees.waits_fit s asked number e)
       (λ p. waiting_is asked p valid)
       lists
+
+-- ---- the choice
+
+pub chosen_as : (tables : CatalogueTables) (c : Contents) (class : Class) (h : KeptField) (keys : List Key) (chosen : Chosen) → keys ≡ (keys_of c).authorities → AreDistinct (keys_of c) → AgreesWith tables c
+    → AreAuthoritiesInOrder (state_in c)
+    → ((s : State) → TellsState tables.forms keys tables.index s → chosen ≡ chosen_for keys (field_choice (linkable_authorities s) class h))
+    → chosen ≡ chosen_for (keys_of c).authorities (field_choice (linkable_authorities (state_in c)) class h)
+chosen_as tables c class h keys chosen same distinct agrees order told =
+    told (state_in c) (subst (λ (l : List Key). TellsState tables.forms l tables.index (state_in c)) (sym same) (record { distinct = distinct.authorities; in_order = order; tells = agrees.told }))
+    ∙ ap (λ (l : List Key). chosen_for l (field_choice (linkable_authorities (state_in c)) class h)) same
+
+-- ---- the seats of a numbering, in turn
+
+take_next : (xs : List Seat) (i : ℕ) → i < length xs → take i xs ++ option_to_list (slice_get xs i) ≡ take (suc i) xs
+take_next [] i low = absurd (omega (arith, low))
+take_next (x ∷ xs) zero low = refl
+take_next (x ∷ xs) (suc i) low = ap (λ l. x ∷ l) (take_next xs i (omega (arith, low)))
+
+pub one_taken : (xs seats more : List Seat) (i : ℕ) → i < length xs → seats ≡ take i xs → more ≡ seats ++ option_to_list (slice_get xs i) → more ≡ take (i + 1) xs
+one_taken xs seats more i low before pushed =
+    let next : suc i ≡ i + 1 = omega arith in
+    pushed ∙ ap (λ l. l ++ option_to_list (slice_get xs i)) before ∙ take_next xs i low ∙ ap (λ n. take n xs) next
+
+take_whole : (xs : List Seat) → take (length xs) xs ≡ xs
+take_whole [] = refl
+take_whole (x ∷ xs) = ap (λ l. x ∷ l) (take_whole xs)
+
+pub all_taken : (xs seats : List Seat) (n : ℕ) → n ≡ length xs → seats ≡ take n xs → seats ≡ xs
+all_taken xs seats n is taken = taken ∙ ap (λ m. take m xs) is ∙ take_whole xs

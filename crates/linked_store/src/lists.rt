@@ -36,11 +36,13 @@ impl LinkedStore {
 }
 
 // The seats of a numbering in the order of their numbers.
+#[tactic(auto, using(crate::proofs::Listing::all_taken, crate::proofs::Listing::one_taken))]
 fn in_turn(alloc: Global, found: &Numbering<Seat>) -> Result<Seats, NoMemory>
     ensures { IfOk result (λ seats. seats.items ≡ found.now) }
 {
     let mut seats = Vec::new(alloc);
-    for number in 0..found.len() {
+    let known = found.len();
+    for number in 0..known {
         push_at(&mut seats, found, number as u32)?;
     }
     Ok(seats)
