@@ -164,41 +164,41 @@ agrees_turned old new seat was h link waiting c distinct low there steady rows i
     record {
       ordered = subst AreOrdered (sym state) (ordered_swapped p h (state_in c) agrees.ordered);
       told =
-        subst (λ (all : List Linkable). TellsAuthorities new.forms keys.authorities new.index all) (sym (ap linkable_authorities state ∙ same))
-        (told_still old new keys.authorities keys.authorities (linkable_authorities (state_in c)) distinct.authorities rows (keeps_itself same_key keys.authorities) agrees.told);
+          subst (λ (all : List Linkable). TellsAuthorities new.forms keys.authorities new.index all) (sym (ap linkable_authorities state ∙ same))
+          (told_still old new keys.authorities keys.authorities (linkable_authorities (state_in c)) distinct.authorities rows (keeps_itself same_key keys.authorities) agrees.told);
       links_fit =
-        within_step (length keys.authorities) keys (λ n s. is_linked n (seen_links c.links) s) (λ n s. is_linked n (seen_links (at_seat seat link c.links)) s) (λ n. leads_to n link) seat
-        (links_step keys p seat at c.links link) is_link.low low agrees.links_fit;
+          within_step (length keys.authorities) keys (λ n s. is_linked n (seen_links c.links) s) (λ n s. is_linked n (seen_links (at_seat seat link c.links)) s) (λ n. leads_to n link) seat
+          (links_step keys p seat at c.links link) is_link.low low agrees.links_fit;
       waits_fit = record {
         asking =
-          within_step (length new.forms) keys (λ n s. asks n (seen_waits c.waits) s) (λ n s. asks n (seen_waits (at_seat seat waiting c.waits)) s) (λ n. asks_form n waiting) seat
-          (asks_step keys p seat at c.waits waiting) is_wait.low_forms low
-          (within_kept same_form old.forms new.forms keys keys (λ n s. asks n (seen_waits c.waits) s) rows.forms (keys_keep keys) agrees.waits_fit.asking);
+            within_step (length new.forms) keys (λ n s. asks n (seen_waits c.waits) s) (λ n s. asks n (seen_waits (at_seat seat waiting c.waits)) s) (λ n. asks_form n waiting) seat
+            (asks_step keys p seat at c.waits waiting) is_wait.low_forms low
+            (within_kept same_form old.forms new.forms keys keys (λ n s. asks n (seen_waits c.waits) s) rows.forms (keys_keep keys) agrees.waits_fit.asking);
         naming =
-          within_step (length keys.authorities) keys (λ n s. names n (seen_waits c.waits) s) (λ n s. names n (seen_waits (at_seat seat waiting c.waits)) s) (λ n. names_key n waiting) seat
-          (names_step keys p seat at c.waits waiting) is_wait.low_keys low agrees.waits_fit.naming;
+            within_step (length keys.authorities) keys (λ n s. names n (seen_waits c.waits) s) (λ n s. names n (seen_waits (at_seat seat waiting c.waits)) s) (λ n. names_key n waiting) seat
+            (names_step keys p seat at c.waits waiting) is_wait.low_keys low agrees.waits_fit.naming;
       };
       linked = λ key q.
-        exchanged (linked_at key) p q was h (state_in c) (linked_by keys (seen_links (at_seat seat link c.links)) key q) (linked_by keys (seen_links c.links) key q) there
-        (told_step same_key keys.authorities keys (λ n s. is_linked n (seen_links c.links) s) (λ n s. is_linked n (seen_links (at_seat seat link c.links)) s) (λ n. leads_to n link) p seat at
-        (links_step keys p seat at c.links link) key q
-        ∙ ap (λ b. cond (same_place p q) b (linked_by keys (seen_links c.links) key q)) (is_link.leads key))
-        (agrees.linked key q)
-        ∙ ap (λ (s : State). holds_at (linked_at key) s q) (sym state);
+          exchanged (linked_at key) p q was h (state_in c) (linked_by keys (seen_links (at_seat seat link c.links)) key q) (linked_by keys (seen_links c.links) key q) there
+          (told_step same_key keys.authorities keys (λ n s. is_linked n (seen_links c.links) s) (λ n s. is_linked n (seen_links (at_seat seat link c.links)) s) (λ n. leads_to n link) p seat at
+          (links_step keys p seat at c.links link) key q
+          ∙ ap (λ b. cond (same_place p q) b (linked_by keys (seen_links c.links) key q)) (is_link.leads key))
+          (agrees.linked key q)
+          ∙ ap (λ (s : State). holds_at (linked_at key) s q) (sym state);
       asking = λ form q.
-        exchanged (asks_at form) p q was h (state_in c) (asking_by new.forms keys (seen_waits (at_seat seat waiting c.waits)) form q) (asking_by new.forms keys (seen_waits c.waits) form q) there
-        (told_step same_form new.forms keys (λ n s. asks n (seen_waits c.waits) s) (λ n s. asks n (seen_waits (at_seat seat waiting c.waits)) s) (λ n. asks_form n waiting) p seat at
-        (asks_step keys p seat at c.waits waiting) form q
-        ∙ ap (λ b. cond (same_place p q) b (asking_by new.forms keys (seen_waits c.waits) form q)) (is_wait.asks form))
-        (asking_stays keys p seat at old.forms new.forms c.waits rows.forms agrees.waits_fit form q ∙ agrees.asking form q)
-        ∙ ap (λ (s : State). holds_at (asks_at form) s q) (sym state);
+          exchanged (asks_at form) p q was h (state_in c) (asking_by new.forms keys (seen_waits (at_seat seat waiting c.waits)) form q) (asking_by new.forms keys (seen_waits c.waits) form q) there
+          (told_step same_form new.forms keys (λ n s. asks n (seen_waits c.waits) s) (λ n s. asks n (seen_waits (at_seat seat waiting c.waits)) s) (λ n. asks_form n waiting) p seat at
+          (asks_step keys p seat at c.waits waiting) form q
+          ∙ ap (λ b. cond (same_place p q) b (asking_by new.forms keys (seen_waits c.waits) form q)) (is_wait.asks form))
+          (asking_stays keys p seat at old.forms new.forms c.waits rows.forms agrees.waits_fit form q ∙ agrees.asking form q)
+          ∙ ap (λ (s : State). holds_at (asks_at form) s q) (sym state);
       naming = λ key q valid.
-        exchanged (waits_for_key key) p q was h (state_in c) (naming_by keys (seen_waits (at_seat seat waiting c.waits)) key q) (naming_by keys (seen_waits c.waits) key q) there
-        (told_step same_key keys.authorities keys (λ n s. names n (seen_waits c.waits) s) (λ n s. names n (seen_waits (at_seat seat waiting c.waits)) s) (λ n. names_key n waiting) p seat at
-        (names_step keys p seat at c.waits waiting) key q
-        ∙ ap (λ b. cond (same_place p q) b (naming_by keys (seen_waits c.waits) key q)) (is_wait.names key valid))
-        (agrees.naming key q valid)
-        ∙ ap (λ (s : State). holds_at (waits_for_key key) s q) (sym state);
+          exchanged (waits_for_key key) p q was h (state_in c) (naming_by keys (seen_waits (at_seat seat waiting c.waits)) key q) (naming_by keys (seen_waits c.waits) key q) there
+          (told_step same_key keys.authorities keys (λ n s. names n (seen_waits c.waits) s) (λ n s. names n (seen_waits (at_seat seat waiting c.waits)) s) (λ n. names_key n waiting) p seat at
+          (names_step keys p seat at c.waits waiting) key q
+          ∙ ap (λ b. cond (same_place p q) b (naming_by keys (seen_waits c.waits) key q)) (is_wait.names key valid))
+          (agrees.naming key q valid)
+          ∙ ap (λ (s : State). holds_at (waits_for_key key) s q) (sym state);
     }
 
 -- ---- growth
@@ -220,11 +220,11 @@ agrees_grown old new c d rows distinct keep links waits state agrees =
         naming = within_kept same_key (keys_of c).authorities (keys_of d).authorities (keys_of c) (keys_of d) (λ n s. names n (seen_waits c.waits) s) keep.authorities keep agrees.waits_fit.naming;
       };
       linked = λ key q.
-        told_stays same_key (keys_of c).authorities (keys_of d).authorities (keys_of c) (keys_of d) (λ n s. is_linked n (seen_links c.links) s) agrees.links_fit keep.authorities keep key q ∙ agrees.linked key q;
+          told_stays same_key (keys_of c).authorities (keys_of d).authorities (keys_of c) (keys_of d) (λ n s. is_linked n (seen_links c.links) s) agrees.links_fit keep.authorities keep key q ∙ agrees.linked key q;
       asking = λ form q.
-        told_stays same_form old.forms new.forms (keys_of c) (keys_of d) (λ n s. asks n (seen_waits c.waits) s) agrees.waits_fit.asking rows.forms keep form q ∙ agrees.asking form q;
+          told_stays same_form old.forms new.forms (keys_of c) (keys_of d) (λ n s. asks n (seen_waits c.waits) s) agrees.waits_fit.asking rows.forms keep form q ∙ agrees.asking form q;
       naming = λ key q valid.
-        told_stays same_key (keys_of c).authorities (keys_of d).authorities (keys_of c) (keys_of d) (λ n s. names n (seen_waits c.waits) s) agrees.waits_fit.naming keep.authorities keep key q ∙ agrees.naming key q valid;
+          told_stays same_key (keys_of c).authorities (keys_of d).authorities (keys_of c) (keys_of d) (λ n s. names n (seen_waits c.waits) s) agrees.waits_fit.naming keep.authorities keep key q ∙ agrees.naming key q valid;
     }
 
     by : (l : Seat → Option ℕ) (w : Seat → Option Waiting) (s : State) → l ≡ c.links → w ≡ c.waits → s ≡ c.numbered.state

@@ -59,8 +59,8 @@ link_of keys h link is = by h.tie.key link refl is
     by (Some own) None e is = absurd is
     by (Some own) (Some n) e is = record {
       leads = λ key.
-        ap (λ (m : ℕ). nat_eq m (number_of same_key keys key)) is.is ∙ alike same_key (eq_by_cmp_equiv key_cmp_total) keys own key is.known
-        ∙ (eq_by_cmp_equiv key_cmp_total).symm own key ∙ sym (ap (λ (o : Option Key). option_map_or (same_key key) o false) e);
+          ap (λ (m : ℕ). nat_eq m (number_of same_key keys key)) is.is ∙ alike same_key (eq_by_cmp_equiv key_cmp_total) keys own key is.known
+          ∙ (eq_by_cmp_equiv key_cmp_total).symm own key ∙ sym (ap (λ (o : Option Key). option_map_or (same_key key) o false) e);
       low = λ m f. nat_low n m f (subst (λ k. k < length keys) (sym is.is) (number_below same_key keys own is.known));
     }
 
@@ -76,13 +76,13 @@ wait_of forms keys class h None (Some waiting) wants is = absurd is
 wait_of forms keys class h (Some row) None wants is = absurd is
 wait_of forms keys class h (Some row) (Some waiting) says is = record {
   asks = λ form.
-    ap (λ (ns : List ℕ). has ns (number_of same_form forms form)) is.asked.are
-    ∙ numbers_alike same_form (eq_by_cmp_equiv form_cmp_total) forms (one_or_two row.form row.other) form is.asked.known ∙ says.wants.asking form;
+      ap (λ (ns : List ℕ). has ns (number_of same_form forms form)) is.asked.are
+      ∙ numbers_alike same_form (eq_by_cmp_equiv form_cmp_total) forms (one_or_two row.form row.other) form is.asked.known ∙ says.wants.asking form;
   names = λ key valid.
-    ap (λ (ns : List ℕ). has ns (number_of same_key keys key)) (is.keys ∙ says.numbers.are)
-    ∙ numbers_alike same_key (eq_by_cmp_equiv key_cmp_total) keys says.named key says.numbers.known ∙ says.wants.naming key valid;
+      ap (λ (ns : List ℕ). has ns (number_of same_key keys key)) (is.keys ∙ says.numbers.are)
+      ∙ numbers_alike same_key (eq_by_cmp_equiv key_cmp_total) keys says.named key says.numbers.known ∙ says.wants.naming key valid;
   low_forms = λ n e.
-    numbers_low same_form forms (one_or_two row.form row.other) n is.asked.known (sym (ap (λ (ns : List ℕ). has ns n) is.asked.are) ∙ e);
+      numbers_low same_form forms (one_or_two row.form row.other) n is.asked.known (sym (ap (λ (ns : List ℕ). has ns n) is.asked.are) ∙ e);
   low_keys = λ n e. numbers_low same_key keys says.named n says.numbers.known (sym (ap (λ (ns : List ℕ). has ns n) (is.keys ∙ says.numbers.are)) ∙ e);
 }
 

@@ -46,9 +46,9 @@ goes_still old new store log links waits rows = record {
   back = λ i. record { numbered = store i; links = (links i).key_of; waits = (waits i).waiting };
   can = tt;
   rooms = λ r.
-    subst (λ l. HaveRooms l (links_in new.tables) (waits_in new.tables)) (sym (ap (map step_of) log))
-    (subst (λ (w : Waits). HaveRooms (steps_of old) (links_in new.tables) w) (sym waits)
-    (subst (λ (l : Links). HaveRooms (steps_of old) l (waits_in old.tables)) (sym links) r));
+      subst (λ l. HaveRooms l (links_in new.tables) (waits_in new.tables)) (sym (ap (map step_of) log))
+      (subst (λ (w : Waits). HaveRooms (steps_of old) (links_in new.tables) w) (sym waits)
+      (subst (λ (l : Links). HaveRooms (steps_of old) l (waits_in old.tables)) (sym links) r));
   rows = rows;
 }
 
@@ -236,10 +236,10 @@ module _ (position : ℕ) (start now popped : Frame) (change : Change) (way : Is
       record {
         front = ap (take position) left ∙ sym (take_push position (steps_of popped) (step_of change) far) ∙ ap (take position) (sym parted) ∙ way.front;
         back =
-          ap (λ l. apply_back (drop position l) (contents next)) left ∙ ap (apply_back (drop position (steps_of popped))) there
-          ∙ sym (back_join (drop position (steps_of popped)) (step_of change ∷ []) (contents now))
-          ∙ ap (λ l. apply_back l (contents now)) (sym (drop_push position (steps_of popped) (step_of change) far) ∙ ap (drop position) (sym parted))
-          ∙ way.back;
+            ap (λ l. apply_back (drop position l) (contents next)) left ∙ ap (apply_back (drop position (steps_of popped))) there
+            ∙ sym (back_join (drop position (steps_of popped)) (step_of change ∷ []) (contents now))
+            ∙ ap (λ l. apply_back l (contents now)) (sym (drop_push position (steps_of popped) (step_of change) far) ∙ ap (drop position) (sym parted))
+            ∙ way.back;
         can = subst (λ l. CanGoBack l (contents next)) (sym left) (subst (λ x. CanGoBack (steps_of popped) x) (sym there) less.0);
         rooms = subst (λ l. HaveRooms l (links_in next.tables) (waits_in next.tables)) (sym left) (takes.rooms (steps_of popped) popped_rooms);
         same = record {
@@ -278,12 +278,12 @@ module _ (start now popped : Frame) (change : Change) (way : IsKeeping start now
   pub one_gone : (next : Frame) → next.store ≡ now.store → next.log.items ≡ popped.log.items → LetsGo (step_of change) popped.tables next.tables → IsKeeping start next
   one_gone next store log gone = record {
     now =
-      (λ i. record {
-        numbered = store i;
-        links = (gone.links ∙ ap (λ (t : CatalogueTables). (links_in t).key_of) tables) i;
-        waits = (gone.waits ∙ ap (λ (t : CatalogueTables). (waits_in t).waiting) tables) i;
-      })
-      ∙ way.now;
+        (λ i. record {
+          numbered = store i;
+          links = (gone.links ∙ ap (λ (t : CatalogueTables). (links_in t).key_of) tables) i;
+          waits = (gone.waits ∙ ap (λ (t : CatalogueTables). (waits_in t).waiting) tables) i;
+        })
+        ∙ way.now;
     rooms = subst (λ l. HaveRooms l (links_in next.tables) (waits_in next.tables)) (sym (ap (map step_of) log)) (gone.rooms (steps_of popped) last_rooms);
     same = record {
       forms = gone.same.forms ∙ ap (λ (t : CatalogueTables). t.forms) tables ∙ way.same.forms;
@@ -332,10 +332,10 @@ back_linked old new seat number store log only is =
     let waits_same : waits_in new.tables ≡ waits_in old.tables = ap waits only.waits in
     record {
       now = (λ i. record { numbered = store i; links = (is i).key_of; waits = (waits_same i).waiting })
-        ∙ (λ i. record { numbered = old.store; links = λ s. back_links seat number (links_in old.tables) s i; waits = (waits_in old.tables).waiting });
+          ∙ (λ i. record { numbered = old.store; links = λ s. back_links seat number (links_in old.tables) s i; waits = (waits_in old.tables).waiting });
       rooms = λ steps r.
-        subst (λ (w : Waits). HaveRooms steps (links_in new.tables) w) (sym waits_same)
-        (subst (λ (l : Links). HaveRooms steps l (waits_in old.tables)) (sym is) (rooms_relinked steps seat number (links_in old.tables) (waits_in old.tables) r));
+          subst (λ (w : Waits). HaveRooms steps (links_in new.tables) w) (sym waits_same)
+          (subst (λ (l : Links). HaveRooms steps l (waits_in old.tables)) (sym is) (rooms_relinked steps seat number (links_in old.tables) (waits_in old.tables) r));
       same = forms_only old.tables new.tables only.forms only.index;
       log = log;
     }
@@ -346,10 +346,10 @@ back_waiting old new seat waiting store log only is =
     let links_same : links_in new.tables ≡ links_in old.tables = ap links only.links in
     record {
       now = (λ i. record { numbered = store i; links = (links_same i).key_of; waits = (is i).waiting })
-        ∙ (λ i. record { numbered = old.store; links = (links_in old.tables).key_of; waits = λ s. back_waits seat waiting (waits_in old.tables) s i });
+          ∙ (λ i. record { numbered = old.store; links = (links_in old.tables).key_of; waits = λ s. back_waits seat waiting (waits_in old.tables) s i });
       rooms = λ steps r.
-        subst (λ (l : Links). HaveRooms steps l (waits_in new.tables)) (sym links_same)
-        (subst (λ (w : Waits). HaveRooms steps (links_in old.tables) w) (sym is) (rooms_rewaited steps seat waiting (links_in old.tables) (waits_in old.tables) r));
+          subst (λ (l : Links). HaveRooms steps l (waits_in new.tables)) (sym links_same)
+          (subst (λ (w : Waits). HaveRooms steps (links_in old.tables) w) (sym is) (rooms_rewaited steps seat waiting (links_in old.tables) (waits_in old.tables) r));
       same = forms_only old.tables new.tables only.forms only.index;
       log = log;
     }
@@ -359,7 +359,7 @@ pub back_stored : (old new : Frame) (step : Step) → new.tables ≡ old.tables 
 back_stored old new step tables log now = record {
   now = now;
   rooms = λ steps r.
-    subst (λ (t : CatalogueTables). HaveRooms steps (links_in t) (waits_in t)) (sym tables) (rooms_less steps step (links_in old.tables) (waits_in old.tables) r);
+      subst (λ (t : CatalogueTables). HaveRooms steps (links_in t) (waits_in t)) (sym tables) (rooms_less steps step (links_in old.tables) (waits_in old.tables) r);
   same = forms_only old.tables new.tables (ap (λ (t : CatalogueTables). t.forms) tables) (ap (λ (t : CatalogueTables). t.index) tables);
   log = log;
 }
@@ -389,8 +389,8 @@ gone_linked old new seat number only is =
       links = ap (λ (l : Links). l.key_of) is ∙ gone_links seat number (links_in old);
       waits = ap (λ (w : Waits). w.waiting) waits_same;
       rooms = λ steps r.
-        subst (λ (w : Waits). HaveRooms steps (links_in new) w) (sym waits_same)
-        (subst (λ (l : Links). HaveRooms steps l (waits_in old)) (sym is) (rooms_link_gone steps seat number (links_in old) (waits_in old) r));
+          subst (λ (w : Waits). HaveRooms steps (links_in new) w) (sym waits_same)
+          (subst (λ (l : Links). HaveRooms steps l (waits_in old)) (sym is) (rooms_link_gone steps seat number (links_in old) (waits_in old) r));
       same = forms_only old new only.forms only.index;
     }
 
@@ -401,8 +401,8 @@ gone_waiting old new seat waiting only is =
       links = ap (λ (l : Links). l.key_of) links_same;
       waits = ap (λ (w : Waits). w.waiting) is ∙ gone_waits seat waiting (waits_in old);
       rooms = λ steps r.
-        subst (λ (l : Links). HaveRooms steps l (waits_in new)) (sym links_same)
-        (subst (λ (w : Waits). HaveRooms steps (links_in old) w) (sym is) (rooms_wait_gone steps seat waiting (links_in old) (waits_in old) r));
+          subst (λ (l : Links). HaveRooms steps l (waits_in new)) (sym links_same)
+          (subst (λ (w : Waits). HaveRooms steps (links_in old) w) (sym is) (rooms_wait_gone steps seat waiting (links_in old) (waits_in old) r));
       same = forms_only old new only.forms only.index;
     }
 

@@ -158,9 +158,9 @@ last_link_out steps seat None l w rooms = tt
 last_link_out steps seat (Some number) l w rooms = record {
   room = own_room seat (total (λ x. link_rooms x seat) steps) (l.taken seat) (subst (λ n. n ≤ l.taken seat) (total_more (λ x. link_rooms x seat) steps (ToLink seat (Some number))) (rooms.links seat));
   from =
-    let low = own_more seat (cond (nat_eq number number) 1 0) (total (λ x. key_rooms x number seat) steps) (l.taken_from number seat)
-    (subst (λ n. n ≤ l.taken_from number seat) (total_more (λ x. key_rooms x number seat) steps (ToLink seat (Some number))) (rooms.keys number seat)) in
-    subst (λ b. cond b 1 0 ≤ l.taken_from number seat) (own_number number) low;
+      let low = own_more seat (cond (nat_eq number number) 1 0) (total (λ x. key_rooms x number seat) steps) (l.taken_from number seat)
+      (subst (λ n. n ≤ l.taken_from number seat) (total_more (λ x. key_rooms x number seat) steps (ToLink seat (Some number))) (rooms.keys number seat)) in
+      subst (λ b. cond b 1 0 ≤ l.taken_from number seat) (own_number number) low;
 }
   where
     own_number : (n : ℕ) → nat_eq n n ≡ true
@@ -171,9 +171,9 @@ last_wait_out steps seat None l w rooms = tt
 last_wait_out steps seat (Some waiting) l w rooms = record {
   room = own_room seat (total (λ x. wait_rooms x seat) steps) (w.taken seat) (subst (λ n. n ≤ w.taken seat) (total_more (λ x. wait_rooms x seat) steps (ToWait seat (Some waiting))) (rooms.waits seat));
   forms = λ n. own_more seat _ (total (λ x. form_rooms x n seat) steps) (w.taken_forms n seat)
-    (subst (λ m. m ≤ w.taken_forms n seat) (total_more (λ x. form_rooms x n seat) steps (ToWait seat (Some waiting))) (rooms.forms n seat));
+      (subst (λ m. m ≤ w.taken_forms n seat) (total_more (λ x. form_rooms x n seat) steps (ToWait seat (Some waiting))) (rooms.forms n seat));
   keys = λ n. own_more seat _ (total (λ x. name_rooms x n seat) steps) (w.taken_keys n seat)
-    (subst (λ m. m ≤ w.taken_keys n seat) (total_more (λ x. name_rooms x n seat) steps (ToWait seat (Some waiting))) (rooms.names n seat));
+      (subst (λ m. m ≤ w.taken_keys n seat) (total_more (λ x. name_rooms x n seat) steps (ToWait seat (Some waiting))) (rooms.names n seat));
 }
 
 -- a link that was out is let go

@@ -153,8 +153,8 @@ module _ (f : Frame) (store : f.store ≡ empty_numbered) (links : links_in f.ta
     low = omega arith;
     can = subst (λ (l : List Step). CanGoBack l (contents f)) (sym steps_none) tt;
     rooms =
-      subst (λ (l : List Step). HaveRooms l (links_in f.tables) (waits_in f.tables)) (sym steps_none)
-      (subst (λ (l : Links). HaveRooms [] l (waits_in f.tables)) (sym links) (subst (λ (w : Waits). HaveRooms [] no_links w) (sym waits) rooms_none));
+        subst (λ (l : List Step). HaveRooms l (links_in f.tables) (waits_in f.tables)) (sym steps_none)
+        (subst (λ (l : Links). HaveRooms [] l (waits_in f.tables)) (sym links) (subst (λ (w : Waits). HaveRooms [] no_links w) (sym waits) rooms_none));
     now = subst (λ c. AgreesWith f.tables c) (sym contents_none) (agrees_nothing f.tables index (order []));
     mark = subst (λ c. AgreesWith f.tables c) (sym start_none) (agrees_nothing f.tables index (order []));
     start = subst (λ c. AgreesWith f.tables c) (sym start_none) (agrees_nothing f.tables index (order []));
@@ -179,8 +179,8 @@ frame_grown f g distinct by tables log = record {
   rows = rows_same f.tables g.tables tables;
   steps = ap (map step_of) log;
   rooms = λ r.
-    subst (λ (l : List Step). HaveRooms l (links_in g.tables) (waits_in g.tables)) (sym (ap (map step_of) log))
-    (subst (λ t. HaveRooms (steps_of f) (links_in t) (waits_in t)) (sym tables) r);
+      subst (λ (l : List Step). HaveRooms l (links_in g.tables) (waits_in g.tables)) (sym (ap (map step_of) log))
+      (subst (λ t. HaveRooms (steps_of f) (links_in t) (waits_in t)) (sym tables) r);
 }
 
 -- nothing is as it was but the numbers

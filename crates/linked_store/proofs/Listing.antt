@@ -1,9 +1,9 @@
 -- Seats that the tables list are the places that the state tells.
 use Rattle.std.proofs.Common.{◌≡◌, ◌∙◌, sym, ap, refl, subst, arith, ℕ, zero, suc, ◌+◌, ◌<◌, Bool, true, false, ◌||◌, List, [], ◌∷◌, ◌++◌, length, map, take, get_or, Option, Some, None}
-use Rattle.std.specs.Prelude.{filter, slice_get}
-use Rattle.std.specs.Option.{option_to_list}
+use Rattle.std.specs.Prelude.{filter, slice_get, ◌&&◌}
+use Rattle.std.specs.Option.{option_map_or, option_to_list}
 use Rattle.std.specs.Cmp.{IsEquivalence, decided}
-use Rattle.std.specs.List.{AllByRecursion, list_any}
+use Rattle.std.specs.List.{AllByRecursion, IsDistinct, list_any}
 use Rattle.marc_types.specs.declared.form.Form.{Form}
 use Rattle.marc_types.specs.declared.key.Class.{Class}
 use Rattle.marc_types.specs.declared.key.Key.{Key}
@@ -15,9 +15,11 @@ use Rattle.numbering.specs.declared.seat.Seat.{Seat}
 use Rattle.entry_record.specs.Authority.{is_bare, is_valid_key}
 use Rattle.catalogue_rules.specs.State.{KeptField, State, linkable_authorities}
 use Rattle.link_table.specs.Links.{Links, is_linked}
-use Rattle.wait_table.specs.Waits.{Waits}
+use Rattle.wait_table.specs.Waits.{Waits, names}
+use Rattle.catalogue_rules.specs.Settle.{is_linked_to}
+use Rattle.record_store.specs.Store.{field_under}
 use Rattle.place_names.specs.Listed.{ListsEach}
-use Rattle.linking_laws.specs.Tables.{Agree, IsListing, Tables, asks_at, holds_at, index_row, linked_at}
+use Rattle.linking_laws.specs.Tables.{Agree, IsListing, Tables, asks_at, dropped_at, holds_at, index_row, linked_at}
 use Rattle.linking_laws.specs.Visits.{waits_for_key}
 use Rattle.linking_laws.specs.Waiting.{is_waiting_for}
 use Rattle.linking_laws.proofs.Agreeing.{named_by_tables}
@@ -127,3 +129,58 @@ take_whole (x ∷ xs) = ap (λ l. x ∷ l) (take_whole xs)
 
 pub all_taken : (xs seats : List Seat) (n : ℕ) → n ≡ length xs → seats ≡ take n xs → seats ≡ xs
 all_taken xs seats n is taken = taken ∙ ap (λ m. take m xs) is ∙ take_whole xs
+
+-- ---- what dropping looks at
+
+either_way : (a b : Bool) → (a || b) ≡ (b || (true && a))
+either_way true true = refl
+either_way true false = refl
+either_way false true = refl
+either_way false false = refl
+
+no_more : (b : Bool) → b ≡ (b || false)
+no_more true = refl
+no_more false = refl
+
+either_holds : (key successor : Key) (class : Class) (o : Option KeptField)
+    → (option_map_or (waits_for_key key class) o false || option_map_or (linked_at key class) o false) ≡ option_map_or (dropped_at key (Some successor) class) o false
+either_holds key successor class None = refl
+either_holds key successor class (Some h) = either_way (waits_for_key key class h) (is_linked_to key h)
+
+linked_holds : (key : Key) (class : Class) (o : Option KeptField) → option_map_or (linked_at key class) o false ≡ option_map_or (dropped_at key None class) o false
+linked_holds key class None = refl
+linked_holds key class (Some h) = no_more (is_linked_to key h)
+
+-- without a successor dropping looks at links alone
+pub lists_dropped : (keys : KeyLists) (key : Key) (s : State) (seats : List Seat) → ListsSeats keys (holds_at (linked_at key) s) seats → ListsSeats keys (holds_at (dropped_at key None) s) seats
+lists_dropped keys key s seats lists = record {
+  known = lists.known;
+  places = record { members_are = λ p. lists.places.members_are p ∙ linked_holds key p.class (field_under p s); once = lists.places.once };
+}
+
+either_seated : (b c : Bool) (P : Type 0) → (b ≡ true → P) → (c ≡ true → P) → (b || c) ≡ true → P
+either_seated true c P f g e = f refl
+either_seated false c P f g e = g e
+
+pub lists_either : (tables : CatalogueTables) (c : Contents) → AreDistinct (keys_of c) → AgreesWith tables c → (number : ℕ) → number < length (keys_of c).authorities
+    → is_valid_key (key_at (keys_of c).authorities number) ≡ true → (start found linked : List Seat) → IsDistinct same_seat found
+    → ListsEach same_seat (λ s. waits_for tables.forms [] number (seen_waits c.waits) s) start → ListsEach same_seat (λ s. is_linked number (seen_links c.links) s) linked
+    → ((s : Seat) → list_any (same_seat s) found ≡ (list_any (same_seat s) start || list_any (same_seat s) linked))
+    → (successor : Key) → ListsSeats (keys_of c) (holds_at (dropped_at (key_at (keys_of c).authorities number) (Some successor)) (state_in c)) found
+lists_either tables c distinct agrees number low valid start found linked once waits links all successor =
+    let key = key_at (keys_of c).authorities number in
+    let of = key_numbered (keys_of c).authorities number distinct.authorities low in
+    lists_by (keys_of c) distinct (λ s. waits_for tables.forms [] number (seen_waits c.waits) s || is_linked number (seen_links c.links) s)
+    (holds_at (dropped_at (key_at (keys_of c).authorities number) (Some successor)) (state_in c)) found
+    (λ s e.
+    either_seated (waits_for tables.forms [] number (seen_waits c.waits) s) (is_linked number (seen_links c.links) s) (HasKey (keys_of c) s)
+    (λ f. waits_seated tables.forms (keys_of c) (seen_waits c.waits) agrees.waits_fit s [] number f) (λ f. agrees.links_fit.seated number s f) e)
+    (λ p.
+    ap (λ (n : ℕ). (false || names n (seen_waits c.waits) (seat_of (keys_of c) p)) || is_linked n (seen_links c.links) (seat_of (keys_of c) p)) of.is
+    ∙ ap (λ b. b || linked_by (keys_of c) (seen_links c.links) key p) (agrees.naming key p valid)
+    ∙ ap (λ b. holds_at (waits_for_key key) (state_in c) p || b) (agrees.linked key p)
+    ∙ either_holds key successor p.class (field_under p (state_in c)))
+    (record {
+      each = λ s. all s ∙ ap (λ b. b || list_any (same_seat s) linked) (waits.each s) ∙ ap (λ b. waits_for tables.forms [] number (seen_waits c.waits) s || b) (links.each s);
+      once = once;
+    })

@@ -33,19 +33,23 @@ stored_step step old new grows fits = let both = grown_back (step ∷ []) old ne
 
 step_grown : (step : Step) (c d : Contents) → GrowsTo c d → Fits step c → Fits step d × GrowsTo (apply step c) (apply step d)
 step_grown (ToRecord class number r) c d grows fits =
-    let both = stored_step (stored.ToRecord class number r) c.numbered d.numbered grows.numbered fits in
-    (both.0, record {
-      numbered = record { state = both.1; longer = λ k n low. grows.numbered.longer k n low; same_key = λ k n low. grows.numbered.same_key k n low };
-      links = grows.links;
-      waits = grows.waits;
-    })
+    let both = stored_step (stored.ToRecord class number r) c.numbered d.numbered grows.numbered fits in (
+      both.0,
+      record {
+        numbered = record { state = both.1; longer = λ k n low. grows.numbered.longer k n low; same_key = λ k n low. grows.numbered.same_key k n low };
+        links = grows.links;
+        waits = grows.waits;
+      },
+    )
 step_grown (ToField seat h) c d grows fits =
-    let both = stored_step (stored.ToField seat h) c.numbered d.numbered grows.numbered fits in
-    (both.0, record {
-      numbered = record { state = both.1; longer = λ k n low. grows.numbered.longer k n low; same_key = λ k n low. grows.numbered.same_key k n low };
-      links = grows.links;
-      waits = grows.waits;
-    })
+    let both = stored_step (stored.ToField seat h) c.numbered d.numbered grows.numbered fits in (
+      both.0,
+      record {
+        numbered = record { state = both.1; longer = λ k n low. grows.numbered.longer k n low; same_key = λ k n low. grows.numbered.same_key k n low };
+        links = grows.links;
+        waits = grows.waits;
+      },
+    )
 step_grown (ToLink seat number) c d grows fits =
     (tt, record { numbered = grows.numbered; links = ap (λ (l : Seat → Option ℕ). at_seat seat number l) grows.links; waits = grows.waits })
 step_grown (ToWait seat waiting) c d grows fits =
@@ -110,11 +114,11 @@ module _ (f g : Frame) (marked : ℕ) (grown : IsGrown f g) (sound : IsSound f m
     rooms = grown.rooms sound.rooms;
     now = agrees_behind [] f.tables g.tables (contents f) (contents g) grown.rows sound.distinct grown.keep grown.grows sound.now;
     mark =
-      subst (λ (l : List Step). AgreesWith g.tables (apply_back (drop marked l) (contents g))) (sym grown.steps)
-      (agrees_behind (drop marked (steps_of f)) f.tables g.tables (contents f) (contents g) grown.rows sound.distinct grown.keep to_mark.1 sound.mark);
+        subst (λ (l : List Step). AgreesWith g.tables (apply_back (drop marked l) (contents g))) (sym grown.steps)
+        (agrees_behind (drop marked (steps_of f)) f.tables g.tables (contents f) (contents g) grown.rows sound.distinct grown.keep to_mark.1 sound.mark);
     start =
-      subst (λ (l : List Step). AgreesWith g.tables (apply_back l (contents g))) (sym grown.steps)
-      (agrees_behind (steps_of f) f.tables g.tables (contents f) (contents g) grown.rows sound.distinct grown.keep along.1 sound.start);
+        subst (λ (l : List Step). AgreesWith g.tables (apply_back l (contents g))) (sym grown.steps)
+        (agrees_behind (steps_of f) f.tables g.tables (contents f) (contents g) grown.rows sound.distinct grown.keep along.1 sound.start);
   }
 
   pub marked_grown : state_in (at_mark g marked) ≡ state_in (at_mark f marked)
@@ -155,12 +159,12 @@ module _ (f g : Frame) (marked : ℕ) (goes : GoesOn f g) (keys : g.store.keys �
   sound_on agrees = record {
     distinct = subst (λ (k : KeyNumbers). AreDistinct (key_lists k)) (sym keys) sound.distinct;
     low =
-      let long : length (steps_of g) ≡ length (steps_of f) + length goes.more = ap (λ (l : List Step). length l) goes.steps ∙ length-append (steps_of f) goes.more in
-      let low : marked ≤ length (steps_of f) = sound.low in
-      omega (arith, long, low);
+        let long : length (steps_of g) ≡ length (steps_of f) + length goes.more = ap (λ (l : List Step). length l) goes.steps ∙ length-append (steps_of f) goes.more in
+        let low : marked ≤ length (steps_of f) = sound.low in
+        omega (arith, long, low);
     can =
-      subst (λ (l : List Step). CanGoBack l (contents g)) (sym goes.steps)
-      (can_join (steps_of f) goes.more (contents g) (subst (λ x. CanGoBack (steps_of f) x) (sym goes.back) sound.can) goes.can);
+        subst (λ (l : List Step). CanGoBack l (contents g)) (sym goes.steps)
+        (can_join (steps_of f) goes.more (contents g) (subst (λ x. CanGoBack (steps_of f) x) (sym goes.back) sound.can) goes.can);
     rooms = goes.rooms sound.rooms;
     now = agrees;
     mark = subst (λ x. AgreesWith g.tables x) (sym mark_stays) (by_forms (drop marked (steps_of f)) sound.mark);
@@ -242,7 +246,7 @@ module _ (f g : Frame) (marked : ℕ) (back : GoesBack marked f g) (sound : IsSo
       (agrees_still f.tables g.tables steps (contents f) (forms_same f.tables g.tables back.same.forms back.same.index) sound.distinct agrees) in
       record {
         distinct =
-          subst (λ (k : KeyNumbers). AreDistinct (key_lists k)) (sym (ap (λ (c : Contents). c.numbered.keys) back.now ∙ keys_back (drop marked (steps_of f)) (contents f))) sound.distinct;
+            subst (λ (k : KeyNumbers). AreDistinct (key_lists k)) (sym (ap (λ (c : Contents). c.numbered.keys) back.now ∙ keys_back (drop marked (steps_of f)) (contents f))) sound.distinct;
         low = subst (λ (l : List Step). marked ≤ length l) (sym back.steps) (taken_long marked (steps_of f) sound.low);
         can = back.can;
         rooms = back.rooms;

@@ -52,6 +52,6 @@ turned_rows start without with_rows now seat h link row out rows tables is = rec
   waiting = rows.waiting;
   is = subst (λ (t : CatalogueTables). IsWaitingOf t.forms row rows.waiting) (sym tables) rows.is;
   now =
-    is ∙ ap (apply (ToField seat h)) rows.now ∙ ap (λ (c : Contents). apply (ToField seat h) (apply (ToWait seat rows.waiting) (apply (ToLink seat link) c))) out
-    ∙ all_again seat h link rows.waiting (contents start);
+      is ∙ ap (apply (ToField seat h)) rows.now ∙ ap (λ (c : Contents). apply (ToField seat h) (apply (ToWait seat rows.waiting) (apply (ToLink seat link) c))) out
+      ∙ all_again seat h link rows.waiting (contents start);
 }

@@ -55,10 +55,10 @@ wants_plain class h none =
     let kind : heading_kind class h.field ≡ None = no_kind h.field (heading_kind class h.field) none in
     record {
       asking = λ form.
-        never (is_some h.tie.key)
-        ∙ sym (ap (λ (o : Option Kind). if is_some h.tie.key then false else option_map_or (λ k. is_form_among (asked_forms class k h) form) o false) kind);
+          never (is_some h.tie.key)
+          ∙ sym (ap (λ (o : Option Kind). if is_some h.tie.key then false else option_map_or (λ k. is_form_among (asked_forms class k h) form) o false) kind);
       naming = λ key valid.
-        never_and (is_some h.tie.key) (names_key key h) ∙ sym (ap (λ (o : Option Kind). not (is_some h.tie.key) && (is_some o && names_key key h)) kind);
+          never_and (is_some h.tie.key) (names_key key h) ∙ sym (ap (λ (o : Option Kind). not (is_some h.tie.key) && (is_some o && names_key key h)) kind);
     }
 
 -- ---- headings
@@ -83,12 +83,12 @@ wants_heading class h base sought keys unlinked made asks names =
     let kind : heading_kind class h.field ≡ Some base.kind = kind_by h.field (heading_kind class h.field) base made in
     record {
       asking = λ form.
-        asks form
-        ∙ sym (ap (λ (b : Bool). if b then false else option_map_or (λ k. is_form_among (asked_forms class k h) form) (heading_kind class h.field) false) unlinked
-        ∙ ap (λ (o : Option Kind). option_map_or (λ k. is_form_among (asked_forms class k h) form) o false) kind);
+          asks form
+          ∙ sym (ap (λ (b : Bool). if b then false else option_map_or (λ k. is_form_among (asked_forms class k h) form) (heading_kind class h.field) false) unlinked
+          ∙ ap (λ (o : Option Kind). option_map_or (λ k. is_form_among (asked_forms class k h) form) o false) kind);
       naming = λ key valid.
-        names key valid
-        ∙ sym (ap (λ (b : Bool). not b && (is_heading_field class h.field && names_key key h)) unlinked ∙ ap (λ (o : Option Kind). is_some o && names_key key h) kind);
+          names key valid
+          ∙ sym (ap (λ (b : Bool). not b && (is_heading_field class h.field && names_key key h)) unlinked ∙ ap (λ (o : Option Kind). is_some o && names_key key h) kind);
     }
 
 -- ---- the forms by which a field is looked up

@@ -23,6 +23,8 @@ impl LinkedStore {
             (field_choice (linkable_authorities self.now.state) class (kept_field field.now tie.now))) }
     {
         let keys = self.frame.store.keys(Class::Authority);
-        self.frame.tables.choose_field(alloc, keys, class, field, tie)
+        self.frame
+            .tables
+            .choose_field(alloc, keys, class, field, tie)
     }
 }

@@ -51,7 +51,11 @@ impl LinkedStore {
     }
 
     // What a field waits for, with its keys by their numbers.
-    fn numbered_row(&mut self, alloc: Global, wanted: Option<Wanted>) -> Result<Option<Row>, NoMemory>
+    fn numbered_row(
+        &mut self,
+        alloc: Global,
+        wanted: Option<Wanted>,
+    ) -> Result<Option<Row>, NoMemory>
         ensures unchanged { IsUnchanged self.old self.new }
         ensures ok { IfOk result (λ row. (class : AnyClass) (h : KeptField) → IsWanted class h wanted → IsRowFor class h self.new.keys.authorities row) }
     {

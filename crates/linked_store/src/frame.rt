@@ -81,7 +81,8 @@ impl Frame {
     {
         self.log.reserve(1)?;
         self.tables.add_link(alloc, Link { number, seat })?;
-        self.log.push_reserved(Change::Relinked { seat, before: None });
+        self.log
+            .push_reserved(Change::Relinked { seat, before: None });
         Ok(())
     }
 
@@ -113,7 +114,8 @@ impl Frame {
     {
         self.log.reserve(1)?;
         self.tables.add_waiting(alloc, seat, form, other, keys)?;
-        self.log.push_reserved(Change::Awaited { seat, before: None });
+        self.log
+            .push_reserved(Change::Awaited { seat, before: None });
         Ok(())
     }
 }

@@ -13,7 +13,7 @@ returns c =
     IfOk-weaker c.choose_field.result _ _
     (λ chosen told.
     subst (λ (x : Linked). chosen ≡ chosen_for x.keys.authorities (field_choice (linkable_authorities x.state) c.args.class (kept_field c.args.field.now c.args.tie.now))) c.self.view_is
-    (chosen_as c.self.inside.frame.tables (contents c.self.inside.frame) c.args.class (kept_field c.args.field.now c.args.tie.now) c.keys.result.now chosen
-    c.keys.ensures c.self.invariant.distinct c.self.invariant.now
+    (chosen_as c.self.inside.frame.tables (contents c.self.inside.frame) c.args.class (kept_field c.args.field.now c.args.tie.now) c.keys-keys.result.now chosen
+    c.keys-keys.ensures c.self.invariant.distinct c.self.invariant.now
     (subst (λ (x : Linked). AreAuthoritiesInOrder x.state) (sym c.self.view_is) c.requires) told))
     c.choose_field.ensures

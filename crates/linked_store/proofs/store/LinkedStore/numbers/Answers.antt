@@ -8,6 +8,6 @@ pub loop-key-preserved : goal.loop-key-preserved
 loop-key-preserved c = (
   unchanged_then c.args.self.now c.loop-key.self c.number.new.self c.loop-key.invariant.0 c.number.ensures.unchanged,
   keys_numbered c.loop-key.self.keys.authorities c.number.new.self.keys.authorities c.args.keys.now c.loop-key.key-index c.key-item.result c.loop-key.numbers.items
-  c.push.new.self.items c.in_ok-number.number c.number.ensures.unchanged.ahead.keys.keep.authorities c.loop-key-test.true c.key-item.is c.loop-key.invariant.1
-  c.in_ok-number.ensures.number c.in_ok-push.ensures.items,
+      c.push.new.self.items c.in_ok-number.number c.number.ensures.unchanged.ahead.keys.keep.authorities c.loop-key-test.true c.key-item.is c.loop-key.invariant.1
+      c.in_ok-number.ensures.number c.in_ok-push.ensures.items,
 )
