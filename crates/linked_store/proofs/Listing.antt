@@ -1,7 +1,8 @@
 -- Seats that the tables list are the places that the state tells.
 use Rattle.std.proofs.Common.{◌≡◌, ◌∙◌, sym, ap, refl, subst, arith, ℕ, zero, suc, ◌+◌, ◌<◌, Bool, true, false, ◌||◌, List, [], ◌∷◌, ◌++◌, length, map, take, get_or, Option, Some, None}
 use Rattle.std.specs.Prelude.{filter, slice_get, ◌&&◌}
-use Rattle.std.specs.Option.{option_map_or, option_to_list}
+use Rattle.std.specs.Borrow.{Bor}
+use Rattle.std.specs.Option.{option_copied, option_map_or, option_to_list}
 use Rattle.std.specs.Cmp.{IsEquivalence, decided}
 use Rattle.std.specs.List.{AllByRecursion, IsDistinct, list_any}
 use Rattle.marc_types.specs.declared.form.Form.{Form}
@@ -184,3 +185,10 @@ lists_either tables c distinct agrees number low valid start found linked once w
       each = λ s. all s ∙ ap (λ b. b || list_any (same_seat s) linked) (waits.each s) ∙ ap (λ b. waits_for tables.forms [] number (seen_waits c.waits) s || b) (links.each s);
       once = once;
     })
+
+-- what a reference that may be none copies
+pub copied_some : (P : Option Key → Type 0) (o : Option (Bor Key)) (x : Bor Key) → o ≡ Some x → ((key : Key) → P (Some key)) → P (option_copied o)
+copied_some P o x is all = subst (λ (p : Option (Bor Key)). P (option_copied p)) (sym is) (all x.now)
+
+pub copied_none : (P : Option Key → Type 0) (o : Option (Bor Key)) → o ≡ None → P None → P (option_copied o)
+copied_none P o is none = subst (λ (p : Option (Bor Key)). P (option_copied p)) (sym is) none

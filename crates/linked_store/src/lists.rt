@@ -48,8 +48,8 @@ impl LinkedStore {
     ) -> Result<Seats, NoMemory>
         requires known { IsNumber AnAuthority number self.now.keys }
         requires valid { is_valid_key (key_of AnAuthority number self.now.keys) ≡ true }
-        ensures { IfOk result (λ seats.
-            ListsSeats self.now.keys (holds_at (dropped_at (key_of AnAuthority number self.now.keys) (option_copied successor.entry)) self.now.state) seats.items) }
+        ensures { IfOk result (λ seats. ListsSeats self.now.keys
+            (holds_at (dropped_at (key_of AnAuthority number self.now.keys) (option_copied successor.entry)) self.now.state) seats.items) }
     {
         match successor {
             Some(_) => self.linked_or_waiting(alloc, number),

@@ -59,7 +59,8 @@ impl LinkedStore {
 
     /// The number of a key, if it has one.
     pub fn number_of(&self, class: Class, key: &Key) -> Option<u32>
-        ensures { result ≡ (if is_known same_key (keys_in class self.now.keys) key.now then Some (number_of same_key (keys_in class self.now.keys) key.now) else None) }
+        ensures { result ≡ (if is_known same_key (keys_in class self.now.keys) key.now
+            then Some (number_of same_key (keys_in class self.now.keys) key.now) else None) }
     {
         self.frame.store.number_of(class, key)
     }
