@@ -1,7 +1,7 @@
 -- The tables agree with the records once a field and its rows are exchanged, and while keys and forms get numbers.
-use Rattle.std.proofs.Common.{◌≡◌, ◌∙◌, sym, ap, refl, subst, ℕ, ◌<◌, ◌≤◌, zero, suc, arith, Bool, true, false, cond, List, [], ◌∷◌, length, Option, Some, None, IsSome, if◌then◌else◌, inl}
+use Rattle.std.proofs.Common.{◌≡◌, ◌∙◌, sym, ap, refl, subst, ℕ, ◌<◌, Bool, true, false, cond, List, length, Option, Some, None, if◌then◌else◌, inl}
 use Rattle.std.specs.Prelude.{slice_get}
-use Rattle.std.specs.Option.{option_map, option_map_or, option_and_then, is_some}
+use Rattle.std.specs.Option.{option_map, option_map_or}
 use Rattle.std.proofs.lemmas.Option.{slice_get-get_or}
 use Rattle.marc_types.specs.declared.form.Form.{Form}
 use Rattle.marc_types.specs.declared.key.Class.{Class}
@@ -9,14 +9,14 @@ use Rattle.marc_types.specs.declared.key.Class.TheVariants.{Authority, Bibliogra
 use Rattle.marc_types.specs.declared.key.Key.{Key}
 use Rattle.marc_types.specs.declared.key.Place.{Place}
 use Rattle.marc_types.specs.Order.{same_form, same_key}
-use Rattle.numbering.specs.Numbers.{Keeps, number_of}
+use Rattle.numbering.specs.Numbers.{Keeps}
 use Rattle.numbering.specs.Seats.{same_seat}
 use Rattle.numbering.specs.declared.seat.Seat.{Seat}
 use Rattle.numbering.proofs.Numberlaws.{keeps_itself}
-use Rattle.entry_record.specs.Authority.{Linkable, is_valid_key}
-use Rattle.catalogue_rules.specs.State.{KeptField, Row, State, linkable_authorities, rows_of}
-use Rattle.record_store.specs.Store.{field_under, with_field_under, with_rows}
-use Rattle.numbered_store.specs.Numbered.{Numbered, field_of as field_by_number, keys_in as keys_by, with_field_of}
+use Rattle.entry_record.specs.Authority.{Linkable}
+use Rattle.catalogue_rules.specs.State.{KeptField, State, linkable_authorities, rows_of}
+use Rattle.record_store.specs.Store.{field_under, with_rows}
+use Rattle.numbered_store.specs.Numbered.{Numbered, keys_in as keys_by, with_field_of}
 use Rattle.numbered_store.specs.Rows.{with_row_field}
 use Rattle.link_table.specs.Links.{is_linked, leads_to}
 use Rattle.wait_table.specs.Waits.{asks, asks_form, names, names_key}
@@ -33,8 +33,8 @@ use Rattle.catalogue_tables.specs.declared.tables.CatalogueTables.{CatalogueTabl
 use Rattle.catalogue_tables.proofs.Followed.{tells_kept}
 use Rattle.linked_store.specs.Frames.{OnlyRows}
 use Rattle.std.specs.List.{IsDistinct}
-use Rattle.catalogue_tables.specs.Seam.{AreDistinct, HasKey, IsRenumbered, IsSeatOf, IsWithin, KeyLists, KeysKeep, keys_in, place_at, seat_of, told}
-use Rattle.catalogue_tables.specs.Told.{LinksFit, linked_by}
+use Rattle.catalogue_tables.specs.Seam.{AreDistinct, HasKey, IsRenumbered, IsSeatOf, KeyLists, KeysKeep, keys_in, place_at, told}
+use Rattle.catalogue_tables.specs.Told.{linked_by}
 use Rattle.catalogue_tables.specs.Waiting.{WaitsFit, asking_by, naming_by}
 use Rattle.catalogue_tables.proofs.Seams.{seat_back, told_stays, told_step, within_kept, within_step}
 use Rattle.linked_store.specs.Contents.{Contents, at_seat}

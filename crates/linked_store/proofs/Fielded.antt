@@ -1,43 +1,37 @@
 -- A field exchanged with its rows, as callers see it.
-use Rattle.std.proofs.Common.{◌≡◌, ◌∙◌, sym, ap, refl, subst, ℕ, ◌+◌, ◌<◌, ◌≤◌, arith, Bool, true, false, cond, List, [], ◌∷◌, ◌++◌, length, map, take, get_or, Option, Some, None, IsSome, IfSome, is_some}
-use Rattle.std.specs.Prelude.{nat_eq, if◌then◌else◌}
+use Rattle.std.proofs.Common.{◌≡◌, ◌∙◌, sym, ap, refl, subst, ℕ, ◌+◌, ◌<◌, true, false, List, [], ◌∷◌, ◌++◌, length, map, take, get_or, Option, Some, None, IsSome, IfSome}
+use Rattle.std.specs.Prelude.{nat_eq}
 use Rattle.std.specs.Cmp.{unsigned_Decides}
-use Rattle.std.specs.List.{AllByRecursion, list_any}
+use Rattle.std.specs.List.{AllByRecursion}
 use Rattle.std.specs.Option.{option_and_then, option_map_or}
 use Rattle.std.proofs.lemmas.Cmp.{eq_by_cmp_equiv}
 use Rattle.std.proofs.lemmas.List.{take_more}
 use Rattle.marc_types.specs.declared.form.Form.{Form}
-use Rattle.marc_types.specs.declared.field.Field.{Field}
 use Rattle.marc_types.specs.declared.key.Class.{Class}
 use Rattle.marc_types.specs.declared.key.Key.{Key}
 use Rattle.marc_types.specs.Order.{same_form, same_key, form_cmp_total, key_cmp_total}
 use Rattle.numbering.specs.Numbers.{is_known, number_of, IsNumberOf, Keeps}
 use Rattle.numbering.specs.declared.seat.Seat.{Seat}
 use Rattle.numbering.proofs.Numberlaws.{alike, number_below}
-use Rattle.entry_record.specs.Authority.{is_valid_key}
-use Rattle.catalogue_rules.specs.State.{KeptField, KeptRecord, State}
+use Rattle.catalogue_rules.specs.State.{KeptField, KeptRecord}
 use Rattle.catalogue_rules.specs.Receipt.{kept_under}
-use Rattle.catalogue_rules.specs.Settle.{is_linked_to}
 use Rattle.record_store.specs.Store.{StaysRecord, field_at, field_under}
-use Rattle.numbered_store.specs.Numbered.{Numbered, SuitsSeat as SuitsByNumber, field_of as field_by_number, record_at as record_by, with_field_of}
-use Rattle.link_table.specs.Links.{leads_to}
-use Rattle.wait_table.specs.Waits.{asks_form, forms_of, has, names_key}
+use Rattle.numbered_store.specs.Numbered.{Numbered, SuitsSeat as SuitsByNumber, field_of as field_by_number}
+use Rattle.wait_table.specs.Waits.{has}
 use Rattle.wait_table.specs.declared.waiting.Waiting.{Waiting}
-use Rattle.linking_laws.specs.Tables.{asks_at}
-use Rattle.linking_laws.specs.Visits.{waits_for_key}
 use Rattle.linking_laws.specs.Partway.{IsSteady, swapped}
 use mathlib.Core.Bool.{false≢true}
-use Rattle.catalogue_tables.specs.Seam.{HasKey, KeyLists, KeysKeep, keys_in, place_at}
+use Rattle.catalogue_tables.specs.Seam.{HasKey, KeyLists, place_at}
 use Rattle.catalogue_tables.specs.Waiting.{AreNumbersOf, one_or_two}
-use Rattle.catalogue_tables.proofs.Seams.{keeps_then, low_in, numbers_alike, numbers_low}
+use Rattle.catalogue_tables.proofs.Seams.{keeps_then, numbers_alike, numbers_low}
 use Rattle.linked_store.specs.Contents.{CanGoBack, Contents, Step}
 use Rattle.linked_store.proofs.Going.{can_join}
-use Rattle.linked_store.specs.Fielding.{IsLinkNumber, IsRowFor, SaysWants}
+use Rattle.linked_store.specs.Fielding.{IsLinkNumber, IsRowFor}
 use Rattle.linked_store.specs.Frames.{GoesBack, GoesOn, contents, steps_of}
-use Rattle.linked_store.specs.Linked.{IsAhead, IsUnchanged, KeysGrow, Linked, SuitsSeat, field_of, key_of, record_at}
-use Rattle.linked_store.specs.Sound.{AgreesWith, IsSound, at_mark, at_start, key_lists, keys_of, linked_view, state_in}
-use Rattle.linked_store.specs.Turning.{IsLinkOf, IsWaitOf, Wants, turned}
-use Rattle.linked_store.specs.Turns.{IsNumbered, IsTurned, IsWaitingOf}
+use Rattle.linked_store.specs.Linked.{IsAhead, IsUnchanged, KeysGrow, Linked, SuitsSeat, field_of, record_at}
+use Rattle.linked_store.specs.Sound.{AgreesWith, IsSound, key_lists, keys_of, linked_view, state_in}
+use Rattle.linked_store.specs.Turning.{IsLinkOf, IsWaitOf, turned}
+use Rattle.linked_store.specs.Turns.{IsTurned, IsWaitingOf}
 use Rattle.linked_store.specs.declared.frame.Frame.{Frame}
 use Rattle.linked_store.specs.declared.turns.Row.{Row}
 use Rattle.linked_store.proofs.Agreed.{agrees_turned, keys_keep, state_turned}

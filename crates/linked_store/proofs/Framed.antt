@@ -1,9 +1,7 @@
 -- Frames: one change more, none, and one after another.
-use Rattle.std.proofs.Common.{◌≡◌, ◌∙◌, sym, ap, refl, subst, ℕ, zero, suc, ◌+◌, ◌<◌, ◌≤◌, arith, Bool, true, false, cond, List, [], ◌∷◌, ◌++◌, length, map, take, drop, Option, Some, None}
-use Rattle.std.specs.Prelude.{◌-◌}
+use Rattle.std.proofs.Common.{◌≡◌, ◌∙◌, sym, ap, refl, subst, ℕ, zero, suc, ◌≤◌, arith, Bool, true, false, cond, List, [], ◌∷◌, ◌++◌, length, map, take, drop, Option, Some, None}
 use Rattle.marc_types.specs.declared.form.Form.{Form}
 use Rattle.marc_types.specs.Order.{same_form}
-use Rattle.numbering.specs.Numbers.{Keeps}
 use Rattle.numbering.proofs.Numberlaws.{keeps_itself, keeps_same}
 use Rattle.numbering.specs.Seats.{same_seat, seat_Decides}
 use Rattle.numbering.specs.declared.seat.Seat.{Seat}
@@ -19,9 +17,9 @@ use Rattle.catalogue_tables.specs.Tables.{OnlyLinks, OnlyWaits, OnlyWaitsAndForm
 use Rattle.catalogue_tables.specs.Waiting.{AddsWait}
 use Rattle.catalogue_tables.proofs.Seams.{keeps_then}
 use Rattle.catalogue_tables.specs.declared.tables.CatalogueTables.{CatalogueTables}
-use Rattle.linked_store.specs.Contents.{CanGoBack, Contents, Fits, HaveRooms, Step, ToField, ToLink, ToRecord, ToWait, apply, apply_back, at_seat, step_of}
+use Rattle.linked_store.specs.Contents.{CanGoBack, Fits, HaveRooms, Step, ToField, ToLink, ToRecord, ToWait, apply, apply_back, at_seat, step_of}
 use Rattle.linked_store.specs.Rooms.{link_back, link_gone, link_out, wait_back, wait_gone, wait_out}
-use Rattle.linked_store.specs.Frames.{GoesBack, GoesOn, IsRoomy, IsRowOut, LeavesRooms, LetsGo, OnlyRows, SameForms, TakesBack, WaitsNow, contents, links_in, steps_of, waits_in}
+use Rattle.linked_store.specs.Frames.{GoesBack, GoesOn, IsRoomy, IsRowOut, LetsGo, OnlyRows, SameForms, TakesBack, WaitsNow, contents, links_in, steps_of, waits_in}
 use Rattle.linked_store.specs.declared.change.Change.{Change}
 use Rattle.linked_store.specs.declared.frame.Frame.{Frame}
 use Rattle.linked_store.proofs.Going.{back_join, can_join, can_less, join_assoc, join_none, last_link_out, last_wait_out, rooms_less, rooms_link_gone, rooms_more, rooms_relinked, rooms_rewaited, rooms_same, rooms_unlinked, rooms_unwaited, rooms_wait_gone, rooms_waited, steps_pushed}

@@ -1,13 +1,12 @@
 -- Steps of the log: one more, one less, and their rooms.
-use Rattle.std.proofs.Common.{◌≡◌, ◌∙◌, sym, ap, refl, subst, ℕ, zero, suc, ◌+◌, ◌<◌, ◌≤◌, arith, Bool, true, false, cond, List, [], ◌∷◌, ◌++◌, length, map, take, drop, Option, Some, None}
+use Rattle.std.proofs.Common.{◌≡◌, ◌∙◌, sym, ap, refl, subst, ℕ, ◌+◌, ◌≤◌, arith, true, cond, List, [], ◌∷◌, ◌++◌, map, Option, Some, None}
 use Rattle.std.specs.Prelude.{◌-◌, nat_eq, if◌then◌else◌}
 use Rattle.numbering.specs.Seats.{same_seat, seat_Decides}
 use Rattle.numbering.specs.declared.seat.Seat.{Seat}
-use Rattle.place_names.specs.Counts.{brought}
 use Rattle.link_table.specs.Links.{Links, with_key}
-use Rattle.wait_table.specs.Waits.{Waits, forms_of, with_waiting}
+use Rattle.wait_table.specs.Waits.{Waits, with_waiting}
 use Rattle.wait_table.specs.declared.waiting.Waiting.{Waiting}
-use Rattle.linked_store.specs.Contents.{CanGoBack, Contents, Fits, HaveRooms, Step, ToLink, ToWait, apply, apply_back, at_seat, form_rooms, key_rooms, link_rooms, name_rooms, step_of, total, wait_rooms}
+use Rattle.linked_store.specs.Contents.{CanGoBack, Contents, Fits, HaveRooms, Step, ToLink, ToWait, apply, apply_back, form_rooms, key_rooms, link_rooms, name_rooms, step_of, total, wait_rooms}
 use Rattle.linked_store.specs.Rooms.{IsOut, IsWaitOut, link_back, link_gone, link_out, wait_back, wait_gone, wait_out}
 use Rattle.linked_store.specs.declared.change.Change.{Change}
 

@@ -1,22 +1,20 @@
 -- Keys that get numbers, and what a store without records is.
-use Rattle.std.proofs.Common.{◌≡◌, ◌∙◌, sym, ap, refl, subst, ℕ, zero, suc, ◌<◌, ◌≤◌, arith, Bool, true, false, cond, List, [], ◌∷◌, length, map, Option, Some, None, Result, Ok, Err, OnOk, OnErr, IfOk}
-use Rattle.std.specs.Prelude.{slice_get, if◌then◌else◌}
-use Rattle.std.specs.Map.{lookup}
+use Rattle.std.proofs.Common.{◌≡◌, ◌∙◌, sym, ap, refl, subst, ℕ, ◌<◌, ◌≤◌, arith, Bool, false, List, [], length, map, Some, None, Result, Ok, Err, OnOk, OnErr, IfOk}
+use Rattle.std.specs.Prelude.{slice_get}
 use Rattle.std.specs.List.{IsDistinct}
 use Rattle.std.specs.List.Sorted.{IsStrictlySortedBy}
 use Rattle.std.proofs.lemmas.Cmp.{eq_by_cmp_equiv}
-use Rattle.marc_types.specs.declared.form.Form.{Form}
 use Rattle.marc_types.specs.declared.key.Class.{Class}
 use Rattle.marc_types.specs.declared.key.Class.TheVariants.{Authority, Bibliographic}
 use Rattle.marc_types.specs.declared.key.Key.{Key}
 use Rattle.marc_types.specs.declared.key.Place.{Place}
-use Rattle.marc_types.specs.Order.{same_form, same_key, key_cmp_total}
-use Rattle.numbering.specs.Numbers.{is_known, number_of, IsNumberOf, Keeps}
+use Rattle.marc_types.specs.Order.{same_key, key_cmp_total}
+use Rattle.numbering.specs.Numbers.{IsNumberOf}
 use Rattle.numbering.specs.declared.seat.Seat.{Seat}
 use Rattle.numbering.proofs.Numberlaws.{distinct_with, keeps_itself, keeps_with}
-use Rattle.catalogue_rules.specs.State.{KeptField, KeptRecord, State, empty_state, rows_of}
+use Rattle.catalogue_rules.specs.State.{KeptField, empty_state, rows_of}
 use Rattle.catalogue_rules.specs.Receipt.{kept_under}
-use Rattle.numbered_store.specs.Numbered.{Grows, Numbered, empty_numbered, key_at as key_by_number, keys_in as keys_by, record_at as record_by, with_number}
+use Rattle.numbered_store.specs.Numbered.{Grows, Numbered, empty_numbered, keys_in as keys_by, record_at as record_by, with_number}
 use Rattle.numbered_store.specs.Rows.{row_under}
 use Rattle.numbered_store.proofs.Growing.{grows_by_a_key}
 use Rattle.link_table.specs.Links.{Links, no_links}
@@ -28,16 +26,15 @@ use Rattle.form_index.specs.Order.{key_at}
 use Rattle.catalogue_tables.specs.Seam.{AreDistinct, HasKey, IsWithin, KeyLists, KeysKeep, keys_in, place_at}
 use Rattle.linked_store.specs.Contents.{CanGoBack, Contents, HaveRooms, Step, apply_back, step_of}
 use Rattle.linked_store.specs.Frames.{contents, links_in, steps_of, waits_in}
-use Rattle.linked_store.specs.Linked.{IsAhead, IsNumber, IsUnchanged, KeysGrow, Linked, empty_linked, key_of, record_at}
-use Rattle.linked_store.specs.Sound.{AgreesWith, IsSound, at_mark, at_start, key_lists, keys_of, linked_view, state_in}
-use Rattle.linked_store.specs.declared.change.Change.{Change}
+use Rattle.linked_store.specs.Linked.{IsNumber, IsUnchanged, KeysGrow, empty_linked, key_of}
+use Rattle.linked_store.specs.Sound.{AgreesWith, IsSound, at_start, key_lists, keys_of, linked_view, state_in}
 use Rattle.linked_store.specs.declared.frame.Frame.{Frame}
 use Rattle.linked_store.proofs.Agreed.{key_there, keys_alike}
 use Rattle.form_index.specs.Index.{IsInOrder, no_index}
 use Rattle.catalogue_tables.specs.declared.tables.CatalogueTables.{CatalogueTables}
 use Rattle.catalogue_tables.proofs.Followed.{tells_nobody}
 use Rattle.linked_store.proofs.Framed.{rows_same}
-use Rattle.linked_store.proofs.Sounding.{GrowsTo, IsGrown, before_grown, marked_grown}
+use Rattle.linked_store.proofs.Sounding.{IsGrown, before_grown, marked_grown}
 
 -- ---- one key gets a number
 

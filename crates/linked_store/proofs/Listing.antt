@@ -1,5 +1,5 @@
 -- Seats that the tables list are the places that the state tells.
-use Rattle.std.proofs.Common.{◌≡◌, ◌∙◌, sym, ap, refl, subst, arith, ℕ, zero, suc, ◌+◌, ◌<◌, Bool, true, false, ◌||◌, List, [], ◌∷◌, ◌++◌, length, map, take, get_or, Option, Some, None}
+use Rattle.std.proofs.Common.{◌≡◌, ◌∙◌, sym, ap, refl, subst, arith, ℕ, zero, suc, ◌+◌, ◌<◌, Bool, true, false, ◌||◌, List, [], ◌∷◌, ◌++◌, length, map, take, Option, Some, None}
 use Rattle.std.specs.Prelude.{filter, slice_get, ◌&&◌}
 use Rattle.std.specs.Borrow.{Bor}
 use Rattle.std.specs.Option.{option_copied, option_map_or, option_to_list}
@@ -10,22 +10,22 @@ use Rattle.marc_types.specs.declared.key.Class.{Class}
 use Rattle.marc_types.specs.declared.key.Key.{Key}
 use Rattle.marc_types.specs.declared.key.Place.{Place}
 use Rattle.marc_types.specs.Order.{same_key}
-use Rattle.numbering.specs.Numbers.{IsNumberOf, number_of}
+use Rattle.numbering.specs.Numbers.{IsNumberOf}
 use Rattle.numbering.specs.Seats.{same_seat, seat_Decides}
 use Rattle.numbering.specs.declared.seat.Seat.{Seat}
 use Rattle.entry_record.specs.Authority.{is_bare, is_valid_key}
 use Rattle.catalogue_rules.specs.State.{KeptField, State, linkable_authorities}
-use Rattle.link_table.specs.Links.{Links, is_linked}
-use Rattle.wait_table.specs.Waits.{Waits, names}
+use Rattle.link_table.specs.Links.{is_linked}
+use Rattle.wait_table.specs.Waits.{names}
 use Rattle.catalogue_rules.specs.Settle.{is_linked_to}
 use Rattle.record_store.specs.Store.{field_under}
 use Rattle.place_names.specs.Listed.{ListsEach}
-use Rattle.linking_laws.specs.Tables.{Agree, IsListing, Tables, asks_at, dropped_at, holds_at, index_row, linked_at}
+use Rattle.linking_laws.specs.Tables.{Agree, Tables, dropped_at, holds_at, index_row, linked_at}
 use Rattle.linking_laws.specs.Visits.{waits_for_key}
 use Rattle.linking_laws.specs.Waiting.{is_waiting_for}
 use Rattle.linking_laws.proofs.Agreeing.{named_by_tables}
 use Rattle.form_index.specs.Order.{key_at}
-use Rattle.catalogue_tables.specs.Seam.{AreDistinct, HasKey, KeyLists, place_at, seat_of}
+use Rattle.catalogue_tables.specs.Seam.{AreDistinct, HasKey, KeyLists, seat_of}
 use Rattle.catalogue_tables.specs.Told.{linked_by}
 use Rattle.catalogue_tables.specs.Waiting.{asking_by, naming_by, waits_for}
 use Rattle.catalogue_tables.proofs.Seams.{key_numbered, places_listed}

@@ -1,9 +1,9 @@
 -- Rows of one seat that go out of the tables, and come back.
 use Rattle.std.proofs.Common.{◌≡◌, ◌∙◌, sym, ap, refl, subst, ℕ, ◌+◌, arith, Bool, true, false, cond, Option, Some, None, IfSome, IfNone}
-use Rattle.std.specs.Prelude.{◌-◌, nat_eq, if◌then◌else◌}
+use Rattle.std.specs.Prelude.{◌-◌, nat_eq}
 use Rattle.numbering.specs.Seats.{same_seat, seat_Decides}
 use Rattle.numbering.specs.declared.seat.Seat.{Seat}
-use Rattle.link_table.specs.Links.{Links, less_taken, row_of, with_key, with_row_back, with_row_taken}
+use Rattle.link_table.specs.Links.{Links, less_taken, row_of, with_key, with_row_taken}
 use Rattle.link_table.specs.declared.link.Link.{Link}
 use Rattle.place_names.specs.Counts.{brought}
 use Rattle.wait_table.specs.Waits.{Waits, forms_of, less_taken as less_waiting, row_of as wait_row_of, with_row_taken as with_wait_taken, with_waiting}
@@ -11,7 +11,7 @@ use Rattle.wait_table.specs.declared.waiting.Waiting.{Waiting}
 use Rattle.wait_table.specs.declared.waiting.WaitRow.{WaitRow}
 use Rattle.catalogue_tables.specs.Told.{TakesLink}
 use Rattle.catalogue_tables.specs.Waiting.{TakesWait}
-use Rattle.linked_store.specs.Contents.{ToLink, ToWait, at_seat}
+use Rattle.linked_store.specs.Contents.{at_seat}
 use Rattle.linked_store.specs.Rooms.{link_out, link_row, wait_out, wait_row}
 
 -- nothing taken out of a seat that has nothing

@@ -1,9 +1,5 @@
 -- The tables agree with the records now, at the mark and before all changes: through growth, changes and the way back.
-use Rattle.std.proofs.Common.{◌≡◌, ◌∙◌, sym, ap, refl, subst, ℕ, zero, suc, ◌+◌, ◌<◌, ◌≤◌, arith, List, [], ◌∷◌, ◌++◌, length, length-append, take, drop, Option}
-use Rattle.marc_types.specs.declared.form.Form.{Form}
-use Rattle.marc_types.specs.Order.{same_form}
-use Rattle.numbering.specs.Numbers.{Keeps}
-use Rattle.numbering.proofs.Numberlaws.{keeps_itself}
+use Rattle.std.proofs.Common.{◌≡◌, ◌∙◌, sym, ap, refl, subst, ℕ, zero, suc, ◌+◌, ◌≤◌, arith, List, [], ◌∷◌, ◌++◌, length, length-append, take, drop, Option}
 use Rattle.numbering.specs.declared.seat.Seat.{Seat}
 use Rattle.wait_table.specs.declared.waiting.Waiting.{Waiting}
 use Rattle.numbered_store.specs.Numbered.{Grows, Numbered, KeyNumbers}

@@ -1,9 +1,8 @@
 -- A field exchanged with its rows: the rows out, the new ones in, and the field.
-use Rattle.std.proofs.Common.{◌≡◌, ◌∙◌, sym, ap, refl, subst, ℕ, List, Option, Some, None}
+use Rattle.std.proofs.Common.{◌≡◌, ◌∙◌, sym, ap, refl, subst, ℕ, Option, Some, None}
 use Rattle.numbering.specs.declared.seat.Seat.{Seat}
-use Rattle.marc_types.specs.declared.form.Form.{Form}
 use Rattle.catalogue_rules.specs.State.{KeptField}
-use Rattle.numbered_store.specs.Numbered.{Numbered, with_field_of}
+use Rattle.numbered_store.specs.Numbered.{with_field_of}
 use Rattle.wait_table.specs.declared.waiting.Waiting.{Waiting}
 use Rattle.catalogue_tables.specs.declared.tables.CatalogueTables.{CatalogueTables}
 use Rattle.linked_store.specs.Contents.{Contents, ToField, ToLink, ToWait, apply, at_seat}

@@ -1,5 +1,5 @@
 -- What an unlinked heading field waits for.
-use Rattle.std.proofs.Common.{◌≡◌, ◌∙◌, sym, ap, refl, subst, ℕ, ◌+◌, ◌<◌, Bool, true, false, ◌&&◌, ◌||◌, not, cond, List, [], ◌∷◌, ◌++◌, length, take, get_or, Option, Some, None, unwrap_or, is_some}
+use Rattle.std.proofs.Common.{◌≡◌, ◌∙◌, sym, ap, refl, ℕ, ◌+◌, ◌<◌, Bool, true, false, ◌&&◌, ◌||◌, not, cond, List, [], ◌∷◌, ◌++◌, length, take, get_or, Option, Some, None, unwrap_or, is_some}
 use Rattle.std.specs.Prelude.{◌==◌, filter, if◌then◌else◌}
 use Rattle.std.specs.List.{list_any}
 use Rattle.std.specs.Option.{option_map, option_map_or}
@@ -20,10 +20,7 @@ use Rattle.entry_record.specs.Authority.{base_form, full_form, heading_kind, is_
 use Rattle.entry_record.specs.Prepared.{heading_base_form}
 use Rattle.entry_record.proofs.Undivided.{full_either}
 use Rattle.catalogue_rules.specs.State.{KeptField}
-use Rattle.catalogue_rules.specs.Settle.{awaits_key}
 use Rattle.catalogue_tables.specs.Choosing.{key_named}
-use Rattle.linking_laws.specs.Tables.{asks_at}
-use Rattle.linking_laws.specs.Visits.{waits_for_key}
 use Rattle.linking_laws.specs.Waiting.{asked_forms, is_form_among, names_key}
 use Rattle.linking_laws.proofs.Naming.{naming_is}
 use Rattle.linked_store.specs.Turning.{Wants}

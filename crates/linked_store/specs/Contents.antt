@@ -1,6 +1,6 @@
 -- What changes in a linked store, and the steps that lead back: records and fields, the link of each seat, and what each seat
 -- waits for. Numbers of keys and forms are not taken back, and so they are no part of it.
-use Rattle.std.specs.Prelude.{◌≡◌, ℕ, ◌+◌, ◌≤◌, nat_eq, List, [], ◌∷◌, ◌++◌, map, Option, None, Some, IsSome, ⊤, if◌then◌else◌}
+use Rattle.std.specs.Prelude.{ℕ, ◌+◌, ◌≤◌, nat_eq, List, [], ◌∷◌, Option, None, Some, IsSome, ⊤, if◌then◌else◌}
 use Rattle.std.specs.Option.{option_map}
 use Rattle.marc_types.specs.declared.key.Class.{Class}
 use Rattle.numbering.specs.declared.seat.Seat.{Seat}

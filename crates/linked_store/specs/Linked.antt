@@ -1,8 +1,7 @@
 -- What clauses see of a linked store: the state of a catalogue with its keys by their numbers, and the states to which it can go
 -- back. Its tables agree with the state by its type, and so no clause speaks of them.
-use Rattle.std.specs.Prelude.{◌≡◌, ℕ, ◌<◌, Bool, true, false, List, [], length, map, All, Option, Some, None, IfSome, IsSome, if◌then◌else◌}
+use Rattle.std.specs.Prelude.{◌≡◌, ℕ, ◌<◌, Bool, true, List, [], length, map, Option, IfSome, IsSome}
 use Rattle.std.specs.List.{AllByRecursion}
-use Rattle.marc_types.specs.declared.field.Field.{Field}
 use Rattle.marc_types.specs.declared.key.Class.{Class}
 use Rattle.marc_types.specs.declared.key.Class.TheVariants.{Authority}
 use Rattle.marc_types.specs.declared.key.Key.{Key}

@@ -1,5 +1,5 @@
 -- Rows of one seat that go out of the tables, and come back.
-use Rattle.std.specs.Prelude.{◌≡◌, ℕ, ◌+◌, Option, None, Some, IfSome}
+use Rattle.std.specs.Prelude.{ℕ, ◌+◌, Option, None, Some, IfSome}
 use Rattle.numbering.specs.declared.seat.Seat.{Seat}
 use Rattle.link_table.specs.Links.{Links, IsTaken, less_taken, with_row_back}
 use Rattle.link_table.specs.declared.link.Link.{Link}

@@ -1,11 +1,11 @@
 -- One field exchanged with its rows: what the new rows have to say.
-use Rattle.std.specs.Prelude.{◌≡◌, ℕ, ◌<◌, Bool, true, List, [], length, Option, None, Some}
+use Rattle.std.specs.Prelude.{◌≡◌, ℕ, ◌<◌, true, List, length, Option}
 use Rattle.std.specs.List.{list_any}
 use Rattle.marc_types.specs.declared.form.Form.{Form}
 use Rattle.marc_types.specs.declared.key.Class.{Class}
 use Rattle.marc_types.specs.declared.key.Key.{Key}
 use Rattle.marc_types.specs.Order.{same_form, same_key}
-use Rattle.numbering.specs.Numbers.{number_of, IsNumberOf}
+use Rattle.numbering.specs.Numbers.{number_of}
 use Rattle.numbering.specs.declared.seat.Seat.{Seat}
 use Rattle.entry_record.specs.Authority.{is_valid_key}
 use Rattle.catalogue_rules.specs.State.{KeptField}

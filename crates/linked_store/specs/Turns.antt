@@ -7,7 +7,7 @@ use Rattle.catalogue_rules.specs.State.{KeptField}
 use Rattle.wait_table.specs.Waits.{forms_of}
 use Rattle.wait_table.specs.declared.waiting.Waiting.{Waiting}
 use Rattle.catalogue_tables.specs.Waiting.{AreNumbersOf, one_or_two}
-use Rattle.linked_store.specs.Contents.{Contents, ToLink, ToWait, apply, at_seat}
+use Rattle.linked_store.specs.Contents.{Contents, ToLink, ToWait, apply}
 use Rattle.linked_store.specs.Frames.{contents}
 use Rattle.linked_store.specs.Turning.{turned}
 use Rattle.linked_store.specs.declared.frame.Frame.{Frame}

@@ -2,7 +2,7 @@ use Rattle.std.proofs.Common.{refl, ap}
 use Rattle.std.specs.Option.{option_map}
 use Rattle.catalogue_rules.specs.State.{kept_record}
 use Rattle.numbered_store.specs.Numbered.{Numbered}
-use Rattle.linked_store.specs.Contents.{Contents, ToRecord}
+use Rattle.linked_store.specs.Contents.{ToRecord}
 use Rattle.linked_store.specs.Frames.{contents_of}
 use Rattle.linked_store.proofs.Framed.{back_stored}
 use Rattle.linked_store.proofs.back.exchange_back.Goals as goal

@@ -2,7 +2,7 @@ use Rattle.std.proofs.Common.{refl}
 use Rattle.linked_store.specs.Contents.{step_of}
 use Rattle.linked_store.specs.Frames.{steps_of}
 use Rattle.linked_store.specs.declared.frame.Frame.{Frame}
-use Rattle.linked_store.proofs.Framed.{one_less, popped_fits, popped_rooms, row_out, under_way, way_done}
+use Rattle.linked_store.proofs.Framed.{one_less, popped_fits, popped_rooms, row_out, under_way}
 use Rattle.linked_store.proofs.back.go_back.Goals as goal
 
 pub loop-change-init : goal.loop-change-init

@@ -1,7 +1,7 @@
 use Rattle.std.proofs.Common.{refl, ap}
 use Rattle.catalogue_rules.specs.State.{kept_field}
 use Rattle.numbered_store.specs.Numbered.{Numbered}
-use Rattle.linked_store.specs.Contents.{Contents, ToField}
+use Rattle.linked_store.specs.Contents.{ToField}
 use Rattle.linked_store.specs.Frames.{contents_of}
 use Rattle.linked_store.proofs.Framed.{back_stored}
 use Rattle.linked_store.proofs.back.swap_back.Goals as goal

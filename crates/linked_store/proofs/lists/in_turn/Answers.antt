@@ -1,4 +1,4 @@
-use Rattle.linked_store.proofs.Listing.{all_taken, one_taken}
+use Rattle.linked_store.proofs.Listing.{one_taken}
 use Rattle.linked_store.proofs.lists.in_turn.Goals as goal
 
 pub loop-number-preserved : goal.loop-number-preserved

@@ -1,6 +1,6 @@
 use Rattle.std.proofs.Common.{◌∙◌, sym}
 use Rattle.catalogue_rules.specs.State.{kept_field}
-use Rattle.linked_store.proofs.Wanting.{base_by, none_left, wants_heading, wants_linked, wants_plain}
+use Rattle.linked_store.proofs.Wanting.{base_by, wants_heading}
 use Rattle.linked_store.proofs.wanted.wants_of.Goals as goal
 
 pub forms_for-requires-clause-base : goal.forms_for-requires-clause-base

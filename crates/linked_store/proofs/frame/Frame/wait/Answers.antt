@@ -1,7 +1,7 @@
 use Rattle.std.proofs.Common.{refl, ap, ◌∙◌, Some}
 use Rattle.link_table.specs.Table.{links}
 use Rattle.numbering.specs.declared.seat.Seat.{Seat}
-use Rattle.wait_table.specs.Waits.{Waits, with_waiting}
+use Rattle.wait_table.specs.Waits.{with_waiting}
 use Rattle.linked_store.specs.Frames.{waits_in}
 use Rattle.linked_store.proofs.Framed.{goes_none, goes_still, goes_waiting, steps_noted, waits_from}
 use Rattle.linked_store.proofs.frame.Frame.wait.Goals as goal

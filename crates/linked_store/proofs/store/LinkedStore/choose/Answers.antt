@@ -1,4 +1,4 @@
-use Rattle.std.proofs.Common.{◌≡◌, ◌∙◌, subst, sym}
+use Rattle.std.proofs.Common.{◌≡◌, subst, sym}
 use Rattle.std.proofs.lemmas.Result.{IfOk-weaker}
 use Rattle.catalogue_rules.specs.State.{kept_field, linkable_authorities}
 use Rattle.linking_laws.specs.Middle.{AreAuthoritiesInOrder}

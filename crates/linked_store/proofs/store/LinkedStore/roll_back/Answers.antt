@@ -1,5 +1,4 @@
 use Rattle.std.proofs.Common.{◌∙◌, ap}
-use Rattle.linked_store.specs.Linked.{Linked}
 use Rattle.linked_store.proofs.Sounding.{rolled_back, sound_marked, view_marked}
 use Rattle.linked_store.proofs.store.LinkedStore.roll_back.Goals as goal
 

@@ -1,5 +1,4 @@
 use Rattle.std.proofs.Common.{◌∙◌, ap}
-use Rattle.linked_store.specs.Linked.{Linked}
 use Rattle.linked_store.proofs.Sounding.{sound_start, undone, view_start}
 use Rattle.linked_store.proofs.store.LinkedStore.undo.Goals as goal
 
