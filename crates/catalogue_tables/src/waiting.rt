@@ -3,7 +3,7 @@ ghost use Rattle.std.specs.Prelude.{◌≡◌, OnOk, OnErr, IfOk, IfSome, IfNone
 ghost use Rattle.std.specs.Option.{option_copied};
 ghost use Rattle.marc_types.specs.Order.{same_form};
 ghost use Rattle.numbering.specs.Numbers.{Keeps};
-ghost use Rattle.wait_table.specs.Waits.{IsTaken, forms_of, row_of};
+ghost use Rattle.wait_table.specs.Waits.{IsTaken, forms_of, less_taken, row_of};
 ghost use Rattle.wait_table.specs.Table.{waits};
 ghost use Rattle.catalogue_tables.specs.Waiting.{AddsWait, AreNumbersOf, PutsWaitBack, TakesWait, one_or_two};
 
@@ -77,5 +77,14 @@ impl CatalogueTables {
         ensures back { PutsWaitBack row (waits self.old.waits) (waits self.new.waits) }
     {
         self.waits.put_back(row);
+    }
+
+    /// Lets a row go that was taken, and gives back its room.
+    pub fn let_waiting_go(&mut self, row: WaitRow)
+        requires { IsTaken row (waits self.old.waits) }
+        ensures only { OnlyWaits self.old self.new }
+        ensures gone { waits self.new.waits ≡ less_taken row (waits self.old.waits) }
+    {
+        self.waits.let_go(row);
     }
 }

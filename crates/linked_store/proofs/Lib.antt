@@ -1,0 +1,10 @@
+pub mod Outside
+pub mod Going
+pub mod Framed
+pub mod Agreed
+pub mod Turned
+pub mod Sounding
+pub mod Keyed
+pub mod Wanting
+pub mod Fielded
+pub mod Listing

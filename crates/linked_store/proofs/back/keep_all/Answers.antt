@@ -1,0 +1,20 @@
+use Rattle.std.proofs.Common.{refl}
+use Rattle.linked_store.specs.Contents.{step_of}
+use Rattle.linked_store.specs.Frames.{steps_of}
+use Rattle.linked_store.specs.declared.frame.Frame.{Frame}
+use Rattle.linked_store.proofs.Framed.{keeping, last_rooms, one_gone, row_out}
+use Rattle.linked_store.proofs.back.keep_all.Goals as goal
+
+pub loop-change-init : goal.loop-change-init
+loop-change-init c = keeping c.args.frame.now c.requires
+
+pub forget-requires : goal.forget-requires
+forget-requires c =
+    let popped : Frame = record { store = c.loop-change.frame.store; tables = c.loop-change.frame.tables; log = c.pop.new.self } in
+    row_out (steps_of popped) (step_of c.in-Some.change) popped.tables
+    (last_rooms c.args.frame.now c.loop-change.frame popped c.in-Some.change c.loop-change.invariant c.in-Some.ensures.items refl)
+
+pub loop-change-preserved : goal.loop-change-preserved
+loop-change-preserved c =
+    let popped : Frame = record { store = c.loop-change.frame.store; tables = c.loop-change.frame.tables; log = c.pop.new.self } in
+    one_gone c.args.frame.now c.loop-change.frame popped c.in-Some.change c.loop-change.invariant c.in-Some.ensures.items refl _ refl refl c.forget.ensures

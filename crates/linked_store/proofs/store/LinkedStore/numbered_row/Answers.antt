@@ -1,0 +1,5 @@
+use Rattle.linked_store.proofs.Fielded.{unchanged_none}
+use Rattle.linked_store.proofs.store.LinkedStore.numbered_row.Goals as goal
+
+pub returns-in_default-clause-unchanged : goal.returns-in_default-clause-unchanged
+returns-in_default-clause-unchanged c = unchanged_none c.args.self.now

@@ -1,0 +1,9 @@
+pub mod Contents
+pub mod Fielding
+pub mod Frames
+pub mod Linked
+pub mod Rooms
+pub mod Sound
+pub mod Turning
+pub mod Turns
+pub mod Wanted

@@ -1,0 +1,110 @@
+//! The way back: the last changes are taken back, or let go, one by one and without memory.
+ghost use Rattle.std.specs.Prelude.{◌≡◌, ◌≤◌, ◌++◌, ◌∷◌, [], length, IsSome, IfSome, IfNone};
+ghost use Rattle.std.specs.Option.{option_map};
+ghost use Rattle.catalogue_rules.specs.State.{kept_field, kept_record};
+ghost use Rattle.numbered_store.specs.Numbered.{IsNumber, SuitsSeat, field_of};
+ghost use Rattle.linked_store.specs.Contents.{CanGoBack, Fits, ToField, ToLink, ToRecord, ToWait, step_of};
+ghost use Rattle.linked_store.specs.Frames.{GoesBack, IsKept, IsRoomy, IsRowOut, LetsGo, TakesBack, contents, links_in, steps_of, waits_in};
+ghost use Rattle.linked_store.specs.Rooms.{IsOut, IsWaitOut};
+
+use crate::change::Change;
+use crate::frame::Frame;
+use crate::rows::{forget_link, forget_waiting, relink, wait_again};
+use catalogue_tables::CatalogueTables;
+use marc_types::{Class, Field, Kept, Tie};
+use numbering::Seat;
+use wait_table::Waiting;
+
+/// Takes back all changes behind a position of the log.
+pub(crate) fn go_back(frame: &mut Frame, position: usize)
+    requires can { CanGoBack (steps_of frame.old) (contents frame.old) }
+    requires rooms { IsRoomy frame.old }
+    ensures { GoesBack position frame.old frame.new }
+{
+    while let Some(change) = pop_above(&mut frame.log, position) {
+        undo(frame, change);
+    }
+}
+
+/// Lets all changes go: there is no way back from here.
+pub(crate) fn keep_all(frame: &mut Frame)
+    requires { IsRoomy frame.old }
+    ensures { IsKept frame.old frame.new }
+{
+    while let Some(change) = frame.log.pop() {
+        forget(&mut frame.tables, change);
+    }
+}
+
+// The last change, where it stands behind the position.
+fn pop_above(log: &mut Vec<Change>, position: usize) -> Option<Change>
+    ensures some { IfSome result (λ change. log.old.items ≡ log.new.items ++ change ∷ []) }
+    ensures above { IfSome result (λ change. position ≤ length log.new.items) }
+    ensures none { IfNone result (log.new.items ≡ log.old.items) }
+    ensures low { IfNone result (length log.old.items ≤ position) }
+{
+    if log.len() > position {
+        log.pop()
+    } else {
+        None
+    }
+}
+
+fn undo(frame: &mut Frame, change: Change)
+    requires fits { Fits (step_of change) (contents frame.old) }
+    requires out { IsRowOut (step_of change) frame.old.tables }
+    ensures { TakesBack (step_of change) frame.old frame.new }
+{
+    match change {
+        Change::Exchanged {
+            class,
+            number,
+            before,
+        } => exchange_back(frame, class, number, before),
+        Change::Swapped { seat, field, tie } => swap_back(frame, seat, field, tie),
+        Change::Relinked { seat, before } => link_back(frame, seat, before),
+        Change::Awaited { seat, before } => wait_back(frame, seat, before),
+    }
+}
+
+fn exchange_back(frame: &mut Frame, class: Class, number: u32, before: Option<Kept>)
+    requires { IsNumber class number frame.old.store }
+    ensures { TakesBack (ToRecord class number (option_map kept_record before)) frame.old frame.new }
+{
+    let _after = frame.store.exchange(class, number, before);
+}
+
+fn swap_back(frame: &mut Frame, seat: Seat, field: Field, tie: Tie)
+    requires stands { IsSome (field_of seat frame.old.store) }
+    requires suits { SuitsSeat seat field frame.old.store }
+    ensures { TakesBack (ToField seat (kept_field field tie)) frame.old frame.new }
+{
+    let _after = frame.store.swap(seat, field, tie);
+}
+
+fn link_back(frame: &mut Frame, seat: Seat, before: Option<u32>)
+    requires { IsOut seat before (links_in frame.old.tables) }
+    ensures { TakesBack (ToLink seat before) frame.old frame.new }
+{
+    relink(&mut frame.tables, seat, before);
+}
+
+fn wait_back(frame: &mut Frame, seat: Seat, before: Option<Waiting>)
+    requires { IsWaitOut seat before (waits_in frame.old.tables) }
+    ensures { TakesBack (ToWait seat before) frame.old frame.new }
+{
+    wait_again(&mut frame.tables, seat, before);
+}
+
+// Gives back the room for what stood there before.
+fn forget(tables: &mut CatalogueTables, change: Change)
+    requires { IsRowOut (step_of change) tables.old }
+    ensures { LetsGo (step_of change) tables.old tables.new }
+{
+    match change {
+        Change::Exchanged { .. } => {}
+        Change::Swapped { .. } => {}
+        Change::Relinked { seat, before } => forget_link(tables, seat, before),
+        Change::Awaited { seat, before } => forget_waiting(tables, seat, before),
+    }
+}

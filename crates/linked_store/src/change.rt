@@ -1,0 +1,26 @@
+use marc_types::{Class, Field, Kept, Tie};
+use numbering::Seat;
+use wait_table::Waiting;
+
+/// A change that was made, with what stood there before.
+#[derive(Drop)]
+pub(crate) enum Change {
+    Exchanged {
+        class: Class,
+        number: u32,
+        before: Option<Kept>,
+    },
+    Swapped {
+        seat: Seat,
+        field: Field,
+        tie: Tie,
+    },
+    Relinked {
+        seat: Seat,
+        before: Option<u32>,
+    },
+    Awaited {
+        seat: Seat,
+        before: Option<Waiting>,
+    },
+}

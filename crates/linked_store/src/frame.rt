@@ -1,0 +1,121 @@
+//! A store, its tables and the log of their changes: each change is noted, and so it can be taken back.
+ghost use Rattle.std.specs.Prelude.{◌≡◌, OnOk, IsSome, None, Some};
+ghost use Rattle.std.specs.Option.{option_copied, option_map};
+ghost use Rattle.catalogue_rules.specs.State.{kept_field, kept_record};
+ghost use Rattle.catalogue_tables.specs.Waiting.{one_or_two};
+ghost use Rattle.numbered_store.specs.Numbered.{IsNumber, SuitsSeat, field_of};
+ghost use Rattle.linked_store.specs.Contents.{Step, ToField, ToLink, ToRecord, ToWait, apply};
+ghost use Rattle.linked_store.specs.Frames.{GoesOn, WaitsNow, contents, links_in, waits_in};
+
+use crate::change::Change;
+use crate::rows::{take_link, take_waiting};
+use catalogue_tables::CatalogueTables;
+use link_table::Link;
+use marc_types::{Class, Field, Form, Kept, NoMemory, Sequence, Tie};
+use numbered_store::NumberedStore;
+use numbering::Seat;
+use std::alloc::Global;
+
+#[derive(Drop)]
+pub(crate) struct Frame {
+    pub(crate) store: NumberedStore,
+    pub(crate) tables: CatalogueTables,
+    pub(crate) log: Vec<Change>,
+}
+
+impl Frame {
+    /// Exchanges a field and its tie.
+    pub(crate) fn swap(&mut self, seat: Seat, field: Field, tie: Tie) -> Result<(), NoMemory>
+        requires stands { IsSome (field_of seat self.old.store) }
+        requires suits { SuitsSeat seat field self.old.store }
+        ensures now { OnOk result (contents self.new ≡ apply (ToField seat (kept_field field tie)) (contents self.old)) }
+        ensures goes { GoesOn self.old self.new }
+        ensures tables { self.new.tables ≡ self.old.tables }
+    {
+        self.log.reserve(1)?;
+        let (field, tie) = self.store.swap(seat, field, tie);
+        self.log.push_reserved(Change::Swapped { seat, field, tie });
+        Ok(())
+    }
+
+    /// Exchanges a record, or none.
+    pub(crate) fn exchange(
+        &mut self,
+        class: Class,
+        number: u32,
+        kept: Option<Kept>,
+    ) -> Result<(), NoMemory>
+        requires { IsNumber class number self.old.store }
+        ensures now { OnOk result (contents self.new ≡ apply (ToRecord class number (option_map kept_record kept)) (contents self.old)) }
+        ensures goes { GoesOn self.old self.new }
+        ensures tables { self.new.tables ≡ self.old.tables }
+    {
+        self.log.reserve(1)?;
+        let before = self.store.exchange(class, number, kept);
+        self.log.push_reserved(Change::Exchanged {
+            class,
+            number,
+            before,
+        });
+        Ok(())
+    }
+
+    /// Takes the seat's link out, if there is one.
+    pub(crate) fn unlink(&mut self, seat: Seat) -> Result<(), NoMemory>
+        ensures now { OnOk result (contents self.new ≡ apply (ToLink seat None) (contents self.old)) }
+        ensures goes { GoesOn self.old self.new }
+        ensures store { self.new.store ≡ self.old.store }
+    {
+        self.log.reserve(1)?;
+        let before = take_link(&mut self.tables, seat);
+        self.log.push_reserved(Change::Relinked { seat, before });
+        Ok(())
+    }
+
+    /// Links a seat that is linked to no authority.
+    pub(crate) fn link(&mut self, alloc: Global, seat: Seat, number: u32) -> Result<(), NoMemory>
+        requires { (contents self.old).links seat ≡ None }
+        ensures now { OnOk result (contents self.new ≡ apply (ToLink seat (Some number)) (contents self.old)) }
+        ensures goes { GoesOn self.old self.new }
+        ensures store { self.new.store ≡ self.old.store }
+    {
+        self.log.reserve(1)?;
+        self.tables.add_link(alloc, Link { number, seat })?;
+        self.log
+            .push_reserved(Change::Relinked { seat, before: None });
+        Ok(())
+    }
+
+    /// Takes all that a seat waits for out, if there is any.
+    pub(crate) fn unwait(&mut self, seat: Seat) -> Result<(), NoMemory>
+        ensures now { OnOk result (contents self.new ≡ apply (ToWait seat None) (contents self.old)) }
+        ensures goes { GoesOn self.old self.new }
+        ensures store { self.new.store ≡ self.old.store }
+    {
+        self.log.reserve(1)?;
+        let before = take_waiting(&mut self.tables, seat);
+        self.log.push_reserved(Change::Awaited { seat, before });
+        Ok(())
+    }
+
+    /// Lets a seat that waits for nothing wait for one form or two, and for the keys with these numbers.
+    pub(crate) fn wait(
+        &mut self,
+        alloc: Global,
+        seat: Seat,
+        form: &Form,
+        other: Option<&Form>,
+        keys: Sequence<u32>,
+    ) -> Result<(), NoMemory>
+        requires { (contents self.old).waits seat ≡ None }
+        ensures now { OnOk result (WaitsNow seat (one_or_two form.now (option_copied other.entry)) keys self.old self.new) }
+        ensures goes { GoesOn self.old self.new }
+        ensures store { self.new.store ≡ self.old.store }
+    {
+        self.log.reserve(1)?;
+        self.tables.add_waiting(alloc, seat, form, other, keys)?;
+        self.log
+            .push_reserved(Change::Awaited { seat, before: None });
+        Ok(())
+    }
+}

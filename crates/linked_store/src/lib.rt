@@ -1,0 +1,17 @@
+//! The records of a catalogue with the tables by which a commit finds the places that it touches: one type, whose tables agree
+//! with its records, and which can go back to what it was.
+#![tactic(auto)]
+
+pub use store::LinkedStore;
+
+mod back;
+mod change;
+mod choices;
+mod fields;
+mod frame;
+mod lists;
+mod rows;
+mod store;
+mod turns;
+mod wanted;
+mod ways_back;

@@ -1,0 +1,101 @@
+ghost use Rattle.std.specs.Prelude.{◌≡◌, ◌+◌, ◌<◌, ◌^◌, length, map, IfOk, OnErr, Some, None, if◌then◌else◌};
+ghost use Rattle.std.specs.Option.{option_map};
+ghost use Rattle.marc_types.specs.Order.{same_key};
+ghost use Rattle.numbering.specs.Numbers.{is_known, number_of, IsNumberOf};
+ghost use Rattle.catalogue_rules.specs.State.{rows_of, kept_record};
+ghost use Rattle.record_store.specs.Store.{shown_row};
+ghost use Rattle.catalogue_tables.specs.Seam.{keys_in};
+ghost use Rattle.linked_store.specs.Linked.{IsNumber, IsUnchanged, empty_linked, record_at};
+
+use crate::frame::Frame;
+use catalogue_tables::CatalogueTables;
+use marc_types::{Class, Kept, Key, NoMemory};
+use numbered_store::{NumberedStore, RowMap};
+use record_store::Steps;
+use std::alloc::Global;
+use std::marker::Model;
+use std::sync::ledger::Ledger;
+
+/// The kept records of a catalogue, and the tables that find places in them. The tables agree with the records, at every
+/// moment that a caller sees; each change can be taken back without memory.
+#[derive(Drop)]
+pub struct LinkedStore {
+    pub(crate) frame: Frame,
+    pub(crate) marked: usize,
+}
+
+impl Model for LinkedStore {
+    ghost use Rattle.linked_store.specs.Linked.{Linked};
+
+    ghost Value = { Linked };
+
+    ghost use Rattle.linked_store.specs.Sound.{IsSound, linked_view};
+
+    ghost view = { λ s. linked_view s.frame s.marked };
+
+    ghost invariant = { λ s. IsSound s.frame s.marked };
+}
+
+impl LinkedStore {
+    /// No records, and nothing to go back to.
+    pub fn new(alloc: Global) -> LinkedStore
+        ensures { result ≡ empty_linked }
+    {
+        let frame = Frame {
+            store: NumberedStore::new(alloc),
+            tables: CatalogueTables::new(alloc),
+            log: Vec::new(alloc),
+        };
+        LinkedStore { frame, marked: 0 }
+    }
+
+    /// How many records of the class there are.
+    pub fn count(&self, class: Class) -> u64
+        ensures count { result ≡ length (rows_of class self.now.state) }
+        ensures fits { result < 2 ^ 32 }
+    {
+        self.frame.store.count(class)
+    }
+
+    /// The number of a key, if it has one.
+    pub fn number_of(&self, class: Class, key: &Key) -> Option<u32>
+        ensures { result ≡ (if is_known same_key (keys_in class self.now.keys) key.now
+            then Some (number_of same_key (keys_in class self.now.keys) key.now) else None) }
+    {
+        self.frame.store.number_of(class, key)
+    }
+
+    /// The number of a key, which gets the next one if it had none. No record changes.
+    pub fn number(&mut self, alloc: Global, class: Class, key: &Key) -> Result<u32, NoMemory>
+        ensures number { IfOk result (IsNumberOf same_key (keys_in class self.new.keys) key.now) }
+        ensures low { IfOk result (λ number. IsNumber class number self.new.keys) }
+        ensures unchanged { IsUnchanged self.old self.new }
+        ensures err { OnErr result (self.new ≡ self.old) }
+    {
+        self.frame.store.number(alloc, class, key)
+    }
+
+    /// The record under the key that has the number, for those who only read. It counts no step.
+    pub fn look(&self, class: Class, number: u32) -> Option<&Kept>
+        requires { IsNumber class number self.now.keys }
+        ensures { option_map (λ kept. kept_record kept.now) result ≡ record_at class number self.now }
+    {
+        self.frame.store.look(class, number)
+    }
+
+    /// The record under the key that has the number. It counts one step.
+    pub fn visit<L: Ledger>(&self, class: Class, number: u32, steps: &mut Steps<L>) -> Option<&Kept>
+        requires { IsNumber class number self.now.keys }
+        ensures kept { option_map (λ kept. kept_record kept.now) result ≡ record_at class number self.now }
+        ensures step { steps.new ≡ steps.old + 1 }
+    {
+        self.frame.store.visit(class, number, steps)
+    }
+
+    /// The records of a class in key order, for those who only read. It is made anew at each call.
+    pub fn rows(&self, alloc: Global, class: Class) -> Result<RowMap<'_>, NoMemory>
+        ensures { IfOk result (λ rows. map shown_row rows.entries ≡ rows_of class self.now.state) }
+    {
+        self.frame.store.rows(alloc, class)
+    }
+}
