@@ -31,7 +31,7 @@ files_judged room loader (library ∷ libraries) there =
   where
     first : (file : Option (List ℕ)) → room.file library.file ≡ file → IsSome file → HaveJudgements room (loader + 1) libraries
         → HaveJudgements room loader (library ∷ libraries)
-    first None is some more = absurd some
+    first None is some more = cc
     first (Some bytes) is some more =
         let here = every_judged library.code loader (items bytes) in record {
           accepted = here.accepted ∷ more.accepted;

@@ -21,7 +21,7 @@ use std::thread::Threads;
 
 /// Whether a command starts no threads.
 fn is_alone(asked: Request<'_>) -> bool
-    ensures { result ≡ is_alone (command_asked asked) }
+    ensures { result ≡ is_alone (command_asked asked.entry) }
 {
     match asked {
         Request::Run { .. } | Request::Load { .. } => false,
