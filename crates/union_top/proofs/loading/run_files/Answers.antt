@@ -75,7 +75,7 @@ returns-in-Ok-written-clause-ends g c =
       refused_is = c.has_refused.ensures ∙ ap has_refused c.as_slice-in-Ok-written.ensures;
       text_is = c.as_str.ensures.value ∙ (c.in-Ok-files_text.ensures ∙ ap (files_text c.args.libraries.now) c.as_slice.ensures);
       merged = λ tells. merged_by old new c.args.journal.now c.args.libraries.now (durable_view d) c.in-Ok.loaded.results
-    c.is_within_limits.ensures (l.whole tells) (λ told. c.close_journal-2.ensures.log (w.apart.tells ∙ (opened.tells ∙ tells)) told) tells;
+          c.is_within_limits.ensures (l.whole tells) (λ told. c.close_journal-2.ensures.log (w.apart.tells ∙ (opened.tells ∙ tells)) told) tells;
     }) t.cause
     (outputs_are old mid wrote new c.args.journal.now c.args.out.now c.args.report.now d.core.history c.requires.names opened closing (λ tells. subst (AreOutputs wrote c.args.out.now c.args.report.now) history (c.in-Ok-written.ensures.whole tells)))
 
