@@ -1,11 +1,13 @@
 mod Merging
 mod OneHistory
 mod Textual
+mod Written
 mod Ended
 mod Weights
 mod Made
 mod Crowded
 mod Unopened
+mod Judgements
 mod Remaining
 mod Complete
 mod Asked
