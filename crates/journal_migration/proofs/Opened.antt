@@ -68,8 +68,10 @@ module _ (history : List Entry) (frames : List Frame) (place version : ℕ) (old
           version = recovered.named log told ∙ two;
           has = reading log frames version front.entries (recovered.was log told) (recovered.named log told) front.holds;
           within = front.within;
-          begins = (drop (holds (is_version log told)).0 history,
-              ap (λ xs. xs ++ drop (holds (is_version log told)).0 history) front.front ∙ take-append-drop (holds (is_version log told)).0 history);
+          begins = (
+            drop (holds (is_version log told)).0 history,
+            ap (λ xs. xs ++ drop (holds (is_version log told)).0 history) front.front ∙ take-append-drop (holds (is_version log told)).0 history,
+          );
         },
       )
 

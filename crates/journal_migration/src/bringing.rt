@@ -22,7 +22,11 @@ use outside::Disk;
 use std::alloc::Global;
 
 /// Appends an entry, in a frame of its own.
-fn append_entry<D: Disk>(alloc: Global, journal: &mut Journal<D>, entry: &Entry) -> Result<(), MigrateFault>
+fn append_entry<D: Disk>(
+    alloc: Global,
+    journal: &mut Journal<D>,
+    entry: &Entry,
+) -> Result<(), MigrateFault>
     requires whole { journal.old.broken ≡ false }
     requires newest { journal.old.version ≡ 2 }
     requires admitted { IsAdmitted entry.now }
@@ -41,7 +45,12 @@ fn append_entry<D: Disk>(alloc: Global, journal: &mut Journal<D>, entry: &Entry)
 }
 
 /// Appends what a history has behind its first entries, each entry in a frame of its own.
-fn bring_rest<D: Disk>(alloc: Global, journal: &mut Journal<D>, core: &Catalogue, count: u64) -> Result<(), MigrateFault>
+fn bring_rest<D: Disk>(
+    alloc: Global,
+    journal: &mut Journal<D>,
+    core: &Catalogue,
+    count: u64,
+) -> Result<(), MigrateFault>
     requires whole { journal.old.broken ≡ false }
     requires newest { journal.old.version ≡ 2 }
     requires staged { core.now.staged ≡ [] }

@@ -49,9 +49,15 @@ fn a_history_is_brought_once(rt: HostRuntime) -> Result<(), Fail> {
 #[test]
 fn another_log_is_refused(rt: HostRuntime) -> Result<(), Fail> {
     let alloc = rt.alloc();
-    assert_eq!(rt; migrated(alloc, OLD, OLD).err(), Some(MigrateFault::OldVersion));
+    assert_eq!(rt;
+        migrated(alloc, OLD, OLD).err(),
+        Some(MigrateFault::OldVersion)
+    );
     let first = migrated(alloc, OLD, b"")?;
-    assert_eq!(rt; migrated(alloc, NO_FRAMES, first.bytes()).err(), Some(MigrateFault::NotPrefix));
+    assert_eq!(rt;
+        migrated(alloc, NO_FRAMES, first.bytes()).err(),
+        Some(MigrateFault::NotPrefix)
+    );
     let none = migrated(alloc, NO_FRAMES, b"")?;
     assert_eq!(rt; none.bytes().len(), 17);
     Ok(())
