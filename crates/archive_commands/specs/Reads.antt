@@ -11,7 +11,7 @@ use Rattle.console_lines.specs.declared.end.End.{End}
 use Rattle.console_lines.specs.declared.end.End.TheVariants.{Done, Refused, Unwritten, Told}
 use Rattle.console_lines.specs.declared.end.Unwritten.TheVariants as unwritten
 use Rattle.console_lines.specs.declared.fault.Fault.{Fault}
-use Rattle.console_lines.specs.declared.fault.Fault.TheVariants.{Usage, Input, Device, NotAJournal, Full, Memory, OldVersion}
+use Rattle.console_lines.specs.declared.fault.Fault.TheVariants.{Usage, Input, Device, NotAJournal, Full, Memory, OldVersion, OtherHistory}
 use Rattle.output_files.specs.Outputs.{IsPartWritten}
 use Rattle.outside.specs.Room.{SameBut}
 use Rattle.room_files.specs.Journals.{log_bytes, KeepsHistory, IsDurable}
@@ -50,6 +50,7 @@ EndsReading (Told (NotAJournal place)) = Unit {0}
 EndsReading (Told Full) = Unit {0}
 EndsReading (Told Memory) = Unit {0}
 EndsReading (Told OldVersion) = ⊥
+EndsReading (Told OtherHistory) = ⊥
 
 -- The commands `export` and `report`: what is due of a journal's history is written into the file OUT, and the journal keeps it.
 pub record Reads (journal out : List ℕ) (due : DueView) (o : Outcome) : Type 0 where

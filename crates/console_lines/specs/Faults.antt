@@ -5,7 +5,7 @@ use Rattle.std.specs.Io.KnownBytes.{Appends}
 use Rattle.outside.specs.Fault.{Rose}
 use Rattle.outside.specs.Sink.{WritesFront}
 use Rattle.console_lines.specs.declared.fault.Fault.{Fault}
-use Rattle.console_lines.specs.declared.fault.Fault.TheVariants.{Usage, Input, Device, NotAJournal, Full, Memory, OldVersion}
+use Rattle.console_lines.specs.declared.fault.Fault.TheVariants.{Usage, Input, Device, NotAJournal, Full, Memory, OldVersion, OtherHistory}
 
 abbrev pub fault_status : Fault → ℕ
 fault_status Usage = 2
@@ -15,6 +15,7 @@ fault_status (NotAJournal place) = 6
 fault_status Full = 7
 fault_status Memory = 8
 fault_status OldVersion = 9
+fault_status OtherHistory = 10
 
 abbrev pub fault_line : Fault → List ℕ
 fault_line Usage = codes "union_cat: usage\n"
@@ -24,6 +25,7 @@ fault_line (NotAJournal place) = codes "union_cat: not a journal at " ++ decimal
 fault_line Full = codes "union_cat: full\n"
 fault_line Memory = codes "union_cat: out of memory\n"
 fault_line OldVersion = codes "union_cat: wrong journal version\n"
+fault_line OtherHistory = codes "union_cat: other history\n"
 
 -- the console got the line, or its count of faults rose and it got a front of the line
 pub data IsFaultTold (old new : Option (List ℕ)) (before now : ℕ) (line : List ℕ) : Type 0 where

@@ -25,6 +25,8 @@ pub enum Fault {
     Memory,
     /// The journal has an older version.
     OldVersion,
+    /// The new journal holds another history than the old one.
+    OtherHistory,
 }
 
 impl Fault {
@@ -40,6 +42,7 @@ impl Fault {
             Fault::Full => 7,
             Fault::Memory => 8,
             Fault::OldVersion => 9,
+            Fault::OtherHistory => 10,
         }
     }
 }
@@ -68,6 +71,7 @@ fn write_fault<K: Sink>(console: &mut K, fault: Fault) -> Result<(), Failed>
         Fault::Full => console.write_all(b"union_cat: full\n"),
         Fault::Memory => console.write_all(b"union_cat: out of memory\n"),
         Fault::OldVersion => console.write_all(b"union_cat: wrong journal version\n"),
+        Fault::OtherHistory => console.write_all(b"union_cat: other history\n"),
     }
 }
 

@@ -30,6 +30,7 @@ either_fault (fault.NotAJournal place) other = inr (other (λ is. cc))
 either_fault fault.Full other = inr (other (λ is. cc))
 either_fault fault.Memory other = inr refl
 either_fault fault.OldVersion other = inr (other (λ is. cc))
+either_fault fault.OtherHistory other = inr (other (λ is. cc))
 
 -- a fault of opening a journal is none of an input
 pub opening_device : (of : OpenFault) → fault_of_opening of ≡ fault.Device → of ≡ opening.DeviceFault

@@ -6,7 +6,7 @@ use Rattle.catalogue_core.specs.Catalogues.{Catalogued, is_full}
 use Rattle.file_entries.specs.Files.{IsEntryOf, IsJudged}
 use Rattle.file_entries.specs.declared.refused.RefusedItem.{RefusedItem}
 use Rattle.console_lines.specs.declared.fault.Fault.{Fault}
-use Rattle.console_lines.specs.declared.fault.Fault.TheVariants.{Usage, Input, Device, NotAJournal, Full, Memory, OldVersion}
+use Rattle.console_lines.specs.declared.fault.Fault.TheVariants.{Usage, Input, Device, NotAJournal, Full, Memory, OldVersion, OtherHistory}
 use Rattle.console_lines.specs.declared.totals.Sums.{Sums}
 use Rattle.plain_commands.specs.Totals.{holding, IsWithinLimits, IsSummed}
 
@@ -57,3 +57,4 @@ EndsLoading Usage = ⊥
 EndsLoading Device = ⊥
 EndsLoading (NotAJournal place) = ⊥
 EndsLoading OldVersion = ⊥
+EndsLoading OtherHistory = ⊥

@@ -67,6 +67,7 @@ pass_why fault.Usage kind input full = absurd kind
 pass_why fault.Device kind input full = absurd kind
 pass_why (fault.NotAJournal place) kind input full = absurd kind
 pass_why fault.OldVersion kind input full = absurd kind
+pass_why fault.OtherHistory kind input full = absurd kind
 
 -- one of loading that does
 load_why : (why : Fault) → Remains why → why ≢ fault.Usage → (why ≡ fault.Input → ⊥) → (why ≡ fault.Device → ⊥) → why ≡ fault.Memory
@@ -77,6 +78,7 @@ load_why (fault.NotAJournal place) remains usage input device = absurd remains
 load_why fault.Full remains usage input device = absurd remains
 load_why fault.Memory remains usage input device = refl
 load_why fault.OldVersion remains usage input device = absurd remains
+load_why fault.OtherHistory remains usage input device = absurd remains
 
 -- one of an opening that does, where an old version is read too
 read_why : (log : List ℕ) (of : OpenFault) → MayBe log of → EndsReading (Told (fault_of_opening of)) → (fault_of_opening of ≡ fault.Device → ⊥) → fault_of_opening of ≡ fault.Memory
@@ -180,6 +182,7 @@ two_is_usage (Told (fault.NotAJournal place)) two = cc
 two_is_usage (Told fault.Full) two = cc
 two_is_usage (Told fault.Memory) two = cc
 two_is_usage (Told fault.OldVersion) two = cc
+two_is_usage (Told fault.OtherHistory) two = cc
 
 pub same_command : (one other : Command) → Some one ≡ Some other → one ≡ other
 same_command one other is = cc

@@ -37,6 +37,7 @@ Remains (fault.NotAJournal place) = ⊥
 Remains fault.Full = ⊥
 Remains fault.Memory = Unit {0}
 Remains fault.OldVersion = ⊥
+Remains fault.OtherHistory = ⊥
 
 of_opening : (log : List ℕ) (of : OpenFault) (why : Fault) → why ≡ fault_of_opening of → version_of log ≡ 2 → MayBe log of → Remains why
 of_opening log opening.DeviceFault why is version may = subst Remains (sym is) tt

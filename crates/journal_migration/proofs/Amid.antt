@@ -1,0 +1,44 @@
+-- Images with a front of a history.
+use Rattle.std.proofs.Common.{◌≡◌, ◌⊎◌, inl, inr, ℕ, ◌+◌, ◌<◌, ◌≤◌, List, [], ◌∷◌, ◌++◌, length, take, drop, get_or, slice_get, Some, refl, sym, ap, subst, ◌∙◌, arith, take-append-drop}
+use Rattle.std.proofs.lemmas.Grind.{common_steps}
+use Rattle.std.proofs.lemmas.List.{take_more, take_all, take-append-le, drop_more}
+use Rattle.std.proofs.lemmas.Option.{get_or_from_slice_get, slice_get_within}
+use Rattle.std.proofs.Math.Logic.{∥∥₁_map}
+use Rattle.marc_types.specs.declared.entry.Entry.{Entry}
+use Rattle.durable_catalogue.specs.Logs.{IsLogOf, HasHistory}
+use Rattle.journal_migration.specs.Migrations.{IsAmid, Before, Behind}
+
+module _ (history : List Entry) (at : ℕ) (e : Entry) (there : slice_get history at ≡ Some e) where
+  pub entry_within : at < length history
+  entry_within = slice_get_within history at e there
+
+  entry_is : get_or history at e ≡ e
+  entry_is = get_or_from_slice_get history at e e there
+
+  -- the entries up to this one
+  pub one_more : take (at + 1) history ≡ take at history ++ e ∷ []
+  one_more = take_more history at e entry_within ∙ ap (λ x. take at history ++ x ∷ []) entry_is
+
+  -- and those behind it
+  pub split_at : history ≡ take at history ++ e ∷ drop (at + 1) history
+  split_at = sym (take-append-drop at history) ∙ ap (λ xs. take at history ++ xs) (drop_more history at e entry_within ∙ ap (λ x. x ∷ drop (at + 1) history) entry_is)
+
+-- a front of a front
+front_front : (xs : List Entry) (n m : ℕ) → n ≤ m → m ≤ length xs → take n (take m xs) ≡ take n xs
+front_front xs n m shorter within = grind (arith, common_steps)
+
+pub amid : (history : List Entry) (count n : ℕ) (c : List ℕ) → count ≤ n → n ≤ length history → IsLogOf (take n history) c → IsAmid history (take count history) c
+amid history count n c least most has =
+    let more : List Entry = drop count (take n history) in
+    let split : take count history ++ more ≡ take n history =
+    ap (λ xs. xs ++ more) (sym (front_front history count n least most)) ∙ take-append-drop count (take n history) in
+    Behind more (drop n history) (ap (λ xs. xs ++ drop n history) split ∙ take-append-drop n history) (subst (λ es. IsLogOf es c) (sym split) has)
+
+-- so many, or one more
+pub amid_either : (history : List Entry) (count at : ℕ) (e : Entry) (c : List ℕ) → count ≤ at → slice_get history at ≡ Some e
+    → IsLogOf (take at history) c ⊎ IsLogOf (take at history ++ e ∷ []) c → IsAmid history (take count history) c
+amid_either history count at e c least there (inl has) =
+    let within = entry_within history at e there in amid history count at c least (omega (arith, within)) has
+amid_either history count at e c least there (inr has) =
+    let within = entry_within history at e there in
+    amid history count (at + 1) c (omega (arith, least)) (omega (arith, within)) (subst (λ es. IsLogOf es c) (sym (one_more history at e there)) has)

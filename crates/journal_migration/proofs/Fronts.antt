@@ -1,0 +1,104 @@
+-- The entries with which a history begins, one after the other.
+use Rattle.std.proofs.Common.{◌≡◌, ◌⊎◌, inl, inr, ℕ, ◌+◌, ◌<◌, ◌≤◌, List, [], ◌∷◌, ◌++◌, length, take, drop, get_or, slice_get, Option, Some, None, refl, sym, ap, subst, ◌∙◌, arith, length-append, take-append-drop}
+use Rattle.std.proofs.Math.Seq.{take-append_seam}
+use Rattle.std.proofs.lemmas.List.{take_more, take_all, get_or_append_left, append-nil}
+use Rattle.std.proofs.lemmas.List.Sums.{sum_by-append, sum_by-cons, sum_by-take-le}
+use Rattle.std.proofs.lemmas.Option.{get_or_from_slice_get, slice_get_within, slice_get-get_or, slice_get_cases, none-some}
+use Rattle.marc_types.specs.declared.entry.Entry.{Entry}
+use Rattle.marc_types.specs.declared.entry.Limits.{Limits}
+use Rattle.commit_journal.specs.declared.frame.Frame.{Frame}
+use Rattle.std.specs.List.{All}
+use Rattle.entry_record.specs.History.{IsAdmitted, entry_size, entries_size, IsWithin}
+use Rattle.catalogue_core.specs.Catalogues.{Catalogued, all_entries}
+use Rattle.entry_history.specs.Payloads.{IsHistory}
+use Rattle.entry_history.proofs.Histories.{history_once}
+use Rattle.durable_catalogue.specs.Logs.{payloads_of}
+use Rattle.journal_migration.specs.Migrations.{Begins, AreWithin}
+use Rattle.journal_migration.specs.Fronts.{HoldsFront}
+
+-- the sizes of the first entries, so many
+pub size_more : (items : List Entry) (i : ℕ) (e : Entry) → i < length items → e ≡ get_or items i e → entries_size (take (i + 1) items) ≡ entries_size (take i items) + entry_size e
+size_more items i e within is =
+    ap entries_size (take_more items i e within) ∙ sum_by-append entry_size (take i items) (get_or items i e ∷ []) ∙ ap (λ n. entries_size (take i items) + n) (one (get_or items i e) ∙ ap entry_size (sym is))
+  where
+    one : (x : Entry) → entries_size (x ∷ []) ≡ entry_size x
+    one x = let first = sum_by-cons entry_size x [] in omega (arith, first)
+
+pub size_front : (items : List Entry) (i : ℕ) → entries_size (take i items) ≤ entries_size items
+size_front items i = sum_by-take-le entry_size items i
+
+pub size_all : (items : List Entry) (i : ℕ) → length items ≤ i → entries_size (take i items) ≡ entries_size items
+size_all items i whole = ap entries_size (take_all i items whole)
+
+-- the first so many are those of the history
+pub record AreSame (history items : List Entry) (at : ℕ) : Type 0 where
+  pub most : at ≤ length history
+  pub same : take at items ≡ take at history
+
+pub none_same : (history items : List Entry) → AreSame history items 0
+none_same history items = record { most = omega arith; same = refl }
+
+module _ (history items : List Entry) (at : ℕ) (so_far : AreSame history items at) where
+  pub one_same : (item : Entry) → at < length items → item ≡ get_or items at item → slice_get history at ≡ Some item → AreSame history items (at + 1)
+  one_same item within is there =
+      let inside = slice_get_within history at item there in
+      let both : get_or items at item ≡ get_or history at item = sym is ∙ sym (get_or_from_slice_get history at item item there) in
+      record {
+        most = omega (arith, inside);
+        same = take_more items at item within ∙ ap (λ x. take at items ++ x ∷ []) both ∙ ap (λ xs. xs ++ get_or history at item ∷ []) so_far.same ∙ sym (take_more history at item inside);
+      }
+
+  pub all_same : length items ≤ at → Begins history items
+  all_same whole = (drop at history, ap (λ xs. xs ++ drop at history) (sym (take_all at items whole) ∙ so_far.same) ∙ take-append-drop at history)
+
+-- a history that has no such entry, or another there
+pub ends_before : (history items : List Entry) (at : ℕ) (item : Entry) → at < length items → slice_get history at ≡ None → Begins history items → ⊥
+ends_before history items at item within none begins =
+    let long : at < length history = omega (arith, within, ap length begins.1, length-append items begins.0) in
+    none-some (get_or history at item) (sym none ∙ slice_get-get_or history at item long)
+
+pub has_other : (history items : List Entry) (at : ℕ) (e item : Entry) → at < length items → item ≡ get_or items at item → slice_get history at ≡ Some e
+    → (e ≡ item → ⊥) → Begins history items → ⊥
+has_other history items at e item within is there other begins =
+    other (sym (get_or_from_slice_get history at e item there) ∙ ap (λ xs. get_or xs at item) (sym begins.1) ∙ get_or_append_left items begins.0 item at within ∙ sym is)
+
+-- the entries of frames, with which a history begins
+pub front_held : (version : ℕ) (frames : List Frame) (limits : Limits) (history items : List Entry) → IsHistory version [] (payloads_of frames) items
+    → AreWithin limits history items → Begins history items → HoldsFront version frames limits history (length items)
+front_held version frames limits history items holds within begins = record {
+  entries = items;
+  holds = holds;
+  within = within;
+  front = sym (take-append_seam items begins.0) ∙ ap (λ xs. take (length items) xs) begins.1;
+  most = omega (arith, ap length begins.1, length-append items begins.0);
+}
+
+pub front_most : (history items : List Entry) → Begins history items → length items ≤ length history
+front_most history items begins = omega (arith, ap length begins.1, length-append items begins.0)
+
+-- the entry there, where nothing is staged
+pub there_is : (core : Catalogued) (at : ℕ) (e item : Entry) → core.staged ≡ [] → Some e ≡ slice_get (all_entries core) at → e ≡ item → slice_get core.history at ≡ Some item
+there_is core at e item unstaged there same =
+    ap (λ es. slice_get es at) (sym (append-nil core.history) ∙ ap (λ es. core.history ++ es) (sym unstaged)) ∙ sym there ∙ ap Some same
+
+pub admitted_at : (entries : List Entry) (at : ℕ) (e : Entry) → All IsAdmitted entries → Some e ≡ slice_get entries at → IsAdmitted e
+admitted_at entries at e all there =
+    subst IsAdmitted (get_or_from_slice_get entries at e e (sym there)) (all at e (slice_get_within entries at e (sym there)))
+
+-- no entry there, where nothing is staged
+pub ends_there : (core : Catalogued) (at : ℕ) → core.staged ≡ [] → None ≡ slice_get (all_entries core) at → length core.history ≤ at
+ends_there core at unstaged none = decided (slice_get_cases core.history at).1
+  where
+    none_there : slice_get core.history at ≡ None
+    none_there = ap (λ es. slice_get es at) (sym (append-nil core.history) ∙ ap (λ es. core.history ++ es) (sym unstaged)) ∙ sym none
+
+    decided : ((x : Entry) × (at < length core.history) × (slice_get core.history at ≡ Some x) × (get_or core.history at x ≡ x))
+        ⊎ ((length core.history ≤ at) × (slice_get core.history at ≡ None)) → length core.history ≤ at
+    decided (inl s) = absurd (none-some s.0 (sym none_there ∙ s.2))
+    decided (inr s) = s.0
+
+-- frames hold one front
+pub front_is : (version : ℕ) (frames : List Frame) (limits : Limits) (history : List Entry) (count : ℕ) (entries : List Entry)
+    → HoldsFront version frames limits history count → IsHistory version [] (payloads_of frames) entries → take count history ≡ entries
+front_is version frames limits history count entries front held =
+    sym front.front ∙ history_once version [] front.entries entries (payloads_of frames) front.holds held

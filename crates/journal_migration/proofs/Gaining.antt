@@ -1,0 +1,156 @@
+-- A journal that gains the rest of a history.
+use Rattle.std.proofs.Common.{◌≡◌, ◌⊎◌, inl, inr, ℕ, ◌+◌, ◌<◌, ◌≤◌, List, [], ◌∷◌, ◌++◌, length, take, drop, slice_get, Some, is_some, refl, sym, ap, subst, ◌∙◌, arith, Bool, false}
+use Rattle.std.proofs.lemmas.List.{take_all}
+use Rattle.std.proofs.Math.Logic.{∥∥₁_map, ∥∥₁_elim, ∥∥₁_prop}
+use Rattle.marc_types.specs.declared.entry.Entry.{Entry}
+use Rattle.outside.specs.Disk.{DiskView, OnlyContent, LeavesOnly}
+use Rattle.commit_journal.specs.declared.frame.Frame.{Frame}
+use Rattle.commit_journal.specs.Log.{frames_of, version_of}
+use Rattle.commit_journal.specs.Journal as journal
+use Rattle.commit_journal.specs.Journal.{and_frame, Continues, IsSettled}
+use Rattle.commit_journal.proofs.Logs.{version_two}
+use Rattle.commit_journal.proofs.Steps.{continues_then}
+use Rattle.entry_record.specs.Payload.{payload_of}
+use Rattle.entry_history.specs.Payloads.{IsEntry, CanFollow, Holds}
+use Rattle.entry_payload.proofs.Payloads.{held_alone}
+use Rattle.durable_catalogue.specs.Logs.{IsLogOf, HasHistory}
+use Rattle.durable_catalogue.proofs.Keeping.{some_of}
+use Rattle.durable_catalogue.proofs.Readings.{either_reading, longer_reading}
+use Rattle.journal_migration.specs.Migrations.{IsAmid, Before}
+use Rattle.journal_migration.specs.Fronts.{EachFollows, Extends, Brings, HasBrought, HasOneMoreOrNot, TriesEntry, AddsEntry}
+use Rattle.journal_migration.proofs.Amid.{entry_within, one_more, split_at, amid_either}
+use Rattle.journal_migration.proofs.Following.{follows_at}
+
+-- nothing happens to a disk
+pub continues_self : (disk : DiskView) → Continues disk disk
+continues_self disk = record {
+  later = omega arith;
+  keeps = λ t c before left. left;
+  syncs = λ t s before synced. synced;
+  dated = refl;
+  tells = refl;
+}
+
+module _ (disk : DiskView) (only : OnlyContent disk) (last : (c : List ℕ) → disk.left disk.moment c → disk.image c) where
+  pub tries_none : (e : Entry) → TriesEntry e disk disk
+  tries_none e log before told has follows = record {
+    now = λ c image. still c (only log c told image);
+    each = λ c left. still c (only log c told (last c left));
+    since = λ t c earlier left. inl left;
+  }
+    where
+      still : (c : List ℕ) → c ≡ log → HasOneMoreOrNot before e c
+      still c is = ∥∥₁_map (subst (HasHistory before) (sym is) has) (λ reading. inl reading)
+
+  pub brings_none : (history entries : List Entry) → Brings history entries disk disk
+  brings_none history entries log told has follows = record {
+    since = λ t c earlier left. inl left;
+    now = λ c image. ∥∥₁_map (subst (HasHistory entries) (sym (only log c told image)) has) (λ reading. Before reading);
+  }
+
+-- an entry is appended in a frame
+module _ (e : Entry) (entry : IsEntry e) (place : ℕ) (old new : DiskView) (settled : IsSettled place 2 old) (frame : Frame) (is : frame.payload ≡ payload_of e) where
+  held : (log : List ℕ) (before : List Entry) → old.content ≡ Some log → CanFollow before e.run → Holds (version_of log) before (e ∷ []) frame.payload
+  held log before told follows =
+      subst (λ v. Holds v before (e ∷ []) frame.payload) (sym (version_two log (settled.header log told)))
+      (subst (λ p. Holds 2 before (e ∷ []) p) (sym is) (held_alone before e entry follows))
+
+  pub tries_frame : ((log : List ℕ) → old.content ≡ Some log → LeavesOnly old new (journal.HasFrameOrNot log frame)) → TriesEntry e old new
+  tries_frame leaves log before told has follows = record {
+    now = λ c image. either c ((leaves log told).now c image);
+    each = λ c left. either c ((leaves log told).each c left);
+    since = λ t c earlier left. or_either c ((leaves log told).since t c earlier left);
+  }
+    where
+      either : (c : List ℕ) → journal.HasFrameOrNot log frame c → HasOneMoreOrNot before e c
+      either c left = ∥∥₁_map has (λ reading. either_reading before (e ∷ []) log c frame (held log before told follows) left reading)
+
+      or_either : (c : List ℕ) {P : Type 0} → P ⊎ journal.HasFrameOrNot log frame c → P ⊎ HasOneMoreOrNot before e c
+      or_either c (inl was) = inl was
+      or_either c (inr left) = inr (either c left)
+
+  pub adds_frame : (next : ℕ) → IsSettled next 2 new
+      → ((b c : List ℕ) → old.content ≡ Some b → new.content ≡ Some c → frames_of c ≡ and_frame (frames_of b) frame) → AddsEntry e old new
+  adds_frame next settled_now appended log now before told has follows is_now =
+      let version : version_of now ≡ version_of log = version_two now (settled_now.header now is_now) ∙ sym (version_two log (settled.header log told)) in
+      ∥∥₁_map has (λ reading. longer_reading before (e ∷ []) log now frame (appended log now told is_now) version (held log before told follows) reading)
+
+-- one entry more
+module _ (history : List Entry) (count at : ℕ) (e : Entry) (least : count ≤ at) (there : slice_get history at ≡ Some e) (old mid new : DiskView)
+    (continues : Continues old mid) (so_far : Brings history (take count history) old mid) (has_so_far : HasBrought history (take count history) (take at history) old mid) where
+  told_mid : (log : List ℕ) → old.content ≡ Some log → (now : List ℕ) × (mid.content ≡ Some now)
+  told_mid log told = some_of mid.content (continues.tells ∙ ap is_some told)
+
+  follows_now : EachFollows [] history → CanFollow (take at history) e.run
+  follows_now each = follows_at [] (take at history) e (drop (at + 1) history) (subst (λ es. EachFollows [] es) (split_at history at e there) each)
+
+  pub brings_more : TriesEntry e mid new → Brings history (take count history) old new
+  brings_more tries log told has each =
+      let now = told_mid log told in
+      let left = tries now.0 (take at history) now.1 (has_so_far log now.0 told has each now.1) (follows_now each) in
+      let before = so_far log told has each in
+      record {
+        since = λ t c earlier is. since_left c (before.since t c earlier) (left.since t c (omega (arith, earlier, continues.later)) is);
+        now = λ c image. either c (left.now c image);
+      }
+    where
+      either : (c : List ℕ) → HasOneMoreOrNot (take at history) e c → ∥ IsAmid history (take count history) c ∥₁
+      either c has = ∥∥₁_map has (λ one. amid_either history count at e c least there one)
+
+      since_left : (c : List ℕ) {P Q : Type 0} → (Q → P ⊎ ∥ IsAmid history (take count history) c ∥₁) → Q ⊎ HasOneMoreOrNot (take at history) e c
+          → P ⊎ ∥ IsAmid history (take count history) c ∥₁
+      since_left c before (inl was) = before was
+      since_left c before (inr is) = inr (either c is)
+
+  pub has_more : AddsEntry e mid new → HasBrought history (take count history) (take (at + 1) history) old new
+  has_more adds log now told has each is_now =
+      let before = told_mid log told in
+      subst (λ es. HasHistory es now) (sym (one_more history at e there))
+      (adds before.0 now (take at history) before.1 (has_so_far log before.0 told has each before.1) (follows_now each) is_now)
+
+pub has_first : (history : List Entry) (count : ℕ) (disk : DiskView) → HasBrought history (take count history) (take count history) disk disk
+has_first history count disk log now told has each is = let same : log ≡ now = cc (told, is) in subst (λ c. HasHistory (take count history) c) same has
+
+-- so many entries of a history are in the journal, more than at first or as many
+pub record IsBringing (history : List Entry) (count at : ℕ) (old now : DiskView) (broken : Bool) (version : ℕ) : Type 0 where
+  pub least : count ≤ at
+  pub most : at ≤ length history
+  pub whole : broken ≡ false
+  pub newest : version ≡ 2
+  pub continues : Continues old now
+  pub brings : Brings history (take count history) old now
+  pub has : HasBrought history (take count history) (take at history) old now
+  pub later : old.faults ≤ now.faults
+
+pub bringing_first : (history : List Entry) (count : ℕ) (disk : DiskView) (broken : Bool) (version : ℕ) → OnlyContent disk
+    → ((c : List ℕ) → disk.left disk.moment c → disk.image c) → count ≤ length history → broken ≡ false → version ≡ 2
+    → IsBringing history count count disk disk broken version
+bringing_first history count disk broken version only last within whole newest = record {
+  least = omega arith;
+  most = within;
+  whole = whole;
+  newest = newest;
+  continues = continues_self disk;
+  brings = brings_none disk only last history (take count history);
+  has = has_first history count disk;
+  later = omega arith;
+}
+
+pub bringing_more : (history : List Entry) (count at : ℕ) (e : Entry) (old mid new : DiskView) (broken now_broken : Bool) (version now_version : ℕ)
+    → IsBringing history count at old mid broken version → slice_get history at ≡ Some e → Continues mid new → TriesEntry e mid new → AddsEntry e mid new
+    → mid.faults ≤ new.faults → now_broken ≡ false → now_version ≡ 2 → IsBringing history count (at + 1) old new now_broken now_version
+bringing_more history count at e old mid new broken now_broken version now_version so_far there continues tries adds later whole newest = record {
+  least = omega (arith, so_far.least);
+  most = let within = entry_within history at e there in omega (arith, within);
+  whole = whole;
+  newest = newest;
+  continues = continues_then old mid new so_far.continues continues;
+  brings = brings_more history count at e so_far.least there old mid new so_far.continues so_far.brings so_far.has tries;
+  has = has_more history count at e so_far.least there old mid new so_far.continues so_far.brings so_far.has adds;
+  later = omega (arith, so_far.later, later);
+}
+
+-- at the end of a history
+pub bringing_all : (history : List Entry) (count at : ℕ) (old now : DiskView) → length history ≤ at → HasBrought history (take count history) (take at history) old now
+    → HasBrought history (take count history) history old now
+bringing_all history count at old now whole has = subst (λ es. HasBrought history (take count history) es old now) (take_all at history whole) has

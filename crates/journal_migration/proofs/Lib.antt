@@ -1,0 +1,5 @@
+pub mod Amid
+pub mod Gaining
+pub mod Following
+pub mod Fronts
+pub mod Opened

@@ -1,0 +1,172 @@
+-- What a migration leaves, from the opening of the journal and what was brought into it.
+use Rattle.std.proofs.Common.{◌≡◌, ◌⊎◌, inl, inr, ℕ, ◌+◌, ◌<◌, ◌≤◌, true, List, [], ◌∷◌, ◌++◌, length, take, Some, None, is_some, Ok, refl, sym, ap, subst, ◌∙◌, arith, drop, Bool, false, take-append-drop}
+use Rattle.std.specs.Prelude.{◌≢◌}
+use Rattle.std.proofs.lemmas.Option.{none-some}
+use Rattle.std.proofs.Math.Logic.{∥∥₁_map, ∥∥₁_elim, ∥∥₁_prop}
+use Rattle.marc_types.specs.declared.entry.Entry.{Entry}
+use Rattle.marc_types.specs.declared.entry.Limits.{Limits}
+use Rattle.outside.specs.Disk.{DiskView, OnlyContent}
+use Rattle.outside.specs.Fault.{Rose}
+use Rattle.commit_journal.specs.declared.frame.Frame.{Frame}
+use Rattle.commit_journal.specs.declared.fault.JournalFault.{JournalFault}
+use Rattle.commit_journal.specs.declared.fault.JournalFault.TheVariants as journal
+use Rattle.commit_journal.specs.Log.{frames_of, version_of}
+use Rattle.commit_journal.specs.Journal.{Continues, IsRecovered, Opens, HasOpenCause, LeavesContent}
+use Rattle.entry_history.specs.Readers.{IsVersion}
+use Rattle.entry_history.specs.Payloads.{IsHistory}
+use Rattle.durable_catalogue.specs.Logs.{payloads_of, IsLogOf, HasHistory}
+use Rattle.durable_catalogue.specs.Openings.{IsBadFrame, NoGate, NoPayload, IsOpening, KeepsContent}
+use Rattle.durable_catalogue.proofs.Keeping.{some_of}
+use Rattle.durable_catalogue.proofs.Opened.{reading, opening_of, either_version}
+use Rattle.durable_catalogue.proofs.Readings.{same_log}
+use Rattle.journal_migration.specs.declared.fault.MigrateFault.{MigrateFault}
+use Rattle.journal_migration.specs.declared.fault.MigrateFault.TheVariants.{DeviceFault, NotAJournal, OldVersion, Full, NotPrefix, NoMemory}
+use Rattle.durable_catalogue.specs.Faults.{open_fault}
+use Rattle.durable_catalogue.specs.declared.fault.OpenFault.TheVariants as opening
+use Rattle.journal_migration.specs.Faults.{migrate_fault}
+use Rattle.journal_migration.specs.Migrations.{IsFit, IsUnmigrated, IsMigration, IsAmid, Before}
+use Rattle.journal_migration.specs.Fronts.{EachFollows, HoldsFront, HoldNoFront, Extends, Brings, HasBrought}
+use Rattle.journal_migration.proofs.Following.{log_follows}
+
+-- nothing was brought
+pub opened_alone : (history : List Entry) (old new : DiskView) → Opens old new → LeavesContent old new → IsMigration history old new
+opened_alone history old new opens leaves =
+    let opening : IsOpening old new = opening_of old new opens in
+    record {
+      images = λ s log c entries synced told left has. ∥∥₁_map (opening.history s log c entries synced told left has) (λ is. Before is);
+      content = λ log c entries told is_now has. ∥∥₁_map has (λ is. Before (same_log entries log c (leaves log c told is_now).same is));
+      unsynced = opening.unsynced;
+      dated = opening.dated;
+      tells = opening.tells;
+    }
+
+module _ (history : List Entry) (frames : List Frame) (place version : ℕ) (old mid : DiskView) (recovered : IsRecovered frames place version old mid)
+    (opens : Opens old mid) where
+  -- the log's entries are those of the frames
+  pub of_frames : (log : List ℕ) (entries : List Entry) → old.content ≡ Some log → IsLogOf entries log → IsHistory version [] (payloads_of frames) entries
+  of_frames log entries told is =
+      let same : is.frames ≡ frames = cc (is.found, recovered.was log told) in
+      subst (λ v. IsHistory v [] (payloads_of frames) entries) (recovered.named log told) (subst (λ fs. IsHistory (version_of log) [] (payloads_of fs) entries) same is.holds)
+
+  pub is_version : (log : List ℕ) → old.content ≡ Some log → IsVersion version
+  is_version log told = subst IsVersion (recovered.named log told) (either_version log)
+
+  -- the disk tells the log that was brought into order, with the same history
+  told_mid : (leaves : LeavesContent old mid) (log : List ℕ) (entries : List Entry) → old.content ≡ Some log → IsLogOf entries log
+      → (now : List ℕ) × (mid.content ≡ Some now) × HasHistory entries now
+  told_mid leaves log entries told is =
+      let now = some_of mid.content (opens.continues.tells ∙ ap is_some told) in
+      (now.0, now.1, ∣ same_log entries log now.0 (leaves log now.0 told now.1).same is ∣₁)
+
+  -- the log is one into which the history is brought
+  pub fit : (limits : Limits) → version ≡ 2 → (IsVersion version → (count : ℕ) × HoldsFront version frames limits history count)
+      → (log : List ℕ) → old.content ≡ Some log → (entries : List Entry) × IsFit limits history entries log
+  fit limits two holds log told =
+      let front = (holds (is_version log told)).1 in (
+        front.entries,
+        record {
+          version = recovered.named log told ∙ two;
+          has = reading log frames version front.entries (recovered.was log told) (recovered.named log told) front.holds;
+          within = front.within;
+          begins = (
+            drop (holds (is_version log told)).0 history,
+            ap (λ xs. xs ++ drop (holds (is_version log told)).0 history) front.front ∙ take-append-drop (holds (is_version log told)).0 history,
+          );
+        },
+      )
+
+  module _ (leaves : LeavesContent old mid) (new : DiskView) (continues : Continues mid new) (was : List ℕ) (is_history : HasHistory history was)
+      (images : (c : List ℕ) → new.content ≡ Some c → new.image c) where
+    tells_now : is_some new.content ≡ is_some old.content
+    tells_now = continues.tells ∙ opens.continues.tells
+
+    -- after all was brought
+    pub brought_all : (limits : Limits) → version ≡ 2 → (IsVersion version → (count : ℕ) × HoldsFront version frames limits history count)
+        → ((entries : List Entry) → IsVersion version → IsHistory version [] (payloads_of frames) entries → HasBrought history entries history mid new)
+        → (now : List ℕ) → new.content ≡ Some now → HasHistory history now
+    brought_all limits two holds brought now is_now =
+        let log = some_of old.content (sym tells_now ∙ ap is_some is_now) in
+        let front = fit limits two holds log.0 log.1 in
+        let ordered = told_mid leaves log.0 front.0 log.1 front.1.has in
+        ∥∥₁_elim is_history ∥∥₁_prop (λ (reads : IsLogOf history was).
+        brought front.0 (is_version log.0 log.1) (of_frames log.0 front.0 log.1 front.1.has) ordered.0 now ordered.1 ordered.2 (log_follows history was reads) is_now)
+
+    pub images_all : (limits : Limits) → version ≡ 2 → (IsVersion version → (count : ℕ) × HoldsFront version frames limits history count)
+        → ((entries : List Entry) → IsVersion version → IsHistory version [] (payloads_of frames) entries → HasBrought history entries history mid new)
+        → OnlyContent new → (c : List ℕ) → is_some old.content ≡ true → new.image c → HasHistory history c
+    images_all limits two holds brought only c told image =
+        let now = some_of new.content (tells_now ∙ told) in
+        subst (λ bytes. HasHistory history bytes) (sym (only now.0 c now.1 image)) (brought_all limits two holds brought now.0 now.1)
+
+    module _ (brings : (entries : List Entry) → IsVersion version → IsHistory version [] (payloads_of frames) entries → Brings history entries mid new) where
+      extended : (log : List ℕ) (entries : List Entry) → old.content ≡ Some log → IsLogOf entries log → IsLogOf history was → Extends history entries mid new
+      extended log entries told is reads =
+          let ordered = told_mid leaves log entries told is in
+          brings entries (is_version log told) (of_frames log entries told is) ordered.0 ordered.1 ordered.2 (log_follows history was reads)
+
+      module _ (bounded : (s : ℕ) → mid.synced old.moment ≡ Some s → s ≤ mid.moment) (synced : old.dated ≡ true → is_some (mid.synced old.moment) ≡ true)
+          (undated : new.dated ≡ false → new.synced old.moment ≡ None) where
+        dated_now : new.dated ≡ old.dated
+        dated_now = continues.dated ∙ opens.continues.dated
+
+        -- the opening's first sync stays the first
+        first_sync : old.dated ≡ true → (s : ℕ) × (mid.synced old.moment ≡ Some s) × (new.synced old.moment ≡ Some s)
+        first_sync dated = let s = some_of (mid.synced old.moment) (synced dated) in (s.0, s.1, continues.syncs old.moment s.0 opens.continues.later s.1)
+
+        synced_mid : (b : Bool) → old.dated ≡ b → (s : ℕ) → new.synced old.moment ≡ Some s → mid.synced old.moment ≡ Some s
+        synced_mid true is s at = let first = first_sync is in first.1 ∙ sym first.2 ∙ at
+        synced_mid false is s at = absurd (none-some s (sym (undated (dated_now ∙ is)) ∙ at))
+
+        pub migrated : IsMigration history old new
+        migrated = record {
+          images = λ s log c entries at told left has.
+              let first = synced_mid old.dated refl s at in
+              ∥∥₁_elim has ∥∥₁_prop (λ (is : IsLogOf entries log). ∥∥₁_elim is_history ∥∥₁_prop (λ (reads : IsLogOf history was).
+              since_opened c (λ earlier. ∣ Before (same_log entries log c (opens.crash s log c first told earlier) is) ∣₁)
+              ((extended log entries told is reads).since s c (bounded s first) left)));
+          content = λ log c entries told is_now has.
+              ∥∥₁_elim has ∥∥₁_prop (λ (is : IsLogOf entries log). ∥∥₁_elim is_history ∥∥₁_prop (λ (reads : IsLogOf history was).
+              (extended log entries told is reads).now c (images c is_now)));
+          unsynced = λ dated none. absurd (none-some (first_sync dated).0 (sym none ∙ (first_sync dated).2));
+          dated = dated_now;
+          tells = tells_now;
+        }
+          where
+            since_opened : (c : List ℕ) {entries : List Entry} {P : Type 0} → (P → ∥ IsAmid history entries c ∥₁) → P ⊎ ∥ IsAmid history entries c ∥₁ → ∥ IsAmid history entries c ∥₁
+            since_opened c before (inl earlier) = before earlier
+            since_opened c before (inr is) = is
+
+-- why a history is not brought into a log, from the log's frames
+pub unmigrated : (frames : List Frame) (place version : ℕ) (old new : DiskView) (limits : Limits) (history : List Entry) (fault : MigrateFault)
+    → IsRecovered frames place version old new → HoldNoFront version frames limits history fault → (log : List ℕ) → old.content ≡ Some log
+    → IsUnmigrated limits history log fault
+unmigrated frames place version old new limits history DeviceFault r why log told = tt
+unmigrated frames place version old new limits history (NotAJournal at) r why log told =
+    NoPayload frames (r.was log told) (subst (λ v. IsBadFrame v frames at) (sym (r.named log told)) why)
+unmigrated frames place version old new limits history OldVersion r why log told =
+    let either = either_version log in
+    let named = r.named log told in
+    let other : version_of log ≢ 2 = λ two. why.0 (sym named ∙ two) in
+    (omega (arith, either.first, either.last, other), (why.1.0, reading log frames version why.1.0 (r.was log told) named why.1.1))
+unmigrated frames place version old new limits history Full r why log told =
+    (r.named log told ∙ why.0, (why.1.0, reading log frames version why.1.0 (r.was log told) (r.named log told) why.1.1, why.1.2))
+unmigrated frames place version old new limits history NotPrefix r why log told =
+    (r.named log told ∙ why.0, (why.1.0, reading log frames version why.1.0 (r.was log told) (r.named log told) why.1.1, why.1.2, why.1.3))
+unmigrated frames place version old new limits history NoMemory r why log told = tt
+
+-- and from the journal's fault
+pub unopened : (old new : DiskView) (limits : Limits) (history : List Entry) (fault : JournalFault) → HasOpenCause old new fault → (log : List ℕ) → old.content ≡ Some log
+    → IsUnmigrated limits history log (migrate_fault fault)
+unopened old new limits history journal.DeviceFault cause log told = tt
+unopened old new limits history (journal.NotAJournal place) cause log told = NoGate (cause.lost place log refl told)
+unopened old new limits history journal.NoMemory cause log told = tt
+
+pub device_fault : (old new : DiskView) (fault : JournalFault) → HasOpenCause old new fault → migrate_fault fault ≡ DeviceFault → Rose old.faults new.faults
+device_fault old new journal.DeviceFault cause is = cause.failed refl
+device_fault old new (journal.NotAJournal place) cause is = cc
+device_fault old new journal.NoMemory cause is = cc
+
+pub device_words : (fault : JournalFault) → open_fault fault ≡ opening.DeviceFault → migrate_fault fault ≡ DeviceFault
+device_words journal.DeviceFault is = refl
+device_words (journal.NotAJournal place) is = cc
+device_words journal.NoMemory is = cc

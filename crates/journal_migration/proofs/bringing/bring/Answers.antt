@@ -1,0 +1,36 @@
+use Rattle.std.proofs.Common.{subst}
+use Rattle.std.proofs.lemmas.Result.{err_from_is_err_and, on_ok_weaker}
+use Rattle.journal_migration.specs.Fronts.{Brings, HasBrought}
+use Rattle.journal_migration.proofs.Fronts.{front_is}
+use Rattle.journal_migration.proofs.Gaining.{brings_none}
+use Rattle.journal_migration.proofs.bringing.bring.Goals as goal
+
+pub returns-in_err-count-clause-brings : goal.returns-in_err-count-clause-brings
+returns-in_err-count-clause-brings g c entries version held =
+    let journal = c.args.journal.now in
+    brings_none (g.D.Disk.seen journal.disk) (journal.settled c.requires.whole).only (g.met.D.Disk.only_now journal.disk) c.args.core.now.history entries
+
+pub returns-in_err-count-clause-fault : goal.returns-in_err-count-clause-fault
+returns-in_err-count-clause-fault g c version =
+    let p = err_from_is_err_and c.from_residual.result c.from_residual.ensures.1 in
+    let why = rw c.version.ensures at c.in_err-count.ensures.fault in
+    rw (p.1, p.2) (why version)
+
+pub returns-clause-brings : goal.returns-clause-brings
+returns-clause-brings g c entries version held =
+    let seen = g.D.Disk.seen in
+    let journal = c.args.journal.now in
+    let history = c.args.core.now.history in
+    let front = rw c.version.ensures at c.in_ok-count.ensures.front in
+    subst (λ es. Brings history es (seen journal.disk) (seen c.bring_rest.new.journal.disk))
+    (front_is journal.version c.args.frames.now c.args.limits.now history c.in_ok-count.count entries (front version) held) c.bring_rest.ensures.brings
+
+pub returns-clause-brought : goal.returns-clause-brought
+returns-clause-brought g c =
+    let seen = g.D.Disk.seen in
+    let journal = c.args.journal.now in
+    let history = c.args.core.now.history in
+    let front = rw c.version.ensures at c.in_ok-count.ensures.front in
+    on_ok_weaker c.bring_rest.result (λ brought entries version held.
+    subst (λ es. HasBrought history es history (seen journal.disk) (seen c.bring_rest.new.journal.disk))
+    (front_is journal.version c.args.frames.now c.args.limits.now history c.in_ok-count.count entries (front version) held) brought) c.bring_rest.ensures.brought

@@ -1,0 +1,5 @@
+use Rattle.journal_migration.proofs.Fronts.{AreSame}
+use Rattle.journal_migration.proofs.front.begins.Given as goal
+
+abbrev pub invariant-loop-at : goal.invariant-loop-at
+invariant-loop-at l = AreSame l.core.history l.items l.at

@@ -1,0 +1,91 @@
+use Rattle.std.proofs.Common.{◌≡◌, ◌∙◌, sym, ap, subst}
+use Rattle.durable_catalogue.specs.Refused.{LeavesDiskAlone}
+use Rattle.durable_catalogue.proofs.Refused.{recovered_alone}
+use Rattle.journal_migration.specs.declared.fault.MigrateFault.TheVariants.{DeviceFault}
+use Rattle.journal_migration.specs.Migrations.{IsUnmigrated, IsMigration}
+use Rattle.journal_migration.proofs.Opened.{opened_alone, is_version, fit, brought_all, images_all, migrated, unmigrated, unopened}
+use Rattle.journal_migration.proofs.migration.migrate.Goals as goal
+
+pub returns-in-Ok-bring-clause-fit : goal.returns-in-Ok-bring-clause-fit
+returns-in-Ok-bring-clause-fit g c log told =
+    let seen = g.D.Disk.seen in
+    let journal = c.in-Ok.journal in
+    let front = rw (c.as_slice.ensures, c.core.ensures.value) at c.in-Ok-bring.ensures.front in
+    fit c.args.old.now.core.history c.in-Ok.frames journal.place journal.version (seen c.args.new) (seen journal.disk) c.in-Ok.ensures.recovered c.in-Ok.ensures.crash
+    c.args.limits c.in-Ok-bring.ensures.version front log told
+
+pub returns-in-Ok-bring-clause-all : goal.returns-in-Ok-bring-clause-all
+returns-in-Ok-bring-clause-all g c was bytes is_history told image =
+    let seen = g.D.Disk.seen in
+    let journal = c.in-Ok.journal in
+    let new = c.bring.new.journal.disk in
+    let front = rw (c.as_slice.ensures, c.core.ensures.value) at c.in-Ok-bring.ensures.front in
+    let brought = rw (c.as_slice.ensures, c.core.ensures.value) at c.in-Ok-bring.ensures.brought in
+    images_all c.args.old.now.core.history c.in-Ok.frames journal.place journal.version (seen c.args.new) (seen journal.disk) c.in-Ok.ensures.recovered c.in-Ok.ensures.crash
+    c.in-Ok.ensures.content (seen new) c.bring.ensures.continues was is_history (g.met.D.Disk.content_is_image new) c.args.limits c.in-Ok-bring.ensures.version front brought
+    (c.bring.new.journal.settled c.in-Ok-bring.ensures.whole).only bytes told (subst (λ d. (seen d).image bytes) c.close.ensures image)
+
+pub returns-in-Ok-bring-clause-content : goal.returns-in-Ok-bring-clause-content
+returns-in-Ok-bring-clause-content g c was bytes is_history is_now =
+    let seen = g.D.Disk.seen in
+    let journal = c.in-Ok.journal in
+    let new = c.bring.new.journal.disk in
+    let front = rw (c.as_slice.ensures, c.core.ensures.value) at c.in-Ok-bring.ensures.front in
+    let brought = rw (c.as_slice.ensures, c.core.ensures.value) at c.in-Ok-bring.ensures.brought in
+    brought_all c.args.old.now.core.history c.in-Ok.frames journal.place journal.version (seen c.args.new) (seen journal.disk) c.in-Ok.ensures.recovered c.in-Ok.ensures.crash
+    c.in-Ok.ensures.content (seen new) c.bring.ensures.continues was is_history (g.met.D.Disk.content_is_image new) c.args.limits c.in-Ok-bring.ensures.version front brought
+    bytes (sym (ap (λ d. (seen d).content) c.close.ensures) ∙ is_now)
+
+pub returns-in-Ok-bring-clause-crash : goal.returns-in-Ok-bring-clause-crash
+returns-in-Ok-bring-clause-crash g c was is_history =
+    let seen = g.D.Disk.seen in
+    let journal = c.in-Ok.journal in
+    let new = c.bring.new.journal.disk in
+    let history = c.args.old.now.core.history in
+    let brings = rw (c.as_slice.ensures, c.core.ensures.value) at c.bring.ensures.brings in
+    subst (λ d. IsMigration history (seen c.args.new) (seen d)) (sym c.close.ensures)
+    (migrated history c.in-Ok.frames journal.place journal.version (seen c.args.new) (seen journal.disk) c.in-Ok.ensures.recovered c.in-Ok.ensures.crash
+    c.in-Ok.ensures.content (seen new) c.bring.ensures.continues was is_history (g.met.D.Disk.content_is_image new) brings
+    (g.met.D.Disk.synced_by_now journal.disk (seen c.args.new).moment) c.in-Ok.ensures.synced (g.met.D.Disk.undated_syncs new (seen c.args.new).moment))
+
+pub returns-in-Ok-clause-crash : goal.returns-in-Ok-clause-crash
+returns-in-Ok-clause-crash g c was is_history =
+    let seen = g.D.Disk.seen in
+    let journal = c.in-Ok.journal in
+    let new = c.bring.new.journal.disk in
+    let history = c.args.old.now.core.history in
+    let brings = rw (c.as_slice.ensures, c.core.ensures.value) at c.bring.ensures.brings in
+    subst (λ d. IsMigration history (seen c.args.new) (seen d)) (sym c.close-in-Err-bring.ensures)
+    (migrated history c.in-Ok.frames journal.place journal.version (seen c.args.new) (seen journal.disk) c.in-Ok.ensures.recovered c.in-Ok.ensures.crash
+    c.in-Ok.ensures.content (seen new) c.bring.ensures.continues was is_history (g.met.D.Disk.content_is_image new) brings
+    (g.met.D.Disk.synced_by_now journal.disk (seen c.args.new).moment) c.in-Ok.ensures.synced (g.met.D.Disk.undated_syncs new (seen c.args.new).moment))
+
+pub returns-in-Ok-clause-fault : goal.returns-in-Ok-clause-fault
+returns-in-Ok-clause-fault g c log told =
+    let seen = g.D.Disk.seen in
+    let journal = c.in-Ok.journal in
+    let history = c.args.old.now.core.history in
+    let why = rw (c.as_slice.ensures, c.core.ensures.value) at c.in-Err-bring.ensures.fault in
+    let version = is_version history c.in-Ok.frames journal.place journal.version (seen c.args.new) (seen journal.disk) c.in-Ok.ensures.recovered c.in-Ok.ensures.crash log told in
+    unmigrated c.in-Ok.frames journal.place journal.version (seen c.args.new) (seen journal.disk) c.args.limits history c.in-Err-bring.fault c.in-Ok.ensures.recovered (why version) log told
+
+pub returns-in-Ok-clause-left_alone : goal.returns-in-Ok-clause-left_alone
+returns-in-Ok-clause-left_alone g c refusal =
+    let seen = g.D.Disk.seen in
+    let journal = c.in-Ok.journal in
+    let failed = c.in-Err-bring.fault ≡ DeviceFault in
+    let same = c.in-Err-bring.ensures.refused refusal in
+    subst (λ d. LeavesDiskAlone failed (seen c.args.new) (seen d)) (sym c.close-in-Err-bring.ensures)
+    (subst (λ j. LeavesDiskAlone failed (seen c.args.new) (seen j.disk)) (sym same)
+    (recovered_alone (seen c.args.new) (seen journal.disk) c.in-Ok.ensures.content c.in-Ok.frames journal.place journal.version c.in-Ok.ensures.recovered failed))
+
+pub returns-clause-crash : goal.returns-clause-crash
+returns-clause-crash g c was is_history =
+    opened_alone c.args.old.now.core.history (g.D.Disk.seen c.args.new) (g.D.Disk.seen c.in-Err.failed.0) c.in-Err.ensures.crash c.in-Err.ensures.content
+
+pub returns-clause-fault : goal.returns-clause-fault
+returns-clause-fault g c log told =
+    let seen = g.D.Disk.seen in
+    let history = c.args.old.now.core.history in
+    subst (λ f. IsUnmigrated c.args.limits history log f) (sym c.migrate_fault.ensures)
+    (unopened (seen c.args.new) (seen c.in-Err.failed.0) c.args.limits history c.in-Err.failed.1 c.in-Err.ensures.fault log told)

@@ -1,0 +1,83 @@
+-- What a journal has of a history already, and how it gains the rest.
+use Rattle.std.specs.Prelude.{◌≡◌, ◌≢◌, ◌⊎◌, ℕ, ◌+◌, ◌≤◌, List, [], ◌∷◌, ◌++◌, length, take, Some}
+use Rattle.marc_types.specs.declared.entry.Entry.{Entry}
+use Rattle.marc_types.specs.declared.entry.Limits.{Limits}
+use Rattle.outside.specs.Disk.{DiskView, LeavesOnly}
+use Rattle.outside.specs.Fault.{Rose}
+use Rattle.commit_journal.specs.declared.frame.Frame.{Frame}
+use Rattle.entry_history.specs.Payloads.{CanFollow, IsHistory}
+use Rattle.durable_catalogue.specs.Logs.{payloads_of, IsLogOf, HasHistory}
+use Rattle.durable_catalogue.specs.Openings.{IsBadFrame}
+use Rattle.journal_migration.specs.Migrations.{Begins, AreWithin, IsAmid}
+use Rattle.journal_migration.specs.declared.fault.MigrateFault.{MigrateFault}
+use Rattle.journal_migration.specs.declared.fault.MigrateFault.TheVariants.{DeviceFault, NotAJournal, OldVersion, Full, NotPrefix, NoMemory}
+
+-- each entry's run can follow the entries before it
+abbrev pub EachFollows : List Entry → List Entry → Type 0
+EachFollows before [] = Unit {0}
+EachFollows before (e ∷ es) = CanFollow before e.run × EachFollows (before ++ e ∷ []) es
+
+-- the frames of a journal hold the first entries of a history, so many; both are within the limits
+pub record HoldsFront (version : ℕ) (frames : List Frame) (limits : Limits) (history : List Entry) (count : ℕ) : Type 0 where
+  pub entries : List Entry
+  pub holds : IsHistory version [] (payloads_of frames) entries
+  pub within : AreWithin limits history entries
+  pub front : entries ≡ take count history
+  pub most : count ≤ length history
+
+-- why frames are not read: a payload isn't valid
+abbrev pub IsUnread : ℕ → List Frame → MigrateFault → Type 0
+IsUnread version frames (NotAJournal place) = IsBadFrame version frames place
+IsUnread version frames NoMemory = Unit {0}
+IsUnread version frames OldVersion = ⊥
+IsUnread version frames Full = ⊥
+IsUnread version frames NotPrefix = ⊥
+IsUnread version frames DeviceFault = ⊥
+
+-- why the frames of a journal hold no front of a history, or one that may not be longer
+abbrev pub HoldNoFront : ℕ → List Frame → Limits → List Entry → MigrateFault → Type 0
+HoldNoFront version frames limits history (NotAJournal place) = IsBadFrame version frames place
+HoldNoFront version frames limits history OldVersion = (version ≢ 2) × ((entries : List Entry) × IsHistory version [] (payloads_of frames) entries)
+HoldNoFront version frames limits history Full =
+    (version ≡ 2) × ((entries : List Entry) × IsHistory version [] (payloads_of frames) entries × (AreWithin limits history entries → ⊥))
+HoldNoFront version frames limits history NotPrefix =
+    (version ≡ 2) × ((entries : List Entry) × IsHistory version [] (payloads_of frames) entries × AreWithin limits history entries × (Begins history entries → ⊥))
+HoldNoFront version frames limits history NoMemory = Unit {0}
+HoldNoFront version frames limits history DeviceFault = Unit {0}
+
+-- each image since a moment is one that there was, or has these entries and a front of what the history has behind them
+pub record Extends (history entries : List Entry) (old new : DiskView) : Type 0 where
+  pub since : (t : ℕ) (c : List ℕ) → t ≤ old.moment → new.left t c → old.left t c ⊎ ∥ IsAmid history entries c ∥₁
+  pub now : (c : List ℕ) → new.image c → ∥ IsAmid history entries c ∥₁
+
+-- so it is where the disk tells a log of these entries, and the runs of the history are in order
+abbrev pub Brings : List Entry → List Entry → DiskView → DiskView → Type 0
+Brings history entries old new = (log : List ℕ) → old.content ≡ Some log → HasHistory entries log → EachFollows [] history → Extends history entries old new
+
+-- where the disk told a log of some entries, it tells one of these
+abbrev pub HasBrought : List Entry → List Entry → List Entry → DiskView → DiskView → Type 0
+HasBrought history entries these old new = (log now : List ℕ) → old.content ≡ Some log → HasHistory entries log → EachFollows [] history
+    → new.content ≡ Some now → HasHistory these now
+
+-- an image has these entries, or these and one more
+abbrev pub HasOneMoreOrNot : List Entry → Entry → List ℕ → Type 0
+HasOneMoreOrNot before e c = ∥ IsLogOf before c ⊎ IsLogOf (before ++ e ∷ []) c ∥₁
+
+-- an entry is tried behind those of a log: a crash leaves these, or these and the entry
+abbrev pub TriesEntry : Entry → DiskView → DiskView → Type 0
+TriesEntry e old new = (log : List ℕ) (before : List Entry) → old.content ≡ Some log → HasHistory before log → CanFollow before e.run
+    → LeavesOnly old new (HasOneMoreOrNot before e)
+
+-- it is there
+abbrev pub AddsEntry : Entry → DiskView → DiskView → Type 0
+AddsEntry e old new = (log now : List ℕ) (before : List Entry) → old.content ≡ Some log → HasHistory before log → CanFollow before e.run
+    → new.content ≡ Some now → HasHistory (before ++ e ∷ []) now
+
+-- why a journal was not appended to: a device failed, whose count rose, or there was no memory
+abbrev pub IsUnappended : ℕ → ℕ → MigrateFault → Type 0
+IsUnappended before now DeviceFault = Rose before now
+IsUnappended before now NoMemory = Unit {0}
+IsUnappended before now (NotAJournal place) = ⊥
+IsUnappended before now OldVersion = ⊥
+IsUnappended before now Full = ⊥
+IsUnappended before now NotPrefix = ⊥

@@ -1,0 +1,62 @@
+-- A journal's history that is brought into another journal. The rules are this project's own.
+use Rattle.std.specs.Prelude.{◌≡◌, ◌⊎◌, ℕ, ◌≤◌, true, List, [], ◌++◌, length, take, Some, None, is_some}
+use Rattle.marc_types.specs.declared.entry.Entry.{Entry}
+use Rattle.marc_types.specs.declared.entry.Limits.{Limits}
+use Rattle.outside.specs.Disk.{DiskView}
+use Rattle.commit_journal.specs.Log.{version_of}
+use Rattle.entry_record.specs.History.{IsWithin}
+use Rattle.durable_catalogue.specs.Logs.{IsLogOf, HasHistory}
+use Rattle.durable_catalogue.specs.Openings.{IsNoJournal}
+use Rattle.journal_migration.specs.declared.fault.MigrateFault.{MigrateFault}
+use Rattle.journal_migration.specs.declared.fault.MigrateFault.TheVariants.{DeviceFault, NotAJournal, OldVersion, Full, NotPrefix, NoMemory}
+
+-- a history begins with these entries
+abbrev pub Begins : List Entry → List Entry → Type 0
+Begins history entries = (rest : List Entry) × (entries ++ rest ≡ history)
+
+-- both histories are within the limits
+pub record AreWithin (limits : Limits) (history entries : List Entry) : Type 0 where
+  pub old_within : IsWithin limits history
+  pub new_within : IsWithin limits entries
+
+-- the log is of the newest version, and has these entries, with which the history begins; both are within the limits
+pub record IsFit (limits : Limits) (history entries : List Entry) (log : List ℕ) : Type 0 where
+  pub version : version_of log ≡ 2
+  pub has : IsLogOf entries log
+  pub within : AreWithin limits history entries
+  pub begins : Begins history entries
+
+-- why a history is not brought into a log
+abbrev pub IsUnmigrated : Limits → List Entry → List ℕ → MigrateFault → Type 0
+IsUnmigrated limits history log DeviceFault = Unit {0}
+IsUnmigrated limits history log (NotAJournal place) = IsNoJournal log place
+IsUnmigrated limits history log OldVersion = (version_of log ≡ 1) × ((entries : List Entry) × IsLogOf entries log)
+IsUnmigrated limits history log Full = (version_of log ≡ 2) × ((entries : List Entry) × IsLogOf entries log × (AreWithin limits history entries → ⊥))
+IsUnmigrated limits history log NotPrefix =
+    (version_of log ≡ 2) × ((entries : List Entry) × IsLogOf entries log × AreWithin limits history entries × (Begins history entries → ⊥))
+IsUnmigrated limits history log NoMemory = Unit {0}
+
+-- the log is refused for what it is
+abbrev pub IsRefusal : MigrateFault → Type 0
+IsRefusal DeviceFault = ⊥
+IsRefusal (NotAJournal place) = Unit {0}
+IsRefusal OldVersion = Unit {0}
+IsRefusal Full = Unit {0}
+IsRefusal NotPrefix = Unit {0}
+IsRefusal NoMemory = ⊥
+
+-- An image has these entries; or, where a history begins with them, these and a front of what it has behind them.
+pub data IsAmid (history entries : List Entry) (image : List ℕ) : Type 0 where
+  Before : IsLogOf entries image → IsAmid history entries image
+  Behind : (more rest : List Entry) → (entries ++ more) ++ rest ≡ history → IsLogOf (entries ++ more) image → IsAmid history entries image
+
+-- A history is brought into a disk's log: each image since the first sync that succeeded has the entries that the log had, or, where
+-- the history begins with them, these and a front of the rest; where no sync succeeded, the content is as it was. So has the content.
+pub record IsMigration (history : List Entry) (old new : DiskView) : Type 0 where
+  pub images : (s : ℕ) (log c : List ℕ) (entries : List Entry) → new.synced old.moment ≡ Some s → old.content ≡ Some log → new.left s c
+      → HasHistory entries log → ∥ IsAmid history entries c ∥₁
+  pub content : (log c : List ℕ) (entries : List Entry) → old.content ≡ Some log → new.content ≡ Some c → HasHistory entries log
+      → ∥ IsAmid history entries c ∥₁
+  pub unsynced : old.dated ≡ true → new.synced old.moment ≡ None → new.content ≡ old.content
+  pub dated : new.dated ≡ old.dated
+  pub tells : is_some new.content ≡ is_some old.content

@@ -1,0 +1,114 @@
+//! What a journal has of a history already.
+ghost use Rattle.std.specs.Prelude.{◌≡◌, ◌≢◌, ◌≤◌, ◌↔◌, [], length, IsTrue, IfOk, IfErr, OnOk};
+ghost use Rattle.entry_record.specs.History.{entries_size};
+ghost use Rattle.entry_history.specs.Payloads.{IsHistory};
+ghost use Rattle.entry_history.specs.Readers.{IsVersion};
+ghost use Rattle.durable_catalogue.specs.Logs.{payloads_of};
+ghost use Rattle.journal_migration.specs.Fronts.{HoldsFront, HoldNoFront, IsUnread};
+ghost use Rattle.journal_migration.specs.Migrations.{Begins, AreWithin};
+ghost use Rattle.journal_migration.specs.declared.fault.MigrateFault.TheVariants.{DeviceFault};
+
+use crate::MigrateFault;
+use catalogue_core::Catalogue;
+use commit_journal::Frame;
+use entry_history::{EntryFault, HistoryReader};
+use entry_payload::is_same;
+use entry_record::Prepared;
+use marc_types::{Limits, NoMemory};
+use std::alloc::Global;
+
+/// The entries of a journal's frames, in their order.
+fn read_history(alloc: Global, version: u8, frames: &[Frame]) -> Result<Vec<Prepared>, MigrateFault>
+    requires { IsVersion version }
+    ensures history { IfOk result (λ items. IsHistory version [] (payloads_of frames.now) items.items) }
+    ensures fault { IfErr result (IsUnread version frames.now) }
+{
+    let mut reader = HistoryReader::new(alloc, version);
+    for frame in frames {
+        match reader.take(alloc, frame.payload.as_slice()) {
+            Ok(()) => {}
+            Err(EntryFault::BadEntry) => return Err(MigrateFault::NotAJournal(frame.gate)),
+            Err(EntryFault::NoMemory) => return Err(MigrateFault::NoMemory),
+        }
+    }
+    Ok(reader.into_items())
+}
+
+/// The entries of a journal's frames, whose version is 1 or 2.
+fn read_either(alloc: Global, version: u8, frames: &[Frame]) -> Result<Vec<Prepared>, MigrateFault>
+    ensures history { IsVersion version → IfOk result (λ items. IsHistory version [] (payloads_of frames.now) items.items) }
+    ensures fault { IsVersion version → IfErr result (IsUnread version frames.now) }
+    ensures no_device { IfErr result (λ fault. fault ≢ DeviceFault) }
+{
+    read_history(alloc, version.max(1).min(2), frames)
+}
+
+/// Whether entries have no more bytes than that.
+fn has_room(items: &[Prepared], bytes: u64) -> bool
+    ensures { IsTrue result ↔ (entries_size items.now ≤ bytes) }
+{
+    let mut left = bytes;
+    for item in items {
+        let Some(rest) = left.checked_sub(item.size()) else {
+            return false;
+        };
+        left = rest;
+    }
+    true
+}
+
+/// Whether both histories are within the limits.
+fn are_within(core: &Catalogue, items: &[Prepared], limits: &Limits) -> bool
+    requires { core.now.staged ≡ [] }
+    ensures { IsTrue result ↔ AreWithin limits.now core.now.history items.now }
+{
+    core.history_len() <= limits.entries
+        && core.bytes() <= limits.bytes
+        && items.len() as u64 <= limits.entries
+        && has_room(items, limits.bytes)
+}
+
+/// Whether a history begins with the entries of these items.
+fn begins(alloc: Global, core: &Catalogue, items: &[Prepared]) -> Result<bool, NoMemory>
+    requires { core.now.staged ≡ [] }
+    ensures { IfOk result (λ begins. IsTrue begins ↔ Begins core.now.history items.now) }
+{
+    core.each_was_admitted();
+    for (at, item) in items.iter().enumerate() {
+        let Some(entry) = core.entry(at as u64) else {
+            return Ok(false);
+        };
+        if !is_same(alloc, entry, item)? {
+            return Ok(false);
+        }
+    }
+    Ok(true)
+}
+
+/// How many entries of a history the frames of a journal hold, which hold nothing else.
+pub fn front_of(
+    alloc: Global,
+    version: u8,
+    frames: &[Frame],
+    core: &Catalogue,
+    limits: &Limits,
+) -> Result<u64, MigrateFault>
+    requires { core.now.staged ≡ [] }
+    ensures front { IsVersion version → IfOk result (HoldsFront version frames.now limits.now core.now.history) }
+    ensures within { IfOk result (λ count. count ≤ length core.now.history) }
+    ensures version { OnOk result (version ≡ 2) }
+    ensures fault { IsVersion version → IfErr result (HoldNoFront version frames.now limits.now core.now.history) }
+    ensures no_device { IfErr result (λ fault. fault ≢ DeviceFault) }
+{
+    let items = read_either(alloc, version, frames)?;
+    if version != 2 {
+        return Err(MigrateFault::OldVersion);
+    }
+    if !are_within(core, items.as_slice(), limits) {
+        return Err(MigrateFault::Full);
+    }
+    if !begins(alloc, core, items.as_slice())? {
+        return Err(MigrateFault::NotPrefix);
+    }
+    Ok(items.len() as u64)
+}

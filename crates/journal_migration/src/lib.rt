@@ -1,0 +1,12 @@
+//! A journal's history is brought into another journal, entry by entry.
+#![tactic(auto)]
+
+pub use fault::MigrateFault;
+pub use migration::migrate;
+
+mod bringing;
+mod fault;
+mod front;
+mod migration;
+#[cfg(test)]
+mod tests;

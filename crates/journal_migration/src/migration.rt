@@ -1,0 +1,60 @@
+//! A history is brought into the journal of another disk.
+ghost use Rattle.std.specs.Prelude.{◌≡◌, ◌≤◌, ℕ, List, Some, true, is_some, length, IfOk, IfErr, MatchResult};
+ghost use Rattle.marc_types.specs.declared.entry.Entry.{Entry};
+ghost use Rattle.outside.specs.Fault.{Rose};
+ghost use Rattle.durable_catalogue.specs.Logs.{HasHistory};
+ghost use Rattle.durable_catalogue.specs.Refused.{LeavesDiskAlone};
+ghost use Rattle.journal_migration.specs.Migrations.{IsFit, IsUnmigrated, IsRefusal, IsMigration};
+ghost use Rattle.journal_migration.specs.declared.fault.MigrateFault.TheVariants.{DeviceFault};
+
+use crate::MigrateFault;
+use crate::bringing::bring;
+use crate::fault::migrate_fault;
+use commit_journal::Journal;
+use durable_catalogue::Archive;
+use marc_types::Limits;
+use outside::Disk;
+use std::alloc::Global;
+
+/// Brings the history of a journal into the journal of another disk: it opens that, and appends the entries that are missing there,
+/// each in a frame of its own with its run, its loader and its library. What it began it goes on with when it is called again. A
+/// fault hands the disk back. Of the old journal it only reads the catalogue.
+pub fn migrate<D: Disk>(
+    alloc: Global,
+    old: &Archive<D>,
+    new: D,
+    limits: Limits,
+) -> Result<D, (D, MigrateFault)>
+    // The new log was of version 2 and had a front of the old history, within the limits; now all that a crash may leave has that
+    // history. It is one that a log was read as.
+    ensures fit { IfOk result (λ disk. (log : List ℕ) → (D.seen new).content ≡ Some log →
+        (entries : List Entry) × IsFit limits old.now.core.history entries log) }
+    ensures all { IfOk result (λ disk. (was c : List ℕ) → HasHistory old.now.core.history was → is_some (D.seen new).content ≡ true →
+        (D.seen disk).image c → HasHistory old.now.core.history c) }
+    ensures content { IfOk result (λ disk. (was c : List ℕ) → HasHistory old.now.core.history was → (D.seen disk).content ≡ Some c →
+        HasHistory old.now.core.history c) }
+
+    // Each image since the first sync of the new disk has the history that it had, or, where the old one begins with it, more of that.
+    ensures crash { (was : List ℕ) → HasHistory old.now.core.history was →
+        MatchResult result (λ disk. IsMigration old.now.core.history (D.seen new) (D.seen disk)) (λ e. IsMigration old.now.core.history (D.seen new) (D.seen e.0)) }
+
+    // Each fault comes only where the new log is so; a device fault only where the count of faults rose. A refused log is left alone.
+    ensures fault { IfErr result (λ e. (log : List ℕ) → (D.seen new).content ≡ Some log → IsUnmigrated limits old.now.core.history log e.1) }
+    ensures failed { IfErr result (λ e. e.1 ≡ DeviceFault → Rose (D.seen new).faults (D.seen e.0).faults) }
+    ensures left_alone { IfErr result (λ e. IsRefusal e.1 → LeavesDiskAlone (e.1 ≡ DeviceFault) (D.seen new) (D.seen e.0)) }
+    ensures later { MatchResult result (λ disk. (D.seen new).faults ≤ (D.seen disk).faults) (λ e. (D.seen new).faults ≤ (D.seen e.0).faults) }
+{
+    match Journal::open(alloc, new) {
+        Ok((journal, frames)) => {
+            let mut journal = journal;
+            match bring(alloc, &mut journal, frames.as_slice(), old.core(), &limits) {
+                Ok(()) => Ok(journal.close()),
+                Err(fault) => Err((journal.close(), fault)),
+            }
+        }
+        Err(failed) => {
+            let (disk, fault) = failed;
+            Err((disk, migrate_fault(fault)))
+        }
+    }
+}
