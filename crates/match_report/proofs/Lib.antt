@@ -1,0 +1,5 @@
+pub mod Digits
+pub mod Folds
+pub mod Tables
+pub mod Walks
+pub mod Writes

@@ -1,0 +1,104 @@
+//! The lines of groups.
+ghost use Rattle.std.specs.Prelude.{◌≡◌, ◌++◌, [], map, length, codes, is_some, OnOk};
+ghost use Rattle.std.specs.List.{flat_map};
+ghost use Rattle.std.specs.Fmt.{decimal};
+ghost use Rattle.std.specs.Io.KnownBytes.{Appends};
+ghost use Rattle.outside.specs.Fault.{HasCause};
+ghost use Rattle.outside.specs.Sink.{WritesFront};
+ghost use Rattle.heading_fields.specs.Numbers.{key_text};
+ghost use Rattle.catalogue_rules.specs.Lines.{line, then_word, then_words};
+ghost use Rattle.match_report.specs.Holdings.{number_text};
+ghost use Rattle.match_report.specs.Groups.{number_word, group_line};
+
+use crate::groups::Group;
+use itoa::Buffer;
+use marc_types::Key;
+use outside::{Failed, Sink};
+
+/// A piece, and another behind it.
+#[tactic(auto, using(outside::proofs::Fronts::front_more, outside::proofs::Fronts::front_then, outside::proofs::Fronts::appends_then))]
+fn write_both<K: Sink>(first: &[u8], second: &[u8], out: &mut K) -> Result<(), Failed>
+    ensures bytes { OnOk result (Appends (K.written out.old) (K.written out.new) (first.now ++ second.now)) }
+    ensures front { WritesFront (K.written out.old) (K.written out.new) (first.now ++ second.now) }
+    ensures tells { is_some (K.written out.new) ≡ is_some (K.written out.old) }
+    ensures cause { HasCause (K.faults out.old) (K.faults out.new) result }
+{
+    out.write_all(first)?;
+    out.write_all(second)
+}
+
+/// The text of a key, behind a blank.
+#[tactic(auto, unfolding(heading_fields::specs::Numbers::key_text), using(outside::proofs::Fronts::front_more, outside::proofs::Fronts::front_then, outside::proofs::Fronts::appends_then))]
+fn write_key<K: Sink>(key: &Key, out: &mut K) -> Result<(), Failed>
+    ensures bytes { OnOk result (Appends (K.written out.old) (K.written out.new) (then_word (key_text key.now))) }
+    ensures front { WritesFront (K.written out.old) (K.written out.new) (then_word (key_text key.now)) }
+    ensures tells { is_some (K.written out.new) ≡ is_some (K.written out.old) }
+    ensures cause { HasCause (K.faults out.old) (K.faults out.new) result }
+{
+    write_both(b" (", key.code.as_bytes(), out)?;
+    write_both(b")", key.number.as_bytes(), out)
+}
+
+#[tactic(auto, using(outside::proofs::Fronts::writing_begun, outside::proofs::Fronts::writing_more, outside::proofs::Fronts::writing_failed, outside::proofs::Fronts::writing_done, crate::proofs::Writes::key_next))]
+fn write_keys<K: Sink>(keys: &[&Key], out: &mut K) -> Result<(), Failed>
+    ensures bytes { OnOk result (Appends (K.written out.old) (K.written out.new) (then_words (map key_text (map (λ key. key.now) keys.now)))) }
+    ensures front { WritesFront (K.written out.old) (K.written out.new) (then_words (map key_text (map (λ key. key.now) keys.now))) }
+    ensures tells { is_some (K.written out.new) ≡ is_some (K.written out.old) }
+    ensures cause { HasCause (K.faults out.old) (K.faults out.new) result }
+{
+    for key in keys {
+        write_key(key, out)?;
+    }
+    Ok(())
+}
+
+/// The number and the keys of a group, each behind a blank.
+#[tactic(auto, using(outside::proofs::Fronts::front_more, outside::proofs::Fronts::front_then, outside::proofs::Fronts::appends_then))]
+fn write_words<K: Sink>(group: &Group<'_>, out: &mut K) -> Result<(), Failed>
+    ensures bytes { OnOk result (Appends (K.written out.old) (K.written out.new) (then_word (number_text group.now.number) ++ then_words (map key_text group.now.keys))) }
+    ensures front { WritesFront (K.written out.old) (K.written out.new) (then_word (number_text group.now.number) ++ then_words (map key_text group.now.keys)) }
+    ensures tells { is_some (K.written out.new) ≡ is_some (K.written out.old) }
+    ensures cause { HasCause (K.faults out.old) (K.faults out.new) result }
+{
+    write_both(b" ", group.number.text().as_bytes(), out)?;
+    write_keys(group.keys.as_slice(), out)
+}
+
+#[tactic(auto, using(outside::proofs::Fronts::front_first, outside::proofs::Fronts::front_second, outside::proofs::Fronts::front_third, outside::proofs::Fronts::appends_three))]
+fn write_group<K: Sink>(group: &Group<'_>, out: &mut K) -> Result<(), Failed>
+    ensures bytes { OnOk result (Appends (K.written out.old) (K.written out.new) (group_line group.now)) }
+    ensures front { WritesFront (K.written out.old) (K.written out.new) (group_line group.now) }
+    ensures tells { is_some (K.written out.new) ≡ is_some (K.written out.old) }
+    ensures cause { HasCause (K.faults out.old) (K.faults out.new) result }
+{
+    out.write_all(group.number.word().as_bytes())?;
+    write_words(group, out)?;
+    out.write_all(b"\n")
+}
+
+/// A line for each group.
+#[tactic(auto, using(outside::proofs::Fronts::writing_begun, outside::proofs::Fronts::writing_more, outside::proofs::Fronts::writing_failed, outside::proofs::Fronts::writing_done, outside::proofs::Fronts::piece_next))]
+pub(crate) fn write_groups<K: Sink>(groups: &[Group<'_>], out: &mut K) -> Result<(), Failed>
+    ensures bytes { OnOk result (Appends (K.written out.old) (K.written out.new) (flat_map group_line groups.now)) }
+    ensures front { WritesFront (K.written out.old) (K.written out.new) (flat_map group_line groups.now) }
+    ensures tells { is_some (K.written out.new) ≡ is_some (K.written out.old) }
+    ensures cause { HasCause (K.faults out.old) (K.faults out.new) result }
+{
+    for group in groups {
+        write_group(group, out)?;
+    }
+    Ok(())
+}
+
+/// The line that tells how many groups there are.
+#[tactic(auto, using(outside::proofs::Fronts::front_first, outside::proofs::Fronts::front_second, outside::proofs::Fronts::front_third, outside::proofs::Fronts::appends_three))]
+pub(crate) fn write_total<K: Sink>(count: usize, out: &mut K) -> Result<(), Failed>
+    ensures bytes { OnOk result (Appends (K.written out.old) (K.written out.new) (line (codes "TOTAL groups=" ++ decimal count))) }
+    ensures front { WritesFront (K.written out.old) (K.written out.new) (line (codes "TOTAL groups=" ++ decimal count)) }
+    ensures tells { is_some (K.written out.new) ≡ is_some (K.written out.old) }
+    ensures cause { HasCause (K.faults out.old) (K.faults out.new) result }
+{
+    out.write_all(b"TOTAL groups=")?;
+    out.write_all(Buffer::new().format(count).as_bytes())?;
+    out.write_all(b"\n")
+}
