@@ -16,6 +16,9 @@ size_one e = let first = sum_by-cons entry_size e [] in omega (arith, first)
 pub record IsLeft (bytes : ℕ) (items : List Entry) (count left : ℕ) : Type 0 where
   pub split : entries_size (take count items) + left ≡ bytes
 
+pub none_left : (bytes : ℕ) (items : List Entry) → IsLeft bytes items 0 bytes
+none_left bytes items = record { split = omega arith }
+
 module _ (bytes : ℕ) (items : List Entry) (count left : ℕ) (e : Entry) (within : count < length items) (is : e ≡ get_or items count e) (l : IsLeft bytes items count left) where
   next_size : entries_size (take (count + 1) items) ≡ entries_size (take count items) + entry_size e
   next_size =

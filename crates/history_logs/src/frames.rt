@@ -42,6 +42,7 @@ fn read_either(alloc: Global, version: u8, frames: &[Frame]) -> Result<Vec<Prepa
     read_history(alloc, version.max(1).min(2), frames)
 }
 
+#[tactic(auto, using(crate::proofs::Sizes::none_left, crate::proofs::Sizes::left_more, crate::proofs::Sizes::left_passed, crate::proofs::Sizes::left_done))]
 fn are_short(items: &[Prepared], bytes: u64) -> bool
     ensures { IsTrue result ↔ (entries_size items.now ≤ bytes) }
 {

@@ -95,7 +95,7 @@ impl<'a> Groups<'a> {
 impl Groups<'_> {
     /// Writes a line for each group, and one that tells how many there are; takes no memory. After `Failed` some front of the
     /// lines was written, maybe none or all.
-    #[tactic(auto, unfolding(crate::specs::Groups::lines_of), using(outside::proofs::Fronts::writing_begun, outside::proofs::Fronts::writing_more, outside::proofs::Fronts::writing_failed, outside::proofs::Fronts::writing_done, outside::proofs::Fronts::piece_next, outside::proofs::Fronts::front_more, outside::proofs::Fronts::front_then, outside::proofs::Fronts::appends_then))]
+    #[tactic(auto, unfolding(crate::specs::Groups::lines_of), using(outside::proofs::Fronts::front_more, outside::proofs::Fronts::front_then, outside::proofs::Fronts::appends_then))]
     pub fn write<K: Sink>(&self, out: &mut K) -> Result<(), Failed>
         ensures bytes { OnOk result (Appends (K.written out.old) (K.written out.new) (lines_of self.now)) }
         ensures front { WritesFront (K.written out.old) (K.written out.new) (lines_of self.now) }

@@ -1,5 +1,5 @@
 //! The lines of groups.
-ghost use Rattle.std.specs.Prelude.{◌≡◌, ◌++◌, [], map, length, codes, is_some, OnOk};
+ghost use Rattle.std.specs.Prelude.{◌≡◌, ◌++◌, ◌∷◌, map, codes, is_some, OnOk};
 ghost use Rattle.std.specs.List.{flat_map};
 ghost use Rattle.std.specs.Fmt.{decimal};
 ghost use Rattle.std.specs.Io.KnownBytes.{Appends};
@@ -39,7 +39,7 @@ fn write_key<K: Sink>(key: &Key, out: &mut K) -> Result<(), Failed>
     write_both(b")", key.number.as_bytes(), out)
 }
 
-#[tactic(auto, using(outside::proofs::Fronts::writing_begun, outside::proofs::Fronts::writing_more, outside::proofs::Fronts::writing_failed, outside::proofs::Fronts::writing_done, crate::proofs::Writes::key_next))]
+#[tactic(auto, using(outside::proofs::Fronts::writing_begun, outside::proofs::Fronts::writing_done))]
 fn write_keys<K: Sink>(keys: &[&Key], out: &mut K) -> Result<(), Failed>
     ensures bytes { OnOk result (Appends (K.written out.old) (K.written out.new) (then_words (map key_text (map (λ key. key.now) keys.now)))) }
     ensures front { WritesFront (K.written out.old) (K.written out.new) (then_words (map key_text (map (λ key. key.now) keys.now))) }
@@ -52,6 +52,16 @@ fn write_keys<K: Sink>(keys: &[&Key], out: &mut K) -> Result<(), Failed>
     Ok(())
 }
 
+/// A text behind a blank.
+fn write_text<K: Sink>(text: &[u8], out: &mut K) -> Result<(), Failed>
+    ensures bytes { OnOk result (Appends (K.written out.old) (K.written out.new) (then_word text.now)) }
+    ensures front { WritesFront (K.written out.old) (K.written out.new) (then_word text.now) }
+    ensures tells { is_some (K.written out.new) ≡ is_some (K.written out.old) }
+    ensures cause { HasCause (K.faults out.old) (K.faults out.new) result }
+{
+    write_both(b" ", text, out)
+}
+
 /// The number and the keys of a group, each behind a blank.
 #[tactic(auto, using(outside::proofs::Fronts::front_more, outside::proofs::Fronts::front_then, outside::proofs::Fronts::appends_then))]
 fn write_words<K: Sink>(group: &Group<'_>, out: &mut K) -> Result<(), Failed>
@@ -60,24 +70,34 @@ fn write_words<K: Sink>(group: &Group<'_>, out: &mut K) -> Result<(), Failed>
     ensures tells { is_some (K.written out.new) ≡ is_some (K.written out.old) }
     ensures cause { HasCause (K.faults out.old) (K.faults out.new) result }
 {
-    write_both(b" ", group.number.text().as_bytes(), out)?;
+    write_text(group.number.text().as_bytes(), out)?;
     write_keys(group.keys.as_slice(), out)
 }
 
-#[tactic(auto, using(outside::proofs::Fronts::front_first, outside::proofs::Fronts::front_second, outside::proofs::Fronts::front_third, outside::proofs::Fronts::appends_three))]
+#[tactic(auto, using(outside::proofs::Fronts::front_more, outside::proofs::Fronts::front_then, outside::proofs::Fronts::appends_then))]
+fn write_front<K: Sink>(group: &Group<'_>, out: &mut K) -> Result<(), Failed>
+    ensures bytes { OnOk result (Appends (K.written out.old) (K.written out.new) (number_word group.now.number ++ then_words (number_text group.now.number ∷ map key_text group.now.keys))) }
+    ensures front { WritesFront (K.written out.old) (K.written out.new) (number_word group.now.number ++ then_words (number_text group.now.number ∷ map key_text group.now.keys)) }
+    ensures tells { is_some (K.written out.new) ≡ is_some (K.written out.old) }
+    ensures cause { HasCause (K.faults out.old) (K.faults out.new) result }
+{
+    out.write_all(group.number.word().as_bytes())?;
+    write_words(group, out)
+}
+
+#[tactic(auto, using(outside::proofs::Fronts::front_more, outside::proofs::Fronts::front_then, outside::proofs::Fronts::appends_then))]
 fn write_group<K: Sink>(group: &Group<'_>, out: &mut K) -> Result<(), Failed>
     ensures bytes { OnOk result (Appends (K.written out.old) (K.written out.new) (group_line group.now)) }
     ensures front { WritesFront (K.written out.old) (K.written out.new) (group_line group.now) }
     ensures tells { is_some (K.written out.new) ≡ is_some (K.written out.old) }
     ensures cause { HasCause (K.faults out.old) (K.faults out.new) result }
 {
-    out.write_all(group.number.word().as_bytes())?;
-    write_words(group, out)?;
+    write_front(group, out)?;
     out.write_all(b"\n")
 }
 
 /// A line for each group.
-#[tactic(auto, using(outside::proofs::Fronts::writing_begun, outside::proofs::Fronts::writing_more, outside::proofs::Fronts::writing_failed, outside::proofs::Fronts::writing_done, outside::proofs::Fronts::piece_next))]
+#[tactic(auto, using(outside::proofs::Fronts::writing_begun, outside::proofs::Fronts::writing_done))]
 pub(crate) fn write_groups<K: Sink>(groups: &[Group<'_>], out: &mut K) -> Result<(), Failed>
     ensures bytes { OnOk result (Appends (K.written out.old) (K.written out.new) (flat_map group_line groups.now)) }
     ensures front { WritesFront (K.written out.old) (K.written out.new) (flat_map group_line groups.now) }
@@ -90,15 +110,25 @@ pub(crate) fn write_groups<K: Sink>(groups: &[Group<'_>], out: &mut K) -> Result
     Ok(())
 }
 
+#[tactic(auto, using(outside::proofs::Fronts::front_more, outside::proofs::Fronts::front_then, outside::proofs::Fronts::appends_then))]
+fn write_count<K: Sink>(count: usize, out: &mut K) -> Result<(), Failed>
+    ensures bytes { OnOk result (Appends (K.written out.old) (K.written out.new) (codes "TOTAL groups=" ++ decimal count)) }
+    ensures front { WritesFront (K.written out.old) (K.written out.new) (codes "TOTAL groups=" ++ decimal count) }
+    ensures tells { is_some (K.written out.new) ≡ is_some (K.written out.old) }
+    ensures cause { HasCause (K.faults out.old) (K.faults out.new) result }
+{
+    out.write_all(b"TOTAL groups=")?;
+    out.write_all(Buffer::new().format(count).as_bytes())
+}
+
 /// The line that tells how many groups there are.
-#[tactic(auto, using(outside::proofs::Fronts::front_first, outside::proofs::Fronts::front_second, outside::proofs::Fronts::front_third, outside::proofs::Fronts::appends_three))]
+#[tactic(auto, using(outside::proofs::Fronts::front_more, outside::proofs::Fronts::front_then, outside::proofs::Fronts::appends_then))]
 pub(crate) fn write_total<K: Sink>(count: usize, out: &mut K) -> Result<(), Failed>
     ensures bytes { OnOk result (Appends (K.written out.old) (K.written out.new) (line (codes "TOTAL groups=" ++ decimal count))) }
     ensures front { WritesFront (K.written out.old) (K.written out.new) (line (codes "TOTAL groups=" ++ decimal count)) }
     ensures tells { is_some (K.written out.new) ≡ is_some (K.written out.old) }
     ensures cause { HasCause (K.faults out.old) (K.faults out.new) result }
 {
-    out.write_all(b"TOTAL groups=")?;
-    out.write_all(Buffer::new().format(count).as_bytes())?;
+    write_count(count, out)?;
     out.write_all(b"\n")
 }
