@@ -9,12 +9,13 @@ use Rattle.entry_record.specs.History.{IsWithin}
 use Rattle.durable_catalogue.specs.Openings.{IsUnopened}
 use Rattle.durable_catalogue.specs.declared.fault.OpenFault.{OpenFault}
 use Rattle.durable_catalogue.specs.declared.fault.OpenFault.TheVariants as opening
-use Rattle.console_lines.specs.Ends.{Outcome, IsTold, IsUntold}
+use Rattle.console_lines.specs.Ends.{Outcome, IsTold, IsUntold, IsSilent, out_unwritten}
 use Rattle.console_lines.specs.declared.end.End.{End}
-use Rattle.console_lines.specs.declared.end.End.TheVariants.{Done, OutputFault, Told}
+use Rattle.console_lines.specs.declared.end.End.TheVariants.{Done, Told}
+use Rattle.console_lines.specs.declared.end.Unwritten.TheVariants.{Out}
 use Rattle.console_lines.specs.declared.fault.Fault.{Fault}
 use Rattle.console_lines.specs.declared.fault.Fault.TheVariants.{Device, Memory}
-use Rattle.console_lines.proofs.Ends.{told_once, told_no_output, never_told}
+use Rattle.console_lines.proofs.Ends.{told_once, told_not_unwritten, told_not_done, done_not_unwritten, never_told}
 use Rattle.room_files.specs.Journals.{journal_limits, log_bytes, KeepsHistory, KeepsLog}
 use Rattle.output_files.specs.Outputs.{IsPartWritten}
 use Rattle.room_files.proofs.Journals.{closed_keeps, keeps_where}
@@ -40,12 +41,6 @@ is_device opening.OldVersion is = cc
 is_device opening.Full is = cc
 is_device opening.NoMemory is = cc
 
-told_not_done : (end : End) (why : Fault) → end ≡ Told why → end ≡ Done → ⊥
-told_not_done end why is also = let both : Told why ≡ Done = sym is ∙ also in cc
-
-done_no_fault : (end : End) → end ≡ Done → end ≡ OutputFault → ⊥
-done_no_fault end is also = let both : Done ≡ OutputFault = sym is ∙ also in cc
-
 module _ (journal out : List ℕ) (o : Outcome) where
   -- a fault was told, of a journal that was not opened or where memory ran out behind that
   pub tells_fault : (reason : OpenFault) → o.end ≡ Told (fault_of_opening reason) → IsTold (fault_of_opening reason) o
@@ -62,10 +57,10 @@ module _ (journal out : List ℕ) (o : Outcome) where
     untouched = λ why also. apart;
     silent = λ untold. absurd (never_told o.end (fault_of_opening reason) untold is);
     device = λ also. cause (is_device reason (told_once o.end (fault_of_opening reason) Device is also));
-    output = λ also. absurd (told_no_output o.end (fault_of_opening reason) is also);
+    out_cause = λ also. absurd (told_not_unwritten o.end (fault_of_opening reason) Out is also);
     history = λ untold. absurd (never_told o.end (fault_of_opening reason) untold is);
     whole = λ entries also. absurd (told_not_done o.end (fault_of_opening reason) is also);
-    part = λ entries also. absurd (told_no_output o.end (fault_of_opening reason) is also);
+    part = λ entries also. absurd (told_not_unwritten o.end (fault_of_opening reason) Out is also);
   }
 
   -- what is due of the history of a journal that was opened, written so far as it could be
@@ -93,7 +88,7 @@ module _ (journal out : List ℕ) (o : Outcome) where
     part_is entries tells has =
         part_of_any matches_due entries history (log_bytes o.old journal) (o.old.file out) (o.new.file out) has (r.has tells) (r.part tells)
 
-    pub tells_whole : o.end ≡ Done → (o.now ≡ o.told) × (o.faults_now ≡ o.faults)
+    pub tells_whole : o.end ≡ Done → IsSilent o
         → (o.old.tells ≡ true → o.new.file out ≡ Some (matches_due history)) → TellsMatches journal out o
     tells_whole is silent bytes = record {
       ends = subst EndsReading (sym is) tt;
@@ -102,25 +97,25 @@ module _ (journal out : List ℕ) (o : Outcome) where
       untouched = λ why also. absurd (told_not_done o.end why also is);
       silent = λ untold. silent;
       device = λ also. absurd (told_not_done o.end Device also is);
-      output = λ also. absurd (done_no_fault o.end is also);
+      out_cause = λ also. absurd (done_not_unwritten o.end Out is also);
       history = λ untold tells. fitting_history history (log_bytes o.old journal) (r.has tells) r.within;
       whole = λ entries also tells has.
           whole_of_any matches_due entries history (log_bytes o.old journal) (o.new.file out) has (r.has tells) (bytes tells);
       part = λ entries also. part_is entries;
     }
 
-    pub tells_failed : o.end ≡ OutputFault → (o.now ≡ o.told) × (o.faults_now ≡ o.faults)
+    pub tells_failed : o.end ≡ out_unwritten → IsSilent o
         → Rose (o.old.out_faults out) (o.new.out_faults out) → TellsMatches journal out o
     tells_failed is silent rose = record {
       ends = subst EndsReading (sym is) tt;
       keeps = r.keeps (o.end ≡ Told Device);
-      told = λ why also. absurd (told_no_output o.end why also is);
-      untouched = λ why also. absurd (told_no_output o.end why also is);
+      told = λ why also. absurd (told_not_unwritten o.end why Out also is);
+      untouched = λ why also. absurd (told_not_unwritten o.end why Out also is);
       silent = λ untold. silent;
-      device = λ also. absurd (told_no_output o.end Device also is);
-      output = λ also. rose;
+      device = λ also. absurd (told_not_unwritten o.end Device Out also is);
+      out_cause = λ also. rose;
       history = λ untold tells. fitting_history history (log_bytes o.old journal) (r.has tells) r.within;
-      whole = λ entries also. absurd (done_no_fault o.end also is);
+      whole = λ entries also. absurd (done_not_unwritten o.end Out also is);
       part = λ entries also. part_is entries;
     }
 

@@ -5,8 +5,8 @@ use Rattle.outside.specs.Fault.{Rose}
 use Rattle.outside.specs.Room.{SameBut}
 use Rattle.catalogue_rules.specs.Settle.{state_of}
 use Rattle.durable_catalogue.specs.Logs.{HasHistory}
-use Rattle.console_lines.specs.Ends.{Outcome, IsTold, IsUntold}
-use Rattle.console_lines.specs.declared.end.End.TheVariants.{Done, OutputFault, Told}
+use Rattle.console_lines.specs.Ends.{Outcome, IsTold, IsUntold, IsSilent, out_unwritten}
+use Rattle.console_lines.specs.declared.end.End.TheVariants.{Done, Told}
 use Rattle.console_lines.specs.declared.fault.Fault.{Fault}
 use Rattle.console_lines.specs.declared.fault.Fault.TheVariants.{Device}
 use Rattle.room_files.specs.Journals.{log_bytes, KeepsHistory}
@@ -27,13 +27,13 @@ pub record TellsMatches (journal out : List ℕ) (o : Outcome) : Type 0 where
   pub told : (why : Fault) → o.end ≡ Told why → IsTold why o × WhyUnopened o.old journal why
   pub untouched : (why : Fault) → o.end ≡ Told why → SameBut o.old o.new (journal ∷ [])
   -- without one the console is as it was
-  pub silent : IsUntold o.end → (o.now ≡ o.told) × (o.faults_now ≡ o.faults)
+  pub silent : IsUntold o.end → IsSilent o
   -- the outside's faults have their cause
   pub device : o.end ≡ Told Device → Rose (o.old.log_faults journal) (o.new.log_faults journal)
-  pub output : o.end ≡ OutputFault → Rose (o.old.out_faults out) (o.new.out_faults out)
+  pub out_cause : o.end ≡ out_unwritten → Rose (o.old.out_faults out) (o.new.out_faults out)
   -- the log has a history within the limits, and the output is what is due of it, or a front of that
   pub history : IsUntold o.end → o.old.tells ≡ true → HasFittingHistory (log_bytes o.old journal)
   pub whole : (entries : List Entry) → o.end ≡ Done → o.old.tells ≡ true → HasHistory entries (log_bytes o.old journal)
       → o.new.file out ≡ Some (matches_due entries)
-  pub part : (entries : List Entry) → o.end ≡ OutputFault → o.old.tells ≡ true → HasHistory entries (log_bytes o.old journal)
+  pub part : (entries : List Entry) → o.end ≡ out_unwritten → o.old.tells ≡ true → HasHistory entries (log_bytes o.old journal)
       → IsPartWritten (o.old.file out) (o.new.file out) (matches_due entries)

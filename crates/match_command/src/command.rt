@@ -4,7 +4,7 @@ ghost use Rattle.outside.specs.Room.{SameBut};
 ghost use Rattle.match_command.specs.Telling.{TellsMatches};
 
 use crate::writing::write_history;
-use console_lines::{End, Fault, tell};
+use console_lines::{End, Fault, Unwritten, tell};
 use history_logs::open_history;
 use outside::{Room, WriteFault};
 use room_files::fault_of_opening;
@@ -32,7 +32,7 @@ pub fn write_matches<R: Room>(
     };
     match write_history(alloc, room, journal, out, history) {
         Ok(()) => End::Done,
-        Err(WriteFault::OutputFault) => End::OutputFault,
+        Err(WriteFault::OutputFault) => End::Unwritten(Unwritten::Out),
         Err(WriteFault::NoMemory) => tell(console, Fault::Memory),
     }
 }

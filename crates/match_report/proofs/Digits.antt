@@ -1,10 +1,11 @@
 -- The characters of numbers are graphic.
-use Rattle.std.proofs.Common.{◌≡◌, ℕ, ◌+◌, ◌-◌, ◌%◌, ◌<◌, ◌≤◌, ◌==◌, Bool, true, ◌&&◌, ◌||◌, List, [], ◌∷◌, ◌++◌, length, take, refl, arith, nat_le, nat_eq, codes, slice_index}
+use Rattle.std.proofs.Common.{◌≡◌, ℕ, ◌+◌, ◌-◌, ◌%◌, ◌<◌, ◌≤◌, ◌==◌, Bool, true, ◌&&◌, ◌||◌, List, [], ◌∷◌, ◌++◌, length, take, refl, arith, nat_le, nat_eq, codes, slice_index, ap}
 use Rattle.std.specs.List.{list_all, starts_with}
 use Rattle.std.proofs.lemmas.Bool.{and_parts, and_from, leb-true}
+use Rattle.std.specs.Cmp.{unsigned_Decides}
 use Rattle.std.proofs.lemmas.Grind.{common_steps}
 use Rattle.marc_types.specs.Valid.{is_digit, is_graphic}
-use Rattle.match_report.specs.Isbn.{weighted, in_turn, is_check, is_isbn_ten, is_isbn_thirteen, check_digit, thirteen_of}
+use Rattle.match_report.specs.Isbn.{weighted, in_turn, is_check, has_prefix, is_isbn_ten, is_isbn_thirteen, check_digit, thirteen_of}
 
 digit_graphic : (b : ℕ) → is_digit b ≡ true → is_graphic b ≡ true
 digit_graphic b h = grind (arith, common_steps)
@@ -37,11 +38,10 @@ thirteen_of_graphic ten h =
 pub ten_long : (ten : List ℕ) → is_isbn_ten ten ≡ true → length ten ≡ 10
 unfolding is_isbn_ten
 ten_long ten h =
-    let first = and_parts _ _ h in
-    let second = and_parts _ _ first.0 in
-    let third = and_parts _ _ second.0 in
-    let long = third.0 in
-    grind (arith, common_steps)
+    let first = and_parts ((length ten == 10) && list_all is_digit (take 9 ten) && is_check (slice_index ten 9)) (weighted (10 ∷ 9 ∷ 8 ∷ 7 ∷ 6 ∷ 5 ∷ 4 ∷ 3 ∷ 2 ∷ 1 ∷ []) ten % 11 == 0) h in
+    let second = and_parts ((length ten == 10) && list_all is_digit (take 9 ten)) (is_check (slice_index ten 9)) first.0 in
+    let third = and_parts (length ten == 10) (list_all is_digit (take 9 ten)) second.0 in
+    (unsigned_Decides (length ten) 10).0 third.0
 
 pub thirteen_graphic : (text : List ℕ) → is_isbn_thirteen text ≡ true → list_all is_graphic text ≡ true
 unfolding is_isbn_thirteen
@@ -50,3 +50,13 @@ thirteen_graphic text h =
     let second = and_parts _ _ first.0 in
     let third = and_parts _ _ second.0 in
     digits_graphic text third.1
+
+pub ten_from : (text : List ℕ) (sum : ℕ) → length text ≡ 10 → list_all is_digit (take 9 text) ≡ true → is_check (slice_index text 9) ≡ true →
+    sum ≡ weighted (10 ∷ 9 ∷ 8 ∷ 7 ∷ 6 ∷ 5 ∷ 4 ∷ 3 ∷ 2 ∷ 1 ∷ []) text → (sum % 11 == 0) ≡ is_isbn_ten text
+unfolding is_isbn_ten
+ten_from text sum long digits check is = rw (long, digits, check) (ap (λ n. n % 11 == 0) is)
+
+pub thirteen_from : (text : List ℕ) (sum : ℕ) → length text ≡ 13 → list_all is_digit text ≡ true → has_prefix text ≡ true →
+    sum ≡ weighted in_turn text → (sum % 10 == 0) ≡ is_isbn_thirteen text
+unfolding is_isbn_thirteen
+thirteen_from text sum long digits prefix is = rw (long, digits, prefix) (ap (λ n. n % 10 == 0) is)

@@ -5,7 +5,7 @@ use Rattle.std.specs.List.{flat_map}
 use Rattle.std.specs.BTreeMap.{insert_entry}
 use Rattle.std.specs.Map.{remove_entry}
 use Rattle.std.proofs.lemmas.Bool.{and_parts}
-use Rattle.std.proofs.lemmas.Bool.Decides.{nat_tests}
+use Rattle.std.specs.Cmp.{unsigned_Decides}
 use Rattle.marc_types.specs.Order.{key_cmp, same_key}
 use Rattle.marc_types.specs.Fields.{tag_of}
 use Rattle.marc_types.specs.declared.field.Field.{Field}
@@ -30,7 +30,7 @@ use Rattle.match_report.specs.declared.number.Number.{Number}
 -- ---- numbers stand in fields that are no headings
 
 equal_is : (a b : ℕ) → (a == b) ≡ true → a ≡ b
-equal_is a b h = grind nat_tests
+equal_is a b h = (unsigned_Decides a b).0 h
 
 no_kind : (t : Tag) (ind2 : ℕ) → t.a ≡ 48 → is_none (kind_by_tag Bibliographic t ind2) ≡ true
 unfolding kind_by_tag
@@ -48,23 +48,21 @@ FindsPlain found = (f : Field) → is_plain Bibliographic f ≡ false → found 
 true_false : (b : Bool) → b ≡ true → b ≡ false → ⊥
 true_false b t f = cc
 
-finds_isbns : FindsPlain isbns_of_field
+isbns_by : (f : Field) (b : Bool) → has_tag 48 50 48 (tag_of f) ≡ b → is_plain Bibliographic f ≡ false → isbns_of_field f ≡ []
 unfolding isbns_of_field
-finds_isbns f h = at (has_tag 48 50 48 (tag_of f)) refl
-  where
-    at : (b : Bool) → has_tag 48 50 48 (tag_of f) ≡ b → isbns_of_field f ≡ []
-    unfolding isbns_of_field
-    at true e = absurd (true_false (is_plain Bibliographic f) (plain_by_tag 50 48 f e) h)
-    at false e = rw e refl
+isbns_by f true e h = absurd (true_false (is_plain Bibliographic f) (plain_by_tag 50 48 f e) h)
+isbns_by f false e h = rw e refl
+
+finds_isbns : FindsPlain isbns_of_field
+finds_isbns f h = isbns_by f (has_tag 48 50 48 (tag_of f)) refl h
+
+lccns_by : (f : Field) (b : Bool) → has_tag 48 49 48 (tag_of f) ≡ b → is_plain Bibliographic f ≡ false → lccns_of_field f ≡ []
+unfolding lccns_of_field
+lccns_by f true e h = absurd (true_false (is_plain Bibliographic f) (plain_by_tag 49 48 f e) h)
+lccns_by f false e h = rw e refl
 
 finds_lccns : FindsPlain lccns_of_field
-unfolding lccns_of_field
-finds_lccns f h = at (has_tag 48 49 48 (tag_of f)) refl
-  where
-    at : (b : Bool) → has_tag 48 49 48 (tag_of f) ≡ b → lccns_of_field f ≡ []
-    unfolding lccns_of_field
-    at true e = absurd (true_false (is_plain Bibliographic f) (plain_by_tag 49 48 f e) h)
-    at false e = rw e refl
+finds_lccns f h = lccns_by f (has_tag 48 49 48 (tag_of f)) refl h
 
 found_in_plain : (found : Field → List Number) → FindsPlain found → (fields : List Field) → flat_map found (plain_fields Bibliographic fields) ≡ flat_map found fields
 found_in_plain found none [] = refl

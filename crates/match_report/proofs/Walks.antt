@@ -58,16 +58,18 @@ match_first g gs = at (is_match g)
 
 walked : (g : NumberGroup) (hs : List Holding) → matches_from g hs ≡ filter is_match (merged g (groups_of hs))
 walked g [] = refl
-walked g (h ∷ hs) = at (same_number g.number h.number) refl ∙ ap (λ gs. filter is_match (merged g gs)) (sym (joined_merged h (groups_of hs)))
+walked g (h ∷ hs) =
+    at (same_number g.number h.number) refl (walked (number_group g.number (g.keys ++ h.key ∷ [])) hs) (walked (alone h) hs)
+    ∙ ap (λ gs. filter is_match (merged g gs)) (sym (joined_merged h (groups_of hs)))
   where
-    more : NumberGroup
-    more = number_group g.number (g.keys ++ h.key ∷ [])
-
     at : (b : Bool) → same_number g.number h.number ≡ b →
-        (if b then matches_from more hs else matching g ++ matches_from (alone h) hs) ≡ filter is_match (merged g (merged (alone h) (groups_of hs)))
-    at true e = walked more hs ∙ ap (filter is_match) (sym (merged_same g h e (groups_of hs)))
-    at false e =
-        ap (λ gs. matching g ++ gs) (walked (alone h) hs) ∙ sym (match_first g (merged (alone h) (groups_of hs)))
+        matches_from (number_group g.number (g.keys ++ h.key ∷ [])) hs ≡ filter is_match (merged (number_group g.number (g.keys ++ h.key ∷ [])) (groups_of hs)) →
+        matches_from (alone h) hs ≡ filter is_match (merged (alone h) (groups_of hs)) →
+        (if b then matches_from (number_group g.number (g.keys ++ h.key ∷ [])) hs else matching g ++ matches_from (alone h) hs)
+        ≡ filter is_match (merged g (merged (alone h) (groups_of hs)))
+    at true e joins other = joins ∙ ap (filter is_match) (sym (merged_same g h e (groups_of hs)))
+    at false e joins other =
+        ap (λ gs. matching g ++ gs) other ∙ sym (match_first g (merged (alone h) (groups_of hs)))
         ∙ ap (filter is_match) (sym (merged_other g h e (groups_of hs)))
 
 pub matches_walked : (h : Holding) (hs : List Holding) → matches_from (number_group h.number (h.key ∷ [])) hs ≡ filter is_match (groups_of (h ∷ hs))

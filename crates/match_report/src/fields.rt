@@ -1,5 +1,6 @@
 //! The numbers of a record.
-ghost use Rattle.std.specs.Prelude.{◌≡◌, ◌++◌, IfOk, OnOk};
+ghost use Rattle.std.specs.Prelude.{◌≡◌, ◌++◌, [], IfOk, OnOk};
+ghost use Rattle.std.specs.List.{cons_option};
 ghost use Rattle.entry_record.specs.Identity.{has_tag};
 ghost use Rattle.heading_fields.specs.Numbers.{without_blanks};
 ghost use Rattle.match_report.specs.Numbers.{numbers_of, isbns_of_field, lccns_of_field, isbn_of_subfield, lccn_of_subfield, lccn_of};
@@ -80,7 +81,17 @@ fn lccn_of_subfield(alloc: Global, subfield: &Subfield) -> Result<Option<Number>
     }
 }
 
-#[tactic(auto, unfolding(crate::specs::Numbers::isbns_of_field))]
+/// Takes a number, where there is one.
+fn add(found: &mut Vec<Number>, number: Option<Number>) -> Result<(), NoMemory>
+    ensures { OnOk result (found.new.items ≡ found.old.items ++ cons_option number []) }
+{
+    if let Some(number) = number {
+        found.push(number)?;
+    }
+    Ok(())
+}
+
+#[tactic(auto, unfolding(crate::specs::Numbers::isbns_of_field), using(crate::proofs::Taken::found_more))]
 fn add_isbns(alloc: Global, field: &Field, found: &mut Vec<Number>) -> Result<(), NoMemory>
     ensures { OnOk result (found.new.items ≡ found.old.items ++ isbns_of_field field.now) }
 {
@@ -88,14 +99,13 @@ fn add_isbns(alloc: Global, field: &Field, found: &mut Vec<Number>) -> Result<()
         return Ok(());
     }
     for subfield in field.subfields() {
-        if let Some(isbn) = isbn_of_subfield(alloc, subfield)? {
-            found.push(isbn)?;
-        }
+        let isbn = isbn_of_subfield(alloc, subfield)?;
+        add(found, isbn)?;
     }
     Ok(())
 }
 
-#[tactic(auto, unfolding(crate::specs::Numbers::lccns_of_field))]
+#[tactic(auto, unfolding(crate::specs::Numbers::lccns_of_field), using(crate::proofs::Taken::found_more))]
 fn add_lccns(alloc: Global, field: &Field, found: &mut Vec<Number>) -> Result<(), NoMemory>
     ensures { OnOk result (found.new.items ≡ found.old.items ++ lccns_of_field field.now) }
 {
@@ -103,9 +113,8 @@ fn add_lccns(alloc: Global, field: &Field, found: &mut Vec<Number>) -> Result<()
         return Ok(());
     }
     for subfield in field.subfields() {
-        if let Some(lccn) = lccn_of_subfield(alloc, subfield)? {
-            found.push(lccn)?;
-        }
+        let lccn = lccn_of_subfield(alloc, subfield)?;
+        add(found, lccn)?;
     }
     Ok(())
 }

@@ -103,7 +103,7 @@ impl Groups<'_> {
         ensures cause { HasCause (K.faults out.old) (K.faults out.new) result }
     {
         write_groups(self.groups.as_slice(), out)?;
-        write_total(self.groups.len(), out)
+        write_total(self.groups.as_slice(), out)
     }
 }
 

@@ -56,7 +56,7 @@ fn is_check(character: u8) -> bool
 }
 
 /// Whether this is a number of the older form.
-#[tactic(auto, unfolding(crate::specs::Isbn::is_isbn_ten))]
+#[tactic(auto, unfolding(crate::specs::Isbn::is_isbn_ten), using(crate::proofs::Digits::ten_from))]
 fn is_isbn_ten(text: &[u8]) -> bool
     ensures { result ≡ is_isbn_ten text.now }
 {
@@ -76,7 +76,7 @@ fn has_prefix(text: &[u8]) -> bool
 }
 
 /// Whether this is a number of today's form.
-#[tactic(auto, unfolding(crate::specs::Isbn::is_isbn_thirteen))]
+#[tactic(auto, unfolding(crate::specs::Isbn::is_isbn_thirteen), using(crate::proofs::Digits::thirteen_from))]
 fn is_isbn_thirteen(text: &[u8]) -> bool
     ensures { result ≡ is_isbn_thirteen text.now }
 {

@@ -1,14 +1,13 @@
 //! The lines of groups.
-ghost use Rattle.std.specs.Prelude.{◌≡◌, ◌++◌, ◌∷◌, map, codes, is_some, OnOk};
+ghost use Rattle.std.specs.Prelude.{◌≡◌, ◌++◌, ◌∷◌, map, is_some, OnOk};
 ghost use Rattle.std.specs.List.{flat_map};
-ghost use Rattle.std.specs.Fmt.{decimal};
 ghost use Rattle.std.specs.Io.KnownBytes.{Appends};
 ghost use Rattle.outside.specs.Fault.{HasCause};
 ghost use Rattle.outside.specs.Sink.{WritesFront};
 ghost use Rattle.heading_fields.specs.Numbers.{key_text};
-ghost use Rattle.catalogue_rules.specs.Lines.{line, then_word, then_words};
+ghost use Rattle.catalogue_rules.specs.Lines.{then_word, then_words};
 ghost use Rattle.match_report.specs.Holdings.{number_text};
-ghost use Rattle.match_report.specs.Groups.{number_word, group_line};
+ghost use Rattle.match_report.specs.Groups.{number_word, group_line, total_line};
 
 use crate::groups::Group;
 use itoa::Buffer;
@@ -28,7 +27,7 @@ fn write_both<K: Sink>(first: &[u8], second: &[u8], out: &mut K) -> Result<(), F
 }
 
 /// The text of a key, behind a blank.
-#[tactic(auto, unfolding(heading_fields::specs::Numbers::key_text), using(outside::proofs::Fronts::front_more, outside::proofs::Fronts::front_then, outside::proofs::Fronts::appends_then))]
+#[tactic(auto, unfolding(heading_fields::specs::Numbers::key_text), using(crate::proofs::Writes::code_front, crate::proofs::Writes::code_then, outside::proofs::Fronts::appends_then))]
 fn write_key<K: Sink>(key: &Key, out: &mut K) -> Result<(), Failed>
     ensures bytes { OnOk result (Appends (K.written out.old) (K.written out.new) (then_word (key_text key.now))) }
     ensures front { WritesFront (K.written out.old) (K.written out.new) (then_word (key_text key.now)) }
@@ -63,7 +62,7 @@ fn write_text<K: Sink>(text: &[u8], out: &mut K) -> Result<(), Failed>
 }
 
 /// The number and the keys of a group, each behind a blank.
-#[tactic(auto, using(outside::proofs::Fronts::front_more, outside::proofs::Fronts::front_then, outside::proofs::Fronts::appends_then))]
+#[tactic(auto, using(crate::proofs::Writes::word_front, crate::proofs::Writes::word_then, outside::proofs::Fronts::appends_then))]
 fn write_words<K: Sink>(group: &Group<'_>, out: &mut K) -> Result<(), Failed>
     ensures bytes { OnOk result (Appends (K.written out.old) (K.written out.new) (then_word (number_text group.now.number) ++ then_words (map key_text group.now.keys))) }
     ensures front { WritesFront (K.written out.old) (K.written out.new) (then_word (number_text group.now.number) ++ then_words (map key_text group.now.keys)) }
@@ -110,25 +109,16 @@ pub(crate) fn write_groups<K: Sink>(groups: &[Group<'_>], out: &mut K) -> Result
     Ok(())
 }
 
-#[tactic(auto, using(outside::proofs::Fronts::front_more, outside::proofs::Fronts::front_then, outside::proofs::Fronts::appends_then))]
-fn write_count<K: Sink>(count: usize, out: &mut K) -> Result<(), Failed>
-    ensures bytes { OnOk result (Appends (K.written out.old) (K.written out.new) (codes "TOTAL groups=" ++ decimal count)) }
-    ensures front { WritesFront (K.written out.old) (K.written out.new) (codes "TOTAL groups=" ++ decimal count) }
-    ensures tells { is_some (K.written out.new) ≡ is_some (K.written out.old) }
-    ensures cause { HasCause (K.faults out.old) (K.faults out.new) result }
-{
-    out.write_all(b"TOTAL groups=")?;
-    out.write_all(Buffer::new().format(count).as_bytes())
-}
-
 /// The line that tells how many groups there are.
-#[tactic(auto, using(outside::proofs::Fronts::front_more, outside::proofs::Fronts::front_then, outside::proofs::Fronts::appends_then))]
-pub(crate) fn write_total<K: Sink>(count: usize, out: &mut K) -> Result<(), Failed>
-    ensures bytes { OnOk result (Appends (K.written out.old) (K.written out.new) (line (codes "TOTAL groups=" ++ decimal count))) }
-    ensures front { WritesFront (K.written out.old) (K.written out.new) (line (codes "TOTAL groups=" ++ decimal count)) }
+#[tactic(auto, using(crate::proofs::Writes::total_front, crate::proofs::Writes::total_then, crate::proofs::Writes::total_written))]
+pub(crate) fn write_total<K: Sink>(groups: &[Group<'_>], out: &mut K) -> Result<(), Failed>
+    ensures bytes { OnOk result (Appends (K.written out.old) (K.written out.new) (total_line groups.now)) }
+    ensures front { WritesFront (K.written out.old) (K.written out.new) (total_line groups.now) }
     ensures tells { is_some (K.written out.new) ≡ is_some (K.written out.old) }
     ensures cause { HasCause (K.faults out.old) (K.faults out.new) result }
 {
-    write_count(count, out)?;
-    out.write_all(b"\n")
+    let mut digits = Buffer::new();
+    let count = digits.format(groups.len() as u128);
+    out.write_all(b"TOTAL groups=")?;
+    write_both(count.as_bytes(), b"\n", out)
 }

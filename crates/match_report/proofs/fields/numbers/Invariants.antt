@@ -7,4 +7,4 @@ abbrev pub invariant-loop-field : goal.invariant-loop-field
 invariant-loop-field l = l.found.items ≡ flat_map isbns_of_field (take l.field-index l.field-items)
 
 abbrev pub invariant-loop-field-2 : goal.invariant-loop-field-2
-invariant-loop-field-2 l = l.found.items ≡ flat_map isbns_of_field l.fn.rec.fields ++ flat_map lccns_of_field (take l.field-2-index l.field-2-items)
+invariant-loop-field-2 l = l.found.items ≡ flat_map isbns_of_field l.rec.fields ++ flat_map lccns_of_field (take l.field-index l.field-items)
