@@ -49,6 +49,7 @@ fn write_groups<R: Room>(room: &mut R, name: &str, groups: &Groups<'_>) -> Resul
 
 /// Writes the lines of a table's groups into the file of that name. Only the finding of the groups takes memory, and without it no
 /// file is begun.
+#[tactic(auto, using(outside::proofs::Rooms::same_but_itself))]
 fn write_table<R: Room>(
     alloc: Global,
     room: &mut R,
@@ -76,7 +77,7 @@ fn write_table<R: Room>(
 }
 
 /// Writes the match report of a history into the file of that name.
-#[tactic(auto, using(match_report::proofs::Tables::lines_are_of_state))]
+#[tactic(auto, using(match_report::proofs::Tables::lines_are_of_state, outside::proofs::Rooms::same_but_itself))]
 fn write_report<R: Room>(
     alloc: Global,
     room: &mut R,
@@ -101,6 +102,7 @@ fn write_report<R: Room>(
 }
 
 /// Writes the match report of a log's history into the file `out`, and closes the log.
+#[tactic(auto, using(outside::proofs::Rooms::same_but_none, outside::proofs::Rooms::same_but_then))]
 pub(crate) fn write_history<R: Room>(
     alloc: Global,
     room: &mut R,

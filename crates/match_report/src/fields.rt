@@ -91,7 +91,7 @@ fn add(found: &mut Vec<Number>, number: Option<Number>) -> Result<(), NoMemory>
     Ok(())
 }
 
-#[tactic(auto, unfolding(crate::specs::Numbers::isbns_of_field), using(crate::proofs::Taken::found_more))]
+#[tactic(auto, unfolding(crate::specs::Numbers::isbns_of_field))]
 fn add_isbns(alloc: Global, field: &Field, found: &mut Vec<Number>) -> Result<(), NoMemory>
     ensures { OnOk result (found.new.items ≡ found.old.items ++ isbns_of_field field.now) }
 {
@@ -105,7 +105,7 @@ fn add_isbns(alloc: Global, field: &Field, found: &mut Vec<Number>) -> Result<()
     Ok(())
 }
 
-#[tactic(auto, unfolding(crate::specs::Numbers::lccns_of_field), using(crate::proofs::Taken::found_more))]
+#[tactic(auto, unfolding(crate::specs::Numbers::lccns_of_field))]
 fn add_lccns(alloc: Global, field: &Field, found: &mut Vec<Number>) -> Result<(), NoMemory>
     ensures { OnOk result (found.new.items ≡ found.old.items ++ lccns_of_field field.now) }
 {

@@ -9,7 +9,7 @@ ghost use Rattle.match_report.specs.Walk.{matching, matches_from};
 
 use crate::holding::Held;
 use crate::number::Number;
-use crate::writing::{write_groups, write_total};
+use crate::writing::write_lines;
 use marc_types::{Key, NoMemory};
 use outside::{Failed, Sink};
 use std::alloc::Global;
@@ -95,15 +95,13 @@ impl<'a> Groups<'a> {
 impl Groups<'_> {
     /// Writes a line for each group, and one that tells how many there are; takes no memory. After `Failed` some front of the
     /// lines was written, maybe none or all.
-    #[tactic(auto, unfolding(crate::specs::Groups::lines_of), using(outside::proofs::Fronts::front_more, outside::proofs::Fronts::front_then, outside::proofs::Fronts::appends_then))]
     pub fn write<K: Sink>(&self, out: &mut K) -> Result<(), Failed>
         ensures bytes { OnOk result (Appends (K.written out.old) (K.written out.new) (lines_of self.now)) }
         ensures front { WritesFront (K.written out.old) (K.written out.new) (lines_of self.now) }
         ensures tells { is_some (K.written out.new) ≡ is_some (K.written out.old) }
         ensures cause { HasCause (K.faults out.old) (K.faults out.new) result }
     {
-        write_groups(self.groups.as_slice(), out)?;
-        write_total(self.groups.as_slice(), out)
+        write_lines(self.groups.as_slice(), out)
     }
 }
 

@@ -1,7 +1,7 @@
 //! International Standard Book Numbers.
 ghost use Rattle.std.specs.Prelude.{◌≡◌, ◌≤◌, ◌*◌, length, take, IsTrue, IfOk, IfSome, MatchOption};
 ghost use Rattle.std.specs.List.{list_all};
-ghost use Rattle.marc_types.specs.Valid.{is_graphic};
+ghost use Rattle.marc_types.specs.Valid.{is_digit, is_graphic};
 ghost use Rattle.match_report.specs.Isbn.{printed_number, value_of, weighted, is_check, has_prefix, is_isbn_ten, is_isbn_thirteen, check_digit, thirteen_of, isbn_of, isbn_of_printed};
 
 use marc_types::{NoMemory, Text};
@@ -55,15 +55,21 @@ fn is_check(character: u8) -> bool
     character.is_ascii_digit() || character == b'X' || character == b'x'
 }
 
+fn are_digits(text: &[u8]) -> bool
+    ensures { result ≡ list_all is_digit text.now }
+{
+    text.iter().all(|character| character.is_ascii_digit())
+}
+
 /// Whether this is a number of the older form.
-#[tactic(auto, unfolding(crate::specs::Isbn::is_isbn_ten), using(crate::proofs::Digits::ten_from))]
+#[tactic(auto, unfolding(crate::specs::Isbn::is_isbn_ten))]
 fn is_isbn_ten(text: &[u8]) -> bool
     ensures { result ≡ is_isbn_ten text.now }
 {
     if text.len() != 10 {
         return false;
     }
-    if !text[..9].iter().all(|character| character.is_ascii_digit()) {
+    if !are_digits(&text[..9]) {
         return false;
     }
     is_check(text[9]) && weighted(&[10, 9, 8, 7, 6, 5, 4, 3, 2, 1], text) % 11 == 0
@@ -76,14 +82,14 @@ fn has_prefix(text: &[u8]) -> bool
 }
 
 /// Whether this is a number of today's form.
-#[tactic(auto, unfolding(crate::specs::Isbn::is_isbn_thirteen), using(crate::proofs::Digits::thirteen_from))]
+#[tactic(auto, unfolding(crate::specs::Isbn::is_isbn_thirteen))]
 fn is_isbn_thirteen(text: &[u8]) -> bool
     ensures { result ≡ is_isbn_thirteen text.now }
 {
     if text.len() != 13 {
         return false;
     }
-    if !text.iter().all(|character| character.is_ascii_digit()) {
+    if !are_digits(text) {
         return false;
     }
     has_prefix(text) && weighted(&[1, 3, 1, 3, 1, 3, 1, 3, 1, 3, 1, 3, 1], text) % 10 == 0

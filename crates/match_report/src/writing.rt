@@ -7,7 +7,7 @@ ghost use Rattle.outside.specs.Sink.{WritesFront};
 ghost use Rattle.heading_fields.specs.Numbers.{key_text};
 ghost use Rattle.catalogue_rules.specs.Lines.{then_word, then_words};
 ghost use Rattle.match_report.specs.Holdings.{number_text};
-ghost use Rattle.match_report.specs.Groups.{number_word, group_line, total_line};
+ghost use Rattle.match_report.specs.Groups.{number_word, group_line, total_line, lines_of};
 
 use crate::groups::Group;
 use itoa::Buffer;
@@ -97,7 +97,7 @@ fn write_group<K: Sink>(group: &Group<'_>, out: &mut K) -> Result<(), Failed>
 
 /// A line for each group.
 #[tactic(auto, using(outside::proofs::Fronts::writing_begun, outside::proofs::Fronts::writing_done))]
-pub(crate) fn write_groups<K: Sink>(groups: &[Group<'_>], out: &mut K) -> Result<(), Failed>
+fn write_groups<K: Sink>(groups: &[Group<'_>], out: &mut K) -> Result<(), Failed>
     ensures bytes { OnOk result (Appends (K.written out.old) (K.written out.new) (flat_map group_line groups.now)) }
     ensures front { WritesFront (K.written out.old) (K.written out.new) (flat_map group_line groups.now) }
     ensures tells { is_some (K.written out.new) ≡ is_some (K.written out.old) }
@@ -110,8 +110,7 @@ pub(crate) fn write_groups<K: Sink>(groups: &[Group<'_>], out: &mut K) -> Result
 }
 
 /// The line that tells how many groups there are.
-#[tactic(auto, using(crate::proofs::Writes::total_front, crate::proofs::Writes::total_then, crate::proofs::Writes::total_written))]
-pub(crate) fn write_total<K: Sink>(groups: &[Group<'_>], out: &mut K) -> Result<(), Failed>
+fn write_total<K: Sink>(groups: &[Group<'_>], out: &mut K) -> Result<(), Failed>
     ensures bytes { OnOk result (Appends (K.written out.old) (K.written out.new) (total_line groups.now)) }
     ensures front { WritesFront (K.written out.old) (K.written out.new) (total_line groups.now) }
     ensures tells { is_some (K.written out.new) ≡ is_some (K.written out.old) }
@@ -121,4 +120,16 @@ pub(crate) fn write_total<K: Sink>(groups: &[Group<'_>], out: &mut K) -> Result<
     let count = digits.format(groups.len() as u128);
     out.write_all(b"TOTAL groups=")?;
     write_both(count.as_bytes(), b"\n", out)
+}
+
+/// A line for each group, and one that tells how many there are.
+#[tactic(auto, unfolding(crate::specs::Groups::lines_of), using(outside::proofs::Fronts::front_more, outside::proofs::Fronts::front_then, outside::proofs::Fronts::appends_then))]
+pub(crate) fn write_lines<K: Sink>(groups: &[Group<'_>], out: &mut K) -> Result<(), Failed>
+    ensures bytes { OnOk result (Appends (K.written out.old) (K.written out.new) (lines_of groups.now)) }
+    ensures front { WritesFront (K.written out.old) (K.written out.new) (lines_of groups.now) }
+    ensures tells { is_some (K.written out.new) ≡ is_some (K.written out.old) }
+    ensures cause { HasCause (K.faults out.old) (K.faults out.new) result }
+{
+    write_groups(groups, out)?;
+    write_total(groups, out)
 }
