@@ -77,7 +77,7 @@ fn write_table<R: Room>(
 }
 
 /// Writes the match report of a history into the file of that name.
-#[tactic(auto, using(match_report::proofs::Tables::lines_are_of_state, outside::proofs::Rooms::same_but_itself))]
+#[tactic(auto, using(outside::proofs::Rooms::same_but_itself))]
 fn write_report<R: Room>(
     alloc: Global,
     room: &mut R,

@@ -64,7 +64,8 @@ fn write_text<K: Sink>(text: &[u8], out: &mut K) -> Result<(), Failed>
 /// The number and the keys of a group, each behind a blank.
 #[tactic(auto, using(crate::proofs::Writes::word_front, crate::proofs::Writes::word_then, outside::proofs::Fronts::appends_then))]
 fn write_words<K: Sink>(group: &Group<'_>, out: &mut K) -> Result<(), Failed>
-    ensures bytes { OnOk result (Appends (K.written out.old) (K.written out.new) (then_word (number_text group.now.number) ++ then_words (map key_text group.now.keys))) }
+    ensures bytes { OnOk result (Appends (K.written out.old) (K.written out.new)
+        (then_word (number_text group.now.number) ++ then_words (map key_text group.now.keys))) }
     ensures front { WritesFront (K.written out.old) (K.written out.new) (then_word (number_text group.now.number) ++ then_words (map key_text group.now.keys)) }
     ensures tells { is_some (K.written out.new) ≡ is_some (K.written out.old) }
     ensures cause { HasCause (K.faults out.old) (K.faults out.new) result }
@@ -75,8 +76,10 @@ fn write_words<K: Sink>(group: &Group<'_>, out: &mut K) -> Result<(), Failed>
 
 #[tactic(auto, using(outside::proofs::Fronts::front_more, outside::proofs::Fronts::front_then, outside::proofs::Fronts::appends_then))]
 fn write_front<K: Sink>(group: &Group<'_>, out: &mut K) -> Result<(), Failed>
-    ensures bytes { OnOk result (Appends (K.written out.old) (K.written out.new) (number_word group.now.number ++ then_words (number_text group.now.number ∷ map key_text group.now.keys))) }
-    ensures front { WritesFront (K.written out.old) (K.written out.new) (number_word group.now.number ++ then_words (number_text group.now.number ∷ map key_text group.now.keys)) }
+    ensures bytes { OnOk result (Appends (K.written out.old) (K.written out.new)
+        (number_word group.now.number ++ then_words (number_text group.now.number ∷ map key_text group.now.keys))) }
+    ensures front { WritesFront (K.written out.old) (K.written out.new)
+        (number_word group.now.number ++ then_words (number_text group.now.number ∷ map key_text group.now.keys)) }
     ensures tells { is_some (K.written out.new) ≡ is_some (K.written out.old) }
     ensures cause { HasCause (K.faults out.old) (K.faults out.new) result }
 {
