@@ -1,0 +1,29 @@
+use Rattle.std.proofs.Common.{◌≡◌, ◌∙◌}
+use Rattle.durable_catalogue.specs.declared.fault.OpenFault.TheVariants.{DeviceFault}
+use Rattle.room_files.specs.Journals.{log_bytes}
+use Rattle.room_files.proofs.Journals.{images_keep, content_keeps, opening_keeps, refusal_alone, closed_history}
+use Rattle.history_logs.proofs.rooms.open_history.Goals as goal
+
+pub returns-in-Ok-open-clause-kept : goal.returns-in-Ok-open-clause-kept
+returns-in-Ok-open-clause-kept g c told =
+    let seen = g.R.Log.Disk.seen in
+    let left = c.in-Ok-open.history.journal.disk in
+    opening_keeps (seen c.in-Ok.log) (seen left) (log_bytes (g.R.Room.seen c.args.room.now) c.args.name.now)
+    (c.in-Ok.ensures.bytes told) c.in-Ok.ensures.beginning c.in-Ok-open.ensures.crash c.in-Ok-open.ensures.content c.in-Ok-open.ensures.in_order
+
+pub returns-in-Err-clause-keeps : goal.returns-in-Err-clause-keeps
+returns-in-Err-clause-keeps g c told =
+    let seen = g.R.Log.Disk.seen in
+    let room = g.R.Room.seen in
+    let was = seen c.in-Ok.log in
+    let now = seen c.in-Err.failed.0 in
+    let failed = c.in-Err.failed.1 ≡ DeviceFault in
+    let log = log_bytes (room c.args.room.now) c.args.name.now in
+    let was_told = c.in-Ok.ensures.bytes told in
+    let told_still = c.in-Ok.ensures.apart.tells ∙ told in
+    let begins = c.in-Ok.ensures.beginning in
+    let refused = c.in-Err.ensures in
+    closed_history (room c.args.room.now) (room c.close_log.new.self) c.args.name.now now (c.close_log.ensures.bytes told_still) (c.close_log.ensures.moments told_still) failed
+    (refusal_alone was now log was_told begins refused.crash failed refused.left_alone)
+    (content_keeps was now log was_told begins refused.crash refused.content)
+    (images_keep was now log was_told begins refused.crash)

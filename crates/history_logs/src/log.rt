@@ -1,0 +1,81 @@
+//! The history of a log of either version.
+ghost use Rattle.std.specs.Prelude.{◌≡◌, ◌≢◌, ◌≤◌, ℕ, List, [], Some, IfOk, IfErr, MatchResult};
+ghost use Rattle.outside.specs.Fault.{Rose};
+ghost use Rattle.durable_catalogue.specs.declared.fault.OpenFault.TheVariants.{DeviceFault, OldVersion};
+ghost use Rattle.durable_catalogue.specs.Faults.{open_fault};
+ghost use Rattle.durable_catalogue.specs.Logs.{HasHistory};
+ghost use Rattle.durable_catalogue.specs.Openings.{IsUnopened, IsOpening, KeepsContent};
+ghost use Rattle.durable_catalogue.specs.Refused.{LeavesDiskAlone, IsPutInOrder};
+ghost use Rattle.entry_record.specs.History.{IsWithin};
+
+use crate::frames::read_within;
+use commit_journal::{Journal, JournalFault};
+use durable_catalogue::OpenFault;
+use entry_record::Prepared;
+use marc_types::Limits;
+use outside::Disk;
+use std::alloc::Global;
+
+/// The entries of a log of version 1 or 2, to which nothing is committed.
+#[derive(Drop)]
+pub struct HistoryLog<D: Disk> {
+    items: Vec<Prepared>,
+    journal: Journal<D>,
+}
+
+/// The journal's faults in the words of an opening.
+fn fault_of(fault: JournalFault) -> OpenFault
+    ensures { result ≡ open_fault fault }
+{
+    match fault {
+        JournalFault::DeviceFault => OpenFault::DeviceFault,
+        JournalFault::NotAJournal(place) => OpenFault::NotAJournal(place),
+        JournalFault::NoMemory => OpenFault::NoMemory,
+    }
+}
+
+impl<D: Disk> HistoryLog<D> {
+    /// Opens a log that a crash may have left, of either version. Of a journal that isn't blank it writes no gate. A fault hands
+    /// the disk back.
+    pub fn open(alloc: Global, disk: D, limits: Limits) -> Result<Self, (D, OpenFault)>
+        ensures history { IfOk result (λ h. (log : List ℕ) → (D.seen disk).content ≡ Some log → HasHistory h.items.items log) }
+        ensures within { IfOk result (λ h. IsWithin limits h.items.items) }
+        ensures crash { MatchResult result (λ h. IsOpening (D.seen disk) (D.seen h.journal.disk)) (λ e. IsOpening (D.seen disk) (D.seen e.0)) }
+        ensures content { MatchResult result (λ h. KeepsContent (D.seen disk) (D.seen h.journal.disk))
+            (λ e. KeepsContent (D.seen disk) (D.seen e.0)) }
+        ensures in_order { IfOk result (λ h. IsPutInOrder (D.seen disk) (D.seen h.journal.disk)) }
+        ensures left_alone { IfErr result (λ e. LeavesDiskAlone (e.1 ≡ DeviceFault) (D.seen disk) (D.seen e.0)) }
+        ensures later { MatchResult result (λ h. (D.seen disk).faults ≤ (D.seen h.journal.disk).faults) (λ e. (D.seen disk).faults ≤ (D.seen e.0).faults) }
+        ensures fault { IfErr result (λ e. (log : List ℕ) → (D.seen disk).content ≡ Some log → IsUnopened limits log e.1) }
+        ensures current { IfErr result (λ e. e.1 ≢ OldVersion) }
+        ensures failed { IfErr result (λ e. e.1 ≡ DeviceFault → Rose (D.seen disk).faults (D.seen e.0).faults) }
+    {
+        match Journal::open(alloc, disk) {
+            Ok((journal, frames)) => {
+                match read_within(alloc, journal.version(), frames.as_slice(), limits) {
+                    Ok(items) => Ok(HistoryLog { items, journal }),
+                    Err(fault) => Err((journal.close(), fault)),
+                }
+            }
+            Err(failed) => {
+                let (disk, fault) = failed;
+                Err((disk, fault_of(fault)))
+            }
+        }
+    }
+
+    /// The entries of the history.
+    pub fn items(&self) -> &[Prepared]
+        ensures { result.now ≡ self.now.items.items }
+    {
+        self.items.as_slice()
+    }
+
+    /// Gives the disk back.
+    pub fn close(self) -> D
+        ensures { result ≡ self.journal.disk }
+    {
+        let HistoryLog { journal, .. } = self;
+        journal.close()
+    }
+}

@@ -1,0 +1,71 @@
+-- The records that share a number, and the lines that tell them. The lines are this project's own.
+use Rattle.std.specs.Prelude.{ℕ, ◌==◌, Bool, ◌&&◌, nat_le, bytes_eq, List, [], ◌∷◌, ◌++◌, length, map, filter, fold, codes, if◌then◌else◌}
+use Rattle.std.specs.List.{flat_map}
+use Rattle.std.specs.Fmt.{decimal}
+use Rattle.std.specs.BTreeSet.{insert_key}
+use Rattle.marc_types.specs.declared.key.Key.{Key}
+use Rattle.heading_fields.specs.Numbers.{key_text}
+use Rattle.catalogue_rules.specs.Lines.{line, then_words}
+use Rattle.match_report.specs.Holdings.{Holding, number_rank, number_text, holding_cmp}
+use Rattle.match_report.specs.declared.number.Number.{Number}
+use Rattle.match_report.specs.declared.number.Number.TheVariants.{Isbn, Lccn}
+
+-- the key of a record, and its numbers
+abbrev pub Numbered : Type 0
+Numbered = Key × List Number
+
+abbrev pub holding : Number → Key → Holding
+holding number key = record { number = number; key = key }
+
+abbrev pub holdings_of_row : Numbered → List Holding
+holdings_of_row row = map (λ number. holding number row.0) row.1
+
+-- each number beside each record that has it, once, in their order
+abbrev pub holdings_of : List Numbered → List Holding
+holdings_of rows = fold (insert_key holding_cmp) [] (flat_map holdings_of_row rows)
+
+-- a number, and the keys of the records that have it
+pub record NumberGroup : Type 0 where
+  pub number : Number
+  pub keys : List Key
+
+abbrev pub number_group : Number → List Key → NumberGroup
+number_group number keys = record { number = number; keys = keys }
+
+abbrev pub same_number : Number → Number → Bool
+same_number m n = (number_rank m == number_rank n) && bytes_eq (number_text m) (number_text n)
+
+-- a record joins the group behind it where that is of its number
+abbrev pub joined : Holding → List NumberGroup → List NumberGroup
+joined h [] = number_group h.number (h.key ∷ []) ∷ []
+joined h (g ∷ gs) =
+    if same_number h.number g.number then number_group h.number (h.key ∷ g.keys) ∷ gs
+    else number_group h.number (h.key ∷ []) ∷ g ∷ gs
+
+-- the groups of holdings in order
+abbrev pub groups_of : List Holding → List NumberGroup
+groups_of [] = []
+groups_of (h ∷ hs) = joined h (groups_of hs)
+
+-- two records or more have the number
+abbrev pub is_match : NumberGroup → Bool
+is_match g = nat_le 2 (length g.keys)
+
+-- the groups of two or more, of rows
+unfoldable pub matches_of : List Numbered → List NumberGroup
+matches_of rows = filter is_match (groups_of (holdings_of rows))
+
+abbrev pub number_word : Number → List ℕ
+number_word (Isbn text) = codes "ISBN"
+number_word (Lccn text) = codes "LCCN"
+
+-- a line for a group: the number, and the keys
+abbrev pub group_line : NumberGroup → List ℕ
+group_line g = line (number_word g.number ++ then_words (number_text g.number ∷ map key_text g.keys))
+
+abbrev pub total_line : List NumberGroup → List ℕ
+total_line groups = line (codes "TOTAL groups=" ++ decimal (length groups))
+
+-- a line for each group, and how many there are
+unfoldable pub lines_of : List NumberGroup → List ℕ
+lines_of groups = flat_map group_line groups ++ total_line groups

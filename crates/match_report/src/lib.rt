@@ -1,0 +1,18 @@
+//! The records that share a number: an ISBN or a Library of Congress control number.
+#![tactic(auto)]
+
+pub use fields::numbers;
+pub use groups::Groups;
+pub use number::{Number, Numbers};
+pub use table::Matches;
+
+mod fields;
+mod groups;
+mod holding;
+mod isbn;
+pub mod laws;
+mod number;
+mod table;
+#[cfg(test)]
+mod tests;
+mod writing;
