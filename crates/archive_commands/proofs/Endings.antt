@@ -9,12 +9,13 @@ use Rattle.entry_record.specs.History.{IsWithin}
 use Rattle.durable_catalogue.specs.Openings.{IsUnopened}
 use Rattle.durable_catalogue.specs.declared.fault.OpenFault.{OpenFault}
 use Rattle.durable_catalogue.specs.declared.fault.OpenFault.TheVariants as opening
-use Rattle.console_lines.specs.Ends.{Outcome, IsTold, IsUntold}
+use Rattle.console_lines.specs.Ends.{Outcome, IsTold, IsUntold, IsSilent, out_unwritten}
 use Rattle.console_lines.specs.declared.end.End.{End}
-use Rattle.console_lines.specs.declared.end.End.TheVariants.{Done, OutputFault, Told}
+use Rattle.console_lines.specs.declared.end.End.TheVariants.{Done, Told}
+use Rattle.console_lines.specs.declared.end.Unwritten.TheVariants.{Out}
 use Rattle.console_lines.specs.declared.fault.Fault.{Fault}
 use Rattle.console_lines.specs.declared.fault.Fault.TheVariants.{Device, Memory}
-use Rattle.console_lines.proofs.Ends.{told_once, told_no_output, never_told}
+use Rattle.console_lines.proofs.Ends.{told_once, told_not_unwritten, told_not_done, done_not_unwritten, never_told}
 use Rattle.room_files.specs.Journals.{journal_limits, log_bytes, KeepsHistory, KeepsLog}
 use Rattle.output_files.specs.Outputs.{IsPartWritten, AsItWas}
 use Rattle.room_files.proofs.Journals.{closed_keeps, keeps_where}
@@ -39,12 +40,6 @@ is_device opening.OldVersion is = cc
 is_device opening.Full is = cc
 is_device opening.NoMemory is = cc
 
-told_not_done : (end : End) (why : Fault) → end ≡ Told why → end ≡ Done → ⊥
-told_not_done end why is also = let both : Told why ≡ Done = sym is ∙ also in cc
-
-done_no_fault : (end : End) → end ≡ Done → end ≡ OutputFault → ⊥
-done_no_fault end is also = let both : Done ≡ OutputFault = sym is ∙ also in cc
-
 module _ (journal out : List ℕ) (due : DueView) (o : Outcome) where
   -- the journal was not opened
   pub reads_unopened : (reason : OpenFault) → journal ≢ out → o.end ≡ Told (fault_of_opening reason) → IsTold (fault_of_opening reason) o
@@ -62,7 +57,7 @@ module _ (journal out : List ℕ) (due : DueView) (o : Outcome) where
     unread = λ also tells. inl apart;
     silent = λ untold. absurd (never_told o.end (fault_of_opening reason) untold is);
     device = λ also. cause (is_device reason (told_once o.end (fault_of_opening reason) Device is also));
-    output = λ also. absurd (told_no_output o.end (fault_of_opening reason) is also);
+    out_cause = λ also. absurd (told_not_unwritten o.end (fault_of_opening reason) Out is also);
     history = λ untold. absurd (never_told o.end (fault_of_opening reason) untold is);
     whole = λ entries also. absurd (told_not_done o.end (fault_of_opening reason) is also);
     part = λ entries either tells has. AsItWas (apart.files out ((λ same. differ (sym same)), tt));
@@ -93,7 +88,7 @@ module _ (journal out : List ℕ) (due : DueView) (o : Outcome) where
     part_is entries tells has =
         part_of_any (due_of due) entries history (log_bytes o.old journal) (o.old.file out) (o.new.file out) has (r.has tells) (r.part tells)
 
-    pub reads_whole : o.end ≡ Done → (o.now ≡ o.told) × (o.faults_now ≡ o.faults)
+    pub reads_whole : o.end ≡ Done → IsSilent o
         → (o.old.tells ≡ true → o.new.file out ≡ Some (due_of due history)) → Reads journal out due o
     reads_whole is silent bytes = record {
       ends = subst EndsReading (sym is) tt;
@@ -103,26 +98,26 @@ module _ (journal out : List ℕ) (due : DueView) (o : Outcome) where
       unread = λ also. absurd (told_not_done o.end Memory also is);
       silent = λ untold. silent;
       device = λ also. absurd (told_not_done o.end Device also is);
-      output = λ also. absurd (done_no_fault o.end is also);
+      out_cause = λ also. absurd (done_not_unwritten o.end Out is also);
       history = λ untold tells. fitting_history history (log_bytes o.old journal) (r.has tells) r.within;
       whole = λ entries also tells has.
           whole_of_any (due_of due) entries history (log_bytes o.old journal) (o.new.file out) has (r.has tells) (bytes tells);
       part = λ entries either. part_is entries;
     }
 
-    pub reads_failed : o.end ≡ OutputFault → (o.now ≡ o.told) × (o.faults_now ≡ o.faults)
+    pub reads_failed : o.end ≡ out_unwritten → IsSilent o
         → Rose (o.old.out_faults out) (o.new.out_faults out) → Reads journal out due o
     reads_failed is silent rose = record {
       ends = subst EndsReading (sym is) tt;
       keeps = r.keeps;
-      told = λ why also. absurd (told_no_output o.end why also is);
-      untouched = λ why also. absurd (told_no_output o.end why also is);
-      unread = λ also. absurd (told_no_output o.end Memory also is);
+      told = λ why also. absurd (told_not_unwritten o.end why Out also is);
+      untouched = λ why also. absurd (told_not_unwritten o.end why Out also is);
+      unread = λ also. absurd (told_not_unwritten o.end Memory Out also is);
       silent = λ untold. silent;
-      device = λ also. absurd (told_no_output o.end Device also is);
-      output = λ also. rose;
+      device = λ also. absurd (told_not_unwritten o.end Device Out also is);
+      out_cause = λ also. rose;
       history = λ untold tells. fitting_history history (log_bytes o.old journal) (r.has tells) r.within;
-      whole = λ entries also. absurd (done_no_fault o.end also is);
+      whole = λ entries also. absurd (done_not_unwritten o.end Out also is);
       part = λ entries either. part_is entries;
     }
 
@@ -137,7 +132,7 @@ module _ (journal out : List ℕ) (due : DueView) (o : Outcome) where
       unread = λ also tells. inr (fitting_history history (log_bytes o.old journal) (r.has tells) r.within);
       silent = λ untold. absurd (never_told o.end Memory untold is);
       device = λ also. let no : Memory ≡ Device = told_once o.end Memory Device is also in cc;
-      output = λ also. absurd (told_no_output o.end Memory is also);
+      out_cause = λ also. absurd (told_not_unwritten o.end Memory Out is also);
       history = λ untold. absurd (never_told o.end Memory untold is);
       whole = λ entries also. absurd (told_not_done o.end Memory is also);
       part = λ entries either. part_is entries;

@@ -6,9 +6,10 @@ use Rattle.outside.specs.Fault.{Rose}
 use Rattle.catalogue_rules.specs.Settle.{state_of}
 use Rattle.catalogue_rules.specs.Output.{export_of, report_of}
 use Rattle.durable_catalogue.specs.Logs.{HasHistory}
-use Rattle.console_lines.specs.Ends.{Outcome, IsTold, IsUntold}
+use Rattle.console_lines.specs.Ends.{Outcome, IsTold, IsUntold, IsSilent, out_unwritten}
 use Rattle.console_lines.specs.declared.end.End.{End}
-use Rattle.console_lines.specs.declared.end.End.TheVariants.{Done, Refused, OutputFault, Told}
+use Rattle.console_lines.specs.declared.end.End.TheVariants.{Done, Refused, Unwritten, Told}
+use Rattle.console_lines.specs.declared.end.Unwritten.TheVariants as unwritten
 use Rattle.console_lines.specs.declared.fault.Fault.{Fault}
 use Rattle.console_lines.specs.declared.fault.Fault.TheVariants.{Usage, Input, Device, NotAJournal, Full, Memory, OldVersion}
 use Rattle.output_files.specs.Outputs.{IsPartWritten}
@@ -39,7 +40,9 @@ IsReport Report = Unit {0}
 abbrev pub EndsReading : End → Type 0
 EndsReading Done = Unit {0}
 EndsReading Refused = ⊥
-EndsReading OutputFault = Unit {0}
+EndsReading (Unwritten unwritten.Out) = Unit {0}
+EndsReading (Unwritten unwritten.Report) = ⊥
+EndsReading (Unwritten unwritten.Console) = ⊥
 EndsReading (Told Usage) = ⊥
 EndsReading (Told Input) = ⊥
 EndsReading (Told Device) = Unit {0}
@@ -58,13 +61,13 @@ pub record Reads (journal out : List ℕ) (due : DueView) (o : Outcome) : Type 0
   pub unread : o.end ≡ Told Memory → o.old.tells ≡ true
       → SameBut o.old o.new (journal ∷ []) ⊎ HasFittingHistory (log_bytes o.old journal)
   -- without one the console is as it was
-  pub silent : IsUntold o.end → (o.now ≡ o.told) × (o.faults_now ≡ o.faults)
+  pub silent : IsUntold o.end → IsSilent o
   -- the outside's faults have their cause
   pub device : o.end ≡ Told Device → Rose (o.old.log_faults journal) (o.new.log_faults journal)
-  pub output : o.end ≡ OutputFault → Rose (o.old.out_faults out) (o.new.out_faults out)
+  pub out_cause : o.end ≡ out_unwritten → Rose (o.old.out_faults out) (o.new.out_faults out)
   -- the log has a history within the limits, and the output is what is due of it, or a front of that
   pub history : IsUntold o.end → o.old.tells ≡ true → HasFittingHistory (log_bytes o.old journal)
   pub whole : (entries : List Entry) → o.end ≡ Done → o.old.tells ≡ true → HasHistory entries (log_bytes o.old journal)
       → o.new.file out ≡ Some (due_of due entries)
-  pub part : (entries : List Entry) → (o.end ≡ OutputFault) ⊎ (o.end ≡ Told Memory) → o.old.tells ≡ true
+  pub part : (entries : List Entry) → (o.end ≡ out_unwritten) ⊎ (o.end ≡ Told Memory) → o.old.tells ≡ true
       → HasHistory entries (log_bytes o.old journal) → IsPartWritten (o.old.file out) (o.new.file out) (due_of due entries)

@@ -5,7 +5,7 @@ ghost use Rattle.archive_commands.specs.Reads.{due_view, Reads};
 
 use crate::due::Due;
 use crate::writing::write_archive;
-use console_lines::{End, Fault, tell};
+use console_lines::{End, Fault, Unwritten, tell};
 use outside::{Room, WriteFault};
 use room_files::{fault_of_opening, open_archive};
 use std::alloc::Global;
@@ -33,7 +33,7 @@ pub fn read<R: Room>(
     };
     match write_archive(alloc, room, journal, out, due, archive) {
         Ok(()) => End::Done,
-        Err(WriteFault::OutputFault) => End::OutputFault,
+        Err(WriteFault::OutputFault) => End::Unwritten(Unwritten::Out),
         Err(WriteFault::NoMemory) => tell(console, Fault::Memory),
     }
 }

@@ -1,16 +1,27 @@
 -- How a command ends, and what it did. The statuses are this project's own.
-use Rattle.std.specs.Prelude.{ℕ, Bool, List, Option, if◌then◌else◌}
+use Rattle.std.specs.Prelude.{◌≡◌, ℕ, Bool, List, Option, if◌then◌else◌}
 use Rattle.outside.specs.Room.{RoomView}
 use Rattle.console_lines.specs.Faults.{fault_status, fault_line, IsFaultTold}
 use Rattle.console_lines.specs.declared.fault.Fault.{Fault}
 use Rattle.console_lines.specs.declared.end.End.{End}
-use Rattle.console_lines.specs.declared.end.End.TheVariants.{Done, Refused, OutputFault, Told}
+use Rattle.console_lines.specs.declared.end.End.TheVariants.{Done, Refused, Unwritten, Told}
+use Rattle.console_lines.specs.declared.end.Unwritten.TheVariants.{Out, Report, Console}
 
 abbrev pub end_status : End → ℕ
 end_status Done = 0
 end_status Refused = 1
-end_status OutputFault = 4
+end_status (Unwritten which) = 4
 end_status (Told fault) = fault_status fault
+
+-- the ends where the file OUT, the file REPORT or the console could not be written
+abbrev pub out_unwritten : End
+out_unwritten = Unwritten Out
+
+abbrev pub report_unwritten : End
+report_unwritten = Unwritten Report
+
+abbrev pub console_unwritten : End
+console_unwritten = Unwritten Console
 
 -- the end where all was done: whether something was refused
 abbrev pub end_of : Bool → End
@@ -20,14 +31,14 @@ end_of refused = if refused then Refused else Done
 abbrev pub IsAllDone : End → Type 0
 IsAllDone Done = Unit {0}
 IsAllDone Refused = Unit {0}
-IsAllDone OutputFault = ⊥
+IsAllDone (Unwritten which) = ⊥
 IsAllDone (Told fault) = ⊥
 
 -- no fault was told
 abbrev pub IsUntold : End → Type 0
 IsUntold Done = Unit {0}
 IsUntold Refused = Unit {0}
-IsUntold OutputFault = Unit {0}
+IsUntold (Unwritten which) = Unit {0}
 IsUntold (Told fault) = ⊥
 
 -- What a command did: the room before and after, what the console had been told and is told now, its faults, and the end.
@@ -51,6 +62,10 @@ outcome seen written faults room room_now console console_now end = record {
   faults_now = faults console_now;
   end = end;
 }
+
+-- the console is as it was
+abbrev pub IsSilent : Outcome → Type 0
+IsSilent o = (o.now ≡ o.told) × (o.faults_now ≡ o.faults)
 
 -- the console was told that fault, as far as it could be written
 abbrev pub IsTold : Fault → Outcome → Type 0

@@ -3,6 +3,17 @@ ghost use Rattle.console_lines.specs.Ends.{end_status};
 
 use crate::fault::Fault;
 
+/// What could not be written.
+#[derive(Clone, Copy, Debug, PartialEq, Eq)]
+pub enum Unwritten {
+    /// The file OUT.
+    Out,
+    /// The file REPORT.
+    Report,
+    /// The console.
+    Console,
+}
+
 /// How a command ends.
 #[derive(Clone, Copy, Debug, PartialEq, Eq)]
 pub enum End {
@@ -11,7 +22,7 @@ pub enum End {
     /// All was done, and something was refused.
     Refused,
     /// An output or the console could not be written, of which nothing is told.
-    OutputFault,
+    Unwritten(Unwritten),
     /// A fault, which the console was told.
     Told(Fault),
 }
@@ -24,7 +35,7 @@ impl End {
         match self {
             End::Done => 0,
             End::Refused => 1,
-            End::OutputFault => 4,
+            End::Unwritten(_) => 4,
             End::Told(fault) => fault.status(),
         }
     }

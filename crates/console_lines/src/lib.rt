@@ -1,7 +1,7 @@
 //! What the console is told: the lines of results, and of faults.
 #![tactic(auto)]
 
-pub use end::End;
+pub use end::{End, Unwritten};
 pub use fault::{Fault, tell};
 pub use results::{made_text, refused_text, results_text, totals_text};
 pub use totals::{Sums, Totals};

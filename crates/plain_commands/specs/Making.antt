@@ -6,10 +6,11 @@ use Rattle.outside.specs.Sink.{WritesFront}
 use Rattle.catalogue_rules.specs.Receipts.{receipts_behind}
 use Rattle.workload.specs.Workload.{workload_bytes}
 use Rattle.workload_entries.specs.Entries.{workload_entries}
-use Rattle.console_lines.specs.Ends.{Outcome, IsTold}
+use Rattle.console_lines.specs.Ends.{Outcome, IsTold, IsSilent, out_unwritten, console_unwritten}
 use Rattle.console_lines.specs.Lines.{made_line}
 use Rattle.console_lines.specs.declared.end.End.{End}
-use Rattle.console_lines.specs.declared.end.End.TheVariants.{Done, Refused, OutputFault, Told}
+use Rattle.console_lines.specs.declared.end.End.TheVariants.{Done, Refused, Unwritten, Told}
+use Rattle.console_lines.specs.declared.end.Unwritten.TheVariants.{Out, Report, Console}
 use Rattle.console_lines.specs.declared.fault.Fault.TheVariants.{Memory}
 use Rattle.console_lines.specs.Totals.{sums_of}
 use Rattle.console_lines.specs.declared.totals.Sums.{Sums}
@@ -27,18 +28,23 @@ workload_line seed count = made_line count (workload_sums seed count)
 abbrev pub EndsMake : End → Type 0
 EndsMake Done = Unit {0}
 EndsMake Refused = ⊥
-EndsMake OutputFault = Unit {0}
+EndsMake (Unwritten Out) = Unit {0}
+EndsMake (Unwritten Report) = ⊥
+EndsMake (Unwritten Console) = Unit {0}
 EndsMake (Told why) = why ≡ Memory
 
 -- The command `make`: a workload of so many records into the file OUT.
 pub record Makes (seed count : ℕ) (out : List ℕ) (o : Outcome) : Type 0 where
   pub ends : EndsMake o.end
   pub told : o.end ≡ Told Memory → IsTold Memory o
-  pub output : o.end ≡ OutputFault → Rose (o.old.out_faults out) (o.new.out_faults out) ⊎ Rose o.faults o.faults_now
-  -- the file holds the workload, and the console was told its line
-  pub made : o.end ≡ Done → o.old.tells ≡ true → o.new.file out ≡ Some (workload_bytes seed count)
-  pub line : o.end ≡ Done → o.old.tells ≡ true → Appends o.told o.now (workload_line seed count)
-  -- or at least the file is as it was or holds a front, and the console was told a front of the line where an output failed
-  pub part : (o.end ≡ OutputFault) ⊎ (o.end ≡ Told Memory) → o.old.tells ≡ true
+  -- OUT or the console could not be written; where OUT could not, the console is untouched
+  pub out_cause : o.end ≡ out_unwritten → Rose (o.old.out_faults out) (o.new.out_faults out)
+  pub console_cause : o.end ≡ console_unwritten → Rose o.faults o.faults_now
+  pub silent : o.end ≡ out_unwritten → IsSilent o
+  -- OUT holds the workload; or, where it could not be written or memory ran out, it is as it was or holds a front
+  pub made : (o.end ≡ Done) ⊎ (o.end ≡ console_unwritten) → o.old.tells ≡ true → o.new.file out ≡ Some (workload_bytes seed count)
+  pub part : (o.end ≡ out_unwritten) ⊎ (o.end ≡ Told Memory) → o.old.tells ≡ true
       → IsPartWritten (o.old.file out) (o.new.file out) (workload_bytes seed count)
-  pub front : o.end ≡ OutputFault → o.old.tells ≡ true → WritesFront o.told o.now (workload_line seed count)
+  -- the console was told the line of the workload, or a front of it where it could not be written
+  pub line : o.end ≡ Done → Appends o.told o.now (workload_line seed count)
+  pub front : o.end ≡ console_unwritten → WritesFront o.told o.now (workload_line seed count)

@@ -1,5 +1,5 @@
 -- What a pass of one file into another comes to.
-use Rattle.std.specs.Prelude.{◌≡◌, ◌⊎◌, ℕ, true, List, ◌++◌, length, nat_lt, Option, Some, IsSomeAnd, string_bytes, []}
+use Rattle.std.specs.Prelude.{◌≡◌, ◌≢◌, ℕ, true, List, ◌++◌, length, nat_lt, Option, Some, IsSomeAnd, string_bytes, []}
 use Rattle.std.specs.Io.KnownBytes.{Appends}
 use Rattle.outside.specs.Fault.{Rose}
 use Rattle.outside.specs.Room.{SameBut}
@@ -11,10 +11,10 @@ use Rattle.catalogue_rules.specs.Settle.{state_of}
 use Rattle.catalogue_rules.specs.Output.{export_of, all_keys}
 use Rattle.file_entries.specs.Files.{IsJudged}
 use Rattle.file_entries.specs.declared.refused.RefusedItem.{RefusedItem}
-use Rattle.console_lines.specs.Ends.{Outcome, IsTold, IsAllDone, end_of}
+use Rattle.console_lines.specs.Ends.{Outcome, IsTold, IsAllDone, IsSilent, end_of, out_unwritten, report_unwritten, console_unwritten}
 use Rattle.console_lines.specs.Lines.{refused_lines, totals_line}
 use Rattle.console_lines.specs.declared.end.End.{End}
-use Rattle.console_lines.specs.declared.end.End.TheVariants.{OutputFault, Told}
+use Rattle.console_lines.specs.declared.end.End.TheVariants.{Told}
 use Rattle.console_lines.specs.declared.fault.Fault.{Fault}
 use Rattle.console_lines.specs.declared.fault.Fault.TheVariants.{Input, Full}
 use Rattle.output_files.specs.Outputs.{IsPartWritten}
@@ -46,13 +46,21 @@ pub record IsPassed (library : Library) (bytes : List ℕ) (written told now : O
   pub console : Appends told now (results library.file accepted refused)
   pub end_is : end ≡ end_of (nat_lt 0 (length refused))
 
--- an output failed: the file is as it was, or holds a front of what is due there, and the console was told a front of the results
-pub record IsPassedInPart (library : Library) (bytes : List ℕ) (old new told now : Option (List ℕ)) : Type 0 where
+-- OUT could not be written: it is as it was, or holds a front of the accepted entries' export
+pub record IsPassedInPart (library : Library) (bytes : List ℕ) (old new : Option (List ℕ)) : Type 0 where
   pub accepted : List Entry
   pub refused : List RefusedItem
   pub judged : IsJudged library.code 0 (items bytes) accepted refused
   pub within : IsWithinLimits accepted
   pub part : IsPartWritten old new (exported accepted)
+
+-- the console could not be written: OUT is written whole, and the console was told a front of the results
+pub record IsPassedUntold (library : Library) (bytes : List ℕ) (written told now : Option (List ℕ)) : Type 0 where
+  pub accepted : List Entry
+  pub refused : List RefusedItem
+  pub judged : IsJudged library.code 0 (items bytes) accepted refused
+  pub within : IsWithinLimits accepted
+  pub export : written ≡ Some (exported accepted)
   pub console : WritesFront told now (results library.file accepted refused)
 
 -- The command `pass`: one file through an empty catalogue, into the file OUT.
@@ -61,10 +69,16 @@ pub record Passes (library : Library) (out : List ℕ) (o : Outcome) : Type 0 wh
   pub told : (why : Fault) → o.end ≡ Told why → IsTold why o × EndsLoading why × SameBut o.old o.new []
   -- each fault has its cause
   pub input : o.end ≡ Told Input → Rose (o.old.in_faults library.file) (o.new.in_faults library.file)
-  pub output : o.end ≡ OutputFault → Rose (o.old.out_faults out) (o.new.out_faults out) ⊎ Rose o.faults o.faults_now
+  pub out_cause : o.end ≡ out_unwritten → Rose (o.old.out_faults out) (o.new.out_faults out)
+  pub console_cause : o.end ≡ console_unwritten → Rose o.faults o.faults_now
+  pub no_report : o.end ≢ report_unwritten
   pub full : o.end ≡ Told Full → o.old.tells ≡ true → IsSomeAnd (o.old.file library.file) (λ bytes. IsFullAt library.code (items bytes))
   -- the file was there, and was passed
   pub whole : IsAllDone o.end → o.old.tells ≡ true
       → IsSomeAnd (o.old.file library.file) (λ bytes. IsPassed library bytes (o.new.file out) o.told o.now o.end)
-  pub part : o.end ≡ OutputFault → o.old.tells ≡ true
-      → IsSomeAnd (o.old.file library.file) (λ bytes. IsPassedInPart library bytes (o.old.file out) (o.new.file out) o.told o.now)
+  -- where OUT could not be written the console is untouched; where the console could not, OUT is whole
+  pub silent : o.end ≡ out_unwritten → IsSilent o
+  pub part : o.end ≡ out_unwritten → o.old.tells ≡ true
+      → IsSomeAnd (o.old.file library.file) (λ bytes. IsPassedInPart library bytes (o.old.file out) (o.new.file out))
+  pub untold : o.end ≡ console_unwritten → o.old.tells ≡ true
+      → IsSomeAnd (o.old.file library.file) (λ bytes. IsPassedUntold library bytes (o.new.file out) o.told o.now)

@@ -7,7 +7,7 @@ ghost use Rattle.output_files.specs.Outputs.{IsPartWritten};
 ghost use Rattle.plain_commands.specs.Making.{Makes};
 
 use crate::summing::workload_text;
-use console_lines::{End, Fault, tell};
+use console_lines::{End, Fault, Unwritten, tell};
 use marc_types::NoMemory;
 use outside::{Room, Sink, WriteFault};
 use std::alloc::Global;
@@ -61,11 +61,11 @@ pub fn make<R: Room>(
     };
     match write_workload(alloc, room, out, seed, count) {
         Ok(()) => {}
-        Err(WriteFault::OutputFault) => return End::OutputFault,
+        Err(WriteFault::OutputFault) => return End::Unwritten(Unwritten::Out),
         Err(WriteFault::NoMemory) => return tell(console, Fault::Memory),
     }
     match console.write_all(text.as_bytes()) {
         Ok(()) => End::Done,
-        Err(_) => End::OutputFault,
+        Err(_) => End::Unwritten(Unwritten::Console),
     }
 }

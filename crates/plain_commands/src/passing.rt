@@ -1,14 +1,14 @@
-ghost use Rattle.std.specs.Prelude.{◌≡◌, ◌⊎◌, ℕ, List, true, None, IsTrue, ◌∷◌, []};
+ghost use Rattle.std.specs.Prelude.{◌≡◌, ◌≢◌, ℕ, List, true, None, IsTrue, ◌∷◌, []};
 ghost use Rattle.marc_types.specs.Valid.{is_code};
 ghost use Rattle.outside.specs.Fault.{Rose};
 ghost use Rattle.outside.specs.Room.{SameBut};
 ghost use Rattle.command_words.specs.declared.library.Library.{Library};
-ghost use Rattle.console_lines.specs.Ends.{outcome, IsAllDone, IsUntold};
-ghost use Rattle.plain_commands.specs.Passing.{IsReady, IsPassed, IsPassedInPart, Passes};
+ghost use Rattle.console_lines.specs.Ends.{outcome, IsAllDone, IsUntold, out_unwritten, report_unwritten, console_unwritten};
+ghost use Rattle.plain_commands.specs.Passing.{IsReady, IsPassed, IsPassedInPart, IsPassedUntold, Passes};
 
 use crate::ready::{Ready, prepare};
 use command_words::Library;
-use console_lines::{End, tell};
+use console_lines::{End, Unwritten, tell};
 use output_files::write_all_records;
 use outside::{Room, Sink};
 use std::alloc::Global;
@@ -19,22 +19,31 @@ fn deliver<R: Room>(room: &mut R, console: &mut R::Out, out: &str, ready: &Ready
     ensures apart { SameBut (R.seen room.old) (R.seen room.new) (out.now ∷ []) }
     ensures closed { (R.seen room.new).open_as out.now ≡ None }
     ensures untold { IsUntold result }
-    ensures output { result ≡ End.OutputFault → Rose ((R.seen room.old).out_faults out.now) ((R.seen room.new).out_faults out.now)
-        ⊎ Rose (R.Out.faults console.old) (R.Out.faults console.new) }
+    ensures no_report { result ≢ report_unwritten }
+
+    // Which of the two could not be written, and that the console isn't touched where OUT could not.
+    ensures out_cause { result ≡ out_unwritten → Rose ((R.seen room.old).out_faults out.now) ((R.seen room.new).out_faults out.now) }
+    ensures console_cause { result ≡ console_unwritten → Rose (R.Out.faults console.old) (R.Out.faults console.new) }
+    ensures silent { result ≡ out_unwritten →
+        (R.Out.written console.new ≡ R.Out.written console.old) × (R.Out.faults console.new ≡ R.Out.faults console.old) }
+
+    // What is there then, of a file with these bytes.
     ensures whole { (library : Library) (bytes : List ℕ) → (R.seen room.old).tells ≡ true → IsReady library bytes ready.now →
         IsAllDone result → IsPassed library bytes ((R.seen room.new).file out.now)
         (R.Out.written console.old) (R.Out.written console.new) result }
     ensures part { (library : Library) (bytes : List ℕ) → (R.seen room.old).tells ≡ true → IsReady library bytes ready.now →
-        result ≡ End.OutputFault → IsPassedInPart library bytes ((R.seen room.old).file out.now) ((R.seen room.new).file out.now)
+        result ≡ out_unwritten → IsPassedInPart library bytes ((R.seen room.old).file out.now) ((R.seen room.new).file out.now) }
+    ensures told { (library : Library) (bytes : List ℕ) → (R.seen room.old).tells ≡ true → IsReady library bytes ready.now →
+        result ≡ console_unwritten → IsPassedUntold library bytes ((R.seen room.new).file out.now)
         (R.Out.written console.old) (R.Out.written console.new) }
 {
     match write_all_records(room, out, ready.loaded.core()) {
         Ok(()) => {}
-        Err(_) => return End::OutputFault,
+        Err(_) => return End::Unwritten(Unwritten::Out),
     }
     match console.write_all(ready.text.as_bytes()) {
         Ok(()) => {}
-        Err(_) => return End::OutputFault,
+        Err(_) => return End::Unwritten(Unwritten::Console),
     }
     if ready.loaded.refused().is_empty() {
         End::Done

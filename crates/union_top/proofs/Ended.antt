@@ -1,5 +1,5 @@
 -- How the commands end that load files into a journal, from what their steps say.
-use Rattle.std.proofs.Common.{◌≡◌, ◌≢◌, ◌⊎◌, ℕ, Bool, true, false, true≢false, List, [], ◌∷◌, None, refl, sym, ap, subst, ◌∙◌, arith}
+use Rattle.std.proofs.Common.{◌≡◌, ◌≢◌, ◌⊎◌, inl, inr, ℕ, Bool, true, false, true≢false, List, [], ◌∷◌, ◌++◌, None, refl, sym, ap, subst, ◌∙◌}
 use Rattle.std.specs.Io.KnownBytes.{Appends}
 use Rattle.std.specs.Str.{bytes_eq}
 use Rattle.std.proofs.lemmas.Slice.Eq.{bytes_eq-Decides}
@@ -8,19 +8,19 @@ use Rattle.outside.specs.Fault.{Rose}
 use Rattle.outside.specs.Room.{RoomView, SameBut}
 use Rattle.outside.specs.Sink.{WritesFront}
 use Rattle.command_words.specs.declared.library.Library.{Library}
-use Rattle.command_words.specs.Command.{AreNames}
 use Rattle.catalogue_rules.specs.Settle.{state_of}
-use Rattle.catalogue_rules.specs.Output.{export_of, all_keys, report_of}
-use Rattle.console_lines.specs.Ends.{Outcome, IsTold, IsAllDone, IsUntold, end_of}
-use Rattle.console_lines.specs.declared.end.End.TheVariants.{OutputFault, Told}
+use Rattle.catalogue_rules.specs.Output.{export_of, all_keys}
+use Rattle.console_lines.specs.Ends.{Outcome, IsTold, IsAllDone, IsUntold, IsSilent, end_of, out_unwritten, report_unwritten, console_unwritten}
+use Rattle.console_lines.specs.declared.end.End.TheVariants.{Told}
+use Rattle.console_lines.specs.declared.end.Unwritten.TheVariants as unwritten
 use Rattle.console_lines.specs.declared.fault.Fault.{Fault}
 use Rattle.console_lines.specs.declared.fault.Fault.TheVariants as fault
-use Rattle.console_lines.proofs.Ends.{told_once, told_no_output, never_told, told_not_all}
+use Rattle.console_lines.proofs.Ends.{told_once, told_not_unwritten, never_told, told_not_all, all_not_unwritten, out_not_console, out_not_report, report_not_console}
 use Rattle.loader_workers.specs.declared.result.FileResult.{FileResult}
-use Rattle.output_files.specs.Outputs.{IsPartWritten, AsItWas}
+use Rattle.output_files.specs.Outputs.{IsPartWritten}
 use Rattle.journal_loading.specs.Outcomes.{Fails}
 use Rattle.union_top.specs.Texts.{files_text, has_refused}
-use Rattle.union_top.specs.Runs.{AreOutputs, AreInPart, WhyNotLoad, WhyNotRun}
+use Rattle.union_top.specs.Runs.{AreOutputs, AreOutAndPart, WhyNotLoad, WhyNotRun}
 use Rattle.union_top.specs.Commands.{Loads, Runs}
 use Rattle.union_top.proofs.OneHistory.{MergedBy}
 
@@ -47,6 +47,7 @@ module _ (libraries : List Library) (journal : List ℕ) (o : Outcome) where
     pub text : List ℕ
     pub refused : Bool
     pub untold : IsUntold o.end
+    pub no_output : (o.end ≢ out_unwritten) × (o.end ≢ report_unwritten)
     pub done : IsAllDone o.end → o.end ≡ end_of refused
     pub whole : IsAllDone o.end → Appends o.told o.now text
     pub front : WritesFront o.told o.now text
@@ -61,19 +62,21 @@ module _ (libraries : List Library) (journal : List ℕ) (o : Outcome) where
     because = λ other also tells. subst (WhyNotLoad o.old o.new journal libraries) (told_once o.end why other is also) (f.because tells);
     device = λ also. f.device (told_once o.end why fault.Device is also);
     input = λ also. f.input (told_once o.end why fault.Input is also);
-    output = λ also. absurd (told_no_output o.end why is also);
+    console_cause = λ also. absurd (told_not_unwritten o.end why unwritten.Console is also);
+    no_output = (told_not_unwritten o.end why unwritten.Out is, told_not_unwritten o.end why unwritten.Report is);
     whole = λ all. absurd (told_not_all o.end why is all);
-    untold = λ also. absurd (told_no_output o.end why is also);
+    untold = λ also. absurd (told_not_unwritten o.end why unwritten.Console is also);
   }
 
   pub loads_told : (entries : List Entry) (results : List FileResult) → TellsLines entries results
-      → (o.end ≡ OutputFault → Rose o.faults o.faults_now) → Loads libraries journal o
+      → (o.end ≡ console_unwritten → Rose o.faults o.faults_now) → Loads libraries journal o
   loads_told entries results t cause = record {
     told = λ why also. absurd (never_told o.end why t.untold also);
     because = λ why also. absurd (never_told o.end why t.untold also);
     device = λ also. absurd (never_told o.end fault.Device t.untold also);
     input = λ also. absurd (never_told o.end fault.Input t.untold also);
-    output = cause;
+    console_cause = cause;
+    no_output = t.no_output;
     whole = λ all tells.
         let m = t.merged tells in
         record {
@@ -86,46 +89,111 @@ module _ (libraries : List Library) (journal : List ℕ) (o : Outcome) where
         record { merged = m.merged; console = subst (WritesFront o.told o.now) (t.text_is ∙ m.text_is) t.front };
   }
 
+  neither : {A B : Type 0} {C : Type 0} → (A → ⊥) → (B → ⊥) → A ⊎ B → C
+  neither first second (inl a) = absurd (first a)
+  neither first second (inr b) = absurd (second b)
+
   module _ (out report : List ℕ) where
     pub runs_failed : (why : Fault) → o.end ≡ Told why → IsTold why o → (why ≢ fault.Memory → SameBut o.old o.new (journal ∷ []))
         → Fails o.old o.new journal libraries why (WhyNotRun o.old o.new journal out report libraries why) → Runs libraries journal out report o
-    runs_failed why is told apart f = record {
-      told = λ other also. subst (λ w. IsTold w o × (w ≢ fault.Usage)) (told_once o.end why other is also) (told, f.no_usage);
-      because = λ other also tells. subst (WhyNotRun o.old o.new journal out report libraries) (told_once o.end why other is also) (f.because tells);
-      untouched = λ other also no_memory. apart (λ memory. no_memory (sym (told_once o.end why other is also) ∙ memory));
-      device = λ also. f.device (told_once o.end why fault.Device is also);
-      input = λ also. f.input (told_once o.end why fault.Input is also);
-      output = λ also. absurd (told_no_output o.end why is also);
-      whole = λ all. absurd (told_not_all o.end why is all);
-      untold = λ also. absurd (told_no_output o.end why is also);
-    }
+    runs_failed why is told apart f =
+        let no = told_not_unwritten o.end why in record {
+          told = λ other also. subst (λ w. IsTold w o × (w ≢ fault.Usage)) (told_once o.end why other is also) (told, f.no_usage);
+          because = λ other also tells. subst (WhyNotRun o.old o.new journal out report libraries) (told_once o.end why other is also) (f.because tells);
+          untouched = λ other also no_memory. apart (λ memory. no_memory (sym (told_once o.end why other is also) ∙ memory));
+          device = λ also. f.device (told_once o.end why fault.Device is also);
+          input = λ also. f.input (told_once o.end why fault.Input is also);
+          out_cause = λ also. absurd (no unwritten.Out is also);
+          report_cause = λ also. absurd (no unwritten.Report is also);
+          console_cause = λ also. absurd (no unwritten.Console is also);
+          whole = λ all. absurd (told_not_all o.end why is all);
+          no_report = λ also. absurd (no unwritten.Out is also);
+          silent = neither (no unwritten.Out is) (no unwritten.Report is);
+          in_out = λ also. absurd (no unwritten.Out is also);
+          in_report = λ also. absurd (no unwritten.Report is also);
+          untold = λ also. absurd (no unwritten.Console is also);
+        }
 
     pub runs_told : (entries : List Entry) (results : List FileResult) → TellsLines entries results
-        → (o.end ≡ OutputFault → Rose (o.old.out_faults out) (o.new.out_faults out) ⊎ Rose (o.old.out_faults report) (o.new.out_faults report) ⊎ Rose o.faults o.faults_now)
-        → (o.old.tells ≡ true → AreInPart o.old o.new out report entries) → (IsAllDone o.end → o.old.tells ≡ true → AreOutputs o.new out report entries)
+        → (o.end ≡ console_unwritten → Rose o.faults o.faults_now) → (o.old.tells ≡ true → AreOutputs o.new out report entries)
         → Runs libraries journal out report o
-    runs_told entries results t cause part outputs = record {
+    runs_told entries results t cause outputs = record {
       told = λ why also. absurd (never_told o.end why t.untold also);
       because = λ why also. absurd (never_told o.end why t.untold also);
       untouched = λ why also. absurd (never_told o.end why t.untold also);
       device = λ also. absurd (never_told o.end fault.Device t.untold also);
       input = λ also. absurd (never_told o.end fault.Input t.untold also);
-      output = cause;
+      out_cause = λ also. absurd (t.no_output.0 also);
+      report_cause = λ also. absurd (t.no_output.1 also);
+      console_cause = cause;
       whole = λ all tells.
           let m = t.merged tells in
           record {
             merged = m.merged;
-            outputs = subst (AreOutputs o.new out report) m.entries_are (outputs all tells);
+            outputs = subst (AreOutputs o.new out report) m.entries_are (outputs tells);
             console = subst (Appends o.told o.now) (t.text_is ∙ m.text_is) (t.whole all);
             end_is = t.done all ∙ ap (λ b. end_of b) (t.refused_is ∙ m.any_is);
           };
+      no_report = λ also. absurd (t.no_output.0 also);
+      silent = neither t.no_output.0 t.no_output.1;
+      in_out = λ also. absurd (t.no_output.0 also);
+      in_report = λ also. absurd (t.no_output.1 also);
       untold = λ failed tells.
           let m = t.merged tells in
           record {
-            part = record { merged = m.merged; outputs = subst (AreInPart o.old o.new out report) m.entries_are (part tells) };
+            merged = m.merged;
+            outputs = subst (AreOutputs o.new out report) m.entries_are (outputs tells);
             console = subst (WritesFront o.told o.now) (t.text_is ∙ m.text_is) t.front;
           };
     }
+
+    -- an output was not written, behind files that were loaded whole
+    module _ (entries : List Entry) (results : List FileResult) (silent : IsSilent o)
+        (merged : o.old.tells ≡ true → MergedBy o.old o.new journal libraries entries results) where
+      pub runs_in_out : o.end ≡ out_unwritten → Rose (o.old.out_faults out) (o.new.out_faults out) → SameBut o.old o.new (journal ∷ out ∷ [])
+          → (o.old.tells ≡ true → IsPartWritten (o.old.file out) (o.new.file out) (export_of all_keys (state_of entries)))
+          → Runs libraries journal out report o
+      runs_in_out is rose apart part =
+          let no : (why : Fault) → o.end ≡ Told why → ⊥ = λ why also. told_not_unwritten o.end why unwritten.Out also is in record {
+            told = λ why also. absurd (no why also);
+            because = λ why also. absurd (no why also);
+            untouched = λ why also. absurd (no why also);
+            device = λ also. absurd (no fault.Device also);
+            input = λ also. absurd (no fault.Input also);
+            out_cause = λ also. rose;
+            report_cause = λ also. absurd (out_not_report o.end is also);
+            console_cause = λ also. absurd (out_not_console o.end is also);
+            whole = λ all. absurd (all_not_unwritten o.end unwritten.Out all is);
+            no_report = λ also. apart;
+            silent = λ either. silent;
+            in_out = λ also tells.
+                let m = merged tells in
+                record { merged = m.merged; part = subst (λ es. IsPartWritten (o.old.file out) (o.new.file out) (export_of all_keys (state_of es))) m.entries_are (part tells) };
+            in_report = λ also. absurd (out_not_report o.end is also);
+            untold = λ also. absurd (out_not_console o.end is also);
+          }
+
+      pub runs_in_report : o.end ≡ report_unwritten → Rose (o.old.out_faults report) (o.new.out_faults report)
+          → (o.old.tells ≡ true → AreOutAndPart o.old o.new out report entries) → Runs libraries journal out report o
+      runs_in_report is rose part =
+          let no : (why : Fault) → o.end ≡ Told why → ⊥ = λ why also. told_not_unwritten o.end why unwritten.Report also is in record {
+            told = λ why also. absurd (no why also);
+            because = λ why also. absurd (no why also);
+            untouched = λ why also. absurd (no why also);
+            device = λ also. absurd (no fault.Device also);
+            input = λ also. absurd (no fault.Input also);
+            out_cause = λ also. absurd (out_not_report o.end also is);
+            report_cause = λ also. rose;
+            console_cause = λ also. absurd (report_not_console o.end is also);
+            whole = λ all. absurd (all_not_unwritten o.end unwritten.Report all is);
+            no_report = λ also. absurd (out_not_report o.end also is);
+            silent = λ either. silent;
+            in_out = λ also. absurd (out_not_report o.end also is);
+            in_report = λ also tells.
+                let m = merged tells in
+                record { merged = m.merged; outputs = subst (AreOutAndPart o.old o.new out report) m.entries_are (part tells) };
+            untold = λ also. absurd (report_not_console o.end is also);
+          }
 
 -- memory ran out behind loading
 pub no_memory : (old new : RoomView) (journal : List ℕ) (libraries : List Library) (so : Type 0) → new.open_as journal ≡ None → (old.tells ≡ true → so)
@@ -143,35 +211,3 @@ pub closed_load : (old mid new : RoomView) (journal : List ℕ) → ((n : List �
     → (n : List ℕ) → new.open_as n ≡ None
 closed_load old mid new journal free opened closing closed n =
     decide_name n journal (λ is. subst (λ m. new.open_as m ≡ None) (sym is) closed) (λ other. closing.open_names n (other, tt) ∙ (opened.open_names n (other, tt) ∙ free n))
-
--- files that are written between the opening and the closing of a journal
-part_between : (old mid wrote new : RoomView) (journal name due : List ℕ) → name ≢ journal → SameBut old mid (journal ∷ []) → SameBut wrote new (journal ∷ [])
-    → IsPartWritten (mid.file name) (wrote.file name) due → IsPartWritten (old.file name) (new.file name) due
-part_between old mid wrote new journal name due other opened closing is =
-    subst (λ f. IsPartWritten f (new.file name) due) (opened.files name (other, tt)) (subst (λ f. IsPartWritten (mid.file name) f due) (sym (closing.files name (other, tt))) is)
-
-pub in_part_between : (old mid wrote new : RoomView) (journal out report : List ℕ) (entries : List Entry) → AreNames (journal ∷ out ∷ report ∷ []) → SameBut old mid (journal ∷ [])
-    → SameBut wrote new (journal ∷ []) → AreInPart mid wrote out report entries → AreInPart old new out report entries
-in_part_between old mid wrote new journal out report entries names opened closing is = record {
-  export = part_between old mid wrote new journal out (export_of all_keys (state_of entries)) (λ same. names.1.0 (sym same)) opened closing is.export;
-  report_is = part_between old mid wrote new journal report (report_of (state_of entries)) (λ same. names.1.1.0 (sym same)) opened closing is.report_is;
-}
-
-pub outputs_closed : (wrote new : RoomView) (journal out report : List ℕ) (entries : List Entry) → AreNames (journal ∷ out ∷ report ∷ []) → SameBut wrote new (journal ∷ [])
-    → AreOutputs wrote out report entries → AreOutputs new out report entries
-outputs_closed wrote new journal out report entries names closing is = record {
-  export = closing.files out ((λ same. names.1.0 (sym same)), tt) ∙ is.export;
-  report_is = closing.files report ((λ same. names.1.1.0 (sym same)), tt) ∙ is.report_is;
-}
-
--- where only the journal was used
-pub in_part_apart : (old new : RoomView) (journal out report : List ℕ) (entries : List Entry) → AreNames (journal ∷ out ∷ report ∷ []) → SameBut old new (journal ∷ [])
-    → AreInPart old new out report entries
-in_part_apart old new journal out report entries names apart = record {
-  export = AsItWas (apart.files out ((λ same. names.1.0 (sym same)), tt));
-  report_is = AsItWas (apart.files report ((λ same. names.1.1.0 (sym same)), tt));
-}
-
-pub rose_between : (old mid wrote new : RoomView) (journal name : List ℕ) → SameBut old mid (journal ∷ []) → SameBut wrote new (journal ∷ []) → Rose (mid.out_faults name) (wrote.out_faults name)
-    → Rose (old.out_faults name) (new.out_faults name)
-rose_between old mid wrote new journal name opened closing rose = let first = opened.outs name in let last = closing.outs name in omega (arith, first, rose, last)

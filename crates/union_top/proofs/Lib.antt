@@ -1,6 +1,7 @@
 mod Merging
 mod OneHistory
 mod Textual
+mod Written
 mod Ended
 mod Weights
 mod Made

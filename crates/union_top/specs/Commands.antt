@@ -3,9 +3,9 @@ use Rattle.std.specs.Prelude.{◌≡◌, ◌≢◌, ◌⊎◌, ℕ, true, List, 
 use Rattle.outside.specs.Fault.{Rose}
 use Rattle.command_words.specs.declared.library.Library.{Library}
 use Rattle.command_words.specs.Command.{Command, Pass, Run, Load, Export, Report, Make, libraries_of}
-use Rattle.console_lines.specs.Ends.{Outcome, IsTold, IsAllDone, end_status}
+use Rattle.console_lines.specs.Ends.{Outcome, IsTold, IsAllDone, IsSilent, end_status, out_unwritten, report_unwritten, console_unwritten}
 use Rattle.console_lines.specs.declared.end.End.{End}
-use Rattle.console_lines.specs.declared.end.End.TheVariants.{OutputFault, Told}
+use Rattle.console_lines.specs.declared.end.End.TheVariants.{Told}
 use Rattle.console_lines.specs.declared.fault.Fault.{Fault}
 use Rattle.console_lines.specs.declared.fault.Fault.TheVariants.{Usage, Input, Device, Memory}
 use Rattle.outside.specs.Room.{SameBut}
@@ -14,7 +14,7 @@ use Rattle.archive_commands.specs.Reads.{Reads}
 use Rattle.plain_commands.specs.Passing.{Passes}
 use Rattle.plain_commands.specs.Making.{Makes}
 use Rattle.journal_loading.specs.Inputs.{IsInputFault}
-use Rattle.union_top.specs.Runs.{IsWholeLoad, IsUntoldLoad, IsWholeRun, IsUntoldRun, WhyNotLoad, WhyNotRun}
+use Rattle.union_top.specs.Runs.{IsWholeLoad, IsUntoldLoad, IsWholeRun, IsRunInOut, IsRunInReport, IsUntoldRun, WhyNotLoad, WhyNotRun}
 
 -- The command `load`: the files of libraries into a journal.
 pub record Loads (libraries : List Library) (journal : List ℕ) (o : Outcome) : Type 0 where
@@ -24,10 +24,11 @@ pub record Loads (libraries : List Library) (journal : List ℕ) (o : Outcome) :
   -- the outside's faults have their cause
   pub device : o.end ≡ Told Device → Rose (o.old.log_faults journal) (o.new.log_faults journal)
   pub input : o.end ≡ Told Input → IsInputFault libraries o.old o.new
-  pub output : o.end ≡ OutputFault → Rose o.faults o.faults_now
+  pub console_cause : o.end ≡ console_unwritten → Rose o.faults o.faults_now
+  pub no_output : (o.end ≢ out_unwritten) × (o.end ≢ report_unwritten)
   -- without one to tell all files were loaded whole
   pub whole : IsAllDone o.end → o.old.tells ≡ true → IsWholeLoad o.old o.new journal libraries o.told o.now o.end
-  pub untold : o.end ≡ OutputFault → o.old.tells ≡ true → IsUntoldLoad o.old o.new journal libraries o.told o.now
+  pub untold : o.end ≡ console_unwritten → o.old.tells ≡ true → IsUntoldLoad o.old o.new journal libraries o.told o.now
 
 -- The command `run`: the same, and then the export and the report of the journal.
 pub record Runs (libraries : List Library) (journal out report : List ℕ) (o : Outcome) : Type 0 where
@@ -38,11 +39,18 @@ pub record Runs (libraries : List Library) (journal out report : List ℕ) (o : 
   -- the outside's faults have their cause
   pub device : o.end ≡ Told Device → Rose (o.old.log_faults journal) (o.new.log_faults journal)
   pub input : o.end ≡ Told Input → IsInputFault libraries o.old o.new
-  pub output : o.end ≡ OutputFault
-      → Rose (o.old.out_faults out) (o.new.out_faults out) ⊎ Rose (o.old.out_faults report) (o.new.out_faults report) ⊎ Rose o.faults o.faults_now
+  pub out_cause : o.end ≡ out_unwritten → Rose (o.old.out_faults out) (o.new.out_faults out)
+  pub report_cause : o.end ≡ report_unwritten → Rose (o.old.out_faults report) (o.new.out_faults report)
+  pub console_cause : o.end ≡ console_unwritten → Rose o.faults o.faults_now
   -- the headline
   pub whole : IsAllDone o.end → o.old.tells ≡ true → IsWholeRun o.old o.new journal out report libraries o.told o.now o.end
-  pub untold : o.end ≡ OutputFault → o.old.tells ≡ true → IsUntoldRun o.old o.new journal out report libraries o.told o.now
+  -- nothing that comes behind an output that could not be written has begun: REPORT behind OUT, the console behind both
+  pub no_report : o.end ≡ out_unwritten → SameBut o.old o.new (journal ∷ out ∷ [])
+  pub silent : (o.end ≡ out_unwritten) ⊎ (o.end ≡ report_unwritten) → IsSilent o
+  -- and what comes before it is whole
+  pub in_out : o.end ≡ out_unwritten → o.old.tells ≡ true → IsRunInOut o.old o.new journal out libraries
+  pub in_report : o.end ≡ report_unwritten → o.old.tells ≡ true → IsRunInReport o.old o.new journal out report libraries
+  pub untold : o.end ≡ console_unwritten → o.old.tells ≡ true → IsUntoldRun o.old o.new journal out report libraries o.told o.now
 
 -- how the command of some words ended
 abbrev pub Ends : List (List ℕ) → Command → Outcome → Type 0

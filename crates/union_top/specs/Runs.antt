@@ -49,9 +49,9 @@ pub record AreOutputs (room : RoomView) (out report : List ℕ) (entries : List 
   pub export : room.file out ≡ Some (export_of all_keys (state_of entries))
   pub report_is : room.file report ≡ Some (report_of (state_of entries))
 
--- each of them is as it was or holds a front of that
-pub record AreInPart (old new : RoomView) (out report : List ℕ) (entries : List Entry) : Type 0 where
-  pub export : IsPartWritten (old.file out) (new.file out) (export_of all_keys (state_of entries))
+-- OUT is that export, and REPORT is as it was or holds a front of that report
+pub record AreOutAndPart (old new : RoomView) (out report : List ℕ) (entries : List Entry) : Type 0 where
+  pub export : new.file out ≡ Some (export_of all_keys (state_of entries))
   pub report_is : IsPartWritten (old.file report) (new.file report) (report_of (state_of entries))
 
 -- The headline: the files were loaded whole, OUT is the export and REPORT the report of the state behind the one history that they
@@ -62,24 +62,32 @@ pub record IsWholeRun (old new : RoomView) (journal out report : List ℕ) (libr
   pub console : Appends told now (told_of merged)
   pub end_is : end ≡ end_after merged
 
--- An output failed, or memory ran out behind loading: the files were loaded whole, and each of OUT and REPORT is as it was or holds
--- a front of what is due there.
-pub record IsPartOfRun (old new : RoomView) (journal out report : List ℕ) (libraries : List Library) : Type 0 where
+-- OUT could not be written: the files were loaded whole, and OUT is as it was or holds a front of the export.
+pub record IsRunInOut (old new : RoomView) (journal out : List ℕ) (libraries : List Library) : Type 0 where
   pub merged : IsMergedLoad old new journal libraries
-  pub outputs : AreInPart old new out report (merged.before ++ merged.added)
+  pub part : IsPartWritten (old.file out) (new.file out) (export_of all_keys (state_of (merged.before ++ merged.added)))
 
--- the same where the console was told a front of the files' lines
+-- REPORT was not written whole: the files were loaded whole, OUT is the export, and REPORT is as it was or holds a front of the report.
+pub record IsRunInReport (old new : RoomView) (journal out report : List ℕ) (libraries : List Library) : Type 0 where
+  pub merged : IsMergedLoad old new journal libraries
+  pub outputs : AreOutAndPart old new out report (merged.before ++ merged.added)
+
+-- The console could not be written: the files were loaded whole, OUT and REPORT are, and the console was told a front of the lines.
 pub record IsUntoldRun (old new : RoomView) (journal out report : List ℕ) (libraries : List Library) (told now : Option (List ℕ)) : Type 0 where
-  pub part : IsPartOfRun old new journal out report libraries
-  pub console : WritesFront told now (told_of part.merged)
+  pub merged : IsMergedLoad old new journal libraries
+  pub outputs : AreOutputs new out report (merged.before ++ merged.added)
+  pub console : WritesFront told now (told_of merged)
 
 -- why `load` told a fault: the files were not loaded whole, or they were and memory ran out
 pub data WhyNotLoad (old new : RoomView) (journal : List ℕ) (libraries : List Library) (why : Fault) : Type 0 where
   NotLoaded : IsLoadingFault old new journal libraries why → WhyNotLoad old new journal libraries why
   NoMemory : why ≡ Memory → IsMergedLoad old new journal libraries → WhyNotLoad old new journal libraries why
 
--- why `run` told a fault: the files were not loaded whole, and OUT and REPORT are as they were; or they were and memory ran out
+-- why `run` told a fault: the files were not loaded whole, or memory ran out behind that, and OUT and REPORT are as they were; or
+-- memory ran out over REPORT
 pub data WhyNotRun (old new : RoomView) (journal out report : List ℕ) (libraries : List Library) (why : Fault) : Type 0 where
   NotLoaded : IsLoadingFault old new journal libraries why → new.file out ≡ old.file out → new.file report ≡ old.file report
       → WhyNotRun old new journal out report libraries why
-  NoMemory : why ≡ Memory → IsPartOfRun old new journal out report libraries → WhyNotRun old new journal out report libraries why
+  NoMemory : why ≡ Memory → IsMergedLoad old new journal libraries → new.file out ≡ old.file out → new.file report ≡ old.file report
+      → WhyNotRun old new journal out report libraries why
+  NoMemoryInReport : why ≡ Memory → IsRunInReport old new journal out report libraries → WhyNotRun old new journal out report libraries why

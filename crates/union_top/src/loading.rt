@@ -1,21 +1,21 @@
 //! The commands that load files into a journal.
-ghost use Rattle.std.specs.Prelude.{◌≡◌, ℕ, List, [], ◌∷◌, None};
+ghost use Rattle.std.specs.Prelude.{◌≡◌, ◌≢◌, ℕ, List, [], ◌∷◌, None};
 ghost use Rattle.std.specs.Io.KnownBytes.{Appends};
 ghost use Rattle.outside.specs.Fault.{Rose};
 ghost use Rattle.outside.specs.Sink.{WritesFront};
 ghost use Rattle.command_words.specs.Command.{AreNames};
-ghost use Rattle.console_lines.specs.Ends.{outcome, end_of, IsAllDone, IsUntold};
+ghost use Rattle.console_lines.specs.Ends.{outcome, end_of, IsAllDone, IsUntold, out_unwritten, report_unwritten, console_unwritten};
 ghost use Rattle.outside.specs.Room.{SameBut};
 ghost use Rattle.journal_loading.specs.Inputs.{AreLoadable};
 ghost use Rattle.union_top.specs.Commands.{Loads, Runs};
 
-use crate::outputs::write_outputs;
+use crate::outputs::{OutputsFault, write_outputs};
 use crate::texts::{files_text, has_refused};
 use command_words::Library;
-use console_lines::{End, Fault, tell};
+use console_lines::{End, Fault, Unwritten, tell};
 use journal_loading::{LoadedJournal, load_journal};
 use marc_types::NoMemory;
-use outside::{Gate, Room, Sink, WriteFault};
+use outside::{Gate, Room, Sink};
 use room_files::close_journal;
 use std::alloc::Global;
 use std::sync::Wait;
@@ -24,15 +24,16 @@ use std::thread::Threads;
 /// Tells the lines of files that were loaded whole.
 fn tell_lines<K: Sink>(console: &mut K, text: &str, refused: bool) -> End
     ensures untold { IsUntold result }
+    ensures no_output { (result ≢ out_unwritten) × (result ≢ report_unwritten) }
     ensures done { IsAllDone result → result ≡ end_of refused }
     ensures whole { IsAllDone result → Appends (K.written console.old) (K.written console.new) text.now }
     ensures front { WritesFront (K.written console.old) (K.written console.new) text.now }
-    ensures cause { result ≡ End.OutputFault → Rose (K.faults console.old) (K.faults console.new) }
+    ensures cause { result ≡ console_unwritten → Rose (K.faults console.old) (K.faults console.new) }
 {
     match console.write_all(text.as_bytes()) {
         Ok(()) if refused => End::Refused,
         Ok(()) => End::Done,
-        Err(_) => End::OutputFault,
+        Err(_) => End::Unwritten(Unwritten::Console),
     }
 }
 
@@ -107,7 +108,8 @@ pub fn run_files<H: Threads + Wait + Sync, R: Room, G: Gate + Sync>(
     close_journal(room, journal, durable);
     match written {
         Ok(()) => tell_lines(console, text.as_str(), has_refused(results.as_slice())),
-        Err(WriteFault::OutputFault) => End::OutputFault,
-        Err(WriteFault::NoMemory) => tell(console, Fault::Memory),
+        Err(OutputsFault::OutFault) => End::Unwritten(Unwritten::Out),
+        Err(OutputsFault::ReportFault) => End::Unwritten(Unwritten::Report),
+        Err(OutputsFault::NoMemory) => tell(console, Fault::Memory),
     }
 }

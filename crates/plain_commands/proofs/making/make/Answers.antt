@@ -1,9 +1,8 @@
-use Rattle.std.proofs.Common.{◌∙◌, inl, inr, Err, refl, ap, subst}
+use Rattle.std.proofs.Common.{◌∙◌, Err, refl, ap, subst}
 use Rattle.std.specs.Io.KnownBytes.{Appends}
 use Rattle.outside.specs.Sink.{WritesFront}
-use Rattle.outside.proofs.Fronts.{front_none}
 use Rattle.output_files.specs.Outputs.{AsItWas}
-use Rattle.plain_commands.proofs.Made.{makes_no_memory, makes_failed, makes_all}
+use Rattle.plain_commands.proofs.Made.{makes_no_memory, makes_failed, makes_untold, makes_all}
 use Rattle.plain_commands.proofs.making.make.Goals as goal
 
 pub returns-in-Err-clause-ends : goal.returns-in-Err-clause-ends
@@ -11,7 +10,8 @@ returns-in-Err-clause-ends g c = makes_no_memory _ _ _ _ c.tell.ensures.end c.te
 
 pub returns-in-Err-OutputFault-clause-ends : goal.returns-in-Err-OutputFault-clause-ends
 returns-in-Err-OutputFault-clause-ends g c =
-    makes_failed _ _ _ _ refl (inl (c.write_workload.ensures.cause.failed (c.in-Err-OutputFault.is ∙ ap Err c.in-Err-OutputFault.field-0-is))) c.write_workload.ensures.part (front_none _ _)
+    makes_failed _ _ _ _ refl (c.write_workload.ensures.cause.failed (c.in-Err-OutputFault.is ∙ ap Err c.in-Err-OutputFault.field-0-is)) (refl, refl)
+    c.write_workload.ensures.part
 
 pub returns-in-Err-NoMemory-clause-ends : goal.returns-in-Err-NoMemory-clause-ends
 returns-in-Err-NoMemory-clause-ends g c =
@@ -20,9 +20,9 @@ returns-in-Err-NoMemory-clause-ends g c =
 pub returns-in-Ok-write_all-clause-ends : goal.returns-in-Ok-write_all-clause-ends
 returns-in-Ok-write_all-clause-ends g c =
     makes_all _ _ _ _ refl c.in-Ok-write_workload.ensures.bytes
-    (subst (Appends _ _) (c.as_bytes.ensures.value ∙ c.in-Ok.ensures) c.in-Ok-write_all.ensures.bytes) c.write_workload.ensures.part
+    (subst (Appends _ _) (c.as_bytes.ensures.value ∙ c.in-Ok.ensures) c.in-Ok-write_all.ensures.bytes)
 
 pub returns-clause-ends : goal.returns-clause-ends
 returns-clause-ends g c =
-    makes_failed _ _ _ _ refl (inr c.in-Err-write_all.ensures.cause.failed) c.write_workload.ensures.part
+    makes_untold _ _ _ _ refl c.in-Err-write_all.ensures.cause.failed c.in-Ok-write_workload.ensures.bytes
     (subst (WritesFront _ _) (c.as_bytes.ensures.value ∙ c.in-Ok.ensures) c.write_all.ensures.front)

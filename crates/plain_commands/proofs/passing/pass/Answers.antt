@@ -11,8 +11,9 @@ returns-in-Ok-clause-closed g c =
 pub returns-in-Ok-clause-ends : goal.returns-in-Ok-clause-ends
 returns-in-Ok-clause-ends g c =
     let mid = g.R.Room.seen c.prepare.new.room in
-    passes_delivered _ _ _ mid c.in-Ok.ready c.prepare.ensures.stays c.deliver.ensures.untold c.deliver.ensures.output c.in-Ok.ensures.ready
-    c.deliver.ensures.whole c.deliver.ensures.part
+    let d = c.deliver.ensures in
+    passes_delivered _ _ _ mid c.in-Ok.ready c.prepare.ensures.stays d.untold d.no_report d.out_cause d.console_cause d.silent c.in-Ok.ensures.ready
+    d.whole d.part d.told
 
 pub returns-in-Err-clause-ends : goal.returns-in-Err-clause-ends
 returns-in-Err-clause-ends g c =

@@ -36,6 +36,7 @@ returns-in-Ok-text-clause-ends g c =
       text = c.as_str.result.now;
       refused = c.has_refused.result;
       untold = t.untold;
+      no_output = t.no_output;
       done = t.done;
       whole = t.whole;
       front = t.front;

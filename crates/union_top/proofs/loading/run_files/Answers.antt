@@ -1,13 +1,12 @@
-use Rattle.std.proofs.Common.{rules, IfErr, Err, string_bytes, ◌≡◌, ◌⊎◌, inl, inr, length, refl, sym, ap, subst, ◌∙◌}
-use Rattle.outside.specs.Fault.{Rose}
-use Rattle.outside.specs.declared.fault.WriteFault.TheVariants.{OutputFault}
-use Rattle.outside.proofs.Fronts.{front_none}
+use Rattle.std.proofs.Common.{length, refl, sym, ap, subst, ◌∙◌}
 use Rattle.outside.proofs.Rooms.{same_but_then}
 use Rattle.durable_catalogue.specs.Views.{durable_view}
+use Rattle.union_top.specs.Outputs.{AreUnwritten}
 use Rattle.union_top.specs.Texts.{files_text, has_refused}
-use Rattle.union_top.specs.Runs.{AreOutputs, AreInPart, NotLoaded, NoMemory}
+use Rattle.union_top.specs.Runs.{AreOutputs, AreOutAndPart, NotLoaded, NoMemory, NoMemoryInReport}
 use Rattle.union_top.proofs.OneHistory.{merged_by}
-use Rattle.union_top.proofs.Ended.{closed_load, closed_run, runs_failed, runs_told, no_memory, in_part_between, outputs_closed, in_part_apart, rose_between}
+use Rattle.union_top.proofs.Ended.{closed_load, closed_run, runs_failed, runs_told, runs_in_out, runs_in_report, no_memory}
+use Rattle.union_top.proofs.Written.{outputs_are, out_rose, report_rose_too, no_report, in_out, in_report, memory_no_out, report_no_out}
 use Rattle.union_top.proofs.loading.run_files.Goals as goal
 
 pub returns-in-Err-clause-ends : goal.returns-in-Err-clause-ends
@@ -36,14 +35,13 @@ pub returns-in-Err-files_text-clause-ends : goal.returns-in-Err-files_text-claus
 returns-in-Err-files_text-clause-ends g c =
     let seen = g.R.Room.seen in
     let l = c.in-Ok.ensures.loaded in
+    let names = c.requires.names in
     let apart = same_but_then _ _ _ _ c.load_journal.ensures.apart c.close_journal.ensures.apart in
     runs_failed _ _ _ _ _ _ c.tell-in-Err-files_text.ensures.end c.tell-in-Err-files_text.ensures.told (λ other. apart)
-    (no_memory _ _ _ _ _ c.close_journal.ensures.closed (λ tells. NoMemory refl (record {
-      merged = (
-          merged_by (seen c.args.room.now) (seen c.close_journal.new.room) c.args.journal.now c.args.libraries.now (durable_view c.in-Ok.loaded.durable) c.in-Ok.loaded.results
-          c.is_within_limits.ensures (l.whole tells) (λ told. c.close_journal.ensures.log (c.load_journal.ensures.apart.tells ∙ tells) told) tells).merged;
-      outputs = in_part_apart _ _ _ _ _ _ c.requires.names apart;
-    })))
+    (no_memory _ _ _ _ _ c.close_journal.ensures.closed (λ tells. NoMemory refl (
+    merged_by (seen c.args.room.now) (seen c.close_journal.new.room) c.args.journal.now c.args.libraries.now (durable_view c.in-Ok.loaded.durable) c.in-Ok.loaded.results
+    c.is_within_limits.ensures (l.whole tells) (λ told. c.close_journal.ensures.log (c.load_journal.ensures.apart.tells ∙ tells) told) tells).merged
+    (apart.files c.args.out.now ((λ same. names.1.0 (sym same)), tt)) (apart.files c.args.report.now ((λ same. names.1.1.0 (sym same)), tt))))
 
 pub returns-in-Ok-written-clause-closed : goal.returns-in-Ok-written-clause-closed
 returns-in-Ok-written-clause-closed g c =
@@ -60,71 +58,72 @@ returns-in-Ok-written-clause-ends g c =
     let d = c.in-Ok.loaded.durable in
     let l = c.in-Ok.ensures.loaded in
     let w = c.write_outputs-written.ensures in
-    let t = c.tell_lines.ensures in
     let opened = c.load_journal.ensures.apart in
     let closing = c.close_journal-2.ensures.apart in
     let history = ap (λ core. core.history) c.core.ensures.value in
+    let t = c.tell_lines.ensures in
     runs_told _ _ _ _ _ d.core.history c.in-Ok.loaded.results (record {
       text = c.as_str.result.now;
       refused = c.has_refused.result;
       untold = t.untold;
+      no_output = t.no_output;
       done = t.done;
       whole = t.whole;
       front = t.front;
       refused_is = c.has_refused.ensures ∙ ap has_refused c.as_slice-in-Ok-written.ensures;
       text_is = c.as_str.ensures.value ∙ (c.in-Ok-files_text.ensures ∙ ap (files_text c.args.libraries.now) c.as_slice.ensures);
-      merged = λ tells.
-          merged_by old new c.args.journal.now c.args.libraries.now (durable_view d) c.in-Ok.loaded.results
-          c.is_within_limits.ensures (l.whole tells) (λ told. c.close_journal-2.ensures.log (w.apart.tells ∙ (opened.tells ∙ tells)) told) tells;
-    }) (λ failed. inr (inr (t.cause failed)))
-    (λ tells. in_part_between old mid wrote new c.args.journal.now c.args.out.now c.args.report.now d.core.history c.requires.names opened closing
-    (subst (AreInPart mid wrote c.args.out.now c.args.report.now) history (w.part (opened.tells ∙ tells))))
-    (λ all tells. outputs_closed wrote new c.args.journal.now c.args.out.now c.args.report.now d.core.history c.requires.names closing
-    (subst (AreOutputs wrote c.args.out.now c.args.report.now) history (c.in-Ok-written.ensures.whole (opened.tells ∙ tells))))
+      merged = λ tells. merged_by old new c.args.journal.now c.args.libraries.now (durable_view d) c.in-Ok.loaded.results
+    c.is_within_limits.ensures (l.whole tells) (λ told. c.close_journal-2.ensures.log (w.apart.tells ∙ (opened.tells ∙ tells)) told) tells;
+    }) t.cause
+    (outputs_are old mid wrote new c.args.journal.now c.args.out.now c.args.report.now d.core.history c.requires.names opened closing (λ tells. subst (AreOutputs wrote c.args.out.now c.args.report.now) history (c.in-Ok-written.ensures.whole tells)))
 
-pub returns-in-Err-OutputFault-clause-closed : goal.returns-in-Err-OutputFault-clause-closed
-returns-in-Err-OutputFault-clause-closed g c =
+pub returns-in-Err-OutFault-clause-closed : goal.returns-in-Err-OutFault-clause-closed
+returns-in-Err-OutFault-clause-closed g c =
     closed_run _ _ _ _ _ _ _ c.requires.free c.load_journal.ensures.apart c.write_outputs-written.ensures.apart c.write_outputs-written.ensures.closed c.write_outputs-written.ensures.report_closed
     c.close_journal-2.ensures.apart c.close_journal-2.ensures.closed
 
-pub returns-in-Err-OutputFault-clause-ends : goal.returns-in-Err-OutputFault-clause-ends
-returns-in-Err-OutputFault-clause-ends g c =
+pub returns-in-Err-OutFault-clause-ends : goal.returns-in-Err-OutFault-clause-ends
+returns-in-Err-OutFault-clause-ends g c =
     let seen = g.R.Room.seen in
     let old = seen c.args.room.now in
     let mid = seen c.load_journal.new.room in
     let wrote = seen c.write_outputs-written.new.room in
     let new = seen c.close_journal-2.new.room in
     let d = c.in-Ok.loaded.durable in
-    let results = c.in-Ok.loaded.results in
     let l = c.in-Ok.ensures.loaded in
     let w = c.write_outputs-written.ensures in
     let opened = c.load_journal.ensures.apart in
     let closing = c.close_journal-2.ensures.apart in
     let history = ap (λ core. core.history) c.core.ensures.value in
-    let fault : c.write_outputs-written.result ≡ Err OutputFault = search rules in
-    let rose : Rose (mid.out_faults c.args.out.now) (wrote.out_faults c.args.out.now) ⊎ Rose (mid.out_faults c.args.report.now) (wrote.out_faults c.args.report.now) =
-    subst (λ r. IfErr r (λ fault. fault ≡ OutputFault → Rose (mid.out_faults c.args.out.now) (wrote.out_faults c.args.out.now) ⊎ Rose (mid.out_faults c.args.report.now) (wrote.out_faults c.args.report.now)))
-    fault w.cause refl in
-    runs_told _ _ _ _ _ d.core.history results (record {
-      text = string_bytes c.in-Ok-files_text.text;
-      refused = has_refused results;
-      untold = tt;
-      done = λ all. absurd all;
-      whole = λ all. absurd all;
-      front = front_none _ _;
-      refused_is = refl;
-      text_is = c.in-Ok-files_text.ensures ∙ ap (files_text c.args.libraries.now) c.as_slice.ensures;
-      merged = λ tells.
-          merged_by old new c.args.journal.now c.args.libraries.now (durable_view d) results
-          c.is_within_limits.ensures (l.whole tells) (λ told. c.close_journal-2.ensures.log (w.apart.tells ∙ (opened.tells ∙ tells)) told) tells;
-    })
-    (λ failed. elim rose [
-      | inl first ↦ inl (rose_between old mid wrote new c.args.journal.now c.args.out.now opened closing first)
-      | inr second ↦ inr (inl (rose_between old mid wrote new c.args.journal.now c.args.report.now opened closing second))
-    ])
-    (λ tells. in_part_between old mid wrote new c.args.journal.now c.args.out.now c.args.report.now d.core.history c.requires.names opened closing
-    (subst (AreInPart mid wrote c.args.out.now c.args.report.now) history (w.part (opened.tells ∙ tells))))
-    (λ all. absurd all)
+    let are = subst (λ es. AreUnwritten mid wrote c.args.out.now c.args.report.now es c.in-Err-OutFault.field-0) history c.in-Err-OutFault.ensures.unwritten in
+    runs_in_out _ _ _ _ _ d.core.history c.in-Ok.loaded.results (refl, refl) (λ tells. merged_by old new c.args.journal.now c.args.libraries.now (durable_view d) c.in-Ok.loaded.results
+    c.is_within_limits.ensures (l.whole tells) (λ told. c.close_journal-2.ensures.log (w.apart.tells ∙ (opened.tells ∙ tells)) told) tells)
+    refl (out_rose old mid wrote new c.args.journal.now c.args.out.now c.args.report.now d.core.history c.requires.names opened closing _ are c.in-Err-OutFault.field-0-is) (no_report old mid wrote new c.args.journal.now c.args.out.now c.args.report.now d.core.history c.requires.names opened closing _ are c.in-Err-OutFault.field-0-is)
+    (in_out old mid wrote new c.args.journal.now c.args.out.now c.args.report.now d.core.history c.requires.names opened closing _ are c.in-Err-OutFault.field-0-is)
+
+pub returns-in-Err-ReportFault-clause-closed : goal.returns-in-Err-ReportFault-clause-closed
+returns-in-Err-ReportFault-clause-closed g c =
+    closed_run _ _ _ _ _ _ _ c.requires.free c.load_journal.ensures.apart c.write_outputs-written.ensures.apart c.write_outputs-written.ensures.closed c.write_outputs-written.ensures.report_closed
+    c.close_journal-2.ensures.apart c.close_journal-2.ensures.closed
+
+pub returns-in-Err-ReportFault-clause-ends : goal.returns-in-Err-ReportFault-clause-ends
+returns-in-Err-ReportFault-clause-ends g c =
+    let seen = g.R.Room.seen in
+    let old = seen c.args.room.now in
+    let mid = seen c.load_journal.new.room in
+    let wrote = seen c.write_outputs-written.new.room in
+    let new = seen c.close_journal-2.new.room in
+    let d = c.in-Ok.loaded.durable in
+    let l = c.in-Ok.ensures.loaded in
+    let w = c.write_outputs-written.ensures in
+    let opened = c.load_journal.ensures.apart in
+    let closing = c.close_journal-2.ensures.apart in
+    let history = ap (λ core. core.history) c.core.ensures.value in
+    let are = subst (λ es. AreUnwritten mid wrote c.args.out.now c.args.report.now es c.in-Err-ReportFault.field-0) history c.in-Err-ReportFault.ensures.unwritten in
+    runs_in_report _ _ _ _ _ d.core.history c.in-Ok.loaded.results (refl, refl) (λ tells. merged_by old new c.args.journal.now c.args.libraries.now (durable_view d) c.in-Ok.loaded.results
+    c.is_within_limits.ensures (l.whole tells) (λ told. c.close_journal-2.ensures.log (w.apart.tells ∙ (opened.tells ∙ tells)) told) tells)
+    refl (report_rose_too old mid wrote new c.args.journal.now c.args.out.now c.args.report.now d.core.history c.requires.names opened closing _ are c.in-Err-ReportFault.field-0-is)
+    (in_report old mid wrote new c.args.journal.now c.args.out.now c.args.report.now d.core.history c.requires.names opened closing _ are (report_no_out _ c.in-Err-ReportFault.field-0-is))
 
 pub returns-clause-closed : goal.returns-clause-closed
 returns-clause-closed g c =
@@ -144,13 +143,13 @@ returns-clause-ends g c =
     let opened = c.load_journal.ensures.apart in
     let closing = c.close_journal-2.ensures.apart in
     let history = ap (λ core. core.history) c.core.ensures.value in
+    let are = subst (λ es. AreUnwritten mid wrote c.args.out.now c.args.report.now es c.in-Err-NoMemory.field-0) history c.in-Err-NoMemory.ensures.unwritten in
     runs_failed _ _ _ _ _ _ c.tell-in-Err-NoMemory.ensures.end c.tell-in-Err-NoMemory.ensures.told (λ other. absurd (other refl))
     (no_memory _ _ _ _ _ c.close_journal-2.ensures.closed (λ tells.
     let m = merged_by old new c.args.journal.now c.args.libraries.now (durable_view d) c.in-Ok.loaded.results
     c.is_within_limits.ensures (l.whole tells) (λ told. c.close_journal-2.ensures.log (w.apart.tells ∙ (opened.tells ∙ tells)) told) tells in
-    NoMemory refl (record {
+    NoMemoryInReport refl (record {
       merged = m.merged;
-      outputs = subst (AreInPart old new c.args.out.now c.args.report.now) m.entries_are
-          (in_part_between old mid wrote new c.args.journal.now c.args.out.now c.args.report.now d.core.history c.requires.names opened closing
-          (subst (AreInPart mid wrote c.args.out.now c.args.report.now) history (w.part (opened.tells ∙ tells))));
+      outputs = subst (AreOutAndPart old new c.args.out.now c.args.report.now) m.entries_are
+          (in_report old mid wrote new c.args.journal.now c.args.out.now c.args.report.now d.core.history c.requires.names opened closing _ are (memory_no_out _ c.in-Err-NoMemory.field-0-is) tells);
     })))
