@@ -3,7 +3,7 @@ ghost use Rattle.program_help.specs.Telling.{help_text, version_text, IsTextTold
 
 use crate::texts;
 use command_words::Topic;
-use console_lines::End;
+use console_lines::{End, Unwritten};
 use outside::Sink;
 
 /// The text of a topic.
@@ -29,7 +29,7 @@ fn tell_text<K: Sink>(console: &mut K, text: &str) -> End
 {
     match console.write_all(text.as_bytes()) {
         Ok(()) => End::Done,
-        Err(_) => End::OutputFault,
+        Err(_) => End::Unwritten(Unwritten::Console),
     }
 }
 
