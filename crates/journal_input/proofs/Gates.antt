@@ -113,3 +113,10 @@ frame_here bytes left (gate ∷ window) count c long differs is some most whole 
     onward place l =
         let p : place + 1 + (LENGTH_BYTES + count) ≡ place + (5 + count) = omega arith in
         ap (λ n. walk n 0 (drop (LENGTH_BYTES + count) l)) p ∙ ap (walk (place + (5 + count)) 0) (drop_two count gate l)
+
+-- as many bytes come as were read
+pub no_shorter : (bytes : List ℕ) (left : Option (List ℕ)) (window : List ℕ) (count : ℕ) → Comes window left bytes → count ≤ length window → count ≤ length bytes
+no_shorter bytes left window count c within =
+    let all = ap (length {A = ℕ}) c.is in
+    let parts = length-append window c.rest in
+    omega (arith, all, parts, within)

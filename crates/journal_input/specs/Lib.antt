@@ -1,3 +1,4 @@
 pub mod Coming
 pub mod Gates
-pub mod Verified
+pub mod Walking
+pub mod Contents

@@ -2,7 +2,7 @@
 #![tactic(auto)]
 
 pub use fault::VerifyFault;
-pub use verified::Verified;
+pub use verified::{Verified, verify_source};
 
 mod coming;
 mod fault;
