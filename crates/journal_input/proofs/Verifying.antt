@@ -80,3 +80,6 @@ torn_some place bytes more = let test : nat_lt (place + 1) bytes ≡ true = grin
 
 pub torn_none : (place bytes : ℕ) → bytes ≤ place + 1 → None ≡ torn_behind place bytes
 torn_none place bytes none = let test : nat_lt (place + 1) bytes ≡ false = grind (arith, nat_tests) in rw test refl
+
+pub no_less : (log window : List ℕ) (left : Option (List ℕ)) → Comes window left log → 18 ≤ length window → 18 ≤ length log
+no_less log window left c long = let all = ap (length {A = ℕ}) c.is in let parts = length-append window c.rest in omega (arith, all, parts, long)

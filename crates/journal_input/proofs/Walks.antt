@@ -1,6 +1,7 @@
 -- A walk as its bytes come.
 use Rattle.std.proofs.Common.{◌≡◌, ◌∙◌, ℕ, ◌+◌, ◌<◌, ◌≤◌, true, false, List, [], ◌∷◌, ◌++◌, length, take, drop, map, Option, Some, refl, sym, ap, subst, arith, append_assoc, append-nil, length-append, length-drop}
 use Rattle.std.proofs.lemmas.List.{map-append}
+use Rattle.std.specs.Prelude.{IsErrOf, Err}
 use Rattle.std.proofs.lemmas.Grind.{common_steps}
 use Rattle.marc_types.specs.declared.entry.Entry.{Entry}
 use Rattle.commit_journal.specs.declared.frame.Frame.{Frame}
@@ -10,6 +11,7 @@ use Rattle.entry_history.specs.Readers.{Taken, Takes}
 use Rattle.entry_history.proofs.Histories.{history_more}
 use Rattle.journal_input.specs.Coming.{Comes, ComesOn}
 use Rattle.journal_input.specs.declared.gate.Gate.TheVariants as gate
+use Rattle.journal_input.specs.declared.fault.VerifyFault.{VerifyFault}
 use Rattle.journal_input.specs.declared.fault.VerifyFault.TheVariants as verify
 use Rattle.journal_input.specs.Gates.{GateSays}
 use Rattle.journal_input.specs.Walking.{payloads_of, IsBadFrame, IsLostAt, WalksOn, HasTaken, IsRead, IsUnread, NoGate, NoPayload}
@@ -141,5 +143,8 @@ unread_behind version from next wrong bytes passed after frames on lost =
     let l = lost on.now on.comes in
     NoGate (record { at = ap (λ w. w.place) on.walked ∙ l.at; lost = ap (λ w. w.is_closed) on.walked ∙ l.lost })
 
-pub same_place : (one other : ℕ) → verify.NotAJournal one ≡ verify.NotAJournal other → one ≡ other
+pub same_place : {T : Type 0} (one other : ℕ) → IsErrOf {T = T} (Err (verify.NotAJournal one)) (verify.NotAJournal other) → one ≡ other
 same_place one other is = cc
+
+pub same_fault : {T : Type 0} (one other : VerifyFault) → IsErrOf {T = T} (Err one) other → one ≡ other
+same_fault one other is = cc

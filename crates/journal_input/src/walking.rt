@@ -72,16 +72,19 @@ pub fn take_frames<S: Source>(
             }
             Gate::Lost => return Err(VerifyFault::NotAJournal(place)),
             Gate::Frame(count) => {
-                let taken = reader.take(alloc, payload_in(coming.window(), count));
-                coming.pass(HEAD_BYTES + count);
-                match taken {
-                    Ok(()) => frames += 1,
+                match reader.take(alloc, payload_in(coming.window(), count)) {
+                    Ok(()) => {}
                     Err(EntryFault::NoMemory) => return Err(VerifyFault::NoMemory),
-                    Err(EntryFault::BadEntry) => match skip_frames(coming) {
-                        Ok(()) => return Err(VerifyFault::NotAJournal(place)),
-                        Err(fault) => return Err(fault),
-                    },
+                    Err(EntryFault::BadEntry) => {
+                        coming.pass(HEAD_BYTES + count);
+                        match skip_frames(coming) {
+                            Ok(()) => return Err(VerifyFault::NotAJournal(place)),
+                            Err(fault) => return Err(fault),
+                        }
+                    }
                 }
+                coming.pass(HEAD_BYTES + count);
+                frames += 1;
             }
         }
     }

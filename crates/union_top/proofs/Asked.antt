@@ -5,7 +5,7 @@ use Rattle.marc_types.specs.Valid.{is_code}
 use Rattle.outside.specs.Room.{RoomView, SameBut, IsNoneOf}
 use Rattle.outside.proofs.Rooms.{same_but_none}
 use Rattle.command_words.specs.declared.library.Library.{Library}
-use Rattle.command_words.specs.Command.{Command, Pass, Run, Load, Export, Report, Make, libraries_of, names_of, AreNames}
+use Rattle.command_words.specs.Command.{Command, Pass, Run, Load, Export, Report, Make, Verify, Help, Version, libraries_of, file_count, names_of, AreNames}
 use Rattle.console_lines.specs.Ends.{Outcome, IsTold}
 use Rattle.console_lines.specs.declared.end.End.TheVariants.{Told}
 use Rattle.console_lines.specs.declared.fault.Fault.TheVariants as fault
@@ -36,6 +36,10 @@ loadable libraries journal names files count some few proper apart = record {
 pub only : (library first : Library) (libraries : List Library) → libraries ≡ library ∷ [] → first ≡ get_or libraries 0 first → first ≡ library
 only library first libraries is read = read ∙ ap (λ ls. get_or ls 0 first) is
 
+none_counted : (libraries : List Library) → length libraries ≡ 0 → libraries ≡ []
+none_counted [] none = refl
+none_counted (library ∷ libraries) none = absurd (omega (arith, none))
+
 module _ (o : Outcome) (told : o.end ≡ Told fault.Memory) (tells : IsTold fault.Memory o) (stays : SameBut o.old o.new [])
     (free : (name : List ℕ) → o.old.open_as name ≡ None) where
   unbegun : (journal : List ℕ) (libraries : List Library) → IsLoadingFault o.old o.new journal libraries fault.Memory
@@ -49,15 +53,19 @@ module _ (o : Outcome) (told : o.end ≡ Told fault.Memory) (tells : IsTold faul
       reads_unopened journal out due o opening.NoMemory differ told tells (same_but_none o.old o.new (journal ∷ []) stays) (λ old. cc) (λ room. tt)
       (λ room. unopened_keeps _ o.old o.new journal stays) (λ device. cc)
 
-  pub unasked : (words : List (List ℕ)) (command : Command) → AreNames (names_of command) → Ends words command o
-  unasked words (Pass out) names = λ library is. passes_told library out o fault.Memory told tells tt stays (λ input. cc) (λ full. cc)
-  unasked words (Run journal out report files) names =
+  pub unasked : (words : List (List ℕ)) (command : Command) → AreNames (names_of command) → length (libraries_of words) ≡ file_count command
+      → libraries_of words ≢ [] → Ends words command o
+  unasked words (Pass out) names count some = λ library is. passes_told library out o fault.Memory told tells tt stays (λ input. cc) (λ full. cc)
+  unasked words (Run journal out report files) names count some =
       runs_failed (libraries_of words) journal o out report fault.Memory told tells (λ other. absurd (other refl))
       (no_memory o.old o.new journal (libraries_of words) _ (closed journal)
       (λ room. runs.NotLoaded (unbegun journal (libraries_of words)) (stays.files out tt) (stays.files report tt)))
-  unasked words (Load journal files) names =
+  unasked words (Load journal files) names count some =
       loads_failed (libraries_of words) journal o fault.Memory told tells
       (no_memory o.old o.new journal (libraries_of words) _ (closed journal) (λ room. runs.NotLoaded (unbegun journal (libraries_of words))))
-  unasked words (Export journal out code) names = reads journal out _ names.1.0
-  unasked words (Report journal out) names = reads journal out _ names.1.0
-  unasked words (Make seed count out) names = makes_no_memory seed count out o told tells (λ room. files.AsItWas (stays.files out tt))
+  unasked words (Export journal out code) names count some = reads journal out _ names.1.0
+  unasked words (Report journal out) names count some = reads journal out _ names.1.0
+  unasked words (Make seed count out) names count some = makes_no_memory seed count out o told tells (λ room. files.AsItWas (stays.files out tt))
+  unasked words (Verify journal) names count some = absurd (some (none_counted (libraries_of words) count))
+  unasked words (Help topic) names count some = absurd (some (none_counted (libraries_of words) count))
+  unasked words Version names count some = absurd (some (none_counted (libraries_of words) count))

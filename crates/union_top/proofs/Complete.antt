@@ -9,7 +9,7 @@ use Rattle.marc_types.specs.declared.entry.Entry.{Entry}
 use Rattle.outside.specs.Room.{RoomView}
 use Rattle.marc_stream.specs.Pieces.{Item, items}
 use Rattle.command_words.specs.declared.library.Library.{Library}
-use Rattle.command_words.specs.Command.{Command, Pass, Run, Load, Export, Report, Make, command_of, libraries_of}
+use Rattle.command_words.specs.Command.{Command, Pass, Run, Load, Export, Report, Make, Verify, Help, Version, command_of, libraries_of}
 use Rattle.entry_record.specs.History.{entry_size, entries_size}
 use Rattle.file_entries.specs.Files.{IsJudged, Accepts}
 use Rattle.file_entries.specs.declared.refused.RefusedItem.{RefusedItem}
@@ -30,6 +30,8 @@ use Rattle.plain_commands.specs.Totals.{IsWithinLimits, most_entries, most_bytes
 use Rattle.journal_loading.specs.Inputs.{IsInputFault}
 use Rattle.union_top.specs.Commands.{Loads, Runs, Ends, EndsWith}
 use Rattle.union_top.specs.Complete.{Stayed, Around, InputsStayed, IsUnhinderedPass, IsUnhinderedMake, IsUnhinderedReading, IsUnhinderedLoad, IsUnhinderedRun, IsUnhindered}
+use Rattle.program_help.specs.Telling.{help_text, version_text}
+use Rattle.union_top.proofs.Untroubled.{verify_well, tells_well}
 use Rattle.union_top.proofs.Made.{made, made_first}
 use Rattle.union_top.proofs.Unopened.{MayBe, may_be}
 use Rattle.union_top.proofs.Remaining.{Remains, of_load, of_run}
@@ -156,6 +158,9 @@ module _ (o : Outcome) where
   ends_well words (Export journal out code) ends tells u = reads_well journal out _ ends tells u
   ends_well words (Report journal out) ends tells u = reads_well journal out _ ends tells u
   ends_well words (Make seed count out) ends tells u = makes_well seed count out ends u
+  ends_well words (Verify journal) ends tells u = verify_well o journal ends tells u
+  ends_well words (Help topic) ends tells u = tells_well o (help_text topic) ends u
+  ends_well words Version ends tells u = tells_well o version_text ends u
 
   pub complete : (words : List (List ℕ)) (command : Command) → Ends words command o → o.old.tells ≡ true → IsUnhindered words command seen
       → (end_status o.end ≤ 1) ⊎ (end_status o.end ≡ 8)

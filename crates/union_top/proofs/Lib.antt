@@ -8,5 +8,6 @@ mod Made
 mod Crowded
 mod Unopened
 mod Remaining
+mod Untroubled
 mod Complete
 mod Asked

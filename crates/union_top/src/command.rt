@@ -12,9 +12,11 @@ use archive_commands::{Due, read};
 use command_words::laws::{files_are_named, names_are_apart, numbers_are_bounded};
 use command_words::{Request, Words, libraries, request};
 use console_lines::{End, Fault, tell};
+use journal_verification::verify;
 use marc_types::NoMemory;
 use outside::{Gate, Room};
 use plain_commands::{make, pass};
+use program_help::{help, version};
 use std::alloc::Global;
 use std::sync::Wait;
 use std::thread::Threads;
@@ -60,6 +62,9 @@ fn carry_out<H: Threads + Wait + Sync, R: Room, G: Gate + Sync>(
         Request::Report { journal, out } => {
             read(alloc, room, console, journal, out, Due::Report)
         }
+        Request::Verify { journal } => verify(alloc, room, console, journal),
+        Request::Help { topic } => help(console, topic),
+        Request::Version => version(console),
         Request::Make { seed, count, out } => make(alloc, room, console, seed, count, out),
     }
 }
