@@ -30,12 +30,7 @@ fn verify_file<R: Room>(alloc: Global, room: &mut R, name: &str) -> Result<Verif
 }
 
 /// The command `verify`: tells what a journal has, and writes nothing.
-pub fn verify<R: Room>(
-    alloc: Global,
-    room: &mut R,
-    console: &mut R::Out,
-    journal: &str,
-) -> End
+pub fn verify<R: Room>(alloc: Global, room: &mut R, console: &mut R::Out, journal: &str) -> End
     requires closed { (name : List ℕ) → (R.seen room.old).open_as name ≡ None }
     ensures closed { (name : List ℕ) → (R.seen room.new).open_as name ≡ None }
     ensures apart { SameBut (R.seen room.old) (R.seen room.new) [] }
