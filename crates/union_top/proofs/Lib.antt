@@ -7,6 +7,7 @@ mod Weights
 mod Made
 mod Crowded
 mod Unopened
+mod Judgements
 mod Remaining
 mod Untroubled
 mod Complete

@@ -23,7 +23,7 @@ use Rattle.journal_loading.specs.Outcomes.{IsLoadedInPart, IsUnbegun, Unopened, 
 use Rattle.room_files.specs.Faults.{fault_of_opening}
 use Rattle.union_top.specs.Runs.{WhyNotLoad, WhyNotRun}
 use Rattle.union_top.specs.Runs as runs
-use Rattle.union_top.specs.Complete.{FitsTogether}
+use Rattle.union_top.proofs.Judgements.{FitsJudged}
 use Rattle.union_top.proofs.Crowded.{crowded, never_crowded}
 use Rattle.union_top.proofs.Unopened.{MayBe, may_be, reading_once}
 use mathlib.Core.HLevel.{⊥_prop}
@@ -65,7 +65,7 @@ all_front : (P : Entry → Type 0) (xs ys : List Entry) → All P (xs ++ ys) →
 all_front P [] ys all = All-nil P
 all_front P (x ∷ xs) ys all = All-cons P x xs (All-head P x (xs ++ ys) all) (all_front P xs ys (All-tail P x (xs ++ ys) all))
 
-module _ (old new : RoomView) (journal : List ℕ) (libraries : List Library) (tells : old.tells ≡ true) (fits : FitsTogether old journal libraries) where
+module _ (old new : RoomView) (journal : List ℕ) (libraries : List Library) (tells : old.tells ≡ true) (fits : FitsJudged old journal libraries) where
   history_within : IsWithin journal_limits fits.before
   history_within = record { count = omega (arith, fits.count); size = omega (arith, fits.size) }
 
@@ -98,4 +98,5 @@ module _ (old new : RoomView) (journal : List ℕ) (libraries : List Library) (t
 
   pub of_run : (out report : List ℕ) (why : Fault) → WhyNotRun old new journal out report libraries why → Remains why
   of_run out report why (runs.NotLoaded is out_stays report_stays) = of_loading why is
-  of_run out report why (runs.NoMemory memory part) = subst Remains (sym memory) tt
+  of_run out report why (runs.NoMemory memory loaded out_stays report_stays) = subst Remains (sym memory) tt
+  of_run out report why (runs.NoMemoryInReport memory part) = subst Remains (sym memory) tt

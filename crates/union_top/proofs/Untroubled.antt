@@ -60,12 +60,12 @@ module _ (o : Outcome) where
   abbrev seen : Around
   seen = record { old = o.old; new = o.new; faults = o.faults; faults_now = o.faults_now }
 
-  pub verify_well : (journal : List ℕ) → Verifies journal o → o.old.tells ≡ true → IsUnhinderedVerify journal seen
+  pub verify_well : (journal : List ℕ) → Verifies journal o → IsUnhinderedVerify journal seen
       → IsAllDone o.end ⊎ (o.end ≡ Told fault.Memory)
-  verify_well journal v tells u =
+  verify_well journal v u =
       verified_well o.end v.ends (λ is. u.console (v.console_cause is)) (λ is. u.input (v.input is))
       (λ place is.
-      let none : IsNoJournal u.bytes place = subst (λ f. IsSomeAnd f (λ log. IsNoJournal log place)) u.there (v.none place is tells) in
+      let none : IsNoJournal u.bytes place = subst (λ f. IsSomeAnd f (λ log. IsNoJournal log place)) u.there (v.none place is u.tells) in
       ∥∥₁_elim u.was ⊥_prop (λ history. no_journal u.bytes place u.entries history (unopened u.bytes place none)))
 
   pub tells_well : (text : List ℕ) → Tells text o → IsUnhinderedTelling seen → IsAllDone o.end ⊎ (o.end ≡ Told fault.Memory)

@@ -39,10 +39,7 @@ module _ (old new : RoomView) (out report : List ℕ) (entries : List Entry) whe
     export_is : old.tells ≡ true → new.file out ≡ Some (export_of all_keys (state_of entries))
     export_is tells = second.files out ((λ same. differ (sym same)), tt) ∙ whole tells
 
-    pub both_written : (mid.tells ≡ true → new.file report ≡ Some (report_of (state_of entries))) → old.tells ≡ true → AreOutputs new out report entries
-    both_written written tells = record { export = export_is tells; report_is = written (first.tells ∙ tells) }
-
-    pub report_failed : (fault : OutputsFault) → fault ≢ OutFault → (fault ≡ ReportFault → Rose (mid.out_faults report) (new.out_faults report))
+    report_failed : (fault : OutputsFault) → fault ≢ OutFault → (fault ≡ ReportFault → Rose (mid.out_faults report) (new.out_faults report))
         → (mid.tells ≡ true → IsPartWritten (mid.file report) (new.file report) (report_of (state_of entries)))
         → AreUnwritten old new out report entries fault
     report_failed fault other rose part = record {

@@ -1,5 +1,5 @@
 -- How each command ends.
-use Rattle.std.specs.Prelude.{◌≡◌, ◌≢◌, ◌⊎◌, ℕ, true, List, [], ◌∷◌}
+use Rattle.std.specs.Prelude.{◌≡◌, ◌≢◌, ◌⊎◌, ℕ, Bool, true, false, List, [], ◌∷◌}
 use Rattle.outside.specs.Fault.{Rose}
 use Rattle.command_words.specs.declared.library.Library.{Library}
 use Rattle.command_words.specs.Command.{Command, Pass, Run, Load, Export, Report, Make, Verify, Help, Version, libraries_of}
@@ -53,6 +53,18 @@ pub record Runs (libraries : List Library) (journal out report : List ℕ) (o : 
   pub in_out : o.end ≡ out_unwritten → o.old.tells ≡ true → IsRunInOut o.old o.new journal out libraries
   pub in_report : o.end ≡ report_unwritten → o.old.tells ≡ true → IsRunInReport o.old o.new journal out report libraries
   pub untold : o.end ≡ console_unwritten → o.old.tells ≡ true → IsUntoldRun o.old o.new journal out report libraries o.told o.now
+
+-- a command that starts no threads
+abbrev pub is_alone : Command → Bool
+is_alone (Pass out) = true
+is_alone (Run journal out report files) = false
+is_alone (Load journal files) = false
+is_alone (Export journal out code) = true
+is_alone (Report journal out) = true
+is_alone (Make seed count out) = true
+is_alone (Verify journal) = true
+is_alone (Help topic) = true
+is_alone Version = true
 
 -- how the command of some words ended
 abbrev pub Ends : List (List ℕ) → Command → Outcome → Type 0

@@ -1,6 +1,6 @@
 -- When nothing hinders a command: no fault was counted of what it uses, its journal is one that is opened, its files are there, and
 -- no limit is met. The rules are this project's own.
-use Rattle.std.specs.Prelude.{◌≡◌, ℕ, ◌+◌, ◌≤◌, List, [], ◌∷◌, length, All, Some}
+use Rattle.std.specs.Prelude.{◌≡◌, ℕ, ◌+◌, ◌≤◌, true, List, [], ◌∷◌, length, All, Some, IsSome}
 use Rattle.std.specs.List.{sum_by}
 use Rattle.marc_types.specs.declared.entry.Entry.{Entry}
 use Rattle.outside.specs.Fault.{Rose}
@@ -29,23 +29,20 @@ InputsStayed libraries old new = All (λ library. Stayed (old.in_faults library.
 -- the file is there, and its accepted entries are within the limits
 pub record FitsAlone (room : RoomView) (library : Library) : Type 0 where
   pub bytes : List ℕ
-  pub accepted : List Entry
-  pub refused : List RefusedItem
   pub there : room.file library.file ≡ Some bytes
-  pub judged : IsJudged library.code 0 (items bytes) accepted refused
-  pub within : IsWithinLimits accepted
+  pub within : (accepted : List Entry) (refused : List RefusedItem) → IsJudged library.code 0 (items bytes) accepted refused → IsWithinLimits accepted
 
 -- The journal has a history and is of version 2, as a blank log and none are; the files are there; and the history and all accepted
 -- entries are together within the limits, by their number and by their size.
 pub record FitsTogether (room : RoomView) (journal : List ℕ) (libraries : List Library) : Type 0 where
   pub before : List Entry
-  pub accepted : List (List Entry)
-  pub refused : List (List RefusedItem)
   pub was : HasHistory before (log_bytes room journal)
   pub version : version_of (log_bytes room journal) ≡ 2
-  pub judged : AreJudged room 0 libraries accepted refused
-  pub count : length before + sum_by length accepted ≤ journal_limits.entries
-  pub size : entries_size before + sum_by entries_size accepted ≤ journal_limits.bytes
+  pub there : All (λ library. IsSome (room.file library.file)) libraries
+  pub count : (accepted : List (List Entry)) (refused : List (List RefusedItem)) → AreJudged room 0 libraries accepted refused
+      → length before + sum_by length accepted ≤ journal_limits.entries
+  pub size : (accepted : List (List Entry)) (refused : List (List RefusedItem)) → AreJudged room 0 libraries accepted refused
+      → entries_size before + sum_by entries_size accepted ≤ journal_limits.bytes
 
 -- what the room and the console were before and after a command
 pub record Around : Type 1 where
@@ -62,8 +59,9 @@ around seen faults room room_now console console_now = record {
   faults_now = faults console_now;
 }
 
--- nothing hinders the pass of a file
+-- nothing hinders the pass of a file in a room that tells its files
 pub record IsUnhinderedPass (libraries : List Library) (out : List ℕ) (a : Around) : Type 0 where
+  pub tells : a.old.tells ≡ true
   pub library : Library
   pub named : libraries ≡ library ∷ []
   pub input : Stayed (a.old.in_faults library.file) (a.new.in_faults library.file)
@@ -71,19 +69,21 @@ pub record IsUnhinderedPass (libraries : List Library) (out : List ℕ) (a : Aro
   pub console : Stayed a.faults a.faults_now
   pub fits : FitsAlone a.old library
 
--- nothing hinders the making of a workload
+-- nothing hinders the making of a workload, in any room
 pub record IsUnhinderedMake (out : List ℕ) (a : Around) : Type 0 where
   pub output : Stayed (a.old.out_faults out) (a.new.out_faults out)
   pub console : Stayed a.faults a.faults_now
 
--- nothing hinders an export or a report
+-- nothing hinders an export or a report in a room that tells its files
 pub record IsUnhinderedReading (journal out : List ℕ) (a : Around) : Type 0 where
+  pub tells : a.old.tells ≡ true
   pub device : Stayed (a.old.log_faults journal) (a.new.log_faults journal)
   pub output : Stayed (a.old.out_faults out) (a.new.out_faults out)
   pub fits : HasFittingHistory (log_bytes a.old journal)
 
--- nothing hinders the verifying of a journal
+-- nothing hinders the verifying of a journal in a room that tells its files
 pub record IsUnhinderedVerify (journal : List ℕ) (a : Around) : Type 0 where
+  pub tells : a.old.tells ≡ true
   pub bytes : List ℕ
   pub entries : List Entry
   pub input : Stayed (a.old.in_faults journal) (a.new.in_faults journal)
@@ -95,8 +95,9 @@ pub record IsUnhinderedVerify (journal : List ℕ) (a : Around) : Type 0 where
 pub record IsUnhinderedTelling (a : Around) : Type 0 where
   pub console : Stayed a.faults a.faults_now
 
--- nothing hinders the loading of files
+-- nothing hinders the loading of files in a room that tells its files
 pub record IsUnhinderedLoad (libraries : List Library) (journal : List ℕ) (a : Around) : Type 0 where
+  pub tells : a.old.tells ≡ true
   pub device : Stayed (a.old.log_faults journal) (a.new.log_faults journal)
   pub input : InputsStayed libraries a.old a.new
   pub console : Stayed a.faults a.faults_now

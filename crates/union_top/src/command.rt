@@ -1,10 +1,10 @@
-ghost use Rattle.std.specs.Prelude.{◌≡◌, ◌≢◌, ◌↔◌, ◌⊎◌, ℕ, ◌≤◌, List, true, Some, None, []};
+ghost use Rattle.std.specs.Prelude.{◌≡◌, ◌≢◌, ◌↔◌, ◌⊎◌, ℕ, ◌≤◌, List, true, false, Some, None, []};
 ghost use Rattle.outside.specs.Room.{SameBut};
 ghost use Rattle.command_words.specs.Command.{Command, command_of, names_of};
 ghost use Rattle.command_words.specs.Asked.{command_asked};
 ghost use Rattle.console_lines.specs.Ends.{outcome};
 ghost use Rattle.console_lines.specs.Faults.{IsFaultTold, fault_line};
-ghost use Rattle.union_top.specs.Commands.{Ends, EndsWith};
+ghost use Rattle.union_top.specs.Commands.{is_alone, Ends, EndsWith};
 ghost use Rattle.union_top.specs.Complete.{around, IsUnhindered};
 
 use crate::loading::{load, run_files};
@@ -20,6 +20,106 @@ use program_help::{help, version};
 use std::alloc::Global;
 use std::sync::Wait;
 use std::thread::Threads;
+
+/// Whether a command starts no threads.
+fn is_alone(asked: Request<'_>) -> bool
+    ensures { result ≡ is_alone (command_asked asked.entry) }
+{
+    match asked {
+        Request::Run { .. } | Request::Load { .. } => false,
+        Request::Pass { .. }
+        | Request::Export { .. }
+        | Request::Report { .. }
+        | Request::Make { .. }
+        | Request::Verify { .. }
+        | Request::Help { .. }
+        | Request::Version => true,
+    }
+}
+
+/// Carries out a command that starts no threads: the one that some words ask for. It waits for nobody, so it returns.
+pub fn run_alone<R: Room>(
+    alloc: Global,
+    words: &Words,
+    asked: Request<'_>,
+    room: &mut R,
+    console: &mut R::Out,
+) -> End
+    requires asks { command_of words.now ≡ Some (command_asked asked) }
+    requires alone { is_alone (command_asked asked) ≡ true }
+    requires closed { (name : List ℕ) → (R.seen room.old).open_as name ≡ None }
+    ensures closed { (name : List ℕ) → (R.seen room.new).open_as name ≡ None }
+    ensures apart { SameBut (R.seen room.old) (R.seen room.new) (names_of (command_asked asked.entry)) }
+    ensures ends { Ends words.now (command_asked asked.entry)
+        (outcome R.seen R.Out.written R.Out.faults room.old room.new console.old console.new result) }
+    ensures command { result ≢ End.Told Fault.Usage }
+{
+    files_are_named(words);
+    names_are_apart(words);
+    numbers_are_bounded(words);
+    match asked {
+        Request::Pass { out } => match libraries(alloc, words) {
+            Ok(libraries) => pass(alloc, room, console, &libraries.as_slice()[0], out),
+            Err(NoMemory) => tell(console, Fault::Memory),
+        },
+        Request::Export { journal, out, code } => {
+            read(alloc, room, console, journal, out, Due::Export(code))
+        }
+        Request::Report { journal, out } => {
+            read(alloc, room, console, journal, out, Due::Report)
+        }
+        Request::Make { seed, count, out } => make(alloc, room, console, seed, count, out),
+        Request::Verify { journal } => verify(alloc, room, console, journal),
+        Request::Help { topic } => help(console, topic),
+        Request::Version => version(console),
+        Request::Run { .. } | Request::Load { .. } => unreachable!(),
+    }
+}
+
+/// Carries out a command that loads files side by side: the one that some words ask for.
+fn run_loading<H: Threads + Wait + Sync, R: Room, G: Gate + Sync>(
+    rt: &H,
+    alloc: Global,
+    words: &Words,
+    asked: Request<'_>,
+    room: &mut R,
+    console: &mut R::Out,
+    gate: &G,
+) -> End
+    requires asks { command_of words.now ≡ Some (command_asked asked) }
+    requires loads { is_alone (command_asked asked) ≡ false }
+    requires closed { (name : List ℕ) → (R.seen room.old).open_as name ≡ None }
+    ensures closed { (name : List ℕ) → (R.seen room.new).open_as name ≡ None }
+    ensures apart { SameBut (R.seen room.old) (R.seen room.new) (names_of (command_asked asked.entry)) }
+    ensures ends { Ends words.now (command_asked asked.entry)
+        (outcome R.seen R.Out.written R.Out.faults room.old room.new console.old console.new result) }
+    ensures command { result ≢ End.Told Fault.Usage }
+{
+    files_are_named(words);
+    names_are_apart(words);
+    numbers_are_bounded(words);
+    let libraries = match libraries(alloc, words) {
+        Ok(libraries) => libraries,
+        Err(NoMemory) => return tell(console, Fault::Memory),
+    };
+    let files = libraries.as_slice();
+    match asked {
+        Request::Run {
+            journal,
+            out,
+            report,
+            ..
+        } => run_files(rt, alloc, files, room, console, journal, out, report, gate),
+        Request::Load { journal, .. } => load(rt, alloc, files, room, console, journal, gate),
+        Request::Pass { .. }
+        | Request::Export { .. }
+        | Request::Report { .. }
+        | Request::Make { .. }
+        | Request::Verify { .. }
+        | Request::Help { .. }
+        | Request::Version => unreachable!(),
+    }
+}
 
 /// Carries out the command that some words ask for.
 fn carry_out<H: Threads + Wait + Sync, R: Room, G: Gate + Sync>(
@@ -39,33 +139,10 @@ fn carry_out<H: Threads + Wait + Sync, R: Room, G: Gate + Sync>(
         (outcome R.seen R.Out.written R.Out.faults room.old room.new console.old console.new result) }
     ensures command { result ≢ End.Told Fault.Usage }
 {
-    files_are_named(words);
-    names_are_apart(words);
-    numbers_are_bounded(words);
-    let libraries = match libraries(alloc, words) {
-        Ok(libraries) => libraries,
-        Err(NoMemory) => return tell(console, Fault::Memory),
-    };
-    let files = libraries.as_slice();
-    match asked {
-        Request::Pass { out } => pass(alloc, room, console, &files[0], out),
-        Request::Run {
-            journal,
-            out,
-            report,
-            ..
-        } => run_files(rt, alloc, files, room, console, journal, out, report, gate),
-        Request::Load { journal, .. } => load(rt, alloc, files, room, console, journal, gate),
-        Request::Export { journal, out, code } => {
-            read(alloc, room, console, journal, out, Due::Export(code))
-        }
-        Request::Report { journal, out } => {
-            read(alloc, room, console, journal, out, Due::Report)
-        }
-        Request::Verify { journal } => verify(alloc, room, console, journal),
-        Request::Help { topic } => help(console, topic),
-        Request::Version => version(console),
-        Request::Make { seed, count, out } => make(alloc, room, console, seed, count, out),
+    if is_alone(asked) {
+        run_alone(alloc, words, asked, room, console)
+    } else {
+        run_loading(rt, alloc, words, asked, room, console, gate)
     }
 }
 
@@ -96,7 +173,7 @@ pub fn run<H: Threads + Wait + Sync, R: Room, G: Gate + Sync>(
         (outcome R.seen R.Out.written R.Out.faults room.old room.new console.old console.new) }
 
     // Where nothing hinders a command it ends with 0 or 1, or memory ran out.
-    ensures complete { (command : Command) → command_of words.now ≡ Some command → (R.seen room.old).tells ≡ true →
+    ensures complete { (command : Command) → command_of words.now ≡ Some command →
         IsUnhindered words.now command (around R.seen R.Out.faults room.old room.new console.old console.new) →
         (result ≤ 1) ⊎ (result ≡ 8) }
 {

@@ -23,7 +23,7 @@ returns-in-Some-clause-ends g c command is =
     (c.carry_out.result, c.status-in-Some.ensures, subst (λ asked. Ends c.args.words.now asked o) (same_command _ command (sym c.in-Some.ensures ∙ is)) c.carry_out.ensures.ends)
 
 pub returns-in-Some-clause-complete : goal.returns-in-Some-clause-complete
-returns-in-Some-clause-complete g c command is tells u =
+returns-in-Some-clause-complete g c command is u =
     let o : Outcome = outcome g.R.Room.seen g.R.Out.Sink.written g.R.Out.Sink.faults c.args.room.now c.carry_out.new.room c.args.console.now c.carry_out.new.console c.carry_out.result in
     let ends = subst (λ asked. Ends c.args.words.now asked o) (same_command _ command (sym c.in-Some.ensures ∙ is)) c.carry_out.ensures.ends in
-    subst (λ s. (s ≤ 1) ⊎ (s ≡ 8)) (sym c.status-in-Some.ensures) (complete o c.args.words.now command ends tells u)
+    subst (λ s. (s ≤ 1) ⊎ (s ≡ 8)) (sym c.status-in-Some.ensures) (complete o c.args.words.now command ends u)

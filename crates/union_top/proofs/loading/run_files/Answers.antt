@@ -95,7 +95,7 @@ returns-in-Err-OutFault-clause-ends g c =
     let opened = c.load_journal.ensures.apart in
     let closing = c.close_journal-2.ensures.apart in
     let history = ap (λ core. core.history) c.core.ensures.value in
-    let are = subst (λ es. AreUnwritten mid wrote c.args.out.now c.args.report.now es c.in-Err-OutFault.field-0) history c.in-Err-OutFault.ensures.unwritten in
+    let are = subst (λ es. AreUnwritten mid wrote c.args.out.now c.args.report.now es c.in-Err-OutFault.field-0) history c.in-Err-OutFault.ensures-1 in
     runs_in_out _ _ _ _ _ d.core.history c.in-Ok.loaded.results (refl, refl) (λ tells. merged_by old new c.args.journal.now c.args.libraries.now (durable_view d) c.in-Ok.loaded.results
     c.is_within_limits.ensures (l.whole tells) (λ told. c.close_journal-2.ensures.log (w.apart.tells ∙ (opened.tells ∙ tells)) told) tells)
     refl (out_rose old mid wrote new c.args.journal.now c.args.out.now c.args.report.now d.core.history c.requires.names opened closing _ are c.in-Err-OutFault.field-0-is) (no_report old mid wrote new c.args.journal.now c.args.out.now c.args.report.now d.core.history c.requires.names opened closing _ are c.in-Err-OutFault.field-0-is)
@@ -119,7 +119,7 @@ returns-in-Err-ReportFault-clause-ends g c =
     let opened = c.load_journal.ensures.apart in
     let closing = c.close_journal-2.ensures.apart in
     let history = ap (λ core. core.history) c.core.ensures.value in
-    let are = subst (λ es. AreUnwritten mid wrote c.args.out.now c.args.report.now es c.in-Err-ReportFault.field-0) history c.in-Err-ReportFault.ensures.unwritten in
+    let are = subst (λ es. AreUnwritten mid wrote c.args.out.now c.args.report.now es c.in-Err-ReportFault.field-0) history c.in-Err-ReportFault.ensures-1 in
     runs_in_report _ _ _ _ _ d.core.history c.in-Ok.loaded.results (refl, refl) (λ tells. merged_by old new c.args.journal.now c.args.libraries.now (durable_view d) c.in-Ok.loaded.results
     c.is_within_limits.ensures (l.whole tells) (λ told. c.close_journal-2.ensures.log (w.apart.tells ∙ (opened.tells ∙ tells)) told) tells)
     refl (report_rose_too old mid wrote new c.args.journal.now c.args.out.now c.args.report.now d.core.history c.requires.names opened closing _ are c.in-Err-ReportFault.field-0-is)
@@ -143,7 +143,7 @@ returns-clause-ends g c =
     let opened = c.load_journal.ensures.apart in
     let closing = c.close_journal-2.ensures.apart in
     let history = ap (λ core. core.history) c.core.ensures.value in
-    let are = subst (λ es. AreUnwritten mid wrote c.args.out.now c.args.report.now es c.in-Err-NoMemory.field-0) history c.in-Err-NoMemory.ensures.unwritten in
+    let are = subst (λ es. AreUnwritten mid wrote c.args.out.now c.args.report.now es c.in-Err-NoMemory.field-0) history c.in-Err-NoMemory.ensures-1 in
     runs_failed _ _ _ _ _ _ c.tell-in-Err-NoMemory.ensures.end c.tell-in-Err-NoMemory.ensures.told (λ other. absurd (other refl))
     (no_memory _ _ _ _ _ c.close_journal-2.ensures.closed (λ tells.
     let m = merged_by old new c.args.journal.now c.args.libraries.now (durable_view d) c.in-Ok.loaded.results

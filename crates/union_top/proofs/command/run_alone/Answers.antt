@@ -17,55 +17,32 @@ use Rattle.journal_verification.specs.Verifying.{EndsVerifying}
 use Rattle.program_help.specs.Telling.{EndsTelling}
 use Rattle.journal_loading.specs.Inputs.{AreLoadable}
 use Rattle.union_top.specs.Commands.{Loads, Runs, Ends}
-use Rattle.union_top.proofs.Asked.{unasked, loadable, only}
-use Rattle.union_top.proofs.command.carry_out.Goals as goal
+use Rattle.union_top.proofs.Asked.{NamesFiles, unasked, loadable, only}
+use Rattle.union_top.proofs.command.run_alone.Goals as goal
 
 pub returns-in-Err-clause-ends : goal.returns-in-Err-clause-ends
 returns-in-Err-clause-ends g c =
     unasked _ c.tell.ensures.end c.tell.ensures.told (same_but_itself _ []) c.requires.closed c.args.words.now (command_asked c.args.asked)
-    (c.names_are_apart.ensures.names (command_asked c.args.asked) c.requires.asks) (c.files_are_named.ensures.count (command_asked c.args.asked) c.requires.asks)
-    c.in-Err.ensures.none
+    (subst (λ r. NamesFiles (command_asked r)) (sym c.in-Pass.is) tt)
+    (c.names_are_apart.ensures.names (command_asked c.args.asked) c.requires.asks)
 
 pub returns-in-Err-clause-command : goal.returns-in-Err-clause-command
 returns-in-Err-clause-command g c usage = let no : Told fault.Memory ≡ Told fault.Usage = sym c.tell.ensures.end ∙ usage in cc
 
-pub bounds-files-0 : goal.bounds-files-0
-bounds-files-0 g c =
+pub bounds-as_slice-0 : goal.bounds-as_slice-0
+bounds-as_slice-0 g c =
     let asked : command_of c.args.words.now ≡ Some (command.Pass c.in-Pass.out.now) = c.requires.asks ∙ ap (λ r. Some (command_asked r)) c.in-Pass.is in
     let count = c.files_are_named.ensures.count (command.Pass c.in-Pass.out.now) asked in
-    let same = ap length (c.as_slice-files.ensures.value ∙ c.in-Ok.ensures.libraries) in
+    let same = ap length (c.as_slice.ensures.value ∙ c.in-Ok.ensures) in
     omega (arith, count, same)
 
 pub pass-requires-clause-proper : goal.pass-requires-clause-proper
 pass-requires-clause-proper g c κs within =
     let asked : command_of c.args.words.now ≡ Some (command.Pass c.in-Pass.out.now) = c.requires.asks ∙ ap (λ r. Some (command_asked r)) c.in-Pass.is in
     let count = c.files_are_named.ensures.count (command.Pass c.in-Pass.out.now) asked in
-    let same = c.as_slice-files.ensures.value ∙ c.in-Ok.ensures.libraries in
-    subst (λ (l : Library). IsTrue (is_code l.code)) (sym c.index-files-0.is)
-    (subst (All (λ (l : Library). IsTrue (is_code l.code))) (sym same) c.files_are_named.ensures.codes 0 c.index-files-0.result (let len = ap length same in omega (arith, count, len)))
-
-pub run_files-requires-clause-loadable : goal.run_files-requires-clause-loadable
-run_files-requires-clause-loadable g c κs within =
-    let asked : command_of c.args.words.now ≡ Some (command.Run c.in-Run.journal.now c.in-Run.out.now c.in-Run.report.now c.in-Run.files) = c.requires.asks ∙ ap (λ r. Some (command_asked r)) c.in-Run.is in
-    let asks = command.Run c.in-Run.journal.now c.in-Run.out.now c.in-Run.report.now c.in-Run.files in
-    let few = c.numbers_are_bounded.ensures asks asked in
-    subst (AreLoadable c.in-Run.journal.now) (sym (c.as_slice-files.ensures.value ∙ c.in-Ok.ensures.libraries))
-    (loadable (libraries_of c.args.words.now) c.in-Run.journal.now (c.in-Run.out.now ∷ c.in-Run.report.now ∷ []) c.in-Run.files
-    (c.files_are_named.ensures.count asks asked) few.0 few.1 c.files_are_named.ensures.codes (c.names_are_apart.ensures.files asks asked))
-
-pub run_files-requires-clause-names : goal.run_files-requires-clause-names
-run_files-requires-clause-names g c κs within =
-    let asked : command_of c.args.words.now ≡ Some (command.Run c.in-Run.journal.now c.in-Run.out.now c.in-Run.report.now c.in-Run.files) = c.requires.asks ∙ ap (λ r. Some (command_asked r)) c.in-Run.is in
-    c.names_are_apart.ensures.names (command.Run c.in-Run.journal.now c.in-Run.out.now c.in-Run.report.now c.in-Run.files) asked
-
-pub load-requires-clause-loadable : goal.load-requires-clause-loadable
-load-requires-clause-loadable g c κs within =
-    let asked : command_of c.args.words.now ≡ Some (command.Load c.in-Load.journal.now c.in-Load.files) = c.requires.asks ∙ ap (λ r. Some (command_asked r)) c.in-Load.is in
-    let asks = command.Load c.in-Load.journal.now c.in-Load.files in
-    let few = c.numbers_are_bounded.ensures asks asked in
-    subst (AreLoadable c.in-Load.journal.now) (sym (c.as_slice-files.ensures.value ∙ c.in-Ok.ensures.libraries))
-    (loadable (libraries_of c.args.words.now) c.in-Load.journal.now [] c.in-Load.files
-    (c.files_are_named.ensures.count asks asked) few.0 few.1 c.files_are_named.ensures.codes (c.names_are_apart.ensures.files asks asked))
+    let same = c.as_slice.ensures.value ∙ c.in-Ok.ensures in
+    subst (λ (l : Library). IsTrue (is_code l.code)) (sym c.index-as_slice-0.is)
+    (subst (All (λ (l : Library). IsTrue (is_code l.code))) (sym same) c.files_are_named.ensures.codes 0 c.index-as_slice-0.result (let len = ap length same in omega (arith, count, len)))
 
 pub read-requires-clause-differ : goal.read-requires-clause-differ
 read-requires-clause-differ g c κs within =
@@ -82,33 +59,15 @@ make-requires-clause-few g c κs within =
     let asked : command_of c.args.words.now ≡ Some (command.Make c.in-Make.seed c.in-Make.count c.in-Make.out.now) = c.requires.asks ∙ ap (λ r. Some (command_asked r)) c.in-Make.is in
     c.numbers_are_bounded.ensures (command.Make c.in-Make.seed c.in-Make.count c.in-Make.out.now) asked
 
-pub returns-in-Pass-clause-ends : goal.returns-in-Pass-clause-ends
-returns-in-Pass-clause-ends g c =
+pub returns-in-Ok-clause-ends : goal.returns-in-Ok-clause-ends
+returns-in-Ok-clause-ends g c =
     let o : Outcome = outcome g.R.Room.seen g.R.Out.Sink.written g.R.Out.Sink.faults c.args.room.now c.pass.new.room c.args.console.now c.pass.new.console c.pass.result in
     subst (λ r. Ends c.args.words.now (command_asked r) o) (sym c.in-Pass.is) (λ library is.
-    subst (λ (l : Library). Passes l c.in-Pass.out.now o) (only library c.index-files-0.result _ (c.as_slice-files.ensures.value ∙ (c.in-Ok.ensures.libraries ∙ is)) c.index-files-0.is)
+    subst (λ (l : Library). Passes l c.in-Pass.out.now o) (only library c.index-as_slice-0.result _ (c.as_slice.ensures.value ∙ (c.in-Ok.ensures ∙ is)) c.index-as_slice-0.is)
     c.pass.ensures.ends)
 
-pub returns-in-Pass-clause-command : goal.returns-in-Pass-clause-command
-returns-in-Pass-clause-command g c usage = (c.pass.ensures.ends.told fault.Usage usage).1
-
-pub returns-in-Run-clause-ends : goal.returns-in-Run-clause-ends
-returns-in-Run-clause-ends g c =
-    let o : Outcome = outcome g.R.Room.seen g.R.Out.Sink.written g.R.Out.Sink.faults c.args.room.now c.run_files.new.room c.args.console.now c.run_files.new.console c.run_files.result in
-    subst (λ r. Ends c.args.words.now (command_asked r) o) (sym c.in-Run.is)
-    (subst (λ ls. Runs ls c.in-Run.journal.now c.in-Run.out.now c.in-Run.report.now o) (c.as_slice-files.ensures.value ∙ c.in-Ok.ensures.libraries) c.run_files.ensures.ends)
-
-pub returns-in-Run-clause-command : goal.returns-in-Run-clause-command
-returns-in-Run-clause-command g c usage = (c.run_files.ensures.ends.told fault.Usage usage).1 refl
-
-pub returns-in-Load-clause-ends : goal.returns-in-Load-clause-ends
-returns-in-Load-clause-ends g c =
-    let o : Outcome = outcome g.R.Room.seen g.R.Out.Sink.written g.R.Out.Sink.faults c.args.room.now c.load.new.room c.args.console.now c.load.new.console c.load.result in
-    subst (λ r. Ends c.args.words.now (command_asked r) o) (sym c.in-Load.is)
-    (subst (λ ls. Loads ls c.in-Load.journal.now o) (c.as_slice-files.ensures.value ∙ c.in-Ok.ensures.libraries) c.load.ensures.ends)
-
-pub returns-in-Load-clause-command : goal.returns-in-Load-clause-command
-returns-in-Load-clause-command g c usage = (c.load.ensures.ends.told fault.Usage usage).1 refl
+pub returns-in-Ok-clause-command : goal.returns-in-Ok-clause-command
+returns-in-Ok-clause-command g c usage = (c.pass.ensures.ends.told fault.Usage usage).1
 
 pub returns-in-Export-clause-ends : goal.returns-in-Export-clause-ends
 returns-in-Export-clause-ends g c =
@@ -126,13 +85,13 @@ returns-in-Report-clause-ends g c =
 pub returns-in-Report-clause-command : goal.returns-in-Report-clause-command
 returns-in-Report-clause-command g c usage = subst EndsReading usage c.read-in-Report.ensures.ends.ends
 
-pub returns-clause-ends : goal.returns-clause-ends
-returns-clause-ends g c =
+pub returns-in-Make-clause-ends : goal.returns-in-Make-clause-ends
+returns-in-Make-clause-ends g c =
     let o : Outcome = outcome g.R.Room.seen g.R.Out.Sink.written g.R.Out.Sink.faults c.args.room.now c.make.new.room c.args.console.now c.make.new.console c.make.result in
     subst (λ r. Ends c.args.words.now (command_asked r) o) (sym c.in-Make.is) c.make.ensures.ends
 
-pub returns-clause-command : goal.returns-clause-command
-returns-clause-command g c usage = let no = subst EndsMake usage c.make.ensures.ends.ends in cc
+pub returns-in-Make-clause-command : goal.returns-in-Make-clause-command
+returns-in-Make-clause-command g c usage = let no = subst EndsMake usage c.make.ensures.ends.ends in cc
 
 pub returns-in-Verify-clause-ends : goal.returns-in-Verify-clause-ends
 returns-in-Verify-clause-ends g c =
