@@ -16,9 +16,9 @@ use Rattle.console_lines.specs.declared.end.Unwritten.TheVariants.{Out}
 use Rattle.console_lines.specs.declared.fault.Fault.{Fault}
 use Rattle.console_lines.specs.declared.fault.Fault.TheVariants.{Device, Memory}
 use Rattle.console_lines.proofs.Ends.{told_once, told_not_unwritten, told_not_done, done_not_unwritten, never_told}
-use Rattle.room_files.specs.Journals.{journal_limits, log_bytes, KeepsHistory, KeepsLog}
+use Rattle.room_files.specs.Journals.{journal_limits, log_bytes, KeepsHistory, KeepsLog, IsDurable}
 use Rattle.output_files.specs.Outputs.{IsPartWritten, AsItWas}
-use Rattle.room_files.proofs.Journals.{closed_keeps, keeps_where}
+use Rattle.room_files.proofs.Journals.{closed_keeps, closed_durable, keeps_where}
 use Rattle.room_files.specs.Faults.{fault_of_opening}
 use Rattle.archive_commands.specs.Archives.{WhyUnopened}
 use Rattle.archive_commands.specs.Reads.{DueView, due_of, IsReport, EndsReading, Reads}
@@ -59,6 +59,7 @@ module _ (journal out : List ℕ) (due : DueView) (o : Outcome) where
     device = λ also. cause (is_device reason (told_once o.end (fault_of_opening reason) Device is also));
     out_cause = λ also. absurd (told_not_unwritten o.end (fault_of_opening reason) Out is also);
     history = λ untold. absurd (never_told o.end (fault_of_opening reason) untold is);
+    durable = λ untold. absurd (never_told o.end (fault_of_opening reason) untold is);
     whole = λ entries also. absurd (told_not_done o.end (fault_of_opening reason) is also);
     part = λ entries either tells has. AsItWas (apart.files out ((λ same. differ (sym same)), tt));
   }
@@ -66,6 +67,7 @@ module _ (journal out : List ℕ) (due : DueView) (o : Outcome) where
   -- what is due of the history of a journal that was opened, written so far as it could be
   pub record WasRead (history : List Entry) : Type 0 where
     pub keeps : o.old.tells ≡ true → KeepsHistory (o.end ≡ Told Device) o.old o.new journal
+    pub durable : o.old.tells ≡ true → IsDurable o.new journal
     pub has : o.old.tells ≡ true → HasHistory history (log_bytes o.old journal)
     pub within : IsWithin journal_limits history
     pub part : o.old.tells ≡ true → IsPartWritten (o.old.file out) (o.new.file out) (due_of due history)
@@ -77,6 +79,7 @@ module _ (journal out : List ℕ) (due : DueView) (o : Outcome) where
       → (mid.tells ≡ true → IsPartWritten (mid.file out) (o.new.file out) (due_of due history)) → WasRead history
   was_read mid disk history differ opened file log has within kept part = record {
     keeps = λ tells. let then = opened.tells ∙ tells in closed_keeps o.old o.new journal disk (file then) (log then) (o.end ≡ Told Device) (kept tells);
+    durable = λ tells. let then = opened.tells ∙ tells in closed_durable o.old o.new journal disk (file then) (log then) (log_bytes o.old journal) (kept tells);
     has = has;
     within = within;
     part = λ tells. part_opened o.old mid o.new journal out (due_of due history) differ opened (part (opened.tells ∙ tells));
@@ -99,6 +102,7 @@ module _ (journal out : List ℕ) (due : DueView) (o : Outcome) where
       silent = λ untold. silent;
       device = λ also. absurd (told_not_done o.end Device also is);
       out_cause = λ also. absurd (done_not_unwritten o.end Out is also);
+      durable = λ untold. r.durable;
       history = λ untold tells. fitting_history history (log_bytes o.old journal) (r.has tells) r.within;
       whole = λ entries also tells has.
           whole_of_any (due_of due) entries history (log_bytes o.old journal) (o.new.file out) has (r.has tells) (bytes tells);
@@ -116,6 +120,7 @@ module _ (journal out : List ℕ) (due : DueView) (o : Outcome) where
       silent = λ untold. silent;
       device = λ also. absurd (told_not_unwritten o.end Device Out also is);
       out_cause = λ also. rose;
+      durable = λ untold. r.durable;
       history = λ untold tells. fitting_history history (log_bytes o.old journal) (r.has tells) r.within;
       whole = λ entries also. absurd (done_not_unwritten o.end Out also is);
       part = λ entries either. part_is entries;
@@ -134,6 +139,7 @@ module _ (journal out : List ℕ) (due : DueView) (o : Outcome) where
       device = λ also. let no : Memory ≡ Device = told_once o.end Memory Device is also in cc;
       out_cause = λ also. absurd (told_not_unwritten o.end Memory Out is also);
       history = λ untold. absurd (never_told o.end Memory untold is);
+      durable = λ untold. absurd (never_told o.end Memory untold is);
       whole = λ entries also. absurd (told_not_done o.end Memory is also);
       part = λ entries either. part_is entries;
     }

@@ -14,7 +14,7 @@ use Rattle.console_lines.specs.declared.fault.Fault.{Fault}
 use Rattle.console_lines.specs.declared.fault.Fault.TheVariants.{Usage, Input, Device, NotAJournal, Full, Memory, OldVersion}
 use Rattle.output_files.specs.Outputs.{IsPartWritten}
 use Rattle.outside.specs.Room.{SameBut}
-use Rattle.room_files.specs.Journals.{log_bytes, KeepsHistory}
+use Rattle.room_files.specs.Journals.{log_bytes, KeepsHistory, IsDurable}
 use Rattle.archive_commands.specs.Archives.{WhyUnopened, kept_keys, HasFittingHistory}
 use Rattle.archive_commands.specs.declared.due.Due.{Due}
 use Rattle.archive_commands.specs.declared.due.Due.TheVariants as due
@@ -65,8 +65,9 @@ pub record Reads (journal out : List ℕ) (due : DueView) (o : Outcome) : Type 0
   -- the outside's faults have their cause
   pub device : o.end ≡ Told Device → Rose (o.old.log_faults journal) (o.new.log_faults journal)
   pub out_cause : o.end ≡ out_unwritten → Rose (o.old.out_faults out) (o.new.out_faults out)
-  -- the log has a history within the limits, and the output is what is due of it, or a front of that
+  -- the log has a history within the limits, which is durable, and the output is what is due of it, or a front of that
   pub history : IsUntold o.end → o.old.tells ≡ true → HasFittingHistory (log_bytes o.old journal)
+  pub durable : IsUntold o.end → o.old.tells ≡ true → IsDurable o.new journal
   pub whole : (entries : List Entry) → o.end ≡ Done → o.old.tells ≡ true → HasHistory entries (log_bytes o.old journal)
       → o.new.file out ≡ Some (due_of due entries)
   pub part : (entries : List Entry) → (o.end ≡ out_unwritten) ⊎ (o.end ≡ Told Memory) → o.old.tells ≡ true

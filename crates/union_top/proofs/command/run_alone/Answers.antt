@@ -1,11 +1,11 @@
-use Rattle.std.proofs.Common.{◌≡◌, ◌<◌, ◌≤◌, List, [], ◌∷◌, length, Some, get_or, refl, sym, ap, subst, ◌∙◌, arith}
+use Rattle.std.proofs.Common.{◌≡◌, [], length, Some, sym, ap, subst, ◌∙◌, arith}
 use Rattle.std.specs.Prelude.{All, IsTrue}
 use Rattle.std.specs.Option.{option_copied}
 use Rattle.marc_types.specs.Valid.{is_code}
 use Rattle.outside.proofs.Rooms.{same_but_itself}
 use Rattle.command_words.specs.Command as command
 use Rattle.command_words.specs.declared.library.Library.{Library}
-use Rattle.command_words.specs.Command.{command_of, libraries_of}
+use Rattle.command_words.specs.Command.{command_of}
 use Rattle.command_words.specs.Asked.{command_asked}
 use Rattle.console_lines.specs.Ends.{Outcome, outcome}
 use Rattle.console_lines.specs.declared.end.End.TheVariants.{Told}
@@ -15,9 +15,8 @@ use Rattle.plain_commands.specs.Passing.{Passes}
 use Rattle.archive_commands.specs.Reads.{EndsReading}
 use Rattle.journal_verification.specs.Verifying.{EndsVerifying}
 use Rattle.program_help.specs.Telling.{EndsTelling}
-use Rattle.journal_loading.specs.Inputs.{AreLoadable}
-use Rattle.union_top.specs.Commands.{Loads, Runs, Ends}
-use Rattle.union_top.proofs.Asked.{NamesFiles, unasked, loadable, only}
+use Rattle.union_top.specs.Commands.{Ends}
+use Rattle.union_top.proofs.Asked.{NamesFiles, unasked, only}
 use Rattle.union_top.proofs.command.run_alone.Goals as goal
 
 pub returns-in-Err-clause-ends : goal.returns-in-Err-clause-ends

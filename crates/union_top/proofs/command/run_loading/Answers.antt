@@ -1,21 +1,14 @@
-use Rattle.std.proofs.Common.{◌≡◌, ◌<◌, ◌≤◌, List, [], ◌∷◌, length, Some, get_or, refl, sym, ap, subst, ◌∙◌, arith}
-use Rattle.std.specs.Prelude.{All, IsTrue}
-use Rattle.std.specs.Option.{option_copied}
-use Rattle.marc_types.specs.Valid.{is_code}
+use Rattle.std.proofs.Common.{◌≡◌, [], ◌∷◌, Some, refl, sym, ap, subst, ◌∙◌}
 use Rattle.outside.proofs.Rooms.{same_but_itself}
 use Rattle.command_words.specs.Command as command
-use Rattle.command_words.specs.declared.library.Library.{Library}
 use Rattle.command_words.specs.Command.{command_of, libraries_of}
 use Rattle.command_words.specs.Asked.{command_asked}
 use Rattle.console_lines.specs.Ends.{Outcome, outcome}
 use Rattle.console_lines.specs.declared.end.End.TheVariants.{Told}
 use Rattle.console_lines.specs.declared.fault.Fault.TheVariants as fault
-use Rattle.plain_commands.specs.Making.{EndsMake}
-use Rattle.plain_commands.specs.Passing.{Passes}
-use Rattle.archive_commands.specs.Reads.{EndsReading}
 use Rattle.journal_loading.specs.Inputs.{AreLoadable}
 use Rattle.union_top.specs.Commands.{Loads, Runs, Ends}
-use Rattle.union_top.proofs.Asked.{unasked, names_files, loadable, only}
+use Rattle.union_top.proofs.Asked.{unasked, names_files, loadable}
 use Rattle.union_top.proofs.command.run_loading.Goals as goal
 
 pub returns-in-Err-clause-ends : goal.returns-in-Err-clause-ends
@@ -67,4 +60,3 @@ returns-in-Load-clause-ends g c =
 
 pub returns-in-Load-clause-command : goal.returns-in-Load-clause-command
 returns-in-Load-clause-command g c usage = (c.load.ensures.ends.told fault.Usage usage).1 refl
-

@@ -1,7 +1,10 @@
-use Rattle.std.proofs.Common.{length, refl, sym, ap, subst, ◌∙◌}
+use Rattle.std.proofs.Common.{rules, IfErr, Err, ◌≡◌, List, length, refl, sym, ap, subst, ◌∙◌}
+use Rattle.marc_types.specs.declared.entry.Entry.{Entry}
 use Rattle.outside.proofs.Rooms.{same_but_then}
 use Rattle.durable_catalogue.specs.Views.{durable_view}
 use Rattle.union_top.specs.Outputs.{AreUnwritten}
+use Rattle.union_top.specs.declared.outputs.OutputsFault.{OutputsFault}
+use Rattle.union_top.specs.declared.outputs.OutputsFault.TheVariants as outputs
 use Rattle.union_top.specs.Texts.{files_text, has_refused}
 use Rattle.union_top.specs.Runs.{AreOutputs, AreOutAndPart, NotLoaded, NoMemory, NoMemoryInReport}
 use Rattle.union_top.proofs.OneHistory.{merged_by}
@@ -73,7 +76,7 @@ returns-in-Ok-written-clause-ends g c =
       refused_is = c.has_refused.ensures ∙ ap has_refused c.as_slice-in-Ok-written.ensures;
       text_is = c.as_str.ensures.value ∙ (c.in-Ok-files_text.ensures ∙ ap (files_text c.args.libraries.now) c.as_slice.ensures);
       merged = λ tells. merged_by old new c.args.journal.now c.args.libraries.now (durable_view d) c.in-Ok.loaded.results
-    c.is_within_limits.ensures (l.whole tells) (λ told. c.close_journal-2.ensures.log (w.apart.tells ∙ (opened.tells ∙ tells)) told) tells;
+          c.is_within_limits.ensures (l.whole tells) (λ told. c.close_journal-2.ensures.log (w.apart.tells ∙ (opened.tells ∙ tells)) told) tells;
     }) t.cause
     (outputs_are old mid wrote new c.args.journal.now c.args.out.now c.args.report.now d.core.history c.requires.names opened closing (λ tells. subst (AreOutputs wrote c.args.out.now c.args.report.now) history (c.in-Ok-written.ensures.whole tells)))
 
@@ -95,11 +98,13 @@ returns-in-Err-OutFault-clause-ends g c =
     let opened = c.load_journal.ensures.apart in
     let closing = c.close_journal-2.ensures.apart in
     let history = ap (λ core. core.history) c.core.ensures.value in
-    let are = subst (λ es. AreUnwritten mid wrote c.args.out.now c.args.report.now es c.in-Err-OutFault.field-0) history c.in-Err-OutFault.ensures-1 in
+    let so : List Entry → OutputsFault → Type 0 = AreUnwritten mid wrote c.args.out.now c.args.report.now in
+    let fault : c.write_outputs-written.result ≡ Err outputs.OutFault = search rules in
+    let are : so d.core.history outputs.OutFault = subst (λ r. IfErr r (so d.core.history)) fault (subst (λ es. IfErr c.write_outputs-written.result (so es)) history w.unwritten) in
     runs_in_out _ _ _ _ _ d.core.history c.in-Ok.loaded.results (refl, refl) (λ tells. merged_by old new c.args.journal.now c.args.libraries.now (durable_view d) c.in-Ok.loaded.results
     c.is_within_limits.ensures (l.whole tells) (λ told. c.close_journal-2.ensures.log (w.apart.tells ∙ (opened.tells ∙ tells)) told) tells)
-    refl (out_rose old mid wrote new c.args.journal.now c.args.out.now c.args.report.now d.core.history c.requires.names opened closing _ are c.in-Err-OutFault.field-0-is) (no_report old mid wrote new c.args.journal.now c.args.out.now c.args.report.now d.core.history c.requires.names opened closing _ are c.in-Err-OutFault.field-0-is)
-    (in_out old mid wrote new c.args.journal.now c.args.out.now c.args.report.now d.core.history c.requires.names opened closing _ are c.in-Err-OutFault.field-0-is)
+    refl (out_rose old mid wrote new c.args.journal.now c.args.out.now c.args.report.now d.core.history c.requires.names opened closing outputs.OutFault are refl) (no_report old mid wrote new c.args.journal.now c.args.out.now c.args.report.now d.core.history c.requires.names opened closing outputs.OutFault are refl)
+    (in_out old mid wrote new c.args.journal.now c.args.out.now c.args.report.now d.core.history c.requires.names opened closing outputs.OutFault are refl)
 
 pub returns-in-Err-ReportFault-clause-closed : goal.returns-in-Err-ReportFault-clause-closed
 returns-in-Err-ReportFault-clause-closed g c =
@@ -119,11 +124,13 @@ returns-in-Err-ReportFault-clause-ends g c =
     let opened = c.load_journal.ensures.apart in
     let closing = c.close_journal-2.ensures.apart in
     let history = ap (λ core. core.history) c.core.ensures.value in
-    let are = subst (λ es. AreUnwritten mid wrote c.args.out.now c.args.report.now es c.in-Err-ReportFault.field-0) history c.in-Err-ReportFault.ensures-1 in
+    let so : List Entry → OutputsFault → Type 0 = AreUnwritten mid wrote c.args.out.now c.args.report.now in
+    let fault : c.write_outputs-written.result ≡ Err outputs.ReportFault = search rules in
+    let are : so d.core.history outputs.ReportFault = subst (λ r. IfErr r (so d.core.history)) fault (subst (λ es. IfErr c.write_outputs-written.result (so es)) history w.unwritten) in
     runs_in_report _ _ _ _ _ d.core.history c.in-Ok.loaded.results (refl, refl) (λ tells. merged_by old new c.args.journal.now c.args.libraries.now (durable_view d) c.in-Ok.loaded.results
     c.is_within_limits.ensures (l.whole tells) (λ told. c.close_journal-2.ensures.log (w.apart.tells ∙ (opened.tells ∙ tells)) told) tells)
-    refl (report_rose_too old mid wrote new c.args.journal.now c.args.out.now c.args.report.now d.core.history c.requires.names opened closing _ are c.in-Err-ReportFault.field-0-is)
-    (in_report old mid wrote new c.args.journal.now c.args.out.now c.args.report.now d.core.history c.requires.names opened closing _ are (report_no_out _ c.in-Err-ReportFault.field-0-is))
+    refl (report_rose_too old mid wrote new c.args.journal.now c.args.out.now c.args.report.now d.core.history c.requires.names opened closing outputs.ReportFault are refl)
+    (in_report old mid wrote new c.args.journal.now c.args.out.now c.args.report.now d.core.history c.requires.names opened closing outputs.ReportFault are (report_no_out outputs.ReportFault refl))
 
 pub returns-clause-closed : goal.returns-clause-closed
 returns-clause-closed g c =
@@ -143,7 +150,9 @@ returns-clause-ends g c =
     let opened = c.load_journal.ensures.apart in
     let closing = c.close_journal-2.ensures.apart in
     let history = ap (λ core. core.history) c.core.ensures.value in
-    let are = subst (λ es. AreUnwritten mid wrote c.args.out.now c.args.report.now es c.in-Err-NoMemory.field-0) history c.in-Err-NoMemory.ensures-1 in
+    let so : List Entry → OutputsFault → Type 0 = AreUnwritten mid wrote c.args.out.now c.args.report.now in
+    let fault : c.write_outputs-written.result ≡ Err outputs.NoMemory = search rules in
+    let are : so d.core.history outputs.NoMemory = subst (λ r. IfErr r (so d.core.history)) fault (subst (λ es. IfErr c.write_outputs-written.result (so es)) history w.unwritten) in
     runs_failed _ _ _ _ _ _ c.tell-in-Err-NoMemory.ensures.end c.tell-in-Err-NoMemory.ensures.told (λ other. absurd (other refl))
     (no_memory _ _ _ _ _ c.close_journal-2.ensures.closed (λ tells.
     let m = merged_by old new c.args.journal.now c.args.libraries.now (durable_view d) c.in-Ok.loaded.results
@@ -151,5 +160,5 @@ returns-clause-ends g c =
     NoMemoryInReport refl (record {
       merged = m.merged;
       outputs = subst (AreOutAndPart old new c.args.out.now c.args.report.now) m.entries_are
-          (in_report old mid wrote new c.args.journal.now c.args.out.now c.args.report.now d.core.history c.requires.names opened closing _ are (memory_no_out _ c.in-Err-NoMemory.field-0-is) tells);
+          (in_report old mid wrote new c.args.journal.now c.args.out.now c.args.report.now d.core.history c.requires.names opened closing outputs.NoMemory are (memory_no_out outputs.NoMemory refl) tells);
     })))
