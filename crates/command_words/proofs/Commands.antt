@@ -1,6 +1,6 @@
 -- What every command has that words ask for.
 use Rattle.std.proofs.Common.{◌≡◌, ◌≢◌, ℕ, zero, suc, ◌<◌, ◌≤◌, Bool, true, false, ◌&&◌, List, [], ◌∷◌, length, Option, Some, None, refl, sym, ap, subst, ◌∙◌, arith, codes, if◌then◌else◌}
-use Rattle.std.specs.Prelude.{is_some, option_and_then, nat_le, All, map}
+use Rattle.std.specs.Prelude.{is_some, option_and_then, option_map, nat_le, All, map}
 use Rattle.std.specs.Str.Parse.{digits_value}
 use Rattle.std.proofs.lemmas.Bool.Decides.{nat_tests}
 use Rattle.std.specs.List.{list_all}
@@ -13,7 +13,10 @@ use Rattle.marc_types.specs.Valid.{is_code}
 use Rattle.outside.specs.Room.{IsNoneOf}
 use Rattle.marc_types.specs.Limits.{most_entries}
 use Rattle.command_words.specs.declared.library.Library.{Library}
-use Rattle.command_words.specs.Command.{Command, Pass, Run, Load, Export, Report, Make, is_name, differ, split_at_equals, library_of, are_libraries, is_free, number_upto, greatest_seed, are_two_names, pass_of, run_of, load_of, export_of, report_of, make_of, command_of, words_of_files, libraries_of, file_count, names_of, AreNames, IsBounded}
+use Rattle.command_words.specs.declared.topic.Topic.{Topic}
+use Rattle.command_words.specs.declared.topic.Topic.TheVariants as topic
+use Rattle.command_words.specs.Topics.{topic_of}
+use Rattle.command_words.specs.Command.{Command, Pass, Run, Load, Export, Report, Make, Verify, Help, Version, is_name, differ, split_at_equals, library_of, are_libraries, is_free, number_upto, greatest_seed, are_two_names, pass_of, run_of, load_of, export_of, report_of, make_of, verify_of, help_of, alone, command_of, words_of_files, libraries_of, file_count, names_of, AreNames, IsBounded}
 
 -- a test and what it lets through
 if_some : {A : Type 0} (good : Bool) (a b : A) → (if good then Some a else None) ≡ Some b → (good ≡ true) × (a ≡ b)
@@ -201,6 +204,41 @@ make_is verb (seed ∷ count ∷ out ∷ []) c is =
     })
 make_is verb (seed ∷ count ∷ out ∷ other ∷ rest) c is = cc
 
+-- a command without names and files
+bare : (words : List (List ℕ)) (c : Command) → words_of_files words (Some c) ≡ [] → file_count c ≡ 0 → names_of c ≡ [] → IsBounded c → IsCommand words c
+bare words c no_words none no_names bounded = record {
+  count = ap (λ files. length (map split_at_equals files)) no_words ∙ sym none;
+  codes = subst (λ files. All (λ (l : Library). is_code l.code ≡ true) (map split_at_equals files)) (sym no_words) (All-nil (λ (l : Library). is_code l.code ≡ true));
+  names = subst AreNames (sym no_names) tt;
+  files = subst (λ names. All (λ (l : Library). IsNoneOf l.file names) (map split_at_equals (words_of_files words (Some c)))) (sym no_names)
+      (λ k d less. tt);
+  bounded = bounded;
+}
+
+verify_is : (verb : List ℕ) (words : List (List ℕ)) (c : Command) → verify_of words ≡ Some c → IsCommand (verb ∷ words) c
+verify_is verb [] c is = cc
+verify_is verb (journal ∷ []) c is =
+    let parts = if_some (is_name journal) (Verify journal) c is in
+    subst (IsCommand (verb ∷ journal ∷ [])) parts.1 (bare (verb ∷ journal ∷ []) (Verify journal) refl refl refl tt)
+verify_is verb (journal ∷ other ∷ rest) c is = cc
+
+alone_is : (verb : List ℕ) (words : List (List ℕ)) (one : Command) (c : Command) → IsCommand (verb ∷ words) one → alone one words ≡ Some c
+    → IsCommand (verb ∷ words) c
+alone_is verb [] one c good is = let same : one ≡ c = cc in subst (IsCommand (verb ∷ [])) same good
+alone_is verb (word ∷ words) one c good is = cc
+
+a_help : (words : List (List ℕ)) (topic : Topic) → IsCommand words (Help topic)
+a_help words topic = bare words (Help topic) refl refl refl tt
+
+mapped_help : (words : List (List ℕ)) (o : Option Topic) (c : Command) → option_map Help o ≡ Some c → IsCommand words c
+mapped_help words None c is = cc
+mapped_help words (Some topic) c is = let same : Help topic ≡ c = cc in subst (IsCommand words) same (a_help words topic)
+
+help_is : (verb : List ℕ) (words : List (List ℕ)) (c : Command) → help_of words ≡ Some c → IsCommand (verb ∷ words) c
+help_is verb [] c is = let same : Help topic.All ≡ c = cc in subst (IsCommand (verb ∷ [])) same (a_help (verb ∷ []) topic.All)
+help_is verb (word ∷ []) c is = mapped_help (verb ∷ word ∷ []) (topic_of word) c is
+help_is verb (word ∷ other ∷ rest) c is = cc
+
 -- one of two
 chosen : {P : Type 0} (test : Bool) (x y : Option Command) (c : Command) → (x ≡ Some c → P) → (y ≡ Some c → P) → (if test then x else y) ≡ Some c → P
 chosen true x y c f g is = f is
@@ -215,7 +253,19 @@ command_is (verb ∷ words) c is =
     chosen (bytes_eq verb (codes "load")) (load_of words) _ c (load_is verb words c) (
     chosen (bytes_eq verb (codes "export")) (export_of words) _ c (export_is verb words c) (
     chosen (bytes_eq verb (codes "report")) (report_of words) _ c (report_is verb words c) (
-    chosen (bytes_eq verb (codes "make")) (make_of words) None c (make_is verb words c) (λ none. cc)))))) is
+    chosen (bytes_eq verb (codes "make")) (make_of words) _ c (make_is verb words c) (
+    chosen (bytes_eq verb (codes "verify")) (verify_of words) _ c (verify_is verb words c) (
+    chosen (bytes_eq verb (codes "help")) (help_of words) _ c (help_is verb words c) (
+    chosen (bytes_eq verb (codes "--help")) (alone (Help topic.All) words) _ c (alone_is verb words (Help topic.All) c helped) (
+    chosen (bytes_eq verb (codes "-h")) (alone (Help topic.All) words) _ c (alone_is verb words (Help topic.All) c helped) (
+    chosen (bytes_eq verb (codes "version")) (alone Version words) _ c (alone_is verb words Version c versioned) (
+    chosen (bytes_eq verb (codes "--version")) (alone Version words) None c (alone_is verb words Version c versioned) (λ none. cc)))))))))))) is
+  where
+    helped : IsCommand (verb ∷ words) (Help topic.All)
+    helped = a_help (verb ∷ words) topic.All
+
+    versioned : IsCommand (verb ∷ words) Version
+    versioned = bare (verb ∷ words) Version refl refl refl tt
 
 -- a command has a library for each of its files
 pub libraries_are_counted : (words : List (List ℕ)) (c : Command) → command_of words ≡ Some c → length (libraries_of words) ≡ file_count c

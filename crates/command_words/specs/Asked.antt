@@ -4,7 +4,7 @@ use Rattle.std.specs.Option.{option_copied}
 use Rattle.command_words.specs.Command.{Command}
 use Rattle.command_words.specs.Command as command
 use Rattle.command_words.specs.declared.asked.Request.{Request}
-use Rattle.command_words.specs.declared.asked.Request.TheVariants.{Pass, Run, Load, Export, Report, Make}
+use Rattle.command_words.specs.declared.asked.Request.TheVariants.{Pass, Run, Load, Export, Report, Make, Verify, Help, Version}
 
 abbrev pub command_asked : Request → Command
 command_asked (Pass out) = command.Pass out.now
@@ -13,6 +13,9 @@ command_asked (Load journal files) = command.Load journal.now files
 command_asked (Export journal out code) = command.Export journal.now out.now (option_copied code)
 command_asked (Report journal out) = command.Report journal.now out.now
 command_asked (Make seed count out) = command.Make seed count out.now
+command_asked (Verify journal) = command.Verify journal.now
+command_asked (Help topic) = command.Help topic
+command_asked Version = command.Version
 
 -- the request is that command; there is none where there is no command
 abbrev pub AsksFor : Option Request → Option Command → Type 0

@@ -1,5 +1,5 @@
 -- The words of the command line, without the program's name, and what they ask for. The rules are this project's own.
-use Rattle.std.specs.Prelude.{◌≢◌, ◌≤◌, ℕ, ◌^◌, ◌-◌, Bool, ◌&&◌, ◌==◌, not, nat_le, nat_lt, List, [], ◌∷◌, length, Option, Some, None, is_some, codes, drop, map, if◌then◌else◌, option_and_then}
+use Rattle.std.specs.Prelude.{◌≢◌, ◌≤◌, ℕ, ◌^◌, ◌-◌, Bool, ◌&&◌, ◌==◌, not, nat_le, nat_lt, List, [], ◌∷◌, length, Option, Some, None, is_some, codes, drop, map, if◌then◌else◌, option_and_then, option_map}
 use Rattle.std.specs.List.{before_first, after_first, position_or_len, list_all}
 use Rattle.std.specs.Str.{bytes_eq}
 use Rattle.std.specs.Str.Parse.{digits_value}
@@ -7,6 +7,9 @@ use Rattle.marc_types.specs.Limits.{most_entries}
 use Rattle.marc_types.specs.Valid.{is_code, is_digit}
 use Rattle.outside.specs.Room.{IsNoneOf}
 use Rattle.command_words.specs.declared.library.Library.{Library}
+use Rattle.command_words.specs.declared.topic.Topic.{Topic}
+use Rattle.command_words.specs.declared.topic.Topic.TheVariants.{All}
+use Rattle.command_words.specs.Topics.{topic_of}
 
 -- what a command asks for; the names are those of the words
 pub data Command : Type 0 where
@@ -22,6 +25,12 @@ pub data Command : Type 0 where
   Report : List ℕ → List ℕ → Command
   -- `make SEED COUNT OUT`: a workload of COUNT records into the file OUT
   Make : ℕ → ℕ → List ℕ → Command
+  -- `verify JOURNAL`: what the journal has
+  Verify : List ℕ → Command
+  -- `help`, or `help COMMAND`: how the commands are used, or that one
+  Help : Topic → Command
+  -- `version`: which version of the program this is
+  Version : Command
 
 -- the name of a file isn't empty
 abbrev pub is_name : List ℕ → Bool
@@ -108,6 +117,20 @@ make_of (seed ∷ count ∷ out ∷ []) = do
   command_if (is_name out) (Make s n out)
 make_of words = None
 
+abbrev pub verify_of : List (List ℕ) → Option Command
+verify_of (journal ∷ []) = command_if (is_name journal) (Verify journal)
+verify_of words = None
+
+abbrev pub help_of : List (List ℕ) → Option Command
+help_of [] = Some (Help All)
+help_of (word ∷ []) = option_map Help (topic_of word)
+help_of words = None
+
+-- a command without words
+abbrev pub alone : Command → List (List ℕ) → Option Command
+alone command [] = Some command
+alone command words = None
+
 -- the command of some words, if they are one
 unfoldable pub command_of : List (List ℕ) → Option Command
 command_of [] = None
@@ -118,6 +141,12 @@ command_of (verb ∷ words) =
     else if bytes_eq verb (codes "export") then export_of words
     else if bytes_eq verb (codes "report") then report_of words
     else if bytes_eq verb (codes "make") then make_of words
+    else if bytes_eq verb (codes "verify") then verify_of words
+    else if bytes_eq verb (codes "help") then help_of words
+    else if bytes_eq verb (codes "--help") then alone (Help All) words
+    else if bytes_eq verb (codes "-h") then alone (Help All) words
+    else if bytes_eq verb (codes "version") then alone Version words
+    else if bytes_eq verb (codes "--version") then alone Version words
     else None
 
 -- the words `CODE=FILE` of a command, which stand behind its other words; none where there is no command
@@ -129,6 +158,9 @@ words_of_files words (Some (Load journal files)) = drop 2 words
 words_of_files words (Some (Export journal out code)) = []
 words_of_files words (Some (Report journal out)) = []
 words_of_files words (Some (Make seed count out)) = []
+words_of_files words (Some (Verify journal)) = []
+words_of_files words (Some (Help topic)) = []
+words_of_files words (Some Version) = []
 
 -- the libraries of the files of the words' command, in their order
 unfoldable pub libraries_of : List (List ℕ) → List Library
@@ -142,8 +174,11 @@ file_count (Load journal files) = files
 file_count (Export journal out code) = 0
 file_count (Report journal out) = 0
 file_count (Make seed count out) = 0
+file_count (Verify journal) = 0
+file_count (Help topic) = 0
+file_count Version = 0
 
--- the names of a command's log and outputs
+-- the names of a command's log and outputs: of a journal that is only looked at none
 abbrev pub names_of : Command → List (List ℕ)
 names_of (Pass out) = out ∷ []
 names_of (Run journal out report files) = journal ∷ out ∷ report ∷ []
@@ -151,6 +186,9 @@ names_of (Load journal files) = journal ∷ []
 names_of (Export journal out code) = journal ∷ out ∷ []
 names_of (Report journal out) = journal ∷ out ∷ []
 names_of (Make seed count out) = out ∷ []
+names_of (Verify journal) = []
+names_of (Help topic) = []
+names_of Version = []
 
 -- names that aren't empty, and differ from one another
 abbrev pub AreNames : List (List ℕ) → Type 0
@@ -165,3 +203,6 @@ IsBounded (Load journal files) = (1 ≤ files) × (files ≤ 64)
 IsBounded (Export journal out code) = Unit {0}
 IsBounded (Report journal out) = Unit {0}
 IsBounded (Make seed count out) = count ≤ most_entries
+IsBounded (Verify journal) = Unit {0}
+IsBounded (Help topic) = Unit {0}
+IsBounded Version = Unit {0}

@@ -1,3 +1,5 @@
+use crate::topic::Topic;
+
 /// What a command asks for. Names of files are those of the words; `files` is the number of words `CODE=FILE`.
 #[derive(Clone, Copy, Debug, PartialEq, Eq)]
 pub enum Request<'a> {
@@ -34,4 +36,14 @@ pub enum Request<'a> {
         count: u64,
         out: &'a str,
     },
+    /// Tell what the journal has, and write nothing.
+    Verify {
+        journal: &'a str,
+    },
+    /// Tell how the commands are used, or one of them.
+    Help {
+        topic: Topic,
+    },
+    /// Tell which version of the program this is.
+    Version,
 }

@@ -3,6 +3,7 @@
 
 pub use asked::Request;
 pub use library::Library;
+pub use topic::Topic;
 pub use words::{Words, libraries, request};
 
 mod asked;
@@ -10,4 +11,5 @@ pub mod laws;
 mod library;
 #[cfg(test)]
 mod tests;
+mod topic;
 mod words;

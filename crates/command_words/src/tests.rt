@@ -1,4 +1,4 @@
-use crate::{Library, Request, Words, libraries, request};
+use crate::{Library, Request, Topic, Words, libraries, request};
 use marc_types::{NoMemory, Text};
 use std::alloc::Global;
 use std::test::Fail;
@@ -70,6 +70,14 @@ fn good_lines(rt: HostRuntime) -> Result<(), Fail> {
                 out: "o",
             },
         ),
+        ("verify ./j", Request::Verify { journal: "./j" }),
+        ("help", Request::Help { topic: Topic::All }),
+        ("--help", Request::Help { topic: Topic::All }),
+        ("-h", Request::Help { topic: Topic::All }),
+        ("help make", Request::Help { topic: Topic::Make }),
+        ("help help", Request::Help { topic: Topic::Help }),
+        ("version", Request::Version),
+        ("--version", Request::Version),
     ];
     for (line, asked) in table {
         let words = words_of(rt.alloc(), line)?;
@@ -116,6 +124,15 @@ fn faulty_lines(rt: HostRuntime) -> Result<(), Fail> {
         "make 1  o",
         "make 1 1 ",
         "make 1 1",
+        "verify",
+        "verify j o",
+        "help all",
+        "help Make",
+        "help make pass",
+        "--help make",
+        "-h make",
+        "version 2",
+        "--version version",
         "migrate a b",
     ];
     for line in table {

@@ -1,11 +1,12 @@
 ghost use Rattle.std.specs.Prelude.{◌≡◌, ℕ, true, false, length, List, Option, Some, None, IfSome, IfOk, MatchOption, drop, is_some};
 ghost use Rattle.std.specs.List.{list_all};
 ghost use Rattle.marc_types.specs.Valid.{is_code, is_digit};
-ghost use Rattle.command_words.specs.Command.{library_of, are_libraries, is_free, differ, split_at_equals, number_upto, pass_of, run_of, load_of, export_of, report_of, make_of, are_two_names, command_of, words_of_files, libraries_of};
-ghost use Rattle.command_words.specs.Asked.{AsksFor};
+ghost use Rattle.command_words.specs.Command.{library_of, are_libraries, is_free, differ, split_at_equals, number_upto, pass_of, run_of, load_of, export_of, report_of, make_of, verify_of, help_of, alone, are_two_names, command_of, words_of_files, libraries_of};
+ghost use Rattle.command_words.specs.Asked.{command_asked, AsksFor};
 
 use crate::asked::Request;
 use crate::library::Library;
+use crate::topic::{Topic, named_topic};
 use marc_types::{Limits, NoMemory, Sequence, Text, can_be_code};
 use std::alloc::Global;
 
@@ -195,6 +196,36 @@ fn make(words: &[Text]) -> Option<Request<'_>>
     })
 }
 
+fn verify(words: &[Text]) -> Option<Request<'_>>
+    ensures { AsksFor result (verify_of words.now) }
+{
+    match words {
+        [journal] if !journal.as_str().is_empty() => Some(Request::Verify {
+            journal: journal.as_str(),
+        }),
+        _ => None,
+    }
+}
+
+fn help(words: &[Text]) -> Option<Request<'_>>
+    ensures { AsksFor result (help_of words.now) }
+{
+    match words {
+        [] => Some(Request::Help { topic: Topic::All }),
+        [word] => Some(Request::Help {
+            topic: named_topic(word.as_str())?,
+        }),
+        _ => None,
+    }
+}
+
+/// A request that takes no words.
+fn alone<'a>(asked: Request<'a>, words: &[Text]) -> Option<Request<'a>>
+    ensures { AsksFor result (alone (command_asked asked.entry) words.now) }
+{
+    words.is_empty().then_some(asked)
+}
+
 /// What the words ask for; `None` exactly where they are no command.
 #[tactic(auto, unfolding(crate::specs::Command::command_of))]
 pub fn request(words: &Words) -> Option<Request<'_>>
@@ -210,6 +241,10 @@ pub fn request(words: &Words) -> Option<Request<'_>>
         "export" => export(rest),
         "report" => report(rest),
         "make" => make(rest),
+        "verify" => verify(rest),
+        "help" => help(rest),
+        "--help" | "-h" => alone(Request::Help { topic: Topic::All }, rest),
+        "version" | "--version" => alone(Request::Version, rest),
         _ => None,
     }
 }

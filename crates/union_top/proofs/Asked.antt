@@ -1,11 +1,11 @@
 -- What a command comes to for whose libraries there is no memory.
-use Rattle.std.proofs.Common.{◌≡◌, ◌≢◌, ℕ, ◌<◌, ◌≤◌, List, [], ◌∷◌, length, get_or, None, refl, ap, ◌∙◌, arith}
+use Rattle.std.proofs.Common.{◌≡◌, ◌≢◌, true, false, true≢false, ℕ, ◌<◌, ◌≤◌, List, [], ◌∷◌, length, get_or, None, refl, ap, ◌∙◌, arith}
 use Rattle.std.specs.Prelude.{All, IsTrue}
 use Rattle.marc_types.specs.Valid.{is_code}
 use Rattle.outside.specs.Room.{RoomView, SameBut, IsNoneOf}
 use Rattle.outside.proofs.Rooms.{same_but_none}
 use Rattle.command_words.specs.declared.library.Library.{Library}
-use Rattle.command_words.specs.Command.{Command, Pass, Run, Load, Export, Report, Make, libraries_of, names_of, AreNames}
+use Rattle.command_words.specs.Command.{Command, Pass, Run, Load, Export, Report, Make, Verify, Help, Version, libraries_of, names_of, AreNames}
 use Rattle.console_lines.specs.Ends.{Outcome, IsTold}
 use Rattle.console_lines.specs.declared.end.End.TheVariants.{Told}
 use Rattle.console_lines.specs.declared.fault.Fault.TheVariants as fault
@@ -18,7 +18,7 @@ use Rattle.plain_commands.proofs.Made.{makes_no_memory}
 use Rattle.output_files.specs.Outputs as files
 use Rattle.journal_loading.specs.Outcomes.{Fails, IsLoadingFault, NotBegun, Unopened}
 use Rattle.journal_loading.specs.Inputs.{AreLoadable}
-use Rattle.union_top.specs.Commands.{Ends}
+use Rattle.union_top.specs.Commands.{is_alone, Ends}
 use Rattle.union_top.specs.Runs as runs
 use Rattle.union_top.proofs.Ended.{loads_failed, runs_failed, no_memory}
 
@@ -36,6 +36,30 @@ loadable libraries journal names files count some few proper apart = record {
 pub only : (library first : Library) (libraries : List Library) → libraries ≡ library ∷ [] → first ≡ get_or libraries 0 first → first ≡ library
 only library first libraries is read = read ∙ ap (λ ls. get_or ls 0 first) is
 
+-- the command names files to be read or written, or a journal that may be written
+abbrev pub NamesFiles : Command → Type 0
+NamesFiles (Pass out) = Unit {0}
+NamesFiles (Run journal out report files) = Unit {0}
+NamesFiles (Load journal files) = Unit {0}
+NamesFiles (Export journal out code) = Unit {0}
+NamesFiles (Report journal out) = Unit {0}
+NamesFiles (Make seed count out) = Unit {0}
+NamesFiles (Verify journal) = ⊥
+NamesFiles (Help topic) = ⊥
+NamesFiles Version = ⊥
+
+-- a command that starts threads does
+pub names_files : (command : Command) → is_alone command ≡ false → NamesFiles command
+names_files (Pass out) loads = tt
+names_files (Run journal out report files) loads = tt
+names_files (Load journal files) loads = tt
+names_files (Export journal out code) loads = tt
+names_files (Report journal out) loads = tt
+names_files (Make seed count out) loads = tt
+names_files (Verify journal) loads = absurd (true≢false loads)
+names_files (Help topic) loads = absurd (true≢false loads)
+names_files Version loads = absurd (true≢false loads)
+
 module _ (o : Outcome) (told : o.end ≡ Told fault.Memory) (tells : IsTold fault.Memory o) (stays : SameBut o.old o.new [])
     (free : (name : List ℕ) → o.old.open_as name ≡ None) where
   unbegun : (journal : List ℕ) (libraries : List Library) → IsLoadingFault o.old o.new journal libraries fault.Memory
@@ -49,15 +73,18 @@ module _ (o : Outcome) (told : o.end ≡ Told fault.Memory) (tells : IsTold faul
       reads_unopened journal out due o opening.NoMemory differ told tells (same_but_none o.old o.new (journal ∷ []) stays) (λ old. cc) (λ room. tt)
       (λ room. unopened_keeps _ o.old o.new journal stays) (λ device. cc)
 
-  pub unasked : (words : List (List ℕ)) (command : Command) → AreNames (names_of command) → Ends words command o
-  unasked words (Pass out) names = λ library is. passes_told library out o fault.Memory told tells tt stays (λ input. cc) (λ full. cc)
-  unasked words (Run journal out report files) names =
+  pub unasked : (words : List (List ℕ)) (command : Command) → NamesFiles command → AreNames (names_of command) → Ends words command o
+  unasked words (Pass out) takes names = λ library is. passes_told library out o fault.Memory told tells tt stays (λ input. cc) (λ full. cc)
+  unasked words (Run journal out report files) takes names =
       runs_failed (libraries_of words) journal o out report fault.Memory told tells (λ other. absurd (other refl))
       (no_memory o.old o.new journal (libraries_of words) _ (closed journal)
       (λ room. runs.NotLoaded (unbegun journal (libraries_of words)) (stays.files out tt) (stays.files report tt)))
-  unasked words (Load journal files) names =
+  unasked words (Load journal files) takes names =
       loads_failed (libraries_of words) journal o fault.Memory told tells
       (no_memory o.old o.new journal (libraries_of words) _ (closed journal) (λ room. runs.NotLoaded (unbegun journal (libraries_of words))))
-  unasked words (Export journal out code) names = reads journal out _ names.1.0
-  unasked words (Report journal out) names = reads journal out _ names.1.0
-  unasked words (Make seed count out) names = makes_no_memory seed count out o told tells (λ room. files.AsItWas (stays.files out tt))
+  unasked words (Export journal out code) takes names = reads journal out _ names.1.0
+  unasked words (Report journal out) takes names = reads journal out _ names.1.0
+  unasked words (Make seed count out) takes names = makes_no_memory seed count out o told tells (λ room. files.AsItWas (stays.files out tt))
+  unasked words (Verify journal) takes names = absurd takes
+  unasked words (Help topic) takes names = absurd takes
+  unasked words Version takes names = absurd takes

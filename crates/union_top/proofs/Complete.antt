@@ -9,7 +9,7 @@ use Rattle.marc_types.specs.declared.entry.Entry.{Entry}
 use Rattle.outside.specs.Room.{RoomView}
 use Rattle.marc_stream.specs.Pieces.{Item, items}
 use Rattle.command_words.specs.declared.library.Library.{Library}
-use Rattle.command_words.specs.Command.{Command, Pass, Run, Load, Export, Report, Make, command_of, libraries_of}
+use Rattle.command_words.specs.Command.{Command, Pass, Run, Load, Export, Report, Make, Verify, Help, Version, command_of, libraries_of}
 use Rattle.entry_record.specs.History.{entry_size, entries_size}
 use Rattle.file_entries.specs.Files.{IsJudged, Accepts}
 use Rattle.file_entries.proofs.Every.{every_judged}
@@ -32,6 +32,8 @@ use Rattle.plain_commands.specs.Totals.{IsWithinLimits, most_entries, most_bytes
 use Rattle.journal_loading.specs.Inputs.{IsInputFault}
 use Rattle.union_top.specs.Commands.{Loads, Runs, Ends, EndsWith}
 use Rattle.union_top.specs.Complete.{Stayed, Around, InputsStayed, IsUnhinderedPass, IsUnhinderedMake, IsUnhinderedReading, IsUnhinderedLoad, IsUnhinderedRun, IsUnhindered}
+use Rattle.program_help.specs.Telling.{help_text, version_text}
+use Rattle.union_top.proofs.Untroubled.{verify_well, tells_well}
 use Rattle.union_top.proofs.Made.{made, made_first}
 use Rattle.union_top.proofs.Unopened.{MayBe, may_be}
 use Rattle.union_top.proofs.Judgements.{fits_judged}
@@ -165,6 +167,9 @@ module _ (o : Outcome) where
   ends_well words (Export journal out code) ends u = reads_well journal out _ ends u
   ends_well words (Report journal out) ends u = reads_well journal out _ ends u
   ends_well words (Make seed count out) ends u = makes_well seed count out ends u
+  ends_well words (Verify journal) ends u = verify_well o journal ends u
+  ends_well words (Help topic) ends u = tells_well o (help_text topic) ends u
+  ends_well words Version ends u = tells_well o version_text ends u
 
   pub complete : (words : List (List ℕ)) (command : Command) → Ends words command o → IsUnhindered words command seen
       → (end_status o.end ≤ 1) ⊎ (end_status o.end ≡ 8)

@@ -9,5 +9,6 @@ mod Crowded
 mod Unopened
 mod Judgements
 mod Remaining
+mod Untroubled
 mod Complete
 mod Asked

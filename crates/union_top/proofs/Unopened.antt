@@ -47,7 +47,7 @@ MayBe log opening.OldVersion = version_of log ≡ 1
 MayBe log opening.Full = ⊥
 MayBe log opening.NoMemory = Unit {0}
 
-no_journal : (log : List ℕ) (place : ℕ) (entries : List Entry) → IsLogOf entries log → IsUnopened journal_limits log (opening.NotAJournal place) → ⊥
+pub no_journal : (log : List ℕ) (place : ℕ) (entries : List Entry) → IsLogOf entries log → IsUnopened journal_limits log (opening.NotAJournal place) → ⊥
 no_journal log place entries is (NoGate none) = let both : Ok is.frames ≡ Err place = sym is.found ∙ none in cc
 no_journal log place entries is (NoPayload frames found bad) =
     let same : is.frames ≡ frames = cc (is.found, found) in

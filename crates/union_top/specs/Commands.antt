@@ -2,7 +2,7 @@
 use Rattle.std.specs.Prelude.{◌≡◌, ◌≢◌, ◌⊎◌, ℕ, Bool, true, false, List, [], ◌∷◌}
 use Rattle.outside.specs.Fault.{Rose}
 use Rattle.command_words.specs.declared.library.Library.{Library}
-use Rattle.command_words.specs.Command.{Command, Pass, Run, Load, Export, Report, Make, libraries_of}
+use Rattle.command_words.specs.Command.{Command, Pass, Run, Load, Export, Report, Make, Verify, Help, Version, libraries_of}
 use Rattle.console_lines.specs.Ends.{Outcome, IsTold, IsAllDone, IsSilent, end_status, out_unwritten, report_unwritten, console_unwritten}
 use Rattle.console_lines.specs.declared.end.End.{End}
 use Rattle.console_lines.specs.declared.end.End.TheVariants.{Told}
@@ -13,6 +13,8 @@ use Rattle.archive_commands.specs.Reads as reads
 use Rattle.archive_commands.specs.Reads.{Reads}
 use Rattle.plain_commands.specs.Passing.{Passes}
 use Rattle.plain_commands.specs.Making.{Makes}
+use Rattle.journal_verification.specs.Verifying.{Verifies}
+use Rattle.program_help.specs.Telling.{help_text, version_text, Tells}
 use Rattle.journal_loading.specs.Inputs.{IsInputFault}
 use Rattle.union_top.specs.Runs.{IsWholeLoad, IsUntoldLoad, IsWholeRun, IsRunInOut, IsRunInReport, IsUntoldRun, WhyNotLoad, WhyNotRun}
 
@@ -60,6 +62,9 @@ is_alone (Load journal files) = false
 is_alone (Export journal out code) = true
 is_alone (Report journal out) = true
 is_alone (Make seed count out) = true
+is_alone (Verify journal) = true
+is_alone (Help topic) = true
+is_alone Version = true
 
 -- how the command of some words ended
 abbrev pub Ends : List (List ℕ) → Command → Outcome → Type 0
@@ -69,6 +74,9 @@ Ends words (Load journal files) o = Loads (libraries_of words) journal o
 Ends words (Export journal out code) o = Reads journal out (reads.Export code) o
 Ends words (Report journal out) o = Reads journal out reads.Report o
 Ends words (Make seed count out) o = Makes seed count out o
+Ends words (Verify journal) o = Verifies journal o
+Ends words (Help topic) o = Tells (help_text topic) o
+Ends words Version o = Tells version_text o
 
 -- the same with its exit status, which is the end as a number
 abbrev pub EndsWith : List (List ℕ) → Command → ℕ → (End → Outcome) → Type 0

@@ -8,7 +8,7 @@ use Rattle.outside.specs.Room.{RoomView}
 use Rattle.marc_stream.specs.Pieces.{items}
 use Rattle.commit_journal.specs.Log.{version_of}
 use Rattle.command_words.specs.declared.library.Library.{Library}
-use Rattle.command_words.specs.Command.{Command, Pass, Run, Load, Export, Report, Make, libraries_of}
+use Rattle.command_words.specs.Command.{Command, Pass, Run, Load, Export, Report, Make, Verify, Help, Version, libraries_of}
 use Rattle.file_entries.specs.Files.{IsJudged}
 use Rattle.file_entries.specs.declared.refused.RefusedItem.{RefusedItem}
 use Rattle.entry_record.specs.History.{entries_size}
@@ -81,6 +81,20 @@ pub record IsUnhinderedReading (journal out : List ℕ) (a : Around) : Type 0 wh
   pub output : Stayed (a.old.out_faults out) (a.new.out_faults out)
   pub fits : HasFittingHistory (log_bytes a.old journal)
 
+-- nothing hinders the verifying of a journal in a room that tells its files
+pub record IsUnhinderedVerify (journal : List ℕ) (a : Around) : Type 0 where
+  pub tells : a.old.tells ≡ true
+  pub bytes : List ℕ
+  pub entries : List Entry
+  pub input : Stayed (a.old.in_faults journal) (a.new.in_faults journal)
+  pub console : Stayed a.faults a.faults_now
+  pub there : a.old.file journal ≡ Some bytes
+  pub was : HasHistory entries bytes
+
+-- nothing hinders the telling of a text
+pub record IsUnhinderedTelling (a : Around) : Type 0 where
+  pub console : Stayed a.faults a.faults_now
+
 -- nothing hinders the loading of files in a room that tells its files
 pub record IsUnhinderedLoad (libraries : List Library) (journal : List ℕ) (a : Around) : Type 0 where
   pub tells : a.old.tells ≡ true
@@ -103,3 +117,6 @@ IsUnhindered words (Load journal files) a = IsUnhinderedLoad (libraries_of words
 IsUnhindered words (Export journal out code) a = IsUnhinderedReading journal out a
 IsUnhindered words (Report journal out) a = IsUnhinderedReading journal out a
 IsUnhindered words (Make seed count out) a = IsUnhinderedMake out a
+IsUnhindered words (Verify journal) a = IsUnhinderedVerify journal a
+IsUnhindered words (Help topic) a = IsUnhinderedTelling a
+IsUnhindered words Version a = IsUnhinderedTelling a

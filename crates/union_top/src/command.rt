@@ -12,9 +12,11 @@ use archive_commands::{Due, read};
 use command_words::laws::{files_are_named, names_are_apart, numbers_are_bounded};
 use command_words::{Request, Words, libraries, request};
 use console_lines::{End, Fault, tell};
+use journal_verification::verify;
 use marc_types::NoMemory;
 use outside::{Gate, Room};
 use plain_commands::{make, pass};
+use program_help::{help, version};
 use std::alloc::Global;
 use std::sync::Wait;
 use std::thread::Threads;
@@ -28,7 +30,10 @@ fn is_alone(asked: Request<'_>) -> bool
         Request::Pass { .. }
         | Request::Export { .. }
         | Request::Report { .. }
-        | Request::Make { .. } => true,
+        | Request::Make { .. }
+        | Request::Verify { .. }
+        | Request::Help { .. }
+        | Request::Version => true,
     }
 }
 
@@ -64,6 +69,9 @@ pub fn run_alone<R: Room>(
             read(alloc, room, console, journal, out, Due::Report)
         }
         Request::Make { seed, count, out } => make(alloc, room, console, seed, count, out),
+        Request::Verify { journal } => verify(alloc, room, console, journal),
+        Request::Help { topic } => help(console, topic),
+        Request::Version => version(console),
         Request::Run { .. } | Request::Load { .. } => unreachable!(),
     }
 }
@@ -106,7 +114,10 @@ fn run_loading<H: Threads + Wait + Sync, R: Room, G: Gate + Sync>(
         Request::Pass { .. }
         | Request::Export { .. }
         | Request::Report { .. }
-        | Request::Make { .. } => unreachable!(),
+        | Request::Make { .. }
+        | Request::Verify { .. }
+        | Request::Help { .. }
+        | Request::Version => unreachable!(),
     }
 }
 

@@ -13,13 +13,16 @@ use Rattle.console_lines.specs.declared.fault.Fault.TheVariants as fault
 use Rattle.plain_commands.specs.Making.{EndsMake}
 use Rattle.plain_commands.specs.Passing.{Passes}
 use Rattle.archive_commands.specs.Reads.{EndsReading}
+use Rattle.journal_verification.specs.Verifying.{EndsVerifying}
+use Rattle.program_help.specs.Telling.{EndsTelling}
 use Rattle.union_top.specs.Commands.{Ends}
-use Rattle.union_top.proofs.Asked.{unasked, only}
+use Rattle.union_top.proofs.Asked.{NamesFiles, unasked, only}
 use Rattle.union_top.proofs.command.run_alone.Goals as goal
 
 pub returns-in-Err-clause-ends : goal.returns-in-Err-clause-ends
 returns-in-Err-clause-ends g c =
     unasked _ c.tell.ensures.end c.tell.ensures.told (same_but_itself _ []) c.requires.closed c.args.words.now (command_asked c.args.asked)
+    (subst (λ r. NamesFiles (command_asked r)) (sym c.in-Pass.is) tt)
     (c.names_are_apart.ensures.names (command_asked c.args.asked) c.requires.asks)
 
 pub returns-in-Err-clause-command : goal.returns-in-Err-clause-command
@@ -88,3 +91,27 @@ returns-in-Make-clause-ends g c =
 
 pub returns-in-Make-clause-command : goal.returns-in-Make-clause-command
 returns-in-Make-clause-command g c usage = let no = subst EndsMake usage c.make.ensures.ends.ends in cc
+
+pub returns-in-Verify-clause-ends : goal.returns-in-Verify-clause-ends
+returns-in-Verify-clause-ends g c =
+    let o : Outcome = outcome g.R.Room.seen g.R.Out.Sink.written g.R.Out.Sink.faults c.args.room.now c.verify.new.room c.args.console.now c.verify.new.console c.verify.result in
+    subst (λ r. Ends c.args.words.now (command_asked r) o) (sym c.in-Verify.is) c.verify.ensures.ends
+
+pub returns-in-Verify-clause-command : goal.returns-in-Verify-clause-command
+returns-in-Verify-clause-command g c usage = subst EndsVerifying usage c.verify.ensures.ends.ends
+
+pub returns-in-Help-clause-ends : goal.returns-in-Help-clause-ends
+returns-in-Help-clause-ends g c =
+    let o : Outcome = outcome g.R.Room.seen g.R.Out.Sink.written g.R.Out.Sink.faults c.args.room.now c.args.room.now c.args.console.now c.help.new.console c.help.result in
+    subst (λ r. Ends c.args.words.now (command_asked r) o) (sym c.in-Help.is) c.help.ensures
+
+pub returns-in-Help-clause-command : goal.returns-in-Help-clause-command
+returns-in-Help-clause-command g c usage = subst EndsTelling usage c.help.ensures.ends
+
+pub returns-in-Version-clause-ends : goal.returns-in-Version-clause-ends
+returns-in-Version-clause-ends g c =
+    let o : Outcome = outcome g.R.Room.seen g.R.Out.Sink.written g.R.Out.Sink.faults c.args.room.now c.args.room.now c.args.console.now c.version.new.console c.version.result in
+    subst (λ r. Ends c.args.words.now (command_asked r) o) (sym c.in-Version.is) c.version.ensures
+
+pub returns-in-Version-clause-command : goal.returns-in-Version-clause-command
+returns-in-Version-clause-command g c usage = subst EndsTelling usage c.version.ensures.ends

@@ -8,12 +8,13 @@ use Rattle.console_lines.specs.declared.end.End.TheVariants.{Told}
 use Rattle.console_lines.specs.declared.fault.Fault.TheVariants as fault
 use Rattle.journal_loading.specs.Inputs.{AreLoadable}
 use Rattle.union_top.specs.Commands.{Loads, Runs, Ends}
-use Rattle.union_top.proofs.Asked.{unasked, loadable}
+use Rattle.union_top.proofs.Asked.{unasked, names_files, loadable}
 use Rattle.union_top.proofs.command.run_loading.Goals as goal
 
 pub returns-in-Err-clause-ends : goal.returns-in-Err-clause-ends
 returns-in-Err-clause-ends g c =
     unasked _ c.tell.ensures.end c.tell.ensures.told (same_but_itself _ []) c.requires.closed c.args.words.now (command_asked c.args.asked)
+    (names_files (command_asked c.args.asked) c.requires.loads)
     (c.names_are_apart.ensures.names (command_asked c.args.asked) c.requires.asks)
 
 pub returns-in-Err-clause-command : goal.returns-in-Err-clause-command

@@ -1,0 +1,19 @@
+-- What help can be asked for. The rules are this project's own.
+use Rattle.std.specs.Prelude.{ℕ, List, Option, Some, None, codes, if◌then◌else◌}
+use Rattle.std.specs.Str.{bytes_eq}
+use Rattle.command_words.specs.declared.topic.Topic.{Topic}
+use Rattle.command_words.specs.declared.topic.Topic.TheVariants.{Pass, Run, Load, Export, Report, Make, Verify, Help, Version}
+
+-- the command that a word names
+unfoldable pub topic_of : List ℕ → Option Topic
+topic_of word =
+    if bytes_eq word (codes "pass") then Some Pass
+    else if bytes_eq word (codes "run") then Some Run
+    else if bytes_eq word (codes "load") then Some Load
+    else if bytes_eq word (codes "export") then Some Export
+    else if bytes_eq word (codes "report") then Some Report
+    else if bytes_eq word (codes "make") then Some Make
+    else if bytes_eq word (codes "verify") then Some Verify
+    else if bytes_eq word (codes "help") then Some Help
+    else if bytes_eq word (codes "version") then Some Version
+    else None

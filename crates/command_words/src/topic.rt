@@ -1,0 +1,37 @@
+ghost use Rattle.std.specs.Prelude.{◌≡◌};
+ghost use Rattle.command_words.specs.Topics.{topic_of};
+
+/// What help can be asked for.
+#[derive(Clone, Copy, Debug, PartialEq, Eq)]
+pub enum Topic {
+    /// All commands, a line each.
+    All,
+    Pass,
+    Run,
+    Load,
+    Export,
+    Report,
+    Make,
+    Verify,
+    Help,
+    Version,
+}
+
+/// The command that a word names.
+#[tactic(auto, unfolding(crate::specs::Topics::topic_of))]
+pub fn named_topic(word: &str) -> Option<Topic>
+    ensures { result ≡ topic_of word.now }
+{
+    match word {
+        "pass" => Some(Topic::Pass),
+        "run" => Some(Topic::Run),
+        "load" => Some(Topic::Load),
+        "export" => Some(Topic::Export),
+        "report" => Some(Topic::Report),
+        "make" => Some(Topic::Make),
+        "verify" => Some(Topic::Verify),
+        "help" => Some(Topic::Help),
+        "version" => Some(Topic::Version),
+        _ => None,
+    }
+}

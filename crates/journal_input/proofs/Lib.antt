@@ -1,0 +1,5 @@
+pub mod Comings
+pub mod Gates
+pub mod Walks
+pub mod Headers
+pub mod Verifying

@@ -1,0 +1,18 @@
+use Rattle.std.proofs.Common.{◌≡◌, ℕ, ◌-◌, ◌^◌, ◌≤◌, List}
+use Rattle.journal_input.specs.Coming.{Comes}
+use Rattle.journal_input.specs.Walking.{HasTaken}
+use Rattle.journal_input.proofs.walking.take_frames.Given as goal
+
+abbrev pub invariant-gates : goal.invariant-gates
+invariant-gates g l =
+    let left = g.S.Source.left in
+    record {
+      taken : (b : List ℕ) → Comes l.initial.coming.window.items (left l.initial.coming.source) b
+          → HasTaken l.version l.initial.coming.place b l.reader.entries l.frames l.coming.place l.coming.window.items (left l.coming.source);
+      version : l.reader.version ≡ l.version;
+      few : l.frames ≤ l.coming.place;
+      faults : g.S.Source.faults l.initial.coming.source ≤ g.S.Source.faults l.coming.source;
+    }
+
+abbrev pub decreases-gates : goal.decreases-gates
+decreases-gates g l = 2 ^ 64 - l.coming.place

@@ -1,0 +1,4 @@
+pub mod Coming
+pub mod Gates
+pub mod Walking
+pub mod Contents

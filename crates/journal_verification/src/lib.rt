@@ -1,0 +1,7 @@
+//! The command `verify`: what a journal has is told, and nothing is written.
+#![tactic(auto)]
+
+pub use command::verify;
+
+mod command;
+mod text;

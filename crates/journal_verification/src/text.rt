@@ -1,0 +1,39 @@
+ghost use Rattle.std.specs.Prelude.{◌≡◌, ◌++◌, IfOk, string_bytes, codes};
+ghost use Rattle.std.specs.Fmt.{decimal};
+ghost use Rattle.journal_verification.specs.Verifying.{counts_line, torn_line, verified_lines};
+
+use journal_input::Verified;
+use marc_types::NoMemory;
+use std::alloc::Global;
+
+/// The line of the place behind which a journal is torn, where it is.
+fn torn_text(alloc: Global, torn: Option<u64>) -> Result<String, NoMemory>
+    ensures { IfOk result (λ text. string_bytes text ≡ torn_line torn) }
+{
+    match torn {
+        Some(place) => Ok(format!(in alloc; "torn behind byte {place}\n")?),
+        None => Ok(String::new(alloc)),
+    }
+}
+
+/// The line of a journal's version, entries, frames and bytes.
+#[tactic(auto, unfolding(crate::specs::Verifying::counts_line))]
+fn counts_text(alloc: Global, verified: &Verified) -> Result<String, NoMemory>
+    ensures { IfOk result (λ text. string_bytes text ≡ counts_line verified.now) }
+{
+    let version = verified.version;
+    let entries = verified.entries;
+    let frames = verified.frames;
+    let bytes = verified.bytes;
+    Ok(format!(in alloc; "version {version}, {entries} entries, {frames} frames, {bytes} bytes\n")?)
+}
+
+/// What the console is told of a journal.
+pub fn verified_text(alloc: Global, verified: &Verified) -> Result<String, NoMemory>
+    ensures { IfOk result (λ text. string_bytes text ≡ verified_lines verified.now) }
+{
+    let mut text = counts_text(alloc, verified)?;
+    let torn = torn_text(alloc, verified.torn)?;
+    text.push_str(torn.as_str())?;
+    Ok(text)
+}

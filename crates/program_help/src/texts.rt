@@ -1,0 +1,106 @@
+//! The texts, each in its one place.
+
+/// `help`: a line for each command.
+pub const ALL: &str = "union_cat, a union catalogue for MARC 21 records
+
+pass OUT CODE=FILE                     take one file alone, and write its records into OUT
+run JOURNAL OUT REPORT CODE=FILE ..    load files, and write the export and the report
+load JOURNAL CODE=FILE ..              load files into the journal
+export JOURNAL OUT [CODE]              write the journal's records into OUT
+report JOURNAL OUT                     write the report on the journal's headings into OUT
+make SEED COUNT OUT                    write made-up records into OUT, to try the program with
+verify JOURNAL                         tell what the journal has, and write nothing
+help [COMMAND]                         tell this, or how that command is used
+version                                tell the program's version
+";
+
+pub const PASS: &str = "union_cat pass OUT CODE=FILE
+
+Takes one file through an empty catalogue, without a journal, and writes its records with their headings linked.
+CODE is the code of the library that sent FILE. It stands in the keys of the records that have no 003.
+Writes: OUT; on the console a line for each refused record, and one for the file.
+Status: 0 all was taken; 1 some records were refused; 2 wrong words; 3 FILE couldn't be read; 4 OUT or the console couldn't
+be written; 7 there are more records than a catalogue takes; 8 memory ran out.
+Example: union_cat pass out.mrc ULIB=new.mrc
+";
+
+pub const RUN: &str = "union_cat run JOURNAL OUT REPORT CODE=FILE ..
+
+Loads 1 to 64 files into the journal, side by side; then writes the export of all its records and the report.
+CODE is the code of the library that sent FILE. It stands in the keys of the records that have no 003.
+Writes: JOURNAL, which is made if it isn't there; OUT; REPORT; on the console a line for each refused record, and one for
+each file.
+Status: 0 all was taken; 1 some records were refused; 2 wrong words; 3 a file couldn't be read; 4 OUT, REPORT or the console
+couldn't be written; 5 the journal's disk failed; 6 it is no journal; 7 it takes no more; 8 memory ran out; 9 it is of
+version 1.
+Example: union_cat run union.jnl all.out union.rep ALIB=a.mrc BLIB=b.mrc
+";
+
+pub const LOAD: &str = "union_cat load JOURNAL CODE=FILE ..
+
+Loads 1 to 64 files into the journal, side by side.
+CODE is the code of the library that sent FILE. It stands in the keys of the records that have no 003.
+Writes: JOURNAL, which is made if it isn't there; on the console a line for each refused record, and one for each file.
+Status: 0 all was taken; 1 some records were refused; 2 wrong words; 3 a file couldn't be read; 4 the console couldn't be
+written; 5 the journal's disk failed; 6 it is no journal; 7 it takes no more; 8 memory ran out; 9 it is of version 1.
+Example: union_cat load union.jnl ALIB=a.mrc BLIB=b.mrc
+";
+
+pub const EXPORT: &str = "union_cat export JOURNAL OUT
+union_cat export JOURNAL OUT CODE
+
+Writes the journal's records in the order of their keys: all, or those with CODE in their key.
+Writes: OUT. JOURNAL is only put in order, and made if it isn't there.
+Status: 0 all was written; 2 wrong words; 4 OUT couldn't be written; 5 the journal's disk failed; 6 it is no journal; 7 it
+has more than a catalogue takes; 8 memory ran out.
+Example: union_cat export union.jnl a.out ALIB
+";
+
+pub const REPORT: &str = "union_cat report JOURNAL OUT
+
+Writes the report on the journal's headings: which are ambiguous, shared, crossed, or await a successor.
+Writes: OUT. JOURNAL is only put in order, and made if it isn't there.
+Status: 0 all was written; 2 wrong words; 4 OUT couldn't be written; 5 the journal's disk failed; 6 it is no journal; 7 it
+has more than a catalogue takes; 8 memory ran out.
+Example: union_cat report union.jnl union.rep
+";
+
+pub const MAKE: &str = "union_cat make SEED COUNT OUT
+
+Writes COUNT made-up records, at most 1048576, to try the program with. The same SEED gives the same records.
+Writes: OUT; on the console one line, with what a load of them counts.
+Status: 0 all was written; 2 wrong words; 4 OUT or the console couldn't be written; 8 memory ran out.
+Example: union_cat make 1 1000 tried.mrc
+";
+
+pub const VERIFY: &str = "union_cat verify JOURNAL
+
+Reads the journal from its first byte to its last, as an input.
+Writes: no file; on the console a line with its version and how many entries, frames and bytes it has, and where bytes
+stand behind its end, as a crash may leave them, a line with the place of the last byte that counts.
+Status: 0 it is a journal; 2 wrong words; 3 it isn't there, or couldn't be read; 4 the console couldn't be written; 6 it is
+no journal; 8 memory ran out.
+Example: union_cat verify union.jnl
+";
+
+pub const HELP: &str = "union_cat help
+union_cat help COMMAND
+
+Tells all commands, a line for each, or how COMMAND is used. --help and -h alone are the same as help.
+Writes: no file.
+Status: 0 it is told; 2 wrong words; 4 the console couldn't be written.
+Example: union_cat help load
+";
+
+pub const VERSION: &str = "union_cat version
+
+Tells the program's version, and the kit that proved it. --version alone is the same.
+Writes: no file.
+Status: 0 it is told; 2 wrong words; 4 the console couldn't be written.
+Example: union_cat version
+";
+
+/// `version`: the program's version, and the kit that proved it.
+pub const THIS_VERSION: &str = "union_cat 1.0
+proved with rattle-kit-13f logic dac8208d650f15bf
+";

@@ -1,0 +1,72 @@
+-- How the commands end that only tell, where nothing hinders them.
+use Rattle.std.proofs.Common.{◌≡◌, ◌⊎◌, inl, inr, ℕ, true, List, Option, Some, refl, ap, subst}
+use Rattle.std.proofs.Math.Logic.{∥∥₁_elim}
+use Rattle.std.specs.Prelude.{IsSomeAnd}
+use Rattle.console_lines.specs.Ends.{Outcome, IsAllDone, console_unwritten}
+use Rattle.console_lines.specs.declared.end.End.{End}
+use Rattle.console_lines.specs.declared.end.End.TheVariants.{Done, Refused, Unwritten, Told}
+use Rattle.console_lines.specs.declared.end.Unwritten.TheVariants.{Out, Report, Console}
+use Rattle.console_lines.specs.declared.fault.Fault.TheVariants as fault
+use Rattle.durable_catalogue.specs.declared.fault.OpenFault.TheVariants as opening
+use Rattle.durable_catalogue.specs.Openings as openings
+use Rattle.durable_catalogue.specs.Openings.{IsUnopened}
+use Rattle.room_files.specs.Journals.{journal_limits}
+use Rattle.journal_input.specs.Walking as walking
+use Rattle.journal_input.specs.Contents.{IsNoJournal, NoGate, NoPayload}
+use Rattle.journal_verification.specs.Verifying.{EndsVerifying, Verifies}
+use Rattle.program_help.specs.Telling.{EndsTelling, Tells}
+use Rattle.union_top.specs.Complete.{Around, IsUnhinderedVerify, IsUnhinderedTelling}
+use Rattle.union_top.proofs.Unopened.{no_journal}
+use mathlib.Core.HLevel.{⊥_prop}
+
+-- what is told to be no journal is none that is opened
+unopened : (log : List ℕ) (place : ℕ) → IsNoJournal log place → IsUnopened journal_limits log (opening.NotAJournal place)
+unopened log place (NoGate none) = openings.NoGate none
+unopened log place (NoPayload frames found bad) = openings.NoPayload frames found (record {
+  front = bad.front;
+  bad = bad.bad;
+  behind = bad.behind;
+  entries = bad.entries;
+  split = bad.split;
+  history = bad.history;
+  invalid = bad.invalid;
+  at = bad.at;
+})
+
+verified_well : (end : End) → EndsVerifying end → (end ≡ console_unwritten → ⊥) → (end ≡ Told fault.Input → ⊥)
+    → ((place : ℕ) → end ≡ Told (fault.NotAJournal place) → ⊥) → IsAllDone end ⊎ (end ≡ Told fault.Memory)
+verified_well Done kind console input none = inl tt
+verified_well Refused kind console input none = absurd kind
+verified_well (Unwritten Out) kind console input none = absurd kind
+verified_well (Unwritten Report) kind console input none = absurd kind
+verified_well (Unwritten Console) kind console input none = absurd (console refl)
+verified_well (Told fault.Usage) kind console input none = absurd kind
+verified_well (Told fault.Input) kind console input none = absurd (input refl)
+verified_well (Told fault.Device) kind console input none = absurd kind
+verified_well (Told (fault.NotAJournal place)) kind console input none = absurd (none place refl)
+verified_well (Told fault.Full) kind console input none = absurd kind
+verified_well (Told fault.Memory) kind console input none = inr refl
+verified_well (Told fault.OldVersion) kind console input none = absurd kind
+
+told_well : (end : End) → EndsTelling end → (end ≡ console_unwritten → ⊥) → IsAllDone end ⊎ (end ≡ Told fault.Memory)
+told_well Done kind console = inl tt
+told_well Refused kind console = absurd kind
+told_well (Unwritten Out) kind console = absurd kind
+told_well (Unwritten Report) kind console = absurd kind
+told_well (Unwritten Console) kind console = absurd (console refl)
+told_well (Told why) kind console = absurd kind
+
+module _ (o : Outcome) where
+  abbrev seen : Around
+  seen = record { old = o.old; new = o.new; faults = o.faults; faults_now = o.faults_now }
+
+  pub verify_well : (journal : List ℕ) → Verifies journal o → IsUnhinderedVerify journal seen
+      → IsAllDone o.end ⊎ (o.end ≡ Told fault.Memory)
+  verify_well journal v u =
+      verified_well o.end v.ends (λ is. u.console (v.console_cause is)) (λ is. u.input (v.input is))
+      (λ place is.
+      let none : IsNoJournal u.bytes place = subst (λ f. IsSomeAnd f (λ log. IsNoJournal log place)) u.there (v.none place is u.tells) in
+      ∥∥₁_elim u.was ⊥_prop (λ history. no_journal u.bytes place u.entries history (unopened u.bytes place none)))
+
+  pub tells_well : (text : List ℕ) → Tells text o → IsUnhinderedTelling seen → IsAllDone o.end ⊎ (o.end ≡ Told fault.Memory)
+  tells_well text t u = told_well o.end t.ends (λ is. u.console (t.cause is))
