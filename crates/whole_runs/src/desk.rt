@@ -15,6 +15,12 @@ use std::thread::Threads;
 use std::{fs, io};
 use union_top::run;
 
+/// The name of what is exported of an image.
+const EXPORT: &str = "image.out";
+
+/// How many choices of a crash there are: what isn't synced is as before, as written, or spoilt.
+const CHOICES: u8 = 3;
+
 /// A room in which no name is open, and how loaders take turns.
 #[derive(Drop)]
 pub struct Desk {
@@ -126,6 +132,47 @@ fn compare(rt: &HostRuntime, room: &MemRoom, one: &str, other: &str) -> io::Resu
     }
 }
 
+/// Carries out an export of a journal over a room, and prints the status and how many bytes are exported.
+fn exported<H: Threads + Wait + Sync>(
+    rt: &HostRuntime,
+    threads: &H,
+    room: MemRoom,
+    journal: &str,
+) -> io::Result<()>
+    requires { (name : List ℕ) → (room_view room).open_as name ≡ None }
+{
+    let alloc = rt.alloc();
+    let words = words_of(alloc, format!(in alloc; "export {journal} {EXPORT}")?.as_str())?;
+    let mut room = room;
+    let mut console = MemSink::new(alloc, Vec::new(alloc));
+    let gate = Doorkeeper::new(Turns::Open);
+    let status = run(threads, alloc, &words, &mut room, &mut console, &gate);
+    match room.file(EXPORT) {
+        Some(bytes) => println!(rt; " status {status}, {} bytes", bytes.len()),
+        None => println!(rt; " status {status}"),
+    }
+}
+
+/// Prints what comes of an export of each image of a closed log.
+fn images<H: Threads + Wait + Sync>(
+    rt: &HostRuntime,
+    threads: &H,
+    room: &MemRoom,
+    journal: &str,
+) -> io::Result<()> {
+    let Some(log) = room.log_of(journal) else {
+        return Err(failed());
+    };
+    for moment in 0..log.moments() {
+        for choice in 0..CHOICES {
+            let image = crashed(rt.alloc(), room, journal, moment, choice)?;
+            print!(rt; "moment {moment}, choice {choice}:")?;
+            exported(rt, threads, image, journal)?;
+        }
+    }
+    Ok(())
+}
+
 /// Prints what a step asks to see.
 fn look(rt: &HostRuntime, room: &MemRoom, step: Step<'_>, line: &str) -> io::Result<()> {
     match step {
@@ -183,6 +230,9 @@ impl Desk {
         let step = Step::of(line);
         let Desk { room, turns } = self;
         look(rt, &room, step, line)?;
+        if let Step::Images(journal) = step {
+            images(rt, threads, &room, journal)?;
+        }
         let turns = match step {
             Step::Title => Turns::Open,
             Step::Turns(turns) => turns,

@@ -26,6 +26,8 @@ pub enum Step<'a> {
     Keep(&'a str),
     /// Begins with a room that has, under its name, the image of a closed log after a crash at that moment by that choice.
     Crash(&'a str, u64, u8),
+    /// Prints what comes of an export of each image of a closed log: of each moment, by each of the three choices.
+    Images(&'a str),
     /// The line is no step.
     Unknown,
 }
@@ -60,6 +62,7 @@ fn step_of<'a>(verb: &str, words: &'a str) -> Option<Step<'a>> {
         }
         "keep" => Some(Step::Keep(words)),
         "crash" => crash_of(words),
+        "images" => Some(Step::Images(words)),
         _ => None,
     }
 }
