@@ -1,5 +1,5 @@
 -- What loading all files did.
-use Rattle.std.proofs.Common.{◌≡◌, ◌≢◌, ◌∙◌, ℕ, zero, suc, ◌+◌, ◌<◌, false, List, [], ◌∷◌, ◌++◌, map, length, Option, Some, None, append-nil, refl, sym, ap, subst, arith, length-append}
+use Rattle.std.proofs.Common.{◌≡◌, ◌≢◌, ◌∙◌, ℕ, zero, suc, ◌+◌, ◌<◌, ◌≤◌, false, List, [], ◌∷◌, ◌++◌, map, length, Option, Some, None, append-nil, refl, sym, ap, subst, arith, length-append}
 use Rattle.std.specs.Prelude.{All}
 use Rattle.std.specs.List.{AllByRecursion, range_with_len}
 use Rattle.std.proofs.lemmas.List.Elements.{All-from_recursion, recursion_from_All, All-append}
@@ -86,8 +86,8 @@ module _ {O S : Type 0} (limits : Limits) (lock : Lock O) (before : List Entry) 
         ap is_broken (sym (h.own n)) ∙ (ap (λ i. is_broken (items_by (Some i) closed.history)) (sym every.3)
         ∙ (ap is_broken (closed.own every.0 p every.2) ∙ all_at (λ (p : Pass O Event). is_broken p.added ≡ false) passes every.0 p quiet every.2))))
 
-    pub are_loaded : 0 < callers → callers ≡ length files → AreLoaded left faults limits before files back results after mark
-    are_loaded some same =
+    pub are_loaded : 0 < callers → callers ≡ length files → length (marked mark) ≤ 32 → AreLoaded left faults limits before files back results after mark
+    are_loaded some same few =
         let h = one_history callers passes before after mark closed all_fair some in
         let later = (begins callers passes before after mark closed all_fair some).0 in
         let added = entries_of (items later) in
@@ -99,6 +99,7 @@ module _ {O S : Type 0} (limits : Limits) (lock : Lock O) (before : List Entry) 
           loaders = subst (λ n. All (λ (e : Entry). e.loader < n) (added ++ marked mark)) same
               (All-append (λ (e : Entry). e.loader < callers) added (marked mark) entries (subst (All (λ (e : Entry). e.loader < callers)) h.frames frames));
           frame = subst (λ n. AreOfOneFile n (marked mark)) same (of_one_file callers some mark later h.owned_is added h.mark_last);
+          few = few;
           each = each_so DidSo left faults limits before added mark IsClosed
               (λ k f p a r did is. loads_file callers limits lock before after mark closed.history later h left bound faults k f p a r did is.0 is.1)
               files passes back results all all_closed;

@@ -22,7 +22,7 @@ use Rattle.durable_catalogue.specs.Durables.{events}
 use Rattle.file_entries.specs.Files.{IsJudged}
 use Rattle.loader_workers.specs.Counts.{no_counts, with_receipts, counts_in}
 use Rattle.loader_workers.specs.Turns.{IsEndOf, HasCommitted, IsSamePass, receipts_by}
-use Rattle.loader_workers.specs.Loading.{Loads, unread}
+use Rattle.loader_workers.specs.Loading.{IsCutShort, IsReadTo, Loads, unread}
 use Rattle.loader_workers.specs.declared.counts.Counts.{Counts}
 use Rattle.loader_workers.specs.declared.file_end.FileEnd.TheVariants.{ReadFault, DeviceFault}
 use Rattle.loader_workers.specs.declared.result.FileResult.{FileResult}
@@ -133,9 +133,17 @@ module _ {O : Type 0} (callers : ℕ) (limits : Limits) (lock : Lock O) (before 
         plain : (n : ℕ) → 0 + n ≡ n
         plain n = omega arith
 
+    -- how far a file was read whose source failed
+    cut_short : (bytes : List ℕ) → left old.source ≡ Some bytes → IsReadTo ReadFault (is_some (left old.source)) (left old.source) (left new.source) d.loads.coming
+        → IsCutShort (Some bytes) (left new.source) d.loads.coming
+    cut_short bytes given read =
+        subst (λ start. IsCutShort start (left new.source) d.loads.coming) given (read (ap (λ (o : Option (List ℕ)). is_some o) given))
+
     pub loads_file : LoadsFile left faults limits before (entries_of (items later)) mark loader old new result
+    unfolding file_loaded
     loads_file = record {
       loaded = file_loaded;
+      read_to = λ bytes given is. cut_short bytes given (subst (λ e. IsReadTo e (is_some (left old.source)) (left old.source) (left new.source) d.loads.coming) is d.loads.read_to);
       code = d.code;
       broken = λ is. broken_seen pass.seen begins.0 begins.1 (subst (λ e. IsEndOf (origin_of limits before) e d.loads.rest d.loads.marks (items pass.seen)) is d.loads.ends).0;
       later = d.later;

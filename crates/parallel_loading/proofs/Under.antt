@@ -1,5 +1,5 @@
 -- Loading files under a lock, from its passes to the catalogue that it gives back.
-use Rattle.std.proofs.Common.{◌≡◌, ◌∙◌, ℕ, ◌<◌, List, [], ◌∷◌, map, reverse, length, Option, Some, None, refl, sym, ap, subst, arith, length-append}
+use Rattle.std.proofs.Common.{◌≡◌, ◌∙◌, ℕ, ◌<◌, ◌≤◌, List, [], ◌∷◌, map, reverse, length, Option, Some, None, refl, sym, ap, subst, arith, length-append}
 use Rattle.std.specs.Prelude.{All, IsTrue}
 use Rattle.std.specs.List.{AllByRecursion, range_with_len}
 use Rattle.std.proofs.lemmas.List.Elements.{All-from_recursion, recursion_from_All}
@@ -13,7 +13,7 @@ use Rattle.entry_history.specs.declared.event.Event.{Event}
 use Rattle.entry_history.specs.declared.reply.BatchReply.{BatchReply}
 use Rattle.catalogue_lock.specs.Passes.{Lock, Pass, Closed, IsPassOf, new_passes}
 use Rattle.catalogue_lock.proofs.Numbers.{items_by-other}
-use Rattle.durable_catalogue.specs.Durables.{events}
+use Rattle.durable_catalogue.specs.Durables.{marked, events}
 use Rattle.loader_workers.specs.SideBySide.{CanLoad, LoadsJob, Each, NoJob, OneMore}
 use Rattle.loader_workers.specs.declared.job.Job.{Job}
 use Rattle.loader_workers.specs.declared.result.FileResult.{FileResult}
@@ -115,11 +115,11 @@ module _ {O S C R Q A : Type 0} where
       all_passes = as_many (DidSo limits lock before left bound faults) files passes_now back told did ∙ sym d.callers
 
       pub loaded_under : 0 < length files → (entries : List Entry) (mark_now : Option (List Entry)) → Closed lock.callers passes_now (events before mark) (events entries mark_now)
-          → AreLoaded left faults limits before files back told entries mark_now
-      loaded_under some entries mark_now closed =
+          → length (marked mark_now) ≤ 32 → AreLoaded left faults limits before files back told entries mark_now
+      loaded_under some entries mark_now closed few =
           are_loaded limits lock before left bound faults lock.callers files passes_now back told did entries mark_now
           (subst (λ m. Closed lock.callers passes_now (events before m) (events entries mark_now)) d.whole closed)
-          (subst (λ n. 0 < n) (sym d.callers) some) d.callers
+          (subst (λ n. 0 < n) (sym d.callers) some) d.callers few
 
     module _ (jobs_back : List (Job O S Event C R Q A)) (passes_now : List (Pass O Event)) (back : List (InputFile S)) (same : jobs_back ≡ jobs)
         (passes_from : passes_now ≡ reverse (map (λ (j : Job O S Event C R Q A). j.pass) jobs_back)) (files_from : back ≡ reverse (map file_in jobs_back)) where

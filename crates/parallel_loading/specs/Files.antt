@@ -9,6 +9,7 @@ use Rattle.entry_record.specs.History.{brought_by, in_run, with_run, next_run, p
 use Rattle.catalogue_rules.specs.Receipts.{receipts_of_loader}
 use Rattle.durable_catalogue.specs.Durables.{marked}
 use Rattle.loader_workers.specs.Counts.{no_counts, with_receipts, counts_in}
+use Rattle.loader_workers.specs.Loading.{IsCutShort}
 use Rattle.loader_workers.specs.declared.file_end.FileEnd.{FileEnd}
 use Rattle.loader_workers.specs.declared.file_end.FileEnd.TheVariants.{Done, ReadFault, Full, DeviceFault, NoMemory}
 use Rattle.loader_workers.specs.declared.result.FileResult.{FileResult}
@@ -53,9 +54,11 @@ pub record AreOfOneFile (files : ℕ) (entries : List Entry) : Type 0 where
   pub all : All (λ e. e.loader ≡ loader) entries
 
 module _ {S : Type 0} (left : S → Option (List ℕ)) (faults : S → ℕ) where
-  -- one file was loaded, and its source comes back
+  -- One file was loaded, and its source comes back. Where that failed, no item is left out that ends, with its terminator, within
+  -- the bytes that it gave.
   pub record LoadsFile (limits : Limits) (before added : List Entry) (mark : Option (List Entry)) (loader : ℕ) (old new : InputFile S) (result : FileResult) : Type 0 where
     pub loaded : (bytes : List ℕ) → left old.source ≡ Some bytes → IsFileLoaded limits before added mark old.code bytes loader result
+    pub read_to : (bytes : List ℕ) (told : left old.source ≡ Some bytes) → result.end ≡ ReadFault → IsCutShort (Some bytes) (left new.source) (loaded bytes told).coming
     pub code : new.code ≡ old.code
     pub broken : result.end ≡ DeviceFault → is_some mark ≡ true
     pub later : faults old.source ≤ faults new.source
@@ -75,5 +78,6 @@ module _ {S : Type 0} (left : S → Option (List ℕ)) (faults : S → ℕ) wher
     pub after_is : after ≡ before ++ added
     pub loaders : All (λ e. e.loader < length old) (added ++ marked mark)
     pub frame : AreOfOneFile (length old) (marked mark)
+    pub few : length (marked mark) ≤ 32
     pub each : EachLoaded limits before added mark 0 old new results
     pub unmarked : All (λ r. r.end ≢ DeviceFault) results → mark ≡ None

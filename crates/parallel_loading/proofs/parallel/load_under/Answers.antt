@@ -91,7 +91,7 @@ returns-in-Ok-clause-loaded g c =
     (dealt _ _ _ _ _ _ _ _ c.requires.passes c.requires.whole c.requires.callers c.into_vec-passes.ensures c.into_vec-files.ensures c.deal-jobs.ensures.jobs)
     g.S.Source.left g.S.Source.bound g.S.Source.faults c.args.lock.opened.limits c.args.lock.opened.run c.requires.run _ _ _ _ _
     c.in-Ok.ensures.each c.take_apart-passes.ensures.passes c.take_apart-passes.ensures.files c.turn_round.ensures
-    c.requires.some _ _ c.close.ensures.history
+    c.requires.some _ _ c.close.ensures.history c.close.result.few
 
 pub returns-in-Err-clause-unbegun : goal.returns-in-Err-clause-unbegun
 returns-in-Err-clause-unbegun g c =
