@@ -14,6 +14,7 @@ use Rattle.durable_catalogue.specs.Openings.{IsUnopened}
 use Rattle.durable_catalogue.specs.Views.{DurableView}
 use Rattle.durable_catalogue.specs.declared.fault.OpenFault.{OpenFault}
 use Rattle.durable_catalogue.specs.declared.fault.OpenFault.TheVariants as opening
+use Rattle.loader_workers.specs.Loading.{IsCutShort}
 use Rattle.loader_workers.specs.declared.file_end.FileEnd.{FileEnd}
 use Rattle.loader_workers.specs.declared.file_end.FileEnd.TheVariants as end
 use Rattle.loader_workers.specs.declared.result.FileResult.{FileResult}
@@ -23,11 +24,14 @@ use Rattle.room_files.specs.Faults.{fault_of_opening}
 use Rattle.room_files.specs.Journals.{journal_limits, log_bytes, IsOpenedFrom, IsOpenedAs, IsClosedTo, KeepsHistory}
 use Rattle.journal_loading.specs.Inputs.{IsInputFault, AreInputs, IsFresh}
 
--- the file of a library was loaded by the loader with that number
+-- The file of a library was loaded by the loader with that number. Where its input failed, with so many bytes left, no item is left
+-- out that ends, with its terminator, within the bytes that the input gave: each of these was judged.
 pub record IsLibraryLoaded (room : RoomView) (before added : List Entry) (mark : Option (List Entry)) (library : Library) (loader : ℕ) (result : FileResult) : Type 0 where
   pub bytes : List ℕ
   pub there : room.file library.file ≡ Some bytes
   pub loaded : IsFileLoaded journal_limits before added mark library.code bytes loader result
+  pub left : Option (List ℕ)
+  pub read_to : result.end ≡ end.ReadFault → IsCutShort (Some bytes) left loaded.coming
 
 -- each was, by the loader with its number, the first of these by `loader`
 pub data AreLibrariesLoaded (room : RoomView) (before added : List Entry) (mark : Option (List Entry)) : (loader : ℕ) → List Library → List FileResult → Type 0 where
