@@ -4,7 +4,7 @@ use Rattle.std.specs.Int.{w32, from_be_bytes}
 use Rattle.std.proofs.lemmas.Bool.Decides.{nat_tests}
 use Rattle.std.proofs.lemmas.Grind.{common_steps}
 use Rattle.commit_journal.specs.declared.format.TheConstants.{CLOSED_GATE, LARGEST_PAYLOAD, LENGTH_BYTES}
-use Rattle.commit_journal.specs.Log.{payload_length, payload_of, has_frame, walk, closed_at, lost_at, behind}
+use Rattle.commit_journal.specs.Log.{payload_length, walk, behind}
 use Rattle.commit_journal.proofs.Walks.{Sizes, walk_closed, walk_frame, walk_lost, walk_none, walk_skip, frame_missing, frame_whole}
 use Rattle.journal_input.specs.Coming.{Comes}
 use Rattle.journal_input.specs.declared.gate.Gate.TheVariants.{Closed, Frame, Lost}

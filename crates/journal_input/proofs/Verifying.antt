@@ -1,16 +1,14 @@
 -- What a log is found to be, from what came of it.
-use Rattle.std.proofs.Common.{◌≡◌, ◌∙◌, ℕ, ◌+◌, ◌<◌, ◌≤◌, true, false, List, [], ◌++◌, length, drop, Option, Some, None, Ok, Err, refl, sym, ap, subst, arith, nat_le, nat_lt, append-nil, length-append, length-drop}
+use Rattle.std.proofs.Common.{◌≡◌, ◌∙◌, ℕ, ◌+◌, ◌<◌, ◌≤◌, true, false, List, [], ◌++◌, length, drop, Option, Some, None, Ok, refl, sym, ap, subst, arith, nat_le, nat_lt, append-nil, length-append}
 use Rattle.std.proofs.lemmas.Bool.Decides.{nat_tests}
-use Rattle.commit_journal.specs.declared.format.TheConstants.{BLANK_LENGTH, FIRST_GATE}
-use Rattle.commit_journal.specs.declared.frame.Frame.{Frame}
-use Rattle.commit_journal.specs.Log.{header_fault, version_of_header, walk, walk_of, closed_at, behind, frames_of, version_of}
+use Rattle.commit_journal.specs.declared.format.TheConstants.{BLANK_LENGTH}
+use Rattle.commit_journal.specs.Log.{header_fault, version_of_header, walk, walk_of, closed_at, behind, version_of}
 use Rattle.commit_journal.proofs.Logs.{frames_blank, version_blank, version_long, frames_walked, frames_wrong, frames_lost}
 use Rattle.entry_history.specs.Payloads.{IsHistory, NoMore}
 use Rattle.journal_input.specs.Coming.{Comes}
 use Rattle.journal_input.specs.Walking.{payloads_of, IsRead, IsUnread, IsBadFrame}
 use Rattle.journal_input.specs.Walking as walking
 use Rattle.journal_input.specs.Contents.{torn_behind, torn_of, IsVerified, IsNoJournal, NoGate, NoPayload}
-use Rattle.journal_input.specs.declared.verified.Verified.{Verified}
 use Rattle.journal_input.proofs.Headers.{header_there, version_there}
 
 pub blank_is : (log window : List ℕ) → log ≡ window → length log < 18

@@ -1,5 +1,5 @@
 -- A walk as its bytes come.
-use Rattle.std.proofs.Common.{◌≡◌, ◌∙◌, ℕ, ◌+◌, ◌<◌, ◌≤◌, true, false, List, [], ◌∷◌, ◌++◌, length, take, drop, map, Option, Some, refl, sym, ap, subst, arith, append_assoc, append-nil, length-append, length-drop}
+use Rattle.std.proofs.Common.{◌≡◌, ◌∙◌, ℕ, ◌+◌, ◌<◌, ◌≤◌, true, List, [], ◌∷◌, ◌++◌, length, take, drop, Option, refl, sym, ap, subst, arith, append_assoc, length-append, length-drop}
 use Rattle.std.proofs.lemmas.List.{map-append}
 use Rattle.std.specs.Prelude.{IsErrOf, Err}
 use Rattle.std.proofs.lemmas.Grind.{common_steps}
@@ -14,7 +14,7 @@ use Rattle.journal_input.specs.declared.gate.Gate.TheVariants as gate
 use Rattle.journal_input.specs.declared.fault.VerifyFault.{VerifyFault}
 use Rattle.journal_input.specs.declared.fault.VerifyFault.TheVariants as verify
 use Rattle.journal_input.specs.Gates.{GateSays}
-use Rattle.journal_input.specs.Walking.{payloads_of, IsBadFrame, IsLostAt, WalksOn, HasTaken, IsRead, IsUnread, NoGate, NoPayload}
+use Rattle.journal_input.specs.Walking.{payloads_of, IsLostAt, WalksOn, HasTaken, IsRead, IsUnread, NoGate, NoPayload}
 
 behind_none : (w : Walk) → behind [] w ≡ w
 behind_none w = refl

@@ -1,5 +1,4 @@
-use Rattle.std.proofs.Common.{◌≡◌, ◌≢◌, ℕ, ◌≤◌, length, get_or, drop, ◌∙◌, ap, arith}
-use Rattle.commit_journal.specs.declared.format.TheConstants.{CLOSED_GATE}
+use Rattle.std.proofs.Common.{get_or, drop, ◌∙◌, ap, arith}
 use Rattle.commit_journal.specs.Log.{payload_length}
 use Rattle.journal_input.proofs.Gates.{opened, no_length, great_length, short_frame, frame_here, no_shorter}
 use Rattle.journal_input.proofs.gate.next_gate.Goals as goal

@@ -1,4 +1,4 @@
-use Rattle.std.proofs.Common.{inl, inr, ◌∙◌, sym, arith, length}
+use Rattle.std.proofs.Common.{inl, inr, ◌∙◌, sym, arith}
 use Rattle.journal_input.specs.declared.header.TheConstants.{HEADER_1, HEADER_2}
 use Rattle.commit_journal.proofs.Header.{differing_passes, differing_here}
 use Rattle.journal_input.proofs.Headers.{none_differs}

@@ -1,4 +1,4 @@
-use Rattle.std.proofs.Common.{◌≡◌, ℕ, ◌+◌, List, drop, length, length-drop, ◌∙◌, ap, sym, subst, arith}
+use Rattle.std.proofs.Common.{◌≡◌, drop, length, length-drop, ◌∙◌, ap, sym, subst, arith}
 use Rattle.std.specs.Prelude.{Err}
 use Rattle.commit_journal.specs.Log.{header_fault, version_of_header, walk}
 use Rattle.journal_input.specs.Walking.{IsUnread, IsRead}

@@ -1,5 +1,4 @@
-use Rattle.std.proofs.Common.{◌≡◌, ℕ, ◌<◌, List, ◌++◌, ◌∷◌, [], take, drop, length, ◌∙◌, ap, sym, subst, refl, arith}
-use Rattle.journal_input.specs.Coming.{Comes}
+use Rattle.std.proofs.Common.{◌++◌, ◌∷◌, [], take, drop, ◌∙◌, ap, sym, subst, refl, arith}
 use Rattle.journal_input.specs.Gates.{GateSays, GateIn}
 use Rattle.journal_input.specs.Walking.{IsLostAt}
 use Rattle.commit_journal.specs.Log.{walk}

@@ -1,11 +1,10 @@
-use Rattle.std.proofs.Common.{◌≡◌, ℕ, ◌<◌, ◌≤◌, List, ◌++◌, ◌∷◌, [], take, drop, length, ◌∙◌, ap, sym, subst, refl, arith}
-use Rattle.std.specs.Prelude.{Err, IfErr}
+use Rattle.std.proofs.Common.{take, drop, length, ◌∙◌, ap, sym, subst, arith}
+use Rattle.std.specs.Prelude.{Err}
 use Rattle.commit_journal.specs.Log.{walk}
 use Rattle.entry_history.specs.Readers.{Taken, HoldsNone}
-use Rattle.journal_input.specs.Coming.{Comes, ComesOn}
 use Rattle.journal_input.specs.Gates.{GateSays, GateIn}
-use Rattle.journal_input.specs.Walking.{HasTaken, WalksOn, IsRead, IsLostAt, IsUnread, NoGate}
-use Rattle.journal_input.proofs.Walks.{taken_none, taken_more, read_all, ends_lost, walks_comes, walks_frame, unread_bad, unread_behind, same_place, same_fault}
+use Rattle.journal_input.specs.Walking.{HasTaken, IsRead, IsLostAt, IsUnread, NoGate}
+use Rattle.journal_input.proofs.Walks.{taken_none, taken_more, read_all, ends_lost, walks_frame, unread_bad, unread_behind, same_place, same_fault}
 use Rattle.journal_input.proofs.walking.take_frames.Goals as goal
 
 pub gates-init : goal.gates-init

@@ -1,4 +1,4 @@
-use Rattle.std.proofs.Common.{length, ◌∙◌, sym, ap, arith, ℕ}
+use Rattle.std.proofs.Common.{length, ap, arith, ℕ}
 use Rattle.journal_input.proofs.Comings.{comes_passed}
 use Rattle.journal_input.proofs.coming.Coming.total.Goals as goal
 
