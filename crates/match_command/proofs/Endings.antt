@@ -64,7 +64,7 @@ module _ (journal out : List ℕ) (o : Outcome) where
   }
 
   -- what is due of the history of a journal that was opened, written so far as it could be
-  pub record WasRead (history : List Entry) : Type 0 where
+  pub record WasRead (history : List Entry) : Type 1 where
     pub keeps : (failed : Type 0) → o.old.tells ≡ true → KeepsHistory failed o.old o.new journal
     pub has : o.old.tells ≡ true → HasHistory history (log_bytes o.old journal)
     pub within : IsWithin journal_limits history

@@ -80,7 +80,12 @@ impl<'a> Groups<'a> {
     }
 
     /// Takes what is next behind a group that may grow.
-    fn take(&mut self, alloc: Global, group: &mut Group<'a>, next: &Held<'a>) -> Result<(), NoMemory>
+    fn take(
+        &mut self,
+        alloc: Global,
+        group: &mut Group<'a>,
+        next: &Held<'a>,
+    ) -> Result<(), NoMemory>
         ensures { OnOk result ((rest : List Holding) → self.new ++ matches_from group.new rest ≡ self.old ++ matches_from group.old (next.now ∷ rest)) }
     {
         if group.number.is_same(next.number) {
@@ -107,7 +112,10 @@ impl Groups<'_> {
 
 /// The groups of two or more among holdings in order.
 #[tactic(auto, using(crate::proofs::Walks::matches_walked))]
-pub(crate) fn groups_among<'a>(alloc: Global, held: BTreeSet<Held<'a>>) -> Result<Groups<'a>, NoMemory>
+pub(crate) fn groups_among<'a>(
+    alloc: Global,
+    held: BTreeSet<Held<'a>>,
+) -> Result<Groups<'a>, NoMemory>
     ensures { IfOk result (λ groups. groups ≡ filter is_match (groups_of held.entry.keys)) }
 {
     let mut groups = Groups {

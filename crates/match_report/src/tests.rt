@@ -1,5 +1,5 @@
-use crate::isbn::isbn_of;
 use crate::Matches;
+use crate::isbn::isbn_of;
 use marc_types::{Text, can_be_code};
 use outside_mem::MemSink;
 use reading::prepare;
@@ -7,15 +7,20 @@ use std::alloc::Global;
 use std::process::Abort;
 use std::test::Fail;
 
-const TEN: &[u8] = b"00068nam a2200049 a 4500001000300000020001500003\x1eb1\x1e  \x1fa0306406152\x1e\x1d";
+const TEN: &[u8] =
+    b"00068nam a2200049 a 4500001000300000020001500003\x1eb1\x1e  \x1fa0306406152\x1e\x1d";
 
-const THIRTEEN: &[u8] = b"00082nam a2200049 a 4500001000300000020002900003\x1eb2\x1e  \x1fa978-0-306-40615-7 (pbk.)\x1e\x1d";
+const THIRTEEN: &[u8] =
+    b"00082nam a2200049 a 4500001000300000020002900003\x1eb2\x1e  \x1fa978-0-306-40615-7 (pbk.)\x1e\x1d";
 
-const WITHOUT: &[u8] = b"00062nam a2200049 a 4500001000300000245000900003\x1eb2\x1e00\x1faBare\x1e\x1d";
+const WITHOUT: &[u8] =
+    b"00062nam a2200049 a 4500001000300000245000900003\x1eb2\x1e00\x1faBare\x1e\x1d";
 
-const TWICE: &[u8] = b"00139nam a2200073 a 4500001000300000010001700003020003000020020001500050\x1eb3\x1e  \x1fa   85123456 \x1e  \x1fa0306406152\x1fa9780306406157\x1e  \x1fa0306406153\x1e\x1d";
+const TWICE: &[u8] =
+    b"00139nam a2200073 a 4500001000300000010001700003020003000020020001500050\x1eb3\x1e  \x1fa   85123456 \x1e  \x1fa0306406152\x1fa9780306406157\x1e  \x1fa0306406153\x1e\x1d";
 
-const BY_LCCN: &[u8] = b"00066nam a2200049 a 4500001000300000010001300003\x1eb0\x1e  \x1fa85123456\x1e\x1d";
+const BY_LCCN: &[u8] =
+    b"00066nam a2200049 a 4500001000300000010001300003\x1eb0\x1e  \x1fa85123456\x1e\x1d";
 
 const DELETED: &[u8] = b"00041dam a2200037 a 4500001000300000\x1eb1\x1e\x1d";
 
@@ -37,7 +42,10 @@ fn told(rt: &impl Abort, alloc: Global, pieces: &[&[u8]]) -> Result<Vec<u8>, Fai
 #[test]
 fn older_and_todays_form_match(rt: HostRuntime) -> Result<(), Fail> {
     let lines = told(&rt, rt.alloc(), &[TEN, THIRTEEN])?;
-    assert_eq!(&rt; lines.as_slice(), b"ISBN 9780306406157 (ULIB)b1 (ULIB)b2\nTOTAL groups=1\n".as_slice());
+    assert_eq!(&rt;
+        lines.as_slice(),
+        b"ISBN 9780306406157 (ULIB)b1 (ULIB)b2\nTOTAL groups=1\n".as_slice()
+    );
     Ok(())
 }
 
@@ -51,7 +59,10 @@ fn a_replaced_record_matches_no_more(rt: HostRuntime) -> Result<(), Fail> {
 #[test]
 fn a_deleted_record_matches_no_more(rt: HostRuntime) -> Result<(), Fail> {
     let lines = told(&rt, rt.alloc(), &[TEN, THIRTEEN, TWICE, DELETED, BY_LCCN])?;
-    assert_eq!(&rt; lines.as_slice(), b"ISBN 9780306406157 (ULIB)b2 (ULIB)b3\nLCCN 85123456 (ULIB)b0 (ULIB)b3\nTOTAL groups=2\n".as_slice());
+    assert_eq!(&rt;
+        lines.as_slice(),
+        b"ISBN 9780306406157 (ULIB)b2 (ULIB)b3\nLCCN 85123456 (ULIB)b0 (ULIB)b3\nTOTAL groups=2\n".as_slice()
+    );
     Ok(())
 }
 

@@ -1,4 +1,4 @@
-use Rattle.std.proofs.Common.{◌≡◌, ◌∙◌, Some, ap, subst}
+use Rattle.std.proofs.Common.{◌≡◌, ◌∙◌, true, Some, ap, subst}
 use Rattle.std.proofs.lemmas.Result.{on_ok_weaker}
 use Rattle.catalogue_rules.specs.Settle.{state_of}
 use Rattle.output_files.specs.Outputs.{IsPartWritten}
@@ -11,7 +11,11 @@ pub returns-clause-bytes : goal.returns-clause-bytes
 returns-clause-bytes g c =
     let due : lines_of (matches_of c.in-Ok.table) ≡ match_report_of (state_of c.args.items.now) =
     ap (λ rows. lines_of (matches_of rows)) c.in-Ok.ensures ∙ lines_are_of_state c.args.items.now in
-    on_ok_weaker _ (λ bytes told. bytes told ∙ ap (λ lines. Some lines) due) c.write_table.ensures.bytes
+    let seen = g.R.Room.seen in
+    let whole : ((seen c.args.room.now).tells ≡ true → (seen c.write_table.new.room).file c.args.name.now ≡ Some (lines_of (matches_of c.in-Ok.table)))
+        → (seen c.args.room.now).tells ≡ true → (seen c.write_table.new.room).file c.args.name.now ≡ Some (match_report_of (state_of c.args.items.now)) =
+    λ bytes told. bytes told ∙ ap (λ lines. Some lines) due in
+    on_ok_weaker _ whole c.write_table.ensures.bytes
 
 pub returns-clause-part : goal.returns-clause-part
 returns-clause-part g c told =
