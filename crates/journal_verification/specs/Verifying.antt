@@ -10,7 +10,7 @@ use Rattle.console_lines.specs.declared.end.End.{End}
 use Rattle.console_lines.specs.declared.end.End.TheVariants.{Done, Refused, Unwritten, Told}
 use Rattle.console_lines.specs.declared.end.Unwritten.TheVariants.{Out, Report, Console}
 use Rattle.console_lines.specs.declared.fault.Fault.{Fault}
-use Rattle.console_lines.specs.declared.fault.Fault.TheVariants.{Usage, Input, Device, NotAJournal, Full, Memory, OldVersion}
+use Rattle.console_lines.specs.declared.fault.Fault.TheVariants.{Usage, Input, Device, NotAJournal, Full, Memory, OldVersion, OtherHistory}
 use Rattle.journal_input.specs.Contents.{IsVerified, IsNoJournal}
 use Rattle.journal_input.specs.declared.verified.Verified.{Verified}
 
@@ -43,6 +43,7 @@ EndsVerifying (Told (NotAJournal place)) = Unit {0}
 EndsVerifying (Told Full) = ⊥
 EndsVerifying (Told Memory) = Unit {0}
 EndsVerifying (Told OldVersion) = ⊥
+EndsVerifying (Told OtherHistory) = ⊥
 
 -- the file is a journal, and the console was told what it has
 pub record IsToldWhole (log : List ℕ) (told now : Option (List ℕ)) : Type 0 where

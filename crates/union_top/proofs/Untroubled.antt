@@ -47,6 +47,7 @@ verified_well (Told (fault.NotAJournal place)) kind console input none = absurd 
 verified_well (Told fault.Full) kind console input none = absurd kind
 verified_well (Told fault.Memory) kind console input none = inr refl
 verified_well (Told fault.OldVersion) kind console input none = absurd kind
+verified_well (Told fault.OtherHistory) kind console input none = absurd kind
 
 told_well : (end : End) → EndsTelling end → (end ≡ console_unwritten → ⊥) → IsAllDone end ⊎ (end ≡ Told fault.Memory)
 told_well Done kind console = inl tt
