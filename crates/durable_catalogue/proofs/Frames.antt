@@ -14,6 +14,10 @@ pub no_mark : (mark : Option (Snapshot (List Entry))) → is_some mark ≡ false
 no_mark None whole = refl
 no_mark (Some frame) whole = cc
 
+pub no_mark_was : (mark : Option (Snapshot (List Entry))) → mark_of mark ≡ None → mark ≡ None
+no_mark_was None none = refl
+no_mark_was (Some frame) none = cc
+
 pub none_marked : (mark : Option (Snapshot (List Entry))) → is_some mark ≡ false → marked (mark_of mark) ≡ []
 none_marked mark whole = ap marked (no_mark mark whole)
 

@@ -1,8 +1,10 @@
+pub mod Called
 pub mod Fits
 pub mod Frames
 pub mod Histories
 pub mod Images
 pub mod Keeping
+pub mod Lastings
 pub mod Loads
 pub mod Opened
 pub mod Readings

@@ -1,6 +1,8 @@
+pub mod Calls
 pub mod Durables
 pub mod Faults
 pub mod Images
+pub mod Lasting
 pub mod Logs
 pub mod Openings
 pub mod Questions

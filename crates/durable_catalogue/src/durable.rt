@@ -4,6 +4,7 @@ ghost use Rattle.marc_types.specs.declared.entry.Entry.{Entry};
 ghost use Rattle.marc_types.specs.declared.entry.CommitFault.TheVariants.{DeviceFault};
 ghost use Rattle.outside.specs.Disk.{LeavesOnly};
 ghost use Rattle.outside.specs.Fault.{Rose};
+ghost use Rattle.commit_journal.specs.Journal.{IsSettled};
 ghost use Rattle.commit_journal.specs.Log.{version_of};
 ghost use Rattle.entry_record.specs.History.{with_run, next_run, IsWithin};
 ghost use Rattle.catalogue_rules.specs.Receipts.{receipts_behind};
@@ -15,6 +16,7 @@ ghost use Rattle.durable_catalogue.specs.declared.fault.OpenFault.{OpenFault};
 ghost use Rattle.durable_catalogue.specs.Openings.{IsUnopened, IsOpening, KeepsContent};
 ghost use Rattle.durable_catalogue.specs.Refused.{LeavesDiskAlone, IsPutInOrder};
 ghost use Rattle.durable_catalogue.specs.Images.{Holds, HasFrameOrNot};
+ghost use Rattle.durable_catalogue.specs.Lasting.{GoesOn};
 ghost use Rattle.durable_catalogue.specs.Durables.{mark_of, marked, events, is_taken, TookNothing, opening, IsKept, IsLeft, IsLostBy, IsSameOpening};
 
 use crate::OpenFault;
@@ -58,6 +60,7 @@ pub struct Durable<D: Disk> {
     ghost follows: { CanFollow core.history run },
     ghost kept: { IsKept opened core.history (marked (mark_of mark)) (D.seen before.value) (D.seen first.value.disk) (D.seen journal.disk) },
     ghost rose: { is_some mark ≡ true → Rose (D.seen before.value).faults (D.seen journal.disk).faults },
+    ghost few: { length (marked (mark_of mark)) ≤ 32 },
 }
 
 /// A commit that added nothing.
@@ -157,6 +160,10 @@ impl<D: Disk> Durable<D> {
         ensures disk { result ≡ self.journal.disk }
         ensures left { IsLeft (opening self.limits self.run self.opened (D.seen self.before.value) (D.seen self.first.value.disk))
             self.core.history (marked (mark_of self.mark)) (D.seen result) }
+        ensures few { length (marked (mark_of self.mark)) ≤ 32 }
+
+        // Without a mark the log ends with its closed gate, and is all that a crash may leave; it has exactly the history.
+        ensures settled { self.mark ≡ None → IsSettled self.journal.place 2 (D.seen result) }
         ensures whole { self.mark ≡ None → (log c : List ℕ) → (D.seen result).content ≡ Some log → (D.seen result).image c → HasHistory self.core.history c }
         ensures cause { is_some self.mark ≡ true → Rose (D.seen self.before.value).faults (D.seen result).faults }
     {
@@ -177,6 +184,7 @@ impl<D: Disk> Durable<D> {
         ensures crash { (log : List ℕ) → (D.seen self.old.journal.disk).content ≡ Some log → LeavesOnly (D.seen self.old.journal.disk) (D.seen self.new.journal.disk)
             (HasFrameOrNot self.old.core.history frame log) }
         ensures quiet { IfErr result (λ fault. fault ≢ DeviceFault → self.new.journal ≡ self.old.journal) }
+        ensures later { (D.seen self.old.journal.disk).moment ≤ (D.seen self.new.journal.disk).moment }
         ensures cause { IfErr result (λ fault. fault ≡ DeviceFault → Rose (D.seen self.old.journal.disk).faults (D.seen self.new.journal.disk).faults) }
         ensures stays { IsSameOpening self.old.limits self.old.run self.old.opened self.new.limits self.new.run self.new.opened }
         ensures before { self.new.before ≡ self.old.before }
@@ -223,6 +231,14 @@ impl<D: Disk> Durable<D> {
         // Each image at the end of the call has all that was committed by then, whatever this call and those before it answered.
         ensures held { (c : List ℕ) → is_some (D.seen self.new.before.value).content ≡ true → (D.seen self.new.journal.disk).image c
             → Holds (length self.new.core.history) self.new.core.history (marked (mark_of self.new.mark)) c }
+
+        // What was committed before stays at each moment of the call, whatever it answers; an end that is none or Full says that the
+        // frame is committed too, and behind a device fault at most 32 entries are in doubt.
+        ensures goes_on { GoesOn (is_some (D.seen self.old.before.value).content) self.old.core.history self.new.core.history
+            (D.seen self.old.journal.disk) (D.seen self.new.journal.disk) }
+        ensures taken { is_taken result.end ≡ true → self.new.core.history
+            ≡ self.old.core.history ++ fitting self.old.limits self.old.core.history (with_run self.old.run batch) }
+        ensures few { length (marked (mark_of self.new.mark)) ≤ 32 }
 
         // A commit that took nothing made no call on the disk, unless a device failed in it.
         ensures quiet { TookNothing result → self.new.journal ≡ self.old.journal }

@@ -10,6 +10,7 @@ mod archive;
 mod durable;
 mod fault;
 mod fitting;
+pub mod laws;
 mod loading;
 mod seen;
 mod staging;

@@ -1,11 +1,11 @@
 -- A journal in a room: as it is opened, and as it is closed again. The rules are this project's own.
-use Rattle.std.specs.Prelude.{◌≡◌, ℕ, true, List, length, Option, Some, None, is_some}
+use Rattle.std.specs.Prelude.{◌≡◌, ℕ, ◌≤◌, true, List, length, Option, Some, None, is_some}
 use Rattle.marc_types.specs.declared.entry.Entry.{Entry}
 use Rattle.marc_types.specs.declared.entry.Limits.{Limits}
-use Rattle.outside.specs.Disk.{DiskView, SameDisk}
+use Rattle.outside.specs.Disk.{DiskView, SameDisk, OnlyContent}
 use Rattle.outside.specs.Room.{RoomView, bytes_or_none}
-use Rattle.commit_journal.specs.Log.{version_of}
-use Rattle.commit_journal.specs.Journal.{LeavesLog, in_order}
+use Rattle.commit_journal.specs.Log.{walk_of, version_of}
+use Rattle.commit_journal.specs.Journal.{EndsAt, LeavesLog, in_order}
 use Rattle.entry_record.specs.History.{next_run, IsWithin}
 use Rattle.durable_catalogue.specs.Logs.{HasHistory}
 use Rattle.durable_catalogue.specs.Images.{Holds}
@@ -36,8 +36,9 @@ pub record IsOpenedFrom (room : RoomView) (name : List ℕ) (entries : List Entr
   pub faults : o.faults ≡ 0
   pub synced : o.dated ≡ true → is_some o.synced ≡ true
 
--- A catalogue of these entries, with those of a frame that a device failed to take, was closed as the log of that name: what a
--- crash may leave of it, and the file.
+-- A catalogue of these entries, with those of a frame that a device failed to take, at most 32, was closed as the log of that name:
+-- what a crash may leave of it, and the file. Without a mark the file ends with its first closed gate, and is all that a crash may
+-- leave.
 pub record IsClosedTo (room : RoomView) (name : List ℕ) (entries : List Entry) (mark : Option (List Entry)) (o : Opening) : Type 0 where
   pub closed : room.has_log name ≡ true
   pub left : IsLeft o entries (marked mark) (room.log name)
@@ -45,6 +46,9 @@ pub record IsClosedTo (room : RoomView) (name : List ℕ) (entries : List Entry)
   pub file : room.file name ≡ Some bytes
   pub content : (room.log name).content ≡ Some bytes
   pub holds : Holds (length entries) entries (marked mark) bytes
+  pub few : length (marked mark) ≤ 32
+  pub ended : mark ≡ None → EndsAt (walk_of bytes).place bytes
+  pub only : mark ≡ None → OnlyContent (room.log name)
 
 -- the same of a catalogue as it is seen
 abbrev pub IsOpenedAs : RoomView → List ℕ → DurableView → Type 0
@@ -60,20 +64,30 @@ pub record IsUntouched (old new : RoomView) (name : List ℕ) : Type 0 where
   pub log : old.has_log name ≡ true → SameDisk (old.log name) (new.log name)
 
 -- The log of that name keeps its history: it was not opened, and is as it was; or it was, and its file is left alone, with the
--- history that it had, and so has each image since the first sync. Where a device failed, the file still has the frames that it had.
+-- history that it had, and so has each image since the first sync; of a log that tells its moments and has not synced the file is as
+-- it was. Where a device failed, the file still has the frames that it had.
 pub data KeepsHistory (failed : Type 0) (old new : RoomView) (name : List ℕ) : Type 0 where
   Unopened : IsUntouched old new name → KeepsHistory failed old new name
   Opened : LeavesAlone failed (log_bytes old name) (log_bytes new name)
       → ((entries : List Entry) → HasHistory entries (log_bytes old name) → HasHistory entries (log_bytes new name))
       → ((entries : List Entry) (s : ℕ) (c : List ℕ) → HasHistory entries (log_bytes old name) → (new.log name).synced 0 ≡ Some s → (new.log name).left s c
       → HasHistory entries c)
+      → ((new.log name).dated ≡ true → (new.log name).synced 0 ≡ None → log_bytes new name ≡ log_bytes old name)
       → KeepsHistory failed old new name
 
 -- A log that was opened is in order, and has the frames that it had. It keeps the history that its bytes had: its content has it,
--- and so has each image since the first sync.
+-- and so has each image since the first sync. What was read is durable: it has synced, where it tells its moments, and its content
+-- is all that a crash now may leave.
 pub record KeepsLog (log : List ℕ) (disk : DiskView) : Type 0 where
   pub leaves : LeavesLog log (bytes_or_none disk.content)
   pub bytes : bytes_or_none disk.content ≡ in_order log
   pub content : (entries : List Entry) → HasHistory entries log → HasHistory entries (bytes_or_none disk.content)
   pub images : (entries : List Entry) (s : ℕ) (c : List ℕ) → HasHistory entries log → disk.synced 0 ≡ Some s → disk.left s c
       → HasHistory entries c
+  pub synced : disk.dated ≡ true → is_some (disk.synced 0) ≡ true
+  pub only : (c : List ℕ) → disk.image c → c ≡ bytes_or_none disk.content
+
+-- the closed log of that name is durable: it has synced, where it tells its moments, and its file is all that a crash may leave
+pub record IsDurable (room : RoomView) (name : List ℕ) : Type 0 where
+  pub synced : (room.log name).dated ≡ true → is_some ((room.log name).synced 0) ≡ true
+  pub only : (c : List ℕ) → (room.log name).image c → c ≡ log_bytes room name

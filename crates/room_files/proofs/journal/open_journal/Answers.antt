@@ -1,7 +1,7 @@
 use Rattle.std.proofs.Common.{◌≡◌, ◌∙◌}
 use Rattle.durable_catalogue.specs.declared.fault.OpenFault.TheVariants.{DeviceFault}
 use Rattle.room_files.specs.Journals.{log_bytes}
-use Rattle.room_files.proofs.Journals.{images_keep, content_keeps, refusal_alone, closed_history}
+use Rattle.room_files.proofs.Journals.{images_keep, content_keeps, unsynced_keeps, refusal_alone, closed_history}
 use Rattle.room_files.proofs.journal.open_journal.Goals as goal
 
 pub returns-in-Err-clause-old_first : goal.returns-in-Err-clause-old_first
@@ -24,3 +24,4 @@ returns-in-Err-clause-keeps g c told =
     (refusal_alone was now log was_told begins refused.crash failed refused.left_alone)
     (content_keeps was now log was_told begins refused.crash refused.content)
     (images_keep was now log was_told begins refused.crash)
+    (unsynced_keeps was now log was_told begins refused.crash)

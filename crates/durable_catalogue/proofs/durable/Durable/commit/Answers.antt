@@ -1,16 +1,18 @@
-use Rattle.std.proofs.Common.{◌≡◌, [], Some, is_some, length, refl, sym, ap, subst, ◌∙◌, arith}
+use Rattle.std.proofs.Common.{◌≡◌, true, false, [], ◌++◌, Some, is_some, length, refl, sym, ap, subst, ◌∙◌, arith}
+use Rattle.std.proofs.lemmas.List.{append-nil}
 use Rattle.std.specs.List.{All}
 use Rattle.marc_types.specs.declared.entry.CommitFault.TheVariants.{Full}
 use Rattle.entry_record.specs.History.{with_run}
 use Rattle.catalogue_core.specs.Catalogues.{all_entries}
 use Rattle.entry_history.specs.Commits.{Origin, fitting}
 use Rattle.entry_history.specs.declared.reply.BatchReply.{BatchReply}
-use Rattle.durable_catalogue.specs.Durables.{mark_of, marked, events, IsKept}
+use Rattle.durable_catalogue.specs.Durables.{mark_of, marked, events, is_taken, IsKept}
 use Rattle.durable_catalogue.proofs.Fits.{runs_fit, with_run_runs}
 use Rattle.durable_catalogue.proofs.Frames.{no_mark, none_marked}
 use Rattle.durable_catalogue.proofs.Keeping.{IsDisk, still_only, each_image}
+use Rattle.durable_catalogue.proofs.Lastings.{stays_on, goes_on, lost_untaken}
 use Rattle.durable_catalogue.proofs.Stages.{some_receipt}
-use Rattle.durable_catalogue.proofs.Replies.{IsTaken, adds, broken_reply, none_fits, part_is, whole_reply, part_reply, lost_reply}
+use Rattle.durable_catalogue.proofs.Replies.{IsTaken, adds, broken_reply, none_fits, part_fits, part_is, whole_reply, part_reply, lost_reply}
 use Rattle.durable_catalogue.proofs.durable.Durable.commit.Goals.{then-len, else-len}
 use Rattle.durable_catalogue.proofs.durable.Durable.commit.Goals as goal
 
@@ -115,3 +117,66 @@ returns-in-Ok-clause-held g c image told is = c.commit_frame.new.self.kept.image
 
 pub returns-in-Err-clause-held : goal.returns-in-Err-clause-held
 returns-in-Err-clause-held g c image told is = c.commit_frame.new.self.kept.images image told is
+
+pub returns-then-is_broken-clause-goes_on : goal.returns-then-is_broken-clause-goes_on
+returns-then-is_broken-clause-goes_on g c =
+    let self = c.args.self.now in
+    let seen = g.D.Disk.seen in
+    stays_on (is_some (seen self.before.value).content) self.core.history (seen self.journal.disk)
+
+pub returns-in_default-clause-goes_on : goal.returns-in_default-clause-goes_on
+returns-in_default-clause-goes_on g c =
+    let self = c.args.self.now in
+    let seen = g.D.Disk.seen in
+    stays_on (is_some (seen self.before.value).content) self.core.history (seen self.journal.disk)
+
+pub returns-in-Ok-clause-goes_on : goal.returns-in-Ok-clause-goes_on
+returns-in-Ok-clause-goes_on g c =
+    let self = c.args.self.now in
+    let now = c.commit_frame.new.self in
+    let seen = g.D.Disk.seen in
+    goes_on (is_some (seen self.before.value).content) self.core.history c.in-Some.frame c.in-Some.frame now.core.history (seen self.journal.disk) (seen now.journal.disk)
+    self.kept.tells c.in-Ok.ensures.added c.commit_frame.ensures.later c.commit_frame.ensures.crash
+
+pub returns-in-Err-clause-goes_on : goal.returns-in-Err-clause-goes_on
+returns-in-Err-clause-goes_on g c =
+    let self = c.args.self.now in
+    let now = c.commit_frame.new.self in
+    let seen = g.D.Disk.seen in
+    goes_on (is_some (seen self.before.value).content) self.core.history [] c.in-Some.frame now.core.history (seen self.journal.disk) (seen now.journal.disk)
+    self.kept.tells (c.in-Err.ensures.nothing ∙ sym (append-nil self.core.history)) c.commit_frame.ensures.later c.commit_frame.ensures.crash
+
+pub returns-then-is_broken-clause-taken : goal.returns-then-is_broken-clause-taken
+returns-then-is_broken-clause-taken g c taken = let no : false ≡ true = sym (ap is_taken c.nothing.ensures.end) ∙ taken in cc
+
+pub returns-in_default-clause-taken : goal.returns-in_default-clause-taken
+returns-in_default-clause-taken g c taken =
+    let self = c.args.self.now in
+    let o : Origin = record { limits = self.limits; run = self.run } in
+    sym (append-nil self.core.history)
+    ∙ ap (λ es. self.core.history ++ es) (part_fits o self.core c.args.batch c.set_run.new.self [] self.unstaged c.set_run.ensures (sym c.in_default.ensures.none))
+
+pub returns-in-Ok-clause-taken : goal.returns-in-Ok-clause-taken
+returns-in-Ok-clause-taken g c taken =
+    let self = c.args.self.now in
+    let o : Origin = record { limits = self.limits; run = self.run } in
+    c.in-Ok.ensures.added
+    ∙ ap (λ es. self.core.history ++ es) (part_fits o self.core c.args.batch c.set_run.new.self c.in-Some.frame self.unstaged c.set_run.ensures c.in-Some.ensures.part)
+
+pub returns-in-Err-clause-taken : goal.returns-in-Err-clause-taken
+returns-in-Err-clause-taken g c taken =
+    let no : false ≡ true =
+    sym (lost_untaken c.in-Err.fault c.nothing-in-Err.result.end (mark_of c.commit_frame.new.self.mark) c.in-Some.frame c.nothing-in-Err.ensures.end c.in-Err.ensures.fault) ∙ taken in
+    cc
+
+pub returns-then-is_broken-clause-few : goal.returns-then-is_broken-clause-few
+returns-then-is_broken-clause-few g c = c.args.self.now.few
+
+pub returns-in_default-clause-few : goal.returns-in_default-clause-few
+returns-in_default-clause-few g c = c.args.self.now.few
+
+pub returns-in-Ok-clause-few : goal.returns-in-Ok-clause-few
+returns-in-Ok-clause-few g c = c.commit_frame.new.self.few
+
+pub returns-in-Err-clause-few : goal.returns-in-Err-clause-few
+returns-in-Err-clause-few g c = c.commit_frame.new.self.few

@@ -1,4 +1,4 @@
-use Rattle.std.proofs.Common.{[], sym, ap, subst, ◌∙◌, arith}
+use Rattle.std.proofs.Common.{◌≤◌, [], length, sym, ap, subst, ◌∙◌, arith}
 use Rattle.std.specs.List.{All}
 use Rattle.commit_journal.specs.declared.frame.Frame.{Frame}
 use Rattle.commit_journal.specs.Journal.{IsSettled}
@@ -43,6 +43,7 @@ invariant_of-self-in-Ok-appended g c =
       kept = subst (λ more. IsKept self.opened c.keep.new.self.history more before first (seen c.append-appended.new.self.disk)) (sym (none_marked self.mark c.requires.whole))
           (subst (λ es. IsKept self.opened es [] before first (seen c.append-appended.new.self.disk)) (sym (ap (λ core. core.history) now)) committed);
       rose = λ marked. let whole = c.requires.whole in cc;
+      few = self.few;
     }
 
 pub invariant_of-self-in-Err : goal.invariant_of-self-in-Err
@@ -72,6 +73,7 @@ invariant_of-self-in-Err g c =
       kept = subst (λ more. IsKept self.opened c.undo.new.self.history more before first (seen c.append-appended.new.self.disk)) (sym c.of-mark.ensures)
           (subst (λ es. IsKept self.opened es c.args.frame before first (seen c.append-appended.new.self.disk)) (sym (ap (λ core. core.history) now)) marked);
       rose = λ marked. omega (arith, rose, earlier);
+      few = subst (λ es. length es ≤ 32) (sym c.of-mark.ensures) parts.batch.few;
     }
 
 pub returns-in-Ok-appended-clause-crash : goal.returns-in-Ok-appended-clause-crash
@@ -101,3 +103,9 @@ returns-in-Err-clause-crash g c log told =
     let held = frame_held self.core.history c.args.frame c.as_slice.result.now self.run self.follows c.requires.some parts.batch (subst (All IsEntry) c.items.ensures.value c.each_can_stand_in_a_payload.ensures) c.requires.run payload in
     frame_or_not self.opened self.core.history (seen self.before.value) (seen self.first.value.disk) (seen self.journal.disk) kept disk self.journal.place settled frame c.args.frame held
     (seen c.append-appended.new.self.disk) log told payload (c.append-appended.ensures.crash log told)
+
+pub returns-in-Ok-appended-clause-later : goal.returns-in-Ok-appended-clause-later
+returns-in-Ok-appended-clause-later g c = c.append-appended.ensures.continues.later
+
+pub returns-in-Err-clause-later : goal.returns-in-Err-clause-later
+returns-in-Err-clause-later g c = c.append-appended.ensures.continues.later

@@ -1,4 +1,4 @@
-use Rattle.std.proofs.Common.{◌≡◌, ◌++◌, [], length, sym, ap, subst, ◌∙◌}
+use Rattle.std.proofs.Common.{◌≡◌, ◌++◌, [], length, sym, ap, subst, ◌∙◌, arith}
 use Rattle.std.proofs.lemmas.List.{append-nil}
 use Rattle.commit_journal.specs.Journal.{IsRecovered}
 use Rattle.entry_history.specs.Readers.{IsVersion}
@@ -34,6 +34,7 @@ invariant_of-result g c =
           (subst (λ b. IsKept (length history) history [] (seen b) (seen c.of-first.result.value.disk) (seen journal.disk)) (sym c.of-before.ensures)
           (subst (λ j. IsKept (length history) history [] (seen c.args.disk) (seen j.disk) (seen journal.disk)) (sym c.of-first.ensures) kept));
       rose = λ none. cc;
+      few = omega arith;
     }
 
 pub returns-in-Ok-load-clause-history : goal.returns-in-Ok-load-clause-history
