@@ -1,5 +1,6 @@
 //! The history of a log of either version.
-ghost use Rattle.std.specs.Prelude.{◌≡◌, ◌≢◌, ◌≤◌, ℕ, List, [], Some, IfOk, IfErr, MatchResult};
+ghost use Rattle.std.specs.Prelude.{◌≡◌, ◌≢◌, ◌≤◌, ℕ, List, [], true, Some, is_some, IfOk, IfErr, MatchResult};
+ghost use Rattle.outside.specs.Disk.{OnlyContent};
 ghost use Rattle.outside.specs.Fault.{Rose};
 ghost use Rattle.durable_catalogue.specs.declared.fault.OpenFault.TheVariants.{DeviceFault, OldVersion};
 ghost use Rattle.durable_catalogue.specs.Faults.{open_fault};
@@ -44,6 +45,12 @@ impl<D: Disk> HistoryLog<D> {
         ensures content { MatchResult result (λ h. KeepsContent (D.seen disk) (D.seen h.journal.disk))
             (λ e. KeepsContent (D.seen disk) (D.seen e.0)) }
         ensures in_order { IfOk result (λ h. IsPutInOrder (D.seen disk) (D.seen h.journal.disk)) }
+
+        // What was read is durable: the log has synced, where it tells its moments, and its content is all that a crash now may leave.
+        ensures synced { IfOk result (λ h. (D.seen disk).dated ≡ true → is_some ((D.seen h.journal.disk).synced (D.seen disk).moment) ≡ true) }
+        ensures only { IfOk result (λ h. OnlyContent (D.seen h.journal.disk)) }
+
+        // A log that is refused is left alone, and each fault comes only where the log is so.
         ensures left_alone { IfErr result (λ e. LeavesDiskAlone (e.1 ≡ DeviceFault) (D.seen disk) (D.seen e.0)) }
         ensures later { MatchResult result (λ h. (D.seen disk).faults ≤ (D.seen h.journal.disk).faults) (λ e. (D.seen disk).faults ≤ (D.seen e.0).faults) }
         ensures fault { IfErr result (λ e. (log : List ℕ) → (D.seen disk).content ≡ Some log → IsUnopened limits log e.1) }

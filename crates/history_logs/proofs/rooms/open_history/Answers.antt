@@ -1,7 +1,7 @@
 use Rattle.std.proofs.Common.{◌≡◌, ◌∙◌}
 use Rattle.durable_catalogue.specs.declared.fault.OpenFault.TheVariants.{DeviceFault}
 use Rattle.room_files.specs.Journals.{log_bytes}
-use Rattle.room_files.proofs.Journals.{images_keep, content_keeps, opening_keeps, refusal_alone, closed_history}
+use Rattle.room_files.proofs.Journals.{images_keep, content_keeps, unsynced_keeps, opening_keeps, refusal_alone, closed_history}
 use Rattle.history_logs.proofs.rooms.open_history.Goals as goal
 
 pub returns-in-Ok-open-clause-kept : goal.returns-in-Ok-open-clause-kept
@@ -10,6 +10,7 @@ returns-in-Ok-open-clause-kept g c told =
     let left = c.in-Ok-open.history.journal.disk in
     opening_keeps (seen c.in-Ok.log) (seen left) (log_bytes (g.R.Room.seen c.args.room.now) c.args.name.now)
     (c.in-Ok.ensures.bytes told) c.in-Ok.ensures.beginning c.in-Ok-open.ensures.crash c.in-Ok-open.ensures.content c.in-Ok-open.ensures.in_order
+    c.in-Ok-open.ensures.synced c.in-Ok-open.ensures.only
 
 pub returns-in-Err-clause-keeps : goal.returns-in-Err-clause-keeps
 returns-in-Err-clause-keeps g c told =
@@ -27,3 +28,4 @@ returns-in-Err-clause-keeps g c told =
     (refusal_alone was now log was_told begins refused.crash failed refused.left_alone)
     (content_keeps was now log was_told begins refused.crash refused.content)
     (images_keep was now log was_told begins refused.crash)
+    (unsynced_keeps was now log was_told begins refused.crash)

@@ -74,3 +74,6 @@ returns-clause-fault g c log told =
     let seen = g.D.Disk.seen in
     subst (λ f. IsUnopened c.args.limits log f) (sym c.fault_of.ensures)
     (unopened (seen c.args.disk) (seen c.in-Err.failed.0) c.args.limits c.in-Err.failed.1 c.in-Err.ensures.fault log told)
+
+pub returns-in-Ok-read_within-clause-only : goal.returns-in-Ok-read_within-clause-only
+returns-in-Ok-read_within-clause-only g c = c.in-Ok.ensures.recovered.settled.only
