@@ -262,10 +262,10 @@ fn time_one_form(count: u32) {
     let mut returns = Steps(vec![u32::MAX; order.len()]);
     for _ in 0..5 {
         let mut index = index(&order);
-        for n in 0..count {
+        for (step, n) in order.iter().enumerate() {
             let start = Instant::now();
-            index.put(n, row(0));
-            puts.note(n as usize, start);
+            index.put(*n, row(0));
+            puts.note(step, start);
         }
         for (step, n) in order.iter().enumerate() {
             let start = Instant::now();
