@@ -25,6 +25,12 @@ fn open(alloc: Global, bytes: &[u8], limits: Limits) -> Result<Durable<MemDisk>,
     }
 }
 
+/// How many entries a log has within limits.
+fn history_len(alloc: Global, bytes: &[u8], limits: Limits) -> Result<u64, OpenFault> {
+    let durable = open(alloc, bytes, limits)?;
+    Ok(durable.core().history_len())
+}
+
 /// A commit into a blank log, whose header is the journal's; the log is opened again, and not within limits of no entry.
 #[test]
 fn a_commit_outlasts_its_catalogue(rt: HostRuntime) -> Result<(), Fail> {
@@ -39,13 +45,14 @@ fn a_commit_outlasts_its_catalogue(rt: HostRuntime) -> Result<(), Fail> {
     assert_eq!(rt; reply.receipts.len(), 1);
     let disk = durable.close();
     assert_eq!(rt; disk.bytes().len(), 210);
-    let again = open(alloc, disk.bytes(), LIMITS)?;
-    assert_eq!(rt; again.core().history_len(), 1);
+    assert_eq!(rt; history_len(alloc, disk.bytes(), LIMITS)?, 1);
     let none = Limits {
         entries: 0,
         bytes: 4096,
     };
-    let refused = open(alloc, disk.bytes(), none);
-    assert_eq!(rt; refused.err(), Some(OpenFault::Full));
+    assert_eq!(rt;
+        history_len(alloc, disk.bytes(), none),
+        Err(OpenFault::Full)
+    );
     Ok(())
 }
