@@ -142,7 +142,10 @@ fn exported<H: Threads + Wait + Sync>(
     requires { (name : List ℕ) → (room_view room).open_as name ≡ None }
 {
     let alloc = rt.alloc();
-    let words = words_of(alloc, format!(in alloc; "export {journal} {EXPORT}")?.as_str())?;
+    let words = words_of(
+        alloc,
+        format!(in alloc; "export {journal} {EXPORT}")?.as_str(),
+    )?;
     let mut room = room;
     let mut console = MemSink::new(alloc, Vec::new(alloc));
     let gate = Doorkeeper::new(Turns::Open);
