@@ -4,13 +4,19 @@
 Records are matched by their first field, the 001. It prints one line for each that isn't the same in both."""
 
 import sys
+from collections import Counter
 
 
 def records(path):
-    """Each record by its first field's text."""
+    """Each record by its first field's text, and by how often that came before."""
     with open(path, "rb") as file:
         pieces = [piece + b"\x1d" for piece in file.read().split(b"\x1d") if piece]
-    return {piece[24:].split(b"\x1e")[1].decode(): piece for piece in pieces}
+    named, seen = {}, Counter()
+    for piece in pieces:
+        name = piece[24:].split(b"\x1e")[1].decode()
+        seen[name] += 1
+        named[name if seen[name] == 1 else "%s, again %d" % (name, seen[name] - 1)] = piece
+    return named
 
 
 def text(piece):
@@ -22,7 +28,7 @@ def main():
     ours, theirs = records(sys.argv[1]), records(sys.argv[2])
     unlike = [name for name in {**ours, **theirs} if ours.get(name) != theirs.get(name)]
     if not unlike:
-        print("the same %d records, in another order or more than once" % len(ours))
+        print("the same %d records, in another order" % len(ours))
         return
     print("%d of %d records differ" % (len(unlike), len({**ours, **theirs})))
     for name in unlike:

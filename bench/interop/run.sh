@@ -13,11 +13,11 @@ mkdir -p "$work"
 jars=$(printf '%s:' /usr/share/java/marc4j*.jar)
 differ=0
 
-# One file of ours and one of a reader's.
+# compare NAME READER THEIRS OURS
 compare() {
-    if [ ! -e "$3" ]; then echo "$1, $2: not there"; return; fi
     if cmp -s "$4" "$3"; then echo "$1, $2: same"; return; fi
     differ=1
+    if [ ! -s "$3" ]; then echo "$1, $2: nothing was written"; return; fi
     echo "$1, $2: $(python3 "$here/differ.py" "$4" "$3")"
 }
 
