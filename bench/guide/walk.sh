@@ -35,6 +35,11 @@ run 1 'union_cat run other.jnl all.out union.rep ALIB=a.mrc BLIB=b.mrc DLC=names
 run 0 'union_cat load names_first.jnl DLC=names.mrc'
 run 1 'union_cat load names_first.jnl ALIB=a.mrc BLIB=b.mrc'
 
+echo '# Records that may be the same'
+cp "$here/../../crates/union_cat/data/everything.mrc" .
+run 1 'union_cat load sample.jnl ULIB=everything.mrc'
+run 0 'union_cat matches sample.jnl same.txt && cat same.txt'
+
 echo '# A copy'
 run 0 'flock --shared --nonblock union.jnl cp union.jnl union.copy && sync union.copy'
 run 0 'cmp union.jnl union.copy && union_cat verify union.copy'

@@ -1,7 +1,7 @@
 -- How a command ends that reads a journal, from what its steps say.
 use Rattle.std.proofs.Common.{◌≡◌, ◌≢◌, ◌∙◌, ◌⊎◌, inl, inr, ℕ, true, List, [], ◌∷◌, Some, refl, sym, ap, subst}
 use Rattle.marc_types.specs.declared.entry.Entry.{Entry}
-use Rattle.outside.specs.Disk.{DiskView, SameDisk}
+use Rattle.outside.specs.Disk.{DiskView}
 use Rattle.outside.specs.Fault.{Rose}
 use Rattle.outside.specs.Room.{RoomView, SameBut}
 use Rattle.durable_catalogue.specs.Logs.{HasHistory}
@@ -16,7 +16,7 @@ use Rattle.console_lines.specs.declared.end.Unwritten.TheVariants.{Out}
 use Rattle.console_lines.specs.declared.fault.Fault.{Fault}
 use Rattle.console_lines.specs.declared.fault.Fault.TheVariants.{Device, Memory}
 use Rattle.console_lines.proofs.Ends.{told_once, told_not_unwritten, told_not_done, done_not_unwritten, never_told}
-use Rattle.room_files.specs.Journals.{journal_limits, log_bytes, KeepsHistory, KeepsLog, IsDurable}
+use Rattle.room_files.specs.Journals.{journal_limits, log_bytes, IsClosedDisk, KeepsHistory, KeepsLog, IsDurable}
 use Rattle.output_files.specs.Outputs.{IsPartWritten, AsItWas}
 use Rattle.room_files.proofs.Journals.{closed_keeps, closed_durable, keeps_where}
 use Rattle.room_files.specs.Faults.{fault_of_opening}
@@ -73,7 +73,7 @@ module _ (journal out : List ℕ) (due : DueView) (o : Outcome) where
     pub part : o.old.tells ≡ true → IsPartWritten (o.old.file out) (o.new.file out) (due_of due history)
 
   pub was_read : (mid : RoomView) (disk : DiskView) (history : List Entry) → journal ≢ out → SameBut o.old mid (journal ∷ [])
-      → (mid.tells ≡ true → o.new.file journal ≡ disk.content) → (mid.tells ≡ true → SameDisk disk (o.new.log journal))
+      → (mid.tells ≡ true → o.new.file journal ≡ disk.content) → (mid.tells ≡ true → IsClosedDisk disk o.new journal)
       → (o.old.tells ≡ true → HasHistory history (log_bytes o.old journal)) → IsWithin journal_limits history
       → (o.old.tells ≡ true → KeepsLog (log_bytes o.old journal) disk)
       → (mid.tells ≡ true → IsPartWritten (mid.file out) (o.new.file out) (due_of due history)) → WasRead history

@@ -1,12 +1,12 @@
 //! What is due of a catalogue, as a file.
 ghost use Rattle.std.specs.Prelude.{◌≡◌, ◌∷◌, [], true, Some, None, OnOk, IfErr};
 ghost use Rattle.std.specs.Option.{option_copied};
-ghost use Rattle.outside.specs.Disk.{SameDisk};
 ghost use Rattle.outside.specs.Fault.{HasCause, HasWriteCause};
 ghost use Rattle.outside.specs.Room.{AsLog, SameBut};
 ghost use Rattle.catalogue_rules.specs.Settle.{state_of};
 ghost use Rattle.catalogue_rules.specs.Output.{export_of};
 ghost use Rattle.output_files.specs.Outputs.{IsPartWritten};
+ghost use Rattle.room_files.specs.Journals.{IsClosedDisk};
 ghost use Rattle.archive_commands.specs.Archives.{kept_keys};
 ghost use Rattle.archive_commands.specs.Reads.{due_view, due_of, IsReport};
 
@@ -101,7 +101,7 @@ pub fn write_archive<R: Room>(
 
     // The log and its file are what the archive left.
     ensures file { (R.seen room.old).tells ≡ true → (R.seen room.new).file journal.now ≡ (R.Log.seen archive.journal.disk).content }
-    ensures log { (R.seen room.old).tells ≡ true → SameDisk (R.Log.seen archive.journal.disk) ((R.seen room.new).log journal.now) }
+    ensures log { (R.seen room.old).tells ≡ true → IsClosedDisk (R.Log.seen archive.journal.disk) (R.seen room.new) journal.now }
 {
     let written = write_due(alloc, room, out, archive.core(), due);
     close_archive(room, journal, archive);

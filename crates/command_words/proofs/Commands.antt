@@ -16,7 +16,7 @@ use Rattle.command_words.specs.declared.library.Library.{Library}
 use Rattle.command_words.specs.declared.topic.Topic.{Topic}
 use Rattle.command_words.specs.declared.topic.Topic.TheVariants as topic
 use Rattle.command_words.specs.Topics.{topic_of}
-use Rattle.command_words.specs.Command.{Command, Pass, Run, Load, Export, Report, Make, Verify, Help, Version, is_name, differ, split_at_equals, library_of, are_libraries, is_free, number_upto, greatest_seed, are_two_names, pass_of, run_of, load_of, export_of, report_of, make_of, verify_of, help_of, alone, command_of, words_of_files, libraries_of, file_count, names_of, AreNames, IsBounded}
+use Rattle.command_words.specs.Command.{Command, Pass, Run, Load, Export, Report, Make, Verify, Migrate, Matches, Help, Version, is_name, differ, split_at_equals, library_of, are_libraries, is_free, number_upto, greatest_seed, are_two_names, pass_of, run_of, load_of, export_of, report_of, make_of, verify_of, migrate_of, matches_of, help_of, alone, command_of, words_of_files, libraries_of, file_count, names_of, AreNames, IsBounded}
 
 -- a test and what it lets through
 if_some : {A : Type 0} (good : Bool) (a b : A) → (if good then Some a else None) ≡ Some b → (good ≡ true) × (a ≡ b)
@@ -222,6 +222,34 @@ verify_is verb (journal ∷ []) c is =
     subst (IsCommand (verb ∷ journal ∷ [])) parts.1 (bare (verb ∷ journal ∷ []) (Verify journal) refl refl refl tt)
 verify_is verb (journal ∷ other ∷ rest) c is = cc
 
+matches_is : (verb : List ℕ) (words : List (List ℕ)) (c : Command) → matches_of words ≡ Some c → IsCommand (verb ∷ words) c
+matches_is verb [] c is = cc
+matches_is verb (journal ∷ []) c is = cc
+matches_is verb (journal ∷ out ∷ []) c is =
+    let parts = if_some (are_two_names journal out) (Matches journal out) c is in
+    subst (IsCommand (verb ∷ journal ∷ out ∷ [])) parts.1 (record {
+      count = refl;
+      codes = All-nil (λ (l : Library). is_code l.code ≡ true);
+      names = two_names journal out parts.0;
+      files = λ k d less. absurd (omega (arith, less));
+      bounded = tt;
+    })
+matches_is verb (journal ∷ out ∷ other ∷ rest) c is = cc
+
+migrate_is : (verb : List ℕ) (words : List (List ℕ)) (c : Command) → migrate_of words ≡ Some c → IsCommand (verb ∷ words) c
+migrate_is verb [] c is = cc
+migrate_is verb (old ∷ []) c is = cc
+migrate_is verb (old ∷ new ∷ []) c is =
+    let parts = if_some (are_two_names old new) (Migrate old new) c is in
+    subst (IsCommand (verb ∷ old ∷ new ∷ [])) parts.1 (record {
+      count = refl;
+      codes = All-nil (λ (l : Library). is_code l.code ≡ true);
+      names = two_names old new parts.0;
+      files = λ k d less. absurd (omega (arith, less));
+      bounded = tt;
+    })
+migrate_is verb (old ∷ new ∷ other ∷ rest) c is = cc
+
 alone_is : (verb : List ℕ) (words : List (List ℕ)) (one : Command) (c : Command) → IsCommand (verb ∷ words) one → alone one words ≡ Some c
     → IsCommand (verb ∷ words) c
 alone_is verb [] one c good is = let same : one ≡ c = cc in subst (IsCommand (verb ∷ [])) same good
@@ -255,11 +283,13 @@ command_is (verb ∷ words) c is =
     chosen (bytes_eq verb (codes "report")) (report_of words) _ c (report_is verb words c) (
     chosen (bytes_eq verb (codes "make")) (make_of words) _ c (make_is verb words c) (
     chosen (bytes_eq verb (codes "verify")) (verify_of words) _ c (verify_is verb words c) (
+    chosen (bytes_eq verb (codes "matches")) (matches_of words) _ c (matches_is verb words c) (
+    chosen (bytes_eq verb (codes "migrate")) (migrate_of words) _ c (migrate_is verb words c) (
     chosen (bytes_eq verb (codes "help")) (help_of words) _ c (help_is verb words c) (
     chosen (bytes_eq verb (codes "--help")) (alone (Help topic.All) words) _ c (alone_is verb words (Help topic.All) c helped) (
     chosen (bytes_eq verb (codes "-h")) (alone (Help topic.All) words) _ c (alone_is verb words (Help topic.All) c helped) (
     chosen (bytes_eq verb (codes "version")) (alone Version words) _ c (alone_is verb words Version c versioned) (
-    chosen (bytes_eq verb (codes "--version")) (alone Version words) None c (alone_is verb words Version c versioned) (λ none. cc)))))))))))) is
+    chosen (bytes_eq verb (codes "--version")) (alone Version words) None c (alone_is verb words Version c versioned) (λ none. cc)))))))))))))) is
   where
     helped : IsCommand (verb ∷ words) (Help topic.All)
     helped = a_help (verb ∷ words) topic.All

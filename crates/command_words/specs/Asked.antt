@@ -4,7 +4,7 @@ use Rattle.std.specs.Option.{option_copied}
 use Rattle.command_words.specs.Command.{Command}
 use Rattle.command_words.specs.Command as command
 use Rattle.command_words.specs.declared.asked.Request.{Request}
-use Rattle.command_words.specs.declared.asked.Request.TheVariants.{Pass, Run, Load, Export, Report, Make, Verify, Help, Version}
+use Rattle.command_words.specs.declared.asked.Request.TheVariants.{Pass, Run, Load, Export, Report, Make, Verify, Migrate, Matches, Help, Version}
 
 abbrev pub command_asked : Request → Command
 command_asked (Pass out) = command.Pass out.now
@@ -14,6 +14,8 @@ command_asked (Export journal out code) = command.Export journal.now out.now (op
 command_asked (Report journal out) = command.Report journal.now out.now
 command_asked (Make seed count out) = command.Make seed count out.now
 command_asked (Verify journal) = command.Verify journal.now
+command_asked (Matches journal out) = command.Matches journal.now out.now
+command_asked (Migrate old new) = command.Migrate old.now new.now
 command_asked (Help topic) = command.Help topic
 command_asked Version = command.Version
 

@@ -27,6 +27,10 @@ pub data Command : Type 0 where
   Make : ℕ → ℕ → List ℕ → Command
   -- `verify JOURNAL`: what the journal has
   Verify : List ℕ → Command
+  -- `matches JOURNAL OUT`: which records share a number, into the file OUT
+  Matches : List ℕ → List ℕ → Command
+  -- `migrate OLD NEW`: the history of the journal OLD into the journal NEW
+  Migrate : List ℕ → List ℕ → Command
   -- `help`, or `help COMMAND`: how the commands are used, or that one
   Help : Topic → Command
   -- `version`: which version of the program this is
@@ -121,6 +125,14 @@ abbrev pub verify_of : List (List ℕ) → Option Command
 verify_of (journal ∷ []) = command_if (is_name journal) (Verify journal)
 verify_of words = None
 
+abbrev pub matches_of : List (List ℕ) → Option Command
+matches_of (journal ∷ out ∷ []) = command_if (are_two_names journal out) (Matches journal out)
+matches_of words = None
+
+abbrev pub migrate_of : List (List ℕ) → Option Command
+migrate_of (old ∷ new ∷ []) = command_if (are_two_names old new) (Migrate old new)
+migrate_of words = None
+
 abbrev pub help_of : List (List ℕ) → Option Command
 help_of [] = Some (Help All)
 help_of (word ∷ []) = option_map Help (topic_of word)
@@ -142,6 +154,8 @@ command_of (verb ∷ words) =
     else if bytes_eq verb (codes "report") then report_of words
     else if bytes_eq verb (codes "make") then make_of words
     else if bytes_eq verb (codes "verify") then verify_of words
+    else if bytes_eq verb (codes "matches") then matches_of words
+    else if bytes_eq verb (codes "migrate") then migrate_of words
     else if bytes_eq verb (codes "help") then help_of words
     else if bytes_eq verb (codes "--help") then alone (Help All) words
     else if bytes_eq verb (codes "-h") then alone (Help All) words
@@ -159,6 +173,8 @@ words_of_files words (Some (Export journal out code)) = []
 words_of_files words (Some (Report journal out)) = []
 words_of_files words (Some (Make seed count out)) = []
 words_of_files words (Some (Verify journal)) = []
+words_of_files words (Some (Matches journal out)) = []
+words_of_files words (Some (Migrate old new)) = []
 words_of_files words (Some (Help topic)) = []
 words_of_files words (Some Version) = []
 
@@ -175,6 +191,8 @@ file_count (Export journal out code) = 0
 file_count (Report journal out) = 0
 file_count (Make seed count out) = 0
 file_count (Verify journal) = 0
+file_count (Matches journal out) = 0
+file_count (Migrate old new) = 0
 file_count (Help topic) = 0
 file_count Version = 0
 
@@ -187,6 +205,8 @@ names_of (Export journal out code) = journal ∷ out ∷ []
 names_of (Report journal out) = journal ∷ out ∷ []
 names_of (Make seed count out) = out ∷ []
 names_of (Verify journal) = []
+names_of (Matches journal out) = journal ∷ out ∷ []
+names_of (Migrate old new) = old ∷ new ∷ []
 names_of (Help topic) = []
 names_of Version = []
 
@@ -204,5 +224,7 @@ IsBounded (Export journal out code) = Unit {0}
 IsBounded (Report journal out) = Unit {0}
 IsBounded (Make seed count out) = count ≤ most_entries
 IsBounded (Verify journal) = Unit {0}
+IsBounded (Matches journal out) = Unit {0}
+IsBounded (Migrate old new) = Unit {0}
 IsBounded (Help topic) = Unit {0}
 IsBounded Version = Unit {0}

@@ -40,6 +40,16 @@ pub enum Request<'a> {
     Verify {
         journal: &'a str,
     },
+    /// Write which of the journal's records share a number into the file `out`.
+    Matches {
+        journal: &'a str,
+        out: &'a str,
+    },
+    /// Bring the history of the journal `old` into the journal `new`.
+    Migrate {
+        old: &'a str,
+        new: &'a str,
+    },
     /// Tell how the commands are used, or one of them.
     Help {
         topic: Topic,

@@ -12,9 +12,8 @@ fn words_of(alloc: Global, line: &str) -> Result<Words, NoMemory> {
 }
 
 #[test]
-fn good_lines(rt: HostRuntime) -> Result<(), Fail> {
+fn lines_on_journals(rt: HostRuntime) -> Result<(), Fail> {
     let table = [
-        ("pass ./f A=f", Request::Pass { out: "./f" }),
         (
             "run j o r ULIB=f0 ULIB=f1",
             Request::Run {
@@ -54,6 +53,27 @@ fn good_lines(rt: HostRuntime) -> Result<(), Fail> {
                 out: "o",
             },
         ),
+        ("verify ./j", Request::Verify { journal: "./j" }),
+        (
+            "matches a b",
+            Request::Matches {
+                journal: "a",
+                out: "b",
+            },
+        ),
+        ("migrate a b", Request::Migrate { old: "a", new: "b" }),
+    ];
+    for (line, asked) in table {
+        let words = words_of(rt.alloc(), line)?;
+        assert_eq!(rt; request(&words), Some(asked), "{line}");
+    }
+    Ok(())
+}
+
+#[test]
+fn other_lines(rt: HostRuntime) -> Result<(), Fail> {
+    let table = [
+        ("pass ./f A=f", Request::Pass { out: "./f" }),
         (
             "make 18446744073709551615 1048576 o",
             Request::Make {
@@ -70,7 +90,6 @@ fn good_lines(rt: HostRuntime) -> Result<(), Fail> {
                 out: "o",
             },
         ),
-        ("verify ./j", Request::Verify { journal: "./j" }),
         ("help", Request::Help { topic: Topic::All }),
         ("--help", Request::Help { topic: Topic::All }),
         ("-h", Request::Help { topic: Topic::All }),
@@ -87,7 +106,7 @@ fn good_lines(rt: HostRuntime) -> Result<(), Fail> {
 }
 
 #[test]
-fn faulty_lines(rt: HostRuntime) -> Result<(), Fail> {
+fn faulty_lines_with_files(rt: HostRuntime) -> Result<(), Fail> {
     let table = [
         "",
         "pass",
@@ -111,6 +130,18 @@ fn faulty_lines(rt: HostRuntime) -> Result<(), Fail> {
         "run j o r A=f B=o",
         "load j",
         "load j A=f B=j",
+    ];
+    for line in table {
+        let words = words_of(rt.alloc(), line)?;
+        assert_eq!(rt; request(&words), None, "{line}");
+    }
+    assert_eq!(rt; request(&Words::from_vec(Vec::new(rt.alloc()))), None);
+    Ok(())
+}
+
+#[test]
+fn other_faulty_lines(rt: HostRuntime) -> Result<(), Fail> {
+    let table = [
         "export j",
         "export j j",
         "export j o D(",
@@ -126,6 +157,12 @@ fn faulty_lines(rt: HostRuntime) -> Result<(), Fail> {
         "make 1 1",
         "verify",
         "verify j o",
+        "matches a",
+        "matches a a",
+        "matches a b c",
+        "migrate a",
+        "migrate a a",
+        "migrate a b c",
         "help all",
         "help Make",
         "help make pass",
@@ -133,13 +170,11 @@ fn faulty_lines(rt: HostRuntime) -> Result<(), Fail> {
         "-h make",
         "version 2",
         "--version version",
-        "migrate a b",
     ];
     for line in table {
         let words = words_of(rt.alloc(), line)?;
         assert_eq!(rt; request(&words), None, "{line}");
     }
-    assert_eq!(rt; request(&Words::from_vec(Vec::new(rt.alloc()))), None);
     Ok(())
 }
 

@@ -13,6 +13,8 @@ pub enum Topic {
     Report,
     Make,
     Verify,
+    Migrate,
+    Matches,
     Help,
     Version,
 }
@@ -30,6 +32,8 @@ pub fn named_topic(word: &str) -> Option<Topic>
         "report" => Some(Topic::Report),
         "make" => Some(Topic::Make),
         "verify" => Some(Topic::Verify),
+        "migrate" => Some(Topic::Migrate),
+        "matches" => Some(Topic::Matches),
         "help" => Some(Topic::Help),
         "version" => Some(Topic::Version),
         _ => None,

@@ -1,7 +1,7 @@
 ghost use Rattle.std.specs.Prelude.{◌≡◌, ℕ, true, false, length, List, Option, Some, None, IfSome, IfOk, MatchOption, drop, is_some};
 ghost use Rattle.std.specs.List.{list_all};
 ghost use Rattle.marc_types.specs.Valid.{is_code, is_digit};
-ghost use Rattle.command_words.specs.Command.{library_of, are_libraries, is_free, differ, split_at_equals, number_upto, pass_of, run_of, load_of, export_of, report_of, make_of, verify_of, help_of, alone, are_two_names, command_of, words_of_files, libraries_of};
+ghost use Rattle.command_words.specs.Command.{library_of, are_libraries, is_free, differ, split_at_equals, number_upto, pass_of, run_of, load_of, export_of, report_of, make_of, verify_of, migrate_of, matches_of, help_of, alone, are_two_names, command_of, words_of_files, libraries_of};
 ghost use Rattle.command_words.specs.Asked.{command_asked, AsksFor};
 
 use crate::asked::Request;
@@ -207,6 +207,30 @@ fn verify(words: &[Text]) -> Option<Request<'_>>
     }
 }
 
+fn matches(words: &[Text]) -> Option<Request<'_>>
+    ensures { AsksFor result (matches_of words.now) }
+{
+    match words {
+        [journal, out] if are_two_names(journal.as_str(), out.as_str()) => Some(Request::Matches {
+            journal: journal.as_str(),
+            out: out.as_str(),
+        }),
+        _ => None,
+    }
+}
+
+fn migrate(words: &[Text]) -> Option<Request<'_>>
+    ensures { AsksFor result (migrate_of words.now) }
+{
+    match words {
+        [old, new] if are_two_names(old.as_str(), new.as_str()) => Some(Request::Migrate {
+            old: old.as_str(),
+            new: new.as_str(),
+        }),
+        _ => None,
+    }
+}
+
 fn help(words: &[Text]) -> Option<Request<'_>>
     ensures { AsksFor result (help_of words.now) }
 {
@@ -242,6 +266,8 @@ pub fn request(words: &Words) -> Option<Request<'_>>
         "report" => report(rest),
         "make" => make(rest),
         "verify" => verify(rest),
+        "matches" => matches(rest),
+        "migrate" => migrate(rest),
         "help" => help(rest),
         "--help" | "-h" => alone(Request::Help { topic: Topic::All }, rest),
         "version" | "--version" => alone(Request::Version, rest),

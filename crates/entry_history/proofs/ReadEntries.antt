@@ -56,7 +56,7 @@ head_says bytes written ordinal e rest head admitted fits is =
     let parts = parts_same (record_bytes e.rec.leader e.rec.fields) written rest head.behind (length-record_bytes e.rec.leader e.rec.fields ∙ t.1) t.2 in
     (t.0, parts.0)
 
-entry_long : (e : Entry) (rest : List ℕ) → 12 ≤ length (entry_bytes e ++ rest)
+pub entry_long : (e : Entry) (rest : List ℕ) → 12 ≤ length (entry_bytes e ++ rest)
 entry_long e rest = omega (arith, length-append (entry_bytes e) rest, length-entry e)
 
 pub no_ordinal : (bytes : List ℕ) → length bytes < 8 → BeginWithNone bytes

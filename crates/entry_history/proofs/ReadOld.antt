@@ -209,3 +209,20 @@ empty_holds_none payload none entries h = omega (arith, none, ap length h.writte
 pub holds_no_old : (payload bytes : List ℕ) (count : ℕ) (fault : EntryFault) → payload ≡ count ∷ bytes → AreNoOld count bytes fault → HoldsNoneOld payload fault
 holds_no_old payload bytes count BadEntry split none = λ entries h. none entries (held_old payload bytes count entries split h).1
 holds_no_old payload bytes count NoMemory split none = tt
+
+-- an entry takes a byte or more
+so_many : (entries : List Entry) → length entries ≤ length (flat_map old_entry_bytes entries)
+so_many [] = omega arith
+so_many (e ∷ es) =
+    omega (
+      arith,
+      so_many es,
+      length-append (old_entry_bytes e) (flat_map old_entry_bytes es),
+      length-append (old_entry_bytes e) [],
+      ap length (old_parts e []),
+      length-append (to_be_bytes w32 e.loader) (to_be_bytes w64 e.ordinal ++ (length e.library ∷ (e.library
+          ++ (to_be_bytes w32 (record_length e.rec.fields) ++ (record_bytes e.rec.leader e.rec.fields ++ []))))),
+    )
+
+pub so_many_old : (payload bytes : List ℕ) (count : ℕ) (entries : List Entry) → payload ≡ count ∷ bytes → AreOld count bytes entries → length entries ≤ length payload
+so_many_old payload bytes count entries split are = omega (arith, so_many entries, ap length are.written, ap length split)

@@ -5,7 +5,8 @@ use Rattle.std.proofs.lemmas.Grind.{flat_map-append}
 use Rattle.std.proofs.lemmas.List.Elements.{All-push}
 use Rattle.std.proofs.lemmas.List.{take-append-drop, append-nil}
 use Rattle.std.proofs.lemmas.Bool.{both_ways, and_parts}
-use Rattle.std.proofs.lemmas.Option.{get_or_from_slice_get}
+use Rattle.std.proofs.lemmas.Option.{get_or_from_slice_get, slice_get-get_or}
+use Rattle.std.proofs.Math.Seq.{get_or-append_right}
 use Rattle.std.specs.Option.{option_map_or}
 use Rattle.std.specs.Int.{w32, w64, to_be_bytes}
 use Rattle.std.specs.List.{All, flat_map, last_or}
@@ -19,6 +20,7 @@ use Rattle.entry_history.specs.Payloads.{IsEntry, IsOf, CanFollow, IsCount, Hold
 use Rattle.entry_history.specs.Reading.{BeginWith, IsNoEntry, AreEntries, AreNoEntries, AreReadSoFar, HasHead, HasNoHead, HoldsNoneNow, IsNoCode}
 use Rattle.entry_history.specs.declared.fault.EntryFault.{EntryFault}
 use Rattle.entry_history.specs.declared.fault.EntryFault.TheVariants.{BadEntry, NoMemory}
+use Rattle.entry_history.proofs.ReadEntries.{entry_long}
 use Rattle.entry_history.proofs.Spelled.{long_once, short_once, entry_once}
 
 -- the next entry of all that the bytes can be
@@ -259,3 +261,32 @@ last_run_is (f ∷ fs) e is =
 pub code_is_text : (bytes : List ℕ) → is_code bytes ≡ true → IsUtf8 bytes
 unfolding is_code
 code_is_text bytes h = text_of_graphic bytes (code_is_graphic bytes (and_parts _ _ h).1)
+
+-- the run of the last entry behind others
+pub last_run_behind : (before entries : List Entry) (e : Entry) → slice_get entries (length entries - 1) ≡ Some e → last_run (before ++ entries) ≡ e.run
+last_run_behind before [] e is = cc
+last_run_behind before (f ∷ fs) e is =
+    let len = length-append before (f ∷ fs) in
+    let last = length (before ++ f ∷ fs) - 1 in
+    let place : last - length before ≡ length (f ∷ fs) - 1 = omega (arith, len) in
+    ap (λ o. option_map_or (λ (g : Entry). g.run) o 0) (last_else None e (before ++ f ∷ fs) (omega (arith, len)))
+    ∙ ap (λ (g : Entry). g.run)
+    (get_or-append_right before (f ∷ fs) last e (omega (arith, len)) ∙ ap (λ i. get_or (f ∷ fs) i e) place
+    ∙ get_or_from_slice_get (f ∷ fs) (length (f ∷ fs) - 1) e e is)
+
+pub last_run_before : (before entries : List Entry) → slice_get entries (length entries - 1) ≡ None → last_run (before ++ entries) ≡ last_run before
+last_run_before before [] none = ap last_run (append-nil before)
+last_run_before before (f ∷ fs) none =
+    let some : Some (get_or (f ∷ fs) (length (f ∷ fs) - 1) f) ≡ None = sym (slice_get-get_or (f ∷ fs) (length (f ∷ fs) - 1) f (omega arith)) ∙ none in
+    cc
+
+-- an entry takes a byte or more
+so_many : (entries : List Entry) → length entries ≤ length (flat_map entry_bytes entries)
+so_many [] = omega arith
+so_many (e ∷ es) =
+    omega (arith, so_many es, length-append (entry_bytes e) (flat_map entry_bytes es), length-append (entry_bytes e) [], entry_long e [])
+
+pub so_many_bytes : (payload : List ℕ) (run loader : ℕ) (library : List ℕ) (count : ℕ) (bytes : List ℕ) (entries : List Entry)
+    → HasHead payload run loader library count bytes → AreEntries run loader library count bytes entries → length entries ≤ length payload
+so_many_bytes payload run loader library count bytes entries head are =
+    omega (arith, so_many entries, ap length are.written, length-append (payload_head run loader library count) bytes, ap length head.written)

@@ -3,14 +3,17 @@
 #![tactic(auto)]
 
 pub use batch::Batch;
+pub use counter::HistoryCounter;
 pub use event::Event;
 pub use fault::EntryFault;
 pub use reader::HistoryReader;
 pub use reply::{BatchReply, Receipts};
 
 mod batch;
+mod counter;
 mod entry;
 mod event;
+mod extent;
 mod fault;
 pub mod laws;
 mod numbers;

@@ -1,5 +1,5 @@
 //! The reading of a payload of version 1.
-ghost use Rattle.std.specs.Prelude.{◌≡◌, ◌↔◌, IfSome, IfNone, IfOk, IfErr, IsTrue};
+ghost use Rattle.std.specs.Prelude.{◌≡◌, ◌≤◌, ◌↔◌, length, IfSome, IfNone, IfOk, IfErr, IsTrue};
 ghost use Rattle.entry_history.specs.Payloads.{HoldsOld};
 ghost use Rattle.entry_history.specs.Reading.{IsOldHead, BeginOld, BeginWithNoOld, IsNoOldEntry, IsOldItem, AreOld, AreNoOld, HoldsNoneOld};
 
@@ -83,6 +83,7 @@ fn read_entries(alloc: Global, bytes: &[u8], count: u8) -> Result<Vec<Prepared>,
 /// The entries of a payload of version 1.
 pub fn read_payload(alloc: Global, payload: &[u8]) -> Result<Vec<Prepared>, EntryFault>
     ensures holds { IfOk result (λ items. HoldsOld items.items payload.now) }
+    ensures few { IfOk result (λ items. length items.items ≤ length payload.now) }
     ensures bad { IfErr result (HoldsNoneOld payload.now) }
 {
     let Some((count, bytes)) = payload.split_first() else {

@@ -1,12 +1,14 @@
 //! The reading of a payload.
-ghost use Rattle.std.specs.Prelude.{◌≡◌, ◌≤◌, ◌↔◌, true, length, IfSome, IfNone, IfOk, OnOk, IfErr, IsTrue};
+ghost use Rattle.std.specs.Prelude.{◌≡◌, ◌≤◌, ◌↔◌, true, List, length, IfSome, IfNone, IfOk, OnOk, IfErr, IsTrue};
 ghost use Rattle.marc_types.specs.Valid.{is_code};
-ghost use Rattle.entry_record.specs.History.{last_run};
-ghost use Rattle.entry_history.specs.Payloads.{CanFollow, IsCount, HoldsNow};
+ghost use Rattle.entry_history.specs.Payloads.{IsCount, HoldsNow};
+ghost use Rattle.marc_types.specs.declared.entry.Entry.{Entry as AnyEntry};
+ghost use Rattle.entry_history.specs.Readers.{HasExtent};
 ghost use Rattle.entry_history.specs.Reading.{AreEntries, AreNoEntries, HasHead, HasNoHead, HoldsNoneNow, IsNoCode};
 
 use crate::EntryFault;
 use crate::entry::read_entry;
+use crate::extent::Extent;
 use crate::numbers::{long_number, short_number};
 use entry_record::Prepared;
 use marc_types::{Text, can_be_code};
@@ -56,23 +58,6 @@ pub(crate) fn read_library(alloc: Global, bytes: &[u8]) -> Result<Text, EntryFau
     }
 }
 
-/// The run of the last item, or 0.
-fn last_run(items: &[Prepared]) -> u64
-    ensures { result ≡ last_run items.now }
-{
-    match items.last() {
-        Some(item) => item.entry().run,
-        None => 0,
-    }
-}
-
-/// Whether a run can stand behind those of some items.
-fn can_follow(before: &[Prepared], run: u64) -> bool
-    ensures { IsTrue result ↔ CanFollow before.now run }
-{
-    last_run(before) <= run && run.saturating_sub(1) <= before.len() as u64
-}
-
 pub(crate) fn is_count(count: u8) -> bool
     ensures { IsTrue result ↔ IsCount count }
 {
@@ -105,14 +90,15 @@ fn read_entries(
     Ok(items)
 }
 
-/// The entries of a payload of version 2 that follows these.
+/// The entries of a payload of version 2 that follows so many.
 pub fn read_payload(
     alloc: Global,
-    before: &[Prepared],
+    extent: Extent,
     payload: &[u8],
 ) -> Result<Vec<Prepared>, EntryFault>
-    ensures holds { IfOk result (λ items. HoldsNow before.now items.items payload.now) }
-    ensures bad { IfErr result (HoldsNoneNow before.now payload.now) }
+    ensures holds { IfOk result (λ items. (before : List AnyEntry) → HasExtent before extent → HoldsNow before items.items payload.now) }
+    ensures few { IfOk result (λ items. length items.items ≤ length payload.now) }
+    ensures bad { IfErr result (λ fault. (before : List AnyEntry) → HasExtent before extent → HoldsNoneNow before payload.now fault) }
 {
     let Some(head) = read_head(payload) else {
         return Err(EntryFault::BadEntry);
@@ -120,7 +106,7 @@ pub fn read_payload(
     if !is_count(head.count) {
         return Err(EntryFault::BadEntry);
     }
-    if !can_follow(before, head.run) {
+    if !extent.can_follow(head.run) {
         return Err(EntryFault::BadEntry);
     }
     let library = read_library(alloc, head.library)?;

@@ -1,8 +1,10 @@
 //! The reading of a journal's payloads, one behind the other.
-ghost use Rattle.std.specs.Prelude.{◌≡◌, [], IfOk, OnOk, IfErr, OnErr};
+ghost use Rattle.std.specs.Prelude.{◌≡◌, ◌≤◌, [], List, length, IfOk, OnOk, IfErr, OnErr};
+ghost use Rattle.marc_types.specs.declared.entry.Entry.{Entry as AnyEntry};
 ghost use Rattle.entry_history.specs.Payloads.{Holds};
-ghost use Rattle.entry_history.specs.Readers.{IsVersion, Takes, HoldsNone};
+ghost use Rattle.entry_history.specs.Readers.{IsVersion, HasExtent, Takes, HoldsNone};
 
+use crate::extent::Extent;
 use crate::{EntryFault, old, payload};
 use entry_record::Prepared;
 use std::alloc::Global;
@@ -26,22 +28,23 @@ impl Model for HistoryReader {
     ghost invariant = { λ r. IsVersion r.version };
 }
 
-/// The entries of a payload that follows these.
+/// The entries of a payload that follows so many.
 #[tactic(auto, using(crate::proofs::Histories::newer, crate::proofs::Histories::none_newer, crate::proofs::Histories::older, crate::proofs::Histories::none_older))]
-fn read(
+pub(crate) fn read(
     alloc: Global,
     version: u8,
-    before: &[Prepared],
+    extent: Extent,
     bytes: &[u8],
 ) -> Result<Vec<Prepared>, EntryFault>
     requires { IsVersion version }
-    ensures holds { IfOk result (λ items. Holds version before.now items.items bytes.now) }
-    ensures bad { IfErr result (HoldsNone version before.now bytes.now) }
+    ensures holds { IfOk result (λ items. (before : List AnyEntry) → HasExtent before extent → Holds version before items.items bytes.now) }
+    ensures few { IfOk result (λ items. length items.items ≤ length bytes.now) }
+    ensures bad { IfErr result (λ fault. (before : List AnyEntry) → HasExtent before extent → HoldsNone version before bytes.now fault) }
 {
     if version == 1 {
         return old::read_payload(alloc, bytes);
     }
-    payload::read_payload(alloc, before, bytes)
+    payload::read_payload(alloc, extent, bytes)
 }
 
 impl HistoryReader {
@@ -63,7 +66,8 @@ impl HistoryReader {
         ensures bad { IfErr result (HoldsNone self.old.version self.old.entries payload.now) }
         ensures unchanged { OnErr result (self.new ≡ self.old) }
     {
-        let mut read = read(alloc, self.version, self.items.as_slice(), payload)?;
+        let extent = Extent::of(self.items.as_slice());
+        let mut read = read(alloc, self.version, extent, payload)?;
         self.items.append(&mut read)?;
         Ok(())
     }

@@ -1,13 +1,12 @@
 //! The histories of journals in a room.
 ghost use Rattle.std.specs.Prelude.{◌≡◌, ◌≢◌, true, Some, None, IfOk, IfErr, OnOk, OnErr, ◌∷◌, []};
-ghost use Rattle.outside.specs.Disk.{SameDisk};
 ghost use Rattle.outside.specs.Fault.{Rose};
 ghost use Rattle.outside.specs.Room.{AsLog, SameBut};
 ghost use Rattle.durable_catalogue.specs.declared.fault.OpenFault.TheVariants.{DeviceFault, OldVersion};
 ghost use Rattle.durable_catalogue.specs.Logs.{HasHistory};
 ghost use Rattle.durable_catalogue.specs.Openings.{IsUnopened};
 ghost use Rattle.entry_record.specs.History.{IsWithin};
-ghost use Rattle.room_files.specs.Journals.{journal_limits, log_bytes, KeepsHistory, KeepsLog};
+ghost use Rattle.room_files.specs.Journals.{journal_limits, log_bytes, IsClosedDisk, KeepsHistory, KeepsLog};
 
 use crate::log::HistoryLog;
 use durable_catalogue::OpenFault;
@@ -63,7 +62,7 @@ pub fn close_history<R: Room>(room: &mut R, name: &str, history: HistoryLog<R::L
 
     // The log and its file are what the opening left.
     ensures file { (R.seen room.old).tells ≡ true → (R.seen room.new).file name.now ≡ (R.Log.seen history.journal.disk).content }
-    ensures log { (R.seen room.old).tells ≡ true → SameDisk (R.Log.seen history.journal.disk) ((R.seen room.new).log name.now) }
+    ensures log { (R.seen room.old).tells ≡ true → IsClosedDisk (R.Log.seen history.journal.disk) (R.seen room.new) name.now }
 {
     room.close_log(name, history.close());
 }

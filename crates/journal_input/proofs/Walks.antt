@@ -1,13 +1,14 @@
 -- A walk as its bytes come.
 use Rattle.std.proofs.Common.{◌≡◌, ◌∙◌, ℕ, ◌+◌, ◌<◌, ◌≤◌, true, List, [], ◌∷◌, ◌++◌, length, take, drop, Option, refl, sym, ap, subst, arith, append_assoc, length-append, length-drop}
-use Rattle.std.proofs.lemmas.List.{map-append}
+use Rattle.std.proofs.lemmas.List.{map-append, length-take}
 use Rattle.std.specs.Prelude.{IsErrOf, Err}
 use Rattle.std.proofs.lemmas.Grind.{common_steps}
 use Rattle.marc_types.specs.declared.entry.Entry.{Entry}
 use Rattle.commit_journal.specs.declared.frame.Frame.{Frame}
 use Rattle.commit_journal.specs.Log.{Walk, walk, closed_at, lost_at, behind}
 use Rattle.entry_history.specs.Payloads.{Holds, IsHistory, NoMore}
-use Rattle.entry_history.specs.Readers.{Taken, Takes}
+use Rattle.entry_history.specs.Readers.{HasExtent, Counted, Counts}
+use Rattle.entry_history.specs.declared.extent.Extent.{Extent}
 use Rattle.entry_history.proofs.Histories.{history_more}
 use Rattle.journal_input.specs.Coming.{Comes, ComesOn}
 use Rattle.journal_input.specs.declared.gate.Gate.TheVariants as gate
@@ -82,41 +83,44 @@ module _ (from place count next : ℕ) (bytes window filled passed payload : Lis
 payloads_more : (frames : List Frame) (f : Frame) → payloads_of (frames ++ f ∷ []) ≡ payloads_of frames ++ f.payload ∷ []
 payloads_more frames f = map-append (λ g. g.payload) frames (f ∷ [])
 
-pub taken_none : (version from : ℕ) (bytes window : List ℕ) (left : Option (List ℕ)) → Comes window left bytes → HasTaken version from bytes [] 0 from window left
-taken_none version from bytes window left c = record { frames = []; on = walks_first window bytes left from c; holds = NoMore []; count_is = refl }
+pub taken_none : (version from : ℕ) (bytes window : List ℕ) (left : Option (List ℕ)) (extent : Extent) → HasExtent [] extent → Comes window left bytes
+    → HasTaken version from bytes extent 0 from window left
+taken_none version from bytes window left extent none c =
+    record { frames = []; entries = []; on = walks_first window bytes left from c; holds = NoMore []; count_is = refl; extent_is = none }
 
-pub taken_more : (version from place next count : ℕ) (bytes window passed payload : List ℕ) (left after : Option (List ℕ)) (old new : Taken)
-    (t : HasTaken version from bytes old.entries count place window left) → old.version ≡ version → Takes old payload new
+pub taken_more : (version from place next count : ℕ) (bytes window passed payload : List ℕ) (left after : Option (List ℕ)) (old new : Counted)
+    (t : HasTaken version from bytes old.extent count place window left) → old.version ≡ version → Counts old t.entries payload new
     → WalksOn from bytes (t.frames ++ record { gate = place; payload = payload } ∷ []) next passed after
-    → HasTaken version from bytes new.entries (count + 1) next passed after
-taken_more version from place next count bytes window passed payload left after old new t same takes on =
-    let holds : Holds version old.entries takes.entries payload = subst (λ v. Holds v old.entries takes.entries payload) same takes.holds in
-    let more = history_more version [] old.entries takes.entries (payloads_of t.frames) payload t.holds holds in
+    → HasTaken version from bytes new.extent (count + 1) next passed after
+taken_more version from place next count bytes window passed payload left after old new t same counts on =
+    let holds : Holds version t.entries counts.entries payload = subst (λ v. Holds v t.entries counts.entries payload) same counts.holds in
+    let more = history_more version [] t.entries counts.entries (payloads_of t.frames) payload t.holds holds in
     let count_is = t.count_is in
     let len = length-append t.frames (record { gate = place; payload = payload } ∷ []) in
     record {
       frames = t.frames ++ record { gate = place; payload = payload } ∷ [];
+      entries = t.entries ++ counts.entries;
       on = on;
-      holds = subst (λ es. IsHistory version [] (payloads_of (t.frames ++ record { gate = place; payload = payload } ∷ [])) es) (sym (ap (λ t. t.entries) takes.new_is))
-          (subst (λ ps. IsHistory version [] ps (old.entries ++ takes.entries)) (sym (payloads_more t.frames (record { gate = place; payload = payload }))) more);
+      holds = subst (λ ps. IsHistory version [] ps (t.entries ++ counts.entries)) (sym (payloads_more t.frames (record { gate = place; payload = payload }))) more;
       count_is = omega (arith, count_is, len);
+      extent_is = counts.extent;
     }
 
-pub read_all : (version from place count : ℕ) (bytes window : List ℕ) (left : Option (List ℕ)) (entries : List Entry) → HasTaken version from bytes entries count place window left
-    → ((b : List ℕ) → Comes window left b → GateSays b gate.Closed) → IsRead version from bytes (length entries) count place
-read_all version from place count bytes window left entries t says = record {
+pub read_all : (version from place count : ℕ) (bytes window : List ℕ) (left : Option (List ℕ)) (extent : Extent) → HasTaken version from bytes extent count place window left
+    → ((b : List ℕ) → Comes window left b → GateSays b gate.Closed) → IsRead version from bytes extent.count count place
+read_all version from place count bytes window left extent t says = record {
   frames = t.frames;
-  history = entries;
+  history = t.entries;
   walked = ends_closed from place bytes window t.frames left t.on says;
   holds = t.holds;
   count_is = t.count_is;
-  entries_is = refl;
+  entries_is = sym t.extent_is.count_is;
 }
 
 -- a payload that isn't valid
-pub unread_bad : (version from place next count : ℕ) (bytes window passed payload : List ℕ) (left after : Option (List ℕ)) (old : Taken)
-    (t : HasTaken version from bytes old.entries count place window left) → old.version ≡ version
-    → ((entries : List Entry) → Holds old.version old.entries entries payload → ⊥)
+pub unread_bad : (version from place next count : ℕ) (bytes window passed payload : List ℕ) (left after : Option (List ℕ)) (old : Counted)
+    (t : HasTaken version from bytes old.extent count place window left) → old.version ≡ version
+    → ((entries : List Entry) → Holds old.version t.entries entries payload → ⊥)
     → WalksOn from bytes (t.frames ++ record { gate = place; payload = payload } ∷ []) next passed after
     → ((b : List ℕ) → Comes passed after b → (walk next 0 b).is_closed ≡ true)
     → IsUnread version (walk from 0 bytes) place
@@ -129,10 +133,10 @@ unread_bad version from place next count bytes window passed payload left after 
       front = t.frames;
       bad = bad;
       behind = rest.frames;
-      entries = old.entries;
+      entries = t.entries;
       split = split;
       history = t.holds;
-      invalid = λ more holds. none more (subst (λ v. Holds v old.entries more payload) (sym same) holds);
+      invalid = λ more holds. none more (subst (λ v. Holds v t.entries more payload) (sym same) holds);
       at = refl;
     })
 
@@ -148,3 +152,6 @@ same_place one other is = cc
 
 pub same_fault : {T : Type 0} (one other : VerifyFault) → IsErrOf {T = T} (Err one) other → one ≡ other
 same_fault one other is = cc
+
+pub most_taken : (count : ℕ) (l : List ℕ) → length (take count l) ≤ count
+most_taken count l = omega (arith, length-take count l)

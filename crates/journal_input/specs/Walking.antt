@@ -4,6 +4,8 @@ use Rattle.marc_types.specs.declared.entry.Entry.{Entry}
 use Rattle.commit_journal.specs.declared.frame.Frame.{Frame}
 use Rattle.commit_journal.specs.Log.{Walk, walk, closed_at, behind}
 use Rattle.entry_history.specs.Payloads.{Holds, IsHistory}
+use Rattle.entry_history.specs.Readers.{HasExtent}
+use Rattle.entry_history.specs.declared.extent.Extent.{Extent}
 use Rattle.journal_input.specs.Coming.{Comes}
 
 abbrev pub payloads_of : List Frame → List (List ℕ)
@@ -32,12 +34,14 @@ pub record WalksOn (from : ℕ) (bytes : List ℕ) (frames : List Frame) (place 
   pub size : place + length now ≡ from + length bytes
   pub walked : walk from 0 bytes ≡ behind frames (walk place 0 now)
 
--- the same, where the frames are so many and hold these entries
-pub record HasTaken (version from : ℕ) (bytes : List ℕ) (entries : List Entry) (count place : ℕ) (window : List ℕ) (left : Option (List ℕ)) : Type 0 where
+-- the same, where the frames are so many and hold entries that go so far
+pub record HasTaken (version from : ℕ) (bytes : List ℕ) (extent : Extent) (count place : ℕ) (window : List ℕ) (left : Option (List ℕ)) : Type 0 where
   pub frames : List Frame
+  pub entries : List Entry
   pub on : WalksOn from bytes frames place window left
   pub holds : IsHistory version [] (payloads_of frames) entries
   pub count_is : length frames ≡ count
+  pub extent_is : HasExtent entries extent
 
 -- the bytes lead over frames, so many with so many entries, to a closed gate at that place
 pub record IsRead (version from : ℕ) (bytes : List ℕ) (entries count place : ℕ) : Type 0 where

@@ -8,7 +8,7 @@ ghost use Rattle.journal_input.specs.Walking.{IsLostAt, IsRead, IsUnread};
 use crate::coming::Coming;
 use crate::fault::VerifyFault;
 use crate::gate::{Gate, HEAD_BYTES, next_gate};
-use entry_history::{EntryFault, HistoryReader};
+use entry_history::{EntryFault, HistoryCounter};
 use outside::Source;
 use std::alloc::Global;
 
@@ -59,20 +59,20 @@ pub fn take_frames<S: Source>(
         → IsUnread version (walk coming.old.place 0 b) wrong }
     ensures cause { HasVerifyCause (S.faults coming.old.source) (S.faults coming.new.source) result }
 {
-    let mut reader = HistoryReader::new(alloc, version);
+    let mut counter = HistoryCounter::new(version);
     let mut frames = 0;
     'gates: loop {
         let place = coming.place();
         match next_gate(coming)? {
             Gate::Closed => {
                 return Ok(Found {
-                    entries: reader.items().len() as u64,
+                    entries: counter.count(),
                     frames,
                 });
             }
             Gate::Lost => return Err(VerifyFault::NotAJournal(place)),
             Gate::Frame(count) => {
-                match reader.take(alloc, payload_in(coming.window(), count)) {
+                match counter.take(alloc, payload_in(coming.window(), count)) {
                     Ok(()) => {}
                     Err(EntryFault::NoMemory) => return Err(VerifyFault::NoMemory),
                     Err(EntryFault::BadEntry) => {

@@ -54,6 +54,13 @@ opening_usage opening.OldVersion is = cc
 opening_usage opening.Full is = cc
 opening_usage opening.NoMemory is = cc
 
+pub opening_other_history : (of : OpenFault) → fault_of_opening of ≡ fault.OtherHistory → ⊥
+opening_other_history opening.DeviceFault is = cc
+opening_other_history (opening.NotAJournal place) is = cc
+opening_other_history opening.OldVersion is = cc
+opening_other_history opening.Full is = cc
+opening_other_history opening.NoMemory is = cc
+
 -- a journal that was opened, and closed again with the same entries
 pub unbegun : (old new : RoomView) (journal : List ℕ) (why : Fault) (before entries : List Entry) (mark was : Option (List Entry)) (o : Opening)
     → old.tells ≡ true → (why ≢ fault.Input → why ≡ fault.Memory) → IsOpenedFrom old journal before was o → entries ≡ before → mark ≡ None
@@ -98,6 +105,13 @@ usage_never false false true d is = cc
 usage_never false false false true is = cc
 usage_never false false false false is = cc
 
+other_history_never : (a b c d : Bool) → (if a then Some fault.Device else if b then Some fault.Full else if c then Some fault.Input else if d then Some fault.Memory else None) ≡ Some fault.OtherHistory → ⊥
+other_history_never true b c d is = cc
+other_history_never false true c d is = cc
+other_history_never false false true d is = cc
+other_history_never false false false true is = cc
+other_history_never false false false false is = cc
+
 module _ (results : List FileResult) where
   pub device_failed : loading_fault results ≡ Some fault.Device → any_ends end.DeviceFault results ≡ true
   unfolding loading_fault
@@ -115,6 +129,10 @@ module _ (results : List FileResult) where
   pub no_usage : loading_fault results ≡ Some fault.Usage → ⊥
   unfolding loading_fault
   no_usage is = usage_never (any_ends end.DeviceFault results) (any_ends end.Full results) (any_ends end.ReadFault results) (any_ends end.NoMemory results) is
+
+  pub no_other_history : loading_fault results ≡ Some fault.OtherHistory → ⊥
+  unfolding loading_fault
+  no_other_history is = other_history_never (any_ends end.DeviceFault results) (any_ends end.Full results) (any_ends end.ReadFault results) (any_ends end.NoMemory results) is
 
   pub none_device : loading_fault results ≡ None → any_ends end.DeviceFault results ≡ false
   unfolding loading_fault
@@ -196,6 +214,10 @@ module _ {S : Type 0} (left : S → Option (List ℕ)) (faults : S → ℕ) (roo
 pub stopped_usage : (why : Fault) (results : Result (List FileResult) NoMemory) → IsStopped why results → why ≢ fault.Usage
 stopped_usage why (Err e) (Unloaded e' is) at = let no = sym is ∙ at in cc
 stopped_usage why (Ok results) (Faulty rs is) at = no_usage results (is ∙ ap Some at)
+
+pub stopped_other_history : (why : Fault) (results : Result (List FileResult) NoMemory) → IsStopped why results → why ≢ fault.OtherHistory
+stopped_other_history why (Err e) (Unloaded e' is) at = let no = sym is ∙ at in cc
+stopped_other_history why (Ok results) (Faulty rs is) at = no_other_history results (is ∙ ap Some at)
 
 -- from facts of an answer to more
 pub if_ok_more : {T E : Type 0} {P Q : T → Type 0} (r : Result T E) → ((x : T) → r ≡ Ok x → P x → Q x) → IfOk r P → IfOk r Q

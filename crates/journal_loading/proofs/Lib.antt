@@ -1,3 +1,4 @@
 mod Opened
 mod Loaded
 mod Begun
+pub mod Kept

@@ -7,7 +7,6 @@ use Rattle.marc_types.specs.declared.entry.Limits.{Limits}
 use Rattle.outside.specs.Fault.{Rose}
 use Rattle.outside.specs.Room.{RoomView}
 use Rattle.command_words.specs.declared.library.Library.{Library}
-use Rattle.loader_workers.specs.Loading.{IsCutShort}
 use Rattle.loader_workers.specs.declared.file_end.FileEnd.{FileEnd}
 use Rattle.loader_workers.specs.declared.file_end.FileEnd.TheVariants as end
 use Rattle.loader_workers.specs.declared.result.FileResult.{FileResult}
@@ -33,11 +32,6 @@ pub record HadFault {S : Type 0} (faults : S → ℕ) (inputs : List (InputFile 
 ends_behind : (is e : FileEnd) (results : List FileResult) (r : FileResult) (b : Bool) → r.end ≡ e → any_ends is (r ∷ results) ≡ b → ends_so is e || any_ends is results ≡ b
 ends_behind is e results r b at any = sym (ap (λ x. ends_so is x || any_ends is results) at) ∙ any
 
--- a file with these bytes was loaded, and so far was it read
-record IsRead (before added : List Entry) (mark : Option (List Entry)) (bytes : List ℕ) (left : Option (List ℕ)) (loader : ℕ) (result : FileResult) (code : List ℕ) : Type 0 where
-  loaded : IsFileLoaded journal_limits before added mark code bytes loader result
-  read_to : result.end ≡ end.ReadFault → IsCutShort (Some bytes) left loaded.coming
-
 module _ {S : Type 0} (left : S → Option (List ℕ)) (faults : S → ℕ) (room : RoomView) where
   pub inputs_count : (libraries : List Library) (inputs : List (InputFile S)) → AreInputs left room libraries inputs → length inputs ≡ length libraries
   inputs_count _ _ NoInput = refl
@@ -49,9 +43,11 @@ module _ {S : Type 0} (left : S → Option (List ℕ)) (faults : S → ℕ) (roo
     library_loaded loader library old new result tells is did =
         let there = there_is (room.file library.file) (is.there tells) in
         let told = is.bytes tells ∙ there.1 in
-        let loaded : IsRead before added mark there.0 (left new.source) loader result library.code =
-        subst (IsRead before added mark there.0 (left new.source) loader result) is.code (record { loaded = did.loaded there.0 told; read_to = did.read_to there.0 told }) in
-        record { bytes = there.0; there = there.1; loaded = loaded.loaded; left = left new.source; read_to = loaded.read_to }
+        record {
+          bytes = there.0;
+          there = there.1;
+          loaded = subst (λ code. IsFileLoaded journal_limits before added mark code there.0 loader result) is.code (did.loaded there.0 told);
+        }
 
     -- each library's file was loaded
     pub libraries_loaded : (loader : ℕ) (libraries : List Library) (old new : List (InputFile S)) (results : List FileResult) → room.tells ≡ true

@@ -1,5 +1,5 @@
 -- What loading a command's files into a journal comes to. The rules are this project's own.
-use Rattle.std.specs.Prelude.{◌≡◌, ◌≢◌, ◌⊎◌, ℕ, ◌+◌, ◌<◌, Bool, true, false, List, [], ◌∷◌, ◌++◌, length, All, Option, Some, None, Result, Ok, Err, if◌then◌else◌}
+use Rattle.std.specs.Prelude.{◌≡◌, ◌≢◌, ◌⊎◌, ℕ, ◌+◌, ◌<◌, Bool, true, false, List, [], ◌∷◌, ◌++◌, length, All, Option, Some, None, Result, Ok, Err, slice_get, if◌then◌else◌}
 use Rattle.std.specs.List.{list_any}
 use Rattle.marc_types.specs.declared.entry.Entry.{Entry}
 use Rattle.marc_types.specs.declared.copying.NoMemory.{NoMemory}
@@ -10,11 +10,11 @@ use Rattle.command_words.specs.declared.library.Library.{Library}
 use Rattle.console_lines.specs.declared.fault.Fault.{Fault}
 use Rattle.console_lines.specs.declared.fault.Fault.TheVariants as fault
 use Rattle.durable_catalogue.specs.Durables.{Opening, marked}
+use Rattle.durable_catalogue.specs.Logs.{HasHistory}
 use Rattle.durable_catalogue.specs.Openings.{IsUnopened}
 use Rattle.durable_catalogue.specs.Views.{DurableView}
 use Rattle.durable_catalogue.specs.declared.fault.OpenFault.{OpenFault}
 use Rattle.durable_catalogue.specs.declared.fault.OpenFault.TheVariants as opening
-use Rattle.loader_workers.specs.Loading.{IsCutShort}
 use Rattle.loader_workers.specs.declared.file_end.FileEnd.{FileEnd}
 use Rattle.loader_workers.specs.declared.file_end.FileEnd.TheVariants as end
 use Rattle.loader_workers.specs.declared.result.FileResult.{FileResult}
@@ -24,14 +24,11 @@ use Rattle.room_files.specs.Faults.{fault_of_opening}
 use Rattle.room_files.specs.Journals.{journal_limits, log_bytes, IsOpenedFrom, IsOpenedAs, IsClosedTo, KeepsHistory}
 use Rattle.journal_loading.specs.Inputs.{IsInputFault, AreInputs, IsFresh}
 
--- The file of a library was loaded by the loader with that number. Where its input failed, with so many bytes left, no item is left
--- out that ends, with its terminator, within the bytes that the input gave: each of these was judged.
+-- the file of a library was loaded by the loader with that number
 pub record IsLibraryLoaded (room : RoomView) (before added : List Entry) (mark : Option (List Entry)) (library : Library) (loader : ℕ) (result : FileResult) : Type 0 where
   pub bytes : List ℕ
   pub there : room.file library.file ≡ Some bytes
   pub loaded : IsFileLoaded journal_limits before added mark library.code bytes loader result
-  pub left : Option (List ℕ)
-  pub read_to : result.end ≡ end.ReadFault → IsCutShort (Some bytes) left loaded.coming
 
 -- each was, by the loader with its number, the first of these by `loader`
 pub data AreLibrariesLoaded (room : RoomView) (before added : List Entry) (mark : Option (List Entry)) : (loader : ℕ) → List Library → List FileResult → Type 0 where
@@ -106,6 +103,17 @@ pub data IsLoadingFault (old new : RoomView) (journal : List ℕ) (libraries : L
   NotBegun : IsUnbegun old new journal why → IsLoadingFault old new journal libraries why
   InPart : IsLoadedInPart old new journal libraries why → IsLoadingFault old new journal libraries why
 
+-- a file of these libraries isn't there
+pub record IsFileMissing (libraries : List Library) (room : RoomView) : Type 0 where
+  pub index : ℕ
+  pub library : Library
+  pub named : slice_get libraries index ≡ Some library
+  pub missing : room.file library.file ≡ None
+
+-- the journal of that name has each history that it had
+abbrev pub HasSameHistory : RoomView → RoomView → List ℕ → Type 0
+HasSameHistory old new journal = (entries : List Entry) → HasHistory entries (log_bytes old journal) → HasHistory entries (log_bytes new journal)
+
 -- The journal and all files are opened.
 pub record HasBegun {S : Type 0} (left : S → Option (List ℕ)) (faults : S → ℕ) (old new : RoomView) (journal : List ℕ) (libraries : List Library)
     (d : DurableView) (inputs : List (InputFile S)) : Type 0 where
@@ -122,6 +130,7 @@ pub record Fails (old new : RoomView) (journal : List ℕ) (libraries : List Lib
   pub device : why ≡ fault.Device → Rose (old.log_faults journal) (new.log_faults journal)
   pub input : why ≡ fault.Input → IsInputFault libraries old new
   pub no_usage : why ≢ fault.Usage
+  pub no_other_history : why ≢ fault.OtherHistory
 
 -- The catalogue over the journal, into which all files were loaded, is still open.
 pub record HasLoaded (old new : RoomView) (journal : List ℕ) (libraries : List Library) (d : DurableView) (results : List FileResult) : Type 0 where

@@ -6,7 +6,7 @@ ghost use Rattle.durable_catalogue.specs.Durables.{mark_of};
 ghost use Rattle.durable_catalogue.specs.Views.{durable_view};
 ghost use Rattle.room_files.specs.Journals.{IsClosedAs};
 ghost use Rattle.journal_loading.specs.Inputs.{AreLoadable};
-ghost use Rattle.journal_loading.specs.Outcomes.{IsUnbegun, IsLoadingFault, IsFinished, IsStopped, HasBegun, HasLoaded, Fails};
+ghost use Rattle.journal_loading.specs.Outcomes.{IsUnbegun, IsLoadingFault, IsFinished, IsStopped, IsFileMissing, HasSameHistory, HasBegun, HasLoaded, Fails};
 
 use crate::faults::loading_fault;
 use crate::inputs::{close_inputs, open_inputs};
@@ -112,6 +112,10 @@ pub fn load_journal<H: Threads + Wait + Sync, R: Room, G: Gate + Sync>(
         HasLoaded (R.seen room.old) (R.seen room.new) journal.now libraries.now (durable_view l.durable) l.results) }
     ensures failed { IfErr result (λ why. Fails (R.seen room.old) (R.seen room.new) journal.now libraries.now why
         (IsLoadingFault (R.seen room.old) (R.seen room.new) journal.now libraries.now why)) }
+
+    // Where a file isn't there, the journal has the history that it had.
+    ensures missing { IfErr result (λ why. (R.seen room.old).tells ≡ true → IsFileMissing libraries.now (R.seen room.old) →
+        HasSameHistory (R.seen room.old) (R.seen room.new) journal.now) }
 {
     let (durable, inputs) = match begin(alloc, room, libraries, journal) {
         Ok(begun) => begun,

@@ -27,18 +27,23 @@ module _ (history : List Entry) (at : ℕ) (e : Entry) (there : slice_get histor
 front_front : (xs : List Entry) (n m : ℕ) → n ≤ m → m ≤ length xs → take n (take m xs) ≡ take n xs
 front_front xs n m shorter within = grind (arith, common_steps)
 
-pub amid : (history : List Entry) (count n : ℕ) (c : List ℕ) → count ≤ n → n ≤ length history → IsLogOf (take n history) c → IsAmid history (take count history) c
+pub amid : (history : List Entry) (count n : ℕ) (c : List ℕ) → count ≤ n → n ≤ length history → IsLogOf (take n history) c → IsAmid (Unit {0}) history (take count history) c
 amid history count n c least most has =
     let more : List Entry = drop count (take n history) in
     let split : take count history ++ more ≡ take n history =
     ap (λ xs. xs ++ more) (sym (front_front history count n least most)) ∙ take-append-drop count (take n history) in
-    Behind more (drop n history) (ap (λ xs. xs ++ drop n history) split ∙ take-append-drop n history) (subst (λ es. IsLogOf es c) (sym split) has)
+    Behind tt more (drop n history) (ap (λ xs. xs ++ drop n history) split ∙ take-append-drop n history) (subst (λ es. IsLogOf es c) (sym split) has)
 
 -- so many, or one more
 pub amid_either : (history : List Entry) (count at : ℕ) (e : Entry) (c : List ℕ) → count ≤ at → slice_get history at ≡ Some e
-    → IsLogOf (take at history) c ⊎ IsLogOf (take at history ++ e ∷ []) c → IsAmid history (take count history) c
+    → IsLogOf (take at history) c ⊎ IsLogOf (take at history ++ e ∷ []) c → IsAmid (Unit {0}) history (take count history) c
 amid_either history count at e c least there (inl has) =
     let within = entry_within history at e there in amid history count at c least (omega (arith, within)) has
 amid_either history count at e c least there (inr has) =
     let within = entry_within history at e there in
     amid history count (at + 1) c (omega (arith, least)) (omega (arith, within)) (subst (λ es. IsLogOf es c) (sym (one_more history at e there)) has)
+
+-- what is so where one thing may be is so where another may that comes with it
+pub amid_where : (may also : Type 0) (history entries : List Entry) (c : List ℕ) → (may → also) → IsAmid may history entries c → IsAmid also history entries c
+amid_where may also history entries c comes (Before is) = Before is
+amid_where may also history entries c comes (Behind so more rest split is) = Behind (comes so) more rest split is

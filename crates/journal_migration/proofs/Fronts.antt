@@ -14,7 +14,7 @@ use Rattle.entry_history.specs.Payloads.{IsHistory}
 use Rattle.entry_history.proofs.Histories.{history_once}
 use Rattle.durable_catalogue.specs.Logs.{payloads_of}
 use Rattle.journal_migration.specs.Migrations.{Begins, AreWithin}
-use Rattle.journal_migration.specs.Fronts.{HoldsFront}
+use Rattle.journal_migration.specs.Fronts.{HoldsFront, MayGain}
 
 -- the sizes of the first entries, so many
 pub size_more : (items : List Entry) (i : ℕ) (e : Entry) → i < length items → e ≡ get_or items i e → entries_size (take (i + 1) items) ≡ entries_size (take i items) + entry_size e
@@ -102,3 +102,15 @@ pub front_is : (version : ℕ) (frames : List Frame) (limits : Limits) (history 
     → HoldsFront version frames limits history count → IsHistory version [] (payloads_of frames) entries → take count history ≡ entries
 front_is version frames limits history count entries front held =
     sym front.front ∙ history_once version [] front.entries entries (payloads_of frames) front.holds held
+
+-- and they may gain the rest
+pub may_gain : (version : ℕ) (frames : List Frame) (limits : Limits) (history : List Entry) (count : ℕ) (entries : List Entry) → version ≡ 2
+    → HoldsFront version frames limits history count → IsHistory version [] (payloads_of frames) entries → MayGain version limits history entries
+may_gain version frames limits history count entries newest front held = record {
+  newest = newest;
+  within = subst (AreWithin limits history) (history_once version [] front.entries entries (payloads_of frames) front.holds held) front.within;
+  begins = (
+    drop count history,
+    ap (λ xs. xs ++ drop count history) (sym (front_is version frames limits history count entries front held)) ∙ take-append-drop count history,
+  );
+}

@@ -17,8 +17,8 @@ use Rattle.durable_catalogue.specs.Logs.{IsLogOf, HasHistory}
 use Rattle.durable_catalogue.proofs.Keeping.{some_of}
 use Rattle.durable_catalogue.proofs.Readings.{either_reading, longer_reading}
 use Rattle.journal_migration.specs.Migrations.{IsAmid, Before}
-use Rattle.journal_migration.specs.Fronts.{EachFollows, Extends, Brings, HasBrought, HasOneMoreOrNot, TriesEntry, AddsEntry}
-use Rattle.journal_migration.proofs.Amid.{entry_within, one_more, split_at, amid_either}
+use Rattle.journal_migration.specs.Fronts.{EachFollows, Extends, Brings, BringsRest, HasBrought, HasOneMoreOrNot, TriesEntry, AddsEntry}
+use Rattle.journal_migration.proofs.Amid.{entry_within, one_more, split_at, amid_either, amid_where}
 use Rattle.journal_migration.proofs.Following.{follows_at}
 
 -- nothing happens to a disk
@@ -42,8 +42,8 @@ module _ (disk : DiskView) (only : OnlyContent disk) (last : (c : List ℕ) → 
       still : (c : List ℕ) → c ≡ log → HasOneMoreOrNot before e c
       still c is = ∥∥₁_map (subst (HasHistory before) (sym is) has) (λ reading. inl reading)
 
-  pub brings_none : (history entries : List Entry) → Brings history entries disk disk
-  brings_none history entries log told has follows = record {
+  pub brings_none : (may : Type 0) (history entries : List Entry) → Brings may history entries disk disk
+  brings_none may history entries log told has follows = record {
     since = λ t c earlier left. inl left;
     now = λ c image. ∥∥₁_map (subst (HasHistory entries) (sym (only log c told image)) has) (λ reading. Before reading);
   }
@@ -77,14 +77,14 @@ module _ (e : Entry) (entry : IsEntry e) (place : ℕ) (old new : DiskView) (set
 
 -- one entry more
 module _ (history : List Entry) (count at : ℕ) (e : Entry) (least : count ≤ at) (there : slice_get history at ≡ Some e) (old mid new : DiskView)
-    (continues : Continues old mid) (so_far : Brings history (take count history) old mid) (has_so_far : HasBrought history (take count history) (take at history) old mid) where
+    (continues : Continues old mid) (so_far : BringsRest history count old mid) (has_so_far : HasBrought history (take count history) (take at history) old mid) where
   told_mid : (log : List ℕ) → old.content ≡ Some log → (now : List ℕ) × (mid.content ≡ Some now)
   told_mid log told = some_of mid.content (continues.tells ∙ ap is_some told)
 
   follows_now : EachFollows [] history → CanFollow (take at history) e.run
   follows_now each = follows_at [] (take at history) e (drop (at + 1) history) (subst (λ es. EachFollows [] es) (split_at history at e there) each)
 
-  pub brings_more : TriesEntry e mid new → Brings history (take count history) old new
+  pub brings_more : TriesEntry e mid new → BringsRest history count old new
   brings_more tries log told has each =
       let now = told_mid log told in
       let left = tries now.0 (take at history) now.1 (has_so_far log now.0 told has each now.1) (follows_now each) in
@@ -94,11 +94,11 @@ module _ (history : List Entry) (count at : ℕ) (e : Entry) (least : count ≤ 
         now = λ c image. either c (left.now c image);
       }
     where
-      either : (c : List ℕ) → HasOneMoreOrNot (take at history) e c → ∥ IsAmid history (take count history) c ∥₁
+      either : (c : List ℕ) → HasOneMoreOrNot (take at history) e c → ∥ IsAmid (Unit {0}) history (take count history) c ∥₁
       either c has = ∥∥₁_map has (λ one. amid_either history count at e c least there one)
 
-      since_left : (c : List ℕ) {P Q : Type 0} → (Q → P ⊎ ∥ IsAmid history (take count history) c ∥₁) → Q ⊎ HasOneMoreOrNot (take at history) e c
-          → P ⊎ ∥ IsAmid history (take count history) c ∥₁
+      since_left : (c : List ℕ) {P Q : Type 0} → (Q → P ⊎ ∥ IsAmid (Unit {0}) history (take count history) c ∥₁) → Q ⊎ HasOneMoreOrNot (take at history) e c
+          → P ⊎ ∥ IsAmid (Unit {0}) history (take count history) c ∥₁
       since_left c before (inl was) = before was
       since_left c before (inr is) = inr (either c is)
 
@@ -118,7 +118,7 @@ pub record IsBringing (history : List Entry) (count at : ℕ) (old now : DiskVie
   pub whole : broken ≡ false
   pub newest : version ≡ 2
   pub continues : Continues old now
-  pub brings : Brings history (take count history) old now
+  pub brings : BringsRest history count old now
   pub has : HasBrought history (take count history) (take at history) old now
   pub later : old.faults ≤ now.faults
 
@@ -131,7 +131,7 @@ bringing_first history count disk broken version only last within whole newest =
   whole = whole;
   newest = newest;
   continues = continues_self disk;
-  brings = brings_none disk only last history (take count history);
+  brings = brings_none disk only last (Unit {0}) history (take count history);
   has = has_first history count disk;
   later = omega arith;
 }
@@ -154,3 +154,19 @@ bringing_more history count at e old mid new broken now_broken version now_versi
 pub bringing_all : (history : List Entry) (count at : ℕ) (old now : DiskView) → length history ≤ at → HasBrought history (take count history) (take at history) old now
     → HasBrought history (take count history) history old now
 bringing_all history count at old now whole has = subst (λ es. HasBrought history (take count history) es old now) (take_all at history whole) has
+
+-- where the journal may gain more, nothing more is asked
+pub brings_where : (may : Type 0) (history entries : List Entry) (old new : DiskView) → may → Brings (Unit {0}) history entries old new → Brings may history entries old new
+brings_where may history entries old new so brings log told has each =
+    let extends = brings log told has each in
+    record {
+      since = λ t c earlier left. since_left c (extends.since t c earlier left);
+      now = λ c image. gained c (extends.now c image);
+    }
+  where
+    gained : (c : List ℕ) → ∥ IsAmid (Unit {0}) history entries c ∥₁ → ∥ IsAmid may history entries c ∥₁
+    gained c is = ∥∥₁_map is (λ one. amid_where (Unit {0}) may history entries c (λ free. so) one)
+
+    since_left : (c : List ℕ) {P : Type 0} → P ⊎ ∥ IsAmid (Unit {0}) history entries c ∥₁ → P ⊎ ∥ IsAmid may history entries c ∥₁
+    since_left c (inl was) = inl was
+    since_left c (inr is) = inr (gained c is)

@@ -25,12 +25,13 @@ use Rattle.durable_catalogue.specs.Faults.{open_fault}
 use Rattle.durable_catalogue.specs.declared.fault.OpenFault.TheVariants as opening
 use Rattle.journal_migration.specs.Faults.{migrate_fault}
 use Rattle.journal_migration.specs.Migrations.{IsFit, IsUnmigrated, IsMigration, IsAmid, Before}
-use Rattle.journal_migration.specs.Fronts.{EachFollows, HoldsFront, HoldNoFront, Extends, Brings, HasBrought}
+use Rattle.journal_migration.specs.Fronts.{EachFollows, HoldsFront, HoldNoFront, MayGain, Extends, Brings, HasBrought}
+use Rattle.journal_migration.proofs.Amid.{amid_where}
 use Rattle.journal_migration.proofs.Following.{log_follows}
 
 -- nothing was brought
-pub opened_alone : (history : List Entry) (old new : DiskView) → Opens old new → LeavesContent old new → IsMigration history old new
-opened_alone history old new opens leaves =
+pub opened_alone : (limits : Limits) (history : List Entry) (old new : DiskView) → Opens old new → LeavesContent old new → IsMigration limits history old new
+opened_alone limits history old new opens leaves =
     let opening : IsOpening old new = opening_of old new opens in
     record {
       images = λ s log c entries synced told left has. ∥∥₁_map (opening.history s log c entries synced told left has) (λ is. Before is);
@@ -98,11 +99,27 @@ module _ (history : List Entry) (frames : List Frame) (place version : ℕ) (old
         let now = some_of new.content (tells_now ∙ told) in
         subst (λ bytes. HasHistory history bytes) (sym (only now.0 c now.1 image)) (brought_all limits two holds brought now.0 now.1)
 
-    module _ (brings : (entries : List Entry) → IsVersion version → IsHistory version [] (payloads_of frames) entries → Brings history entries mid new) where
-      extended : (log : List ℕ) (entries : List Entry) → old.content ≡ Some log → IsLogOf entries log → IsLogOf history was → Extends history entries mid new
+    module _ (limits : Limits)
+        (brings : (entries : List Entry) → IsVersion version → IsHistory version [] (payloads_of frames) entries
+        → Brings (MayGain version limits history entries) history entries mid new) where
+      extended : (log : List ℕ) (entries : List Entry) → old.content ≡ Some log → IsLogOf entries log → IsLogOf history was
+          → Extends (MayGain version limits history entries) history entries mid new
       extended log entries told is reads =
           let ordered = told_mid leaves log entries told is in
           brings entries (is_version log told) (of_frames log entries told is) ordered.0 ordered.1 ordered.2 (log_follows history was reads)
+
+      -- a log that may gain more is fit for the history
+      gained : (log : List ℕ) (entries : List Entry) (c : List ℕ) → old.content ≡ Some log → IsLogOf entries log
+          → ∥ IsAmid (MayGain version limits history entries) history entries c ∥₁ → ∥ IsAmid (IsFit limits history entries log) history entries c ∥₁
+      gained log entries c told is amid =
+          ∥∥₁_map amid (λ one.
+          amid_where (MayGain version limits history entries) (IsFit limits history entries log) history entries c (λ may.
+          record {
+            version = recovered.named log told ∙ may.newest;
+            has = is;
+            within = may.within;
+            begins = may.begins;
+          }) one)
 
       module _ (bounded : (s : ℕ) → mid.synced old.moment ≡ Some s → s ≤ mid.moment) (synced : old.dated ≡ true → is_some (mid.synced old.moment) ≡ true)
           (undated : new.dated ≡ false → new.synced old.moment ≡ None) where
@@ -117,24 +134,26 @@ module _ (history : List Entry) (frames : List Frame) (place version : ℕ) (old
         synced_mid true is s at = let first = first_sync is in first.1 ∙ sym first.2 ∙ at
         synced_mid false is s at = absurd (none-some s (sym (undated (dated_now ∙ is)) ∙ at))
 
-        pub migrated : IsMigration history old new
+        pub migrated : IsMigration limits history old new
         migrated = record {
           images = λ s log c entries at told left has.
               let first = synced_mid old.dated refl s at in
               ∥∥₁_elim has ∥∥₁_prop (λ (is : IsLogOf entries log). ∥∥₁_elim is_history ∥∥₁_prop (λ (reads : IsLogOf history was).
-              since_opened c (λ earlier. ∣ Before (same_log entries log c (opens.crash s log c first told earlier) is) ∣₁)
+              since_opened log entries c told is (λ earlier. ∣ Before (same_log entries log c (opens.crash s log c first told earlier) is) ∣₁)
               ((extended log entries told is reads).since s c (bounded s first) left)));
           content = λ log c entries told is_now has.
               ∥∥₁_elim has ∥∥₁_prop (λ (is : IsLogOf entries log). ∥∥₁_elim is_history ∥∥₁_prop (λ (reads : IsLogOf history was).
-              (extended log entries told is reads).now c (images c is_now)));
+              gained log entries c told is ((extended log entries told is reads).now c (images c is_now))));
           unsynced = λ dated none. absurd (none-some (first_sync dated).0 (sym none ∙ (first_sync dated).2));
           dated = dated_now;
           tells = tells_now;
         }
           where
-            since_opened : (c : List ℕ) {entries : List Entry} {P : Type 0} → (P → ∥ IsAmid history entries c ∥₁) → P ⊎ ∥ IsAmid history entries c ∥₁ → ∥ IsAmid history entries c ∥₁
-            since_opened c before (inl earlier) = before earlier
-            since_opened c before (inr is) = is
+            since_opened : (log : List ℕ) (entries : List Entry) (c : List ℕ) {P : Type 0} → old.content ≡ Some log → IsLogOf entries log
+                → (P → ∥ IsAmid (IsFit limits history entries log) history entries c ∥₁)
+                → P ⊎ ∥ IsAmid (MayGain version limits history entries) history entries c ∥₁ → ∥ IsAmid (IsFit limits history entries log) history entries c ∥₁
+            since_opened log entries c told is before (inl earlier) = before earlier
+            since_opened log entries c told is before (inr amid) = gained log entries c told is amid
 
 -- why a history is not brought into a log, from the log's frames
 pub unmigrated : (frames : List Frame) (place version : ℕ) (old new : DiskView) (limits : Limits) (history : List Entry) (fault : MigrateFault)

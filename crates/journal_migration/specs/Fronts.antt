@@ -45,14 +45,24 @@ HoldNoFront version frames limits history NotPrefix =
 HoldNoFront version frames limits history NoMemory = Unit {0}
 HoldNoFront version frames limits history DeviceFault = Unit {0}
 
--- each image since a moment is one that there was, or has these entries and a front of what the history has behind them
-pub record Extends (history entries : List Entry) (old new : DiskView) : Type 0 where
-  pub since : (t : ℕ) (c : List ℕ) → t ≤ old.moment → new.left t c → old.left t c ⊎ ∥ IsAmid history entries c ∥₁
-  pub now : (c : List ℕ) → new.image c → ∥ IsAmid history entries c ∥₁
+-- a journal of these entries may gain what the history has behind them
+pub record MayGain (version : ℕ) (limits : Limits) (history entries : List Entry) : Type 0 where
+  pub newest : version ≡ 2
+  pub within : AreWithin limits history entries
+  pub begins : Begins history entries
+
+-- each image since a moment is one that there was, or has these entries or, where it may have more, a front of the rest of the history
+pub record Extends (may : Type 0) (history entries : List Entry) (old new : DiskView) : Type 0 where
+  pub since : (t : ℕ) (c : List ℕ) → t ≤ old.moment → new.left t c → old.left t c ⊎ ∥ IsAmid may history entries c ∥₁
+  pub now : (c : List ℕ) → new.image c → ∥ IsAmid may history entries c ∥₁
 
 -- so it is where the disk tells a log of these entries, and the runs of the history are in order
-abbrev pub Brings : List Entry → List Entry → DiskView → DiskView → Type 0
-Brings history entries old new = (log : List ℕ) → old.content ≡ Some log → HasHistory entries log → EachFollows [] history → Extends history entries old new
+abbrev pub Brings : Type 0 → List Entry → List Entry → DiskView → DiskView → Type 0
+Brings may history entries old new = (log : List ℕ) → old.content ≡ Some log → HasHistory entries log → EachFollows [] history → Extends may history entries old new
+
+-- the entries are a front of the history, and no more is asked
+abbrev pub BringsRest : List Entry → ℕ → DiskView → DiskView → Type 0
+BringsRest history count old new = Brings (Unit {0}) history (take count history) old new
 
 -- where the disk told a log of some entries, it tells one of these
 abbrev pub HasBrought : List Entry → List Entry → List Entry → DiskView → DiskView → Type 0

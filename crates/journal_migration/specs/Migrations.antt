@@ -45,18 +45,19 @@ IsRefusal Full = Unit {0}
 IsRefusal NotPrefix = Unit {0}
 IsRefusal NoMemory = ⊥
 
--- An image has these entries; or, where a history begins with them, these and a front of what it has behind them.
-pub data IsAmid (history entries : List Entry) (image : List ℕ) : Type 0 where
-  Before : IsLogOf entries image → IsAmid history entries image
-  Behind : (more rest : List Entry) → (entries ++ more) ++ rest ≡ history → IsLogOf (entries ++ more) image → IsAmid history entries image
+-- An image has these entries; or, where it may have more and a history begins with them, these and a front of what that has behind
+-- them.
+pub data IsAmid (may : Type 0) (history entries : List Entry) (image : List ℕ) : Type 0 where
+  Before : IsLogOf entries image → IsAmid may history entries image
+  Behind : may → (more rest : List Entry) → (entries ++ more) ++ rest ≡ history → IsLogOf (entries ++ more) image → IsAmid may history entries image
 
 -- A history is brought into a disk's log: each image since the first sync that succeeded has the entries that the log had, or, where
--- the history begins with them, these and a front of the rest; where no sync succeeded, the content is as it was. So has the content.
-pub record IsMigration (history : List Entry) (old new : DiskView) : Type 0 where
+-- the log is fit for the history, these and a front of the rest; where no sync succeeded, the content is as it was. So has the content.
+pub record IsMigration (limits : Limits) (history : List Entry) (old new : DiskView) : Type 0 where
   pub images : (s : ℕ) (log c : List ℕ) (entries : List Entry) → new.synced old.moment ≡ Some s → old.content ≡ Some log → new.left s c
-      → HasHistory entries log → ∥ IsAmid history entries c ∥₁
+      → HasHistory entries log → ∥ IsAmid (IsFit limits history entries log) history entries c ∥₁
   pub content : (log c : List ℕ) (entries : List Entry) → old.content ≡ Some log → new.content ≡ Some c → HasHistory entries log
-      → ∥ IsAmid history entries c ∥₁
+      → ∥ IsAmid (IsFit limits history entries log) history entries c ∥₁
   pub unsynced : old.dated ≡ true → new.synced old.moment ≡ None → new.content ≡ old.content
   pub dated : new.dated ≡ old.dated
   pub tells : is_some new.content ≡ is_some old.content

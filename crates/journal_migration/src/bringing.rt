@@ -9,7 +9,7 @@ ghost use Rattle.durable_catalogue.specs.Logs.{payloads_of};
 ghost use Rattle.journal_migration.specs.Migrations.{IsRefusal};
 ghost use Rattle.journal_migration.specs.declared.fault.MigrateFault.TheVariants.{DeviceFault};
 ghost use Rattle.entry_record.specs.History.{IsAdmitted};
-ghost use Rattle.journal_migration.specs.Fronts.{Brings, HasBrought, AddsEntry, TriesEntry, IsUnappended, HoldsFront, HoldNoFront};
+ghost use Rattle.journal_migration.specs.Fronts.{Brings, BringsRest, MayGain, HasBrought, AddsEntry, TriesEntry, IsUnappended, HoldsFront, HoldNoFront};
 
 use crate::MigrateFault;
 use crate::front::front_of;
@@ -56,7 +56,7 @@ fn bring_rest<D: Disk>(
     requires staged { core.now.staged ≡ [] }
     requires within { count ≤ length core.now.history }
     ensures continues { Continues (D.seen journal.old.disk) (D.seen journal.new.disk) }
-    ensures brings { Brings core.now.history (take count core.now.history) (D.seen journal.old.disk) (D.seen journal.new.disk) }
+    ensures brings { BringsRest core.now.history count (D.seen journal.old.disk) (D.seen journal.new.disk) }
     ensures whole { OnOk result (journal.new.broken ≡ false) }
     ensures brought { OnOk result (HasBrought core.now.history (take count core.now.history) core.now.history (D.seen journal.old.disk) (D.seen journal.new.disk)) }
     ensures fault { IfErr result (IsUnappended (D.seen journal.old.disk).faults (D.seen journal.new.disk).faults) }
@@ -83,10 +83,10 @@ pub fn bring<D: Disk>(
     requires whole { journal.old.broken ≡ false }
     requires staged { core.now.staged ≡ [] }
 
-    // Each image has the entries of the frames, or more of a history that begins with them; in the end it has all.
+    // Each image has the entries of the frames, or, where the journal may gain it, more of a history; in the end it has all.
     ensures continues { Continues (D.seen journal.old.disk) (D.seen journal.new.disk) }
     ensures brings { (entries : List Entry) → IsVersion journal.old.version → IsHistory journal.old.version [] (payloads_of frames.now) entries →
-        Brings core.now.history entries (D.seen journal.old.disk) (D.seen journal.new.disk) }
+        Brings (MayGain journal.old.version limits.now core.now.history entries) core.now.history entries (D.seen journal.old.disk) (D.seen journal.new.disk) }
     ensures brought { OnOk result ((entries : List Entry) → IsVersion journal.old.version → IsHistory journal.old.version [] (payloads_of frames.now) entries →
         HasBrought core.now.history entries core.now.history (D.seen journal.old.disk) (D.seen journal.new.disk)) }
     ensures whole { OnOk result (journal.new.broken ≡ false) }

@@ -34,9 +34,10 @@ pub fn migrate<D: Disk>(
     ensures content { IfOk result (λ disk. (was c : List ℕ) → HasHistory old.now.core.history was → (D.seen disk).content ≡ Some c →
         HasHistory old.now.core.history c) }
 
-    // Each image since the first sync of the new disk has the history that it had, or, where the old one begins with it, more of that.
+    // Each image since the first sync of the new disk has the history that it had, or, where its log was fit, more of the old one.
     ensures crash { (was : List ℕ) → HasHistory old.now.core.history was →
-        MatchResult result (λ disk. IsMigration old.now.core.history (D.seen new) (D.seen disk)) (λ e. IsMigration old.now.core.history (D.seen new) (D.seen e.0)) }
+        MatchResult result (λ disk. IsMigration limits old.now.core.history (D.seen new) (D.seen disk))
+        (λ e. IsMigration limits old.now.core.history (D.seen new) (D.seen e.0)) }
 
     // Each fault comes only where the new log is so; a device fault only where the count of faults rose. A refused log is left alone.
     ensures fault { IfErr result (λ e. (log : List ℕ) → (D.seen new).content ≡ Some log → IsUnmigrated limits old.now.core.history log e.1) }

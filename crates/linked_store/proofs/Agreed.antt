@@ -27,11 +27,12 @@ use Rattle.linking_laws.specs.Visits.{waits_for_key}
 use Rattle.linking_laws.proofs.Exchanges.{field_swapped, outlines_swapped}
 use Rattle.linking_laws.proofs.Pairs.{Both, linkables_same, place_of, rows_from}
 use Rattle.linking_laws.proofs.Partial.{ascend_by, place_is}
+use Rattle.form_index.specs.Index.{Indexed}
 use Rattle.form_index.specs.Order.{key_at, no_key}
 use Rattle.catalogue_tables.specs.Following.{TellsAuthorities}
 use Rattle.catalogue_tables.specs.declared.tables.CatalogueTables.{CatalogueTables}
 use Rattle.catalogue_tables.proofs.Followed.{tells_kept}
-use Rattle.linked_store.specs.Frames.{OnlyRows}
+use Rattle.linked_store.specs.Frames.{FormsKeep}
 use Rattle.std.specs.List.{IsDistinct}
 use Rattle.catalogue_tables.specs.Seam.{AreDistinct, HasKey, IsRenumbered, IsSeatOf, KeyLists, KeysKeep, keys_in, place_at, told}
 use Rattle.catalogue_tables.specs.Told.{linked_by}
@@ -111,10 +112,9 @@ linkables_swapped p was h s order there steady =
         subst (λ (o : Option KeptField). Both IsSteady (field_under q s) o) (sym (field_swapped p q h s)) (at q (same_place p q) refl refl)
 
 -- what the index tells stays while forms and keys get numbers
-told_still : (old new : CatalogueTables) (keys many : List Key) (all : List Linkable) → IsDistinct same_key keys → OnlyRows old new → Keeps same_key keys many
-    → TellsAuthorities old.forms keys old.index all → TellsAuthorities new.forms many new.index all
-told_still old new keys many all distinct rows keep told =
-    subst (λ x. TellsAuthorities new.forms many x all) (sym rows.index) (tells_kept old.forms new.forms keys many old.index all distinct rows.forms keep told)
+told_still : (old new : CatalogueTables) (keys many : List Key) (x : Indexed) (all : List Linkable) → IsDistinct same_key keys → FormsKeep old new → Keeps same_key keys many
+    → TellsAuthorities old.forms keys x all → TellsAuthorities new.forms many x all
+told_still old new keys many x all distinct rows keep told = tells_kept old.forms new.forms keys many x all distinct rows.forms keep told
 
 -- ---- a field and its rows are exchanged
 
@@ -153,7 +153,7 @@ module _ (keys : KeyLists) (p : Place) (seat : Seat) (at : IsSeatOf keys p seat)
   asking_stays old new waits keeps fit form q = told_stays same_form old new keys keys (λ n s. asks n (seen_waits waits) s) fit.asking keeps (keys_keep keys) form q
 
 pub agrees_turned : (old new : CatalogueTables) (seat : Seat) (was h : KeptField) (link : Option ℕ) (waiting : Option Waiting) (c : Contents) → AreDistinct (keys_of c) → HasKey (keys_of c) seat
-    → field_under (place_at (keys_of c) seat) (state_in c) ≡ Some was → (seat.class ≡ Authority → IsSteady was h) → OnlyRows old new → IsLinkOf (keys_of c).authorities h link → IsWaitOf new.forms (keys_of c).authorities seat.class h waiting
+    → field_under (place_at (keys_of c) seat) (state_in c) ≡ Some was → (seat.class ≡ Authority → IsSteady was h) → FormsKeep old new → IsLinkOf (keys_of c).authorities h link → IsWaitOf new.forms (keys_of c).authorities seat.class h waiting
     → AgreesWith old c → AgreesWith new (turned seat h link waiting c)
 agrees_turned old new seat was h link waiting c distinct low there steady rows is_link is_wait agrees =
     let keys = keys_of c in
@@ -164,8 +164,8 @@ agrees_turned old new seat was h link waiting c distinct low there steady rows i
     record {
       ordered = subst AreOrdered (sym state) (ordered_swapped p h (state_in c) agrees.ordered);
       told =
-          subst (λ (all : List Linkable). TellsAuthorities new.forms keys.authorities new.index all) (sym (ap linkable_authorities state ∙ same))
-          (told_still old new keys.authorities keys.authorities (linkable_authorities (state_in c)) distinct.authorities rows (keeps_itself same_key keys.authorities) agrees.told);
+          subst (λ (all : List Linkable). TellsAuthorities new.forms keys.authorities c.index all) (sym (ap linkable_authorities state ∙ same))
+          (told_still old new keys.authorities keys.authorities c.index (linkable_authorities (state_in c)) distinct.authorities rows (keeps_itself same_key keys.authorities) agrees.told);
       links_fit =
           within_step (length keys.authorities) keys (λ n s. is_linked n (seen_links c.links) s) (λ n s. is_linked n (seen_links (at_seat seat link c.links)) s) (λ n. leads_to n link) seat
           (links_step keys p seat at c.links link) is_link.low low agrees.links_fit;
@@ -204,16 +204,16 @@ agrees_turned old new seat was h link waiting c distinct low there steady rows i
 -- ---- growth
 
 -- the tables agree as well once more keys and forms have numbers
-pub agrees_grown : (old new : CatalogueTables) (c d : Contents) → OnlyRows old new → AreDistinct (keys_of c) → KeysKeep (keys_of c) (keys_of d) → d.links ≡ c.links → d.waits ≡ c.waits → state_in d ≡ state_in c
+pub agrees_grown : (old new : CatalogueTables) (c d : Contents) → FormsKeep old new → AreDistinct (keys_of c) → KeysKeep (keys_of c) (keys_of d) → d.index ≡ c.index → d.links ≡ c.links → d.waits ≡ c.waits → state_in d ≡ state_in c
     → AgreesWith old c → AgreesWith new d
-agrees_grown old new c d rows distinct keep links waits state agrees =
-    by d.links d.waits d.numbered.state links waits state
+agrees_grown old new c d rows distinct keep index links waits state agrees =
+    by d.index d.links d.waits d.numbered.state index links waits state
   where
     -- the same links and rows under other numbers
-    done : AgreesWith new (record { numbered = record { state = c.numbered.state; keys = d.numbered.keys }; links = c.links; waits = c.waits })
+    done : AgreesWith new (record { numbered = record { state = c.numbered.state; keys = d.numbered.keys }; index = c.index; links = c.links; waits = c.waits })
     done = record {
       ordered = agrees.ordered;
-      told = told_still old new (keys_of c).authorities (keys_of d).authorities (linkable_authorities (state_in c)) distinct.authorities rows keep.authorities agrees.told;
+      told = told_still old new (keys_of c).authorities (keys_of d).authorities c.index (linkable_authorities (state_in c)) distinct.authorities rows keep.authorities agrees.told;
       links_fit = within_kept same_key (keys_of c).authorities (keys_of d).authorities (keys_of c) (keys_of d) (λ n s. is_linked n (seen_links c.links) s) keep.authorities keep agrees.links_fit;
       waits_fit = record {
         asking = within_kept same_form old.forms new.forms (keys_of c) (keys_of d) (λ n s. asks n (seen_waits c.waits) s) rows.forms keep agrees.waits_fit.asking;
@@ -227,7 +227,7 @@ agrees_grown old new c d rows distinct keep links waits state agrees =
           told_stays same_key (keys_of c).authorities (keys_of d).authorities (keys_of c) (keys_of d) (λ n s. names n (seen_waits c.waits) s) agrees.waits_fit.naming keep.authorities keep key q ∙ agrees.naming key q valid;
     }
 
-    by : (l : Seat → Option ℕ) (w : Seat → Option Waiting) (s : State) → l ≡ c.links → w ≡ c.waits → s ≡ c.numbered.state
-        → AgreesWith new (record { numbered = record { state = s; keys = d.numbered.keys }; links = l; waits = w })
-    by l w s le we se = subst (λ (x : Contents). AgreesWith new x)
-        (λ i. record { numbered = record { state = sym se i; keys = d.numbered.keys }; links = sym le i; waits = sym we i }) done
+    by : (x : Indexed) (l : Seat → Option ℕ) (w : Seat → Option Waiting) (s : State) → x ≡ c.index → l ≡ c.links → w ≡ c.waits → s ≡ c.numbered.state
+        → AgreesWith new (record { numbered = record { state = s; keys = d.numbered.keys }; index = x; links = l; waits = w })
+    by x l w s xe le we se = subst (λ (y : Contents). AgreesWith new y)
+        (λ i. record { numbered = record { state = sym se i; keys = d.numbered.keys }; index = sym xe i; links = sym le i; waits = sym we i }) done

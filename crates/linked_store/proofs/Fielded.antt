@@ -131,7 +131,7 @@ module _ (f middle g : Frame) (marked : ℕ) (sound : IsSound f marked) (goes : 
   pub sound_undone : IsSound g marked
   sound_undone =
       sound_same f g marked (steps_undone f middle g goes back) (now_undone f middle g goes back) sound
-      (rows_then f.tables middle.tables g.tables goes.rows (forms_same middle.tables g.tables back.same.forms back.same.index)) back.rooms
+      (rows_then f.tables middle.tables g.tables goes.rows (forms_same middle.tables g.tables back.same.forms)) back.rooms
 
   pub view_undone : linked_view g marked ≡ linked_view f marked
   view_undone = same_view f g marked (steps_undone f middle g goes back) (now_undone f middle g goes back) sound

@@ -17,31 +17,32 @@ use Rattle.catalogue_tables.specs.Tables.{OnlyLinks, OnlyWaits, OnlyWaitsAndForm
 use Rattle.catalogue_tables.specs.Waiting.{AddsWait}
 use Rattle.catalogue_tables.proofs.Seams.{keeps_then}
 use Rattle.catalogue_tables.specs.declared.tables.CatalogueTables.{CatalogueTables}
-use Rattle.linked_store.specs.Contents.{CanGoBack, Fits, HaveRooms, Step, ToField, ToLink, ToRecord, ToWait, apply, apply_back, at_seat, step_of}
+use Rattle.form_index.specs.Index.{Indexed}
+use Rattle.linked_store.specs.Contents.{CanGoBack, Fits, HaveRooms, Step, ToField, ToIndex, ToLink, ToRecord, ToWait, apply, apply_back, at_seat, step_of}
 use Rattle.linked_store.specs.Rooms.{link_back, link_gone, link_out, wait_back, wait_gone, wait_out}
-use Rattle.linked_store.specs.Frames.{GoesBack, GoesOn, IsRoomy, IsRowOut, LetsGo, OnlyRows, SameForms, TakesBack, WaitsNow, contents, links_in, steps_of, waits_in}
+use Rattle.linked_store.specs.Frames.{GoesBack, GoesOn, IsRoomy, IsRowOut, KeepsRows, LetsGo, FormsKeep, SameForms, StaysButHeld, TakesBack, WaitsNow, contents, links_in, steps_of, waits_in}
 use Rattle.linked_store.specs.declared.change.Change.{Change}
 use Rattle.linked_store.specs.declared.frame.Frame.{Frame}
 use Rattle.linked_store.proofs.Going.{back_join, can_join, can_less, join_assoc, join_none, last_link_out, last_wait_out, rooms_less, rooms_link_gone, rooms_more, rooms_relinked, rooms_rewaited, rooms_same, rooms_unlinked, rooms_unwaited, rooms_wait_gone, rooms_waited, steps_pushed}
 
 -- one change more, whose step leads back
 pub goes_one : (old new : Frame) (step : Step) → steps_of new ≡ steps_of old ++ step ∷ [] → apply step (contents new) ≡ contents old → Fits step (contents new)
-    → (IsRoomy old → IsRoomy new) → OnlyRows old.tables new.tables → GoesOn old new
+    → (IsRoomy old → IsRoomy new) → FormsKeep old.tables new.tables → GoesOn old new
 goes_one old new step steps undone fits rooms rows = record { more = step ∷ []; steps = steps; back = undone; can = (tt, fits); rooms = rooms; rows = rows }
 
 pub steps_noted : (old now middle : List Change) (change : Change) → middle ≡ old → now ≡ middle ++ change ∷ [] → map step_of now ≡ map step_of old ++ step_of change ∷ []
 steps_noted old now middle change same is = steps_pushed old now change (is ∙ ap (λ l. l ++ change ∷ []) same)
 
-pub rows_same : (old new : CatalogueTables) → new ≡ old → OnlyRows old new
-rows_same old new same = subst (λ t. OnlyRows old t) (sym same) (record { forms = keeps_itself same_form old.forms; index = refl })
+pub rows_same : (old new : CatalogueTables) → new ≡ old → FormsKeep old new
+rows_same old new same = subst (λ t. FormsKeep old t) (sym same) (record { forms = keeps_itself same_form old.forms })
 
 -- nothing changed, but that forms may have got numbers
 pub goes_still : (old new : Frame) → new.store ≡ old.store → new.log.items ≡ old.log.items → links_in new.tables ≡ links_in old.tables → waits_in new.tables ≡ waits_in old.tables
-    → OnlyRows old.tables new.tables → GoesOn old new
-goes_still old new store log links waits rows = record {
+    → new.tables.index ≡ old.tables.index → FormsKeep old.tables new.tables → GoesOn old new
+goes_still old new store log links waits index rows = record {
   more = [];
   steps = ap (map step_of) log ∙ join_none (steps_of old);
-  back = λ i. record { numbered = store i; links = (links i).key_of; waits = (waits i).waiting };
+  back = λ i. record { numbered = store i; index = index i; links = (links i).key_of; waits = (waits i).waiting };
   can = tt;
   rooms = λ r.
       subst (λ l. HaveRooms l (links_in new.tables) (waits_in new.tables)) (sym (ap (map step_of) log))
@@ -51,14 +52,14 @@ goes_still old new store log links waits rows = record {
 }
 
 pub goes_none : (old new : Frame) → new.store ≡ old.store → new.tables ≡ old.tables → new.log.items ≡ old.log.items → GoesOn old new
-goes_none old new store tables log = goes_still old new store log (ap links_in tables) (ap waits_in tables) (rows_same old.tables new.tables tables)
+goes_none old new store tables log = goes_still old new store log (ap links_in tables) (ap waits_in tables) (ap (λ (t : CatalogueTables). t.index) tables) (rows_same old.tables new.tables tables)
 
 -- a field and its tie were exchanged
 pub goes_swapped : (old new : Frame) (seat : Seat) (h : KeptField) → steps_of new ≡ steps_of old ++ ToField seat h ∷ [] → new.tables ≡ old.tables → with_field_of seat h new.store ≡ old.store
     → Fits (ToField seat h) (contents new) → GoesOn old new
 goes_swapped old new seat h steps tables undone fits =
     goes_one old new (ToField seat h) steps
-    (λ i. record { numbered = undone i; links = (links_in (tables i)).key_of; waits = (waits_in (tables i)).waiting })
+    (λ i. record { numbered = undone i; index = (tables i).index; links = (links_in (tables i)).key_of; waits = (waits_in (tables i)).waiting })
     fits
     (λ r. subst (λ (t : CatalogueTables). HaveRooms (steps_of new) (links_in t) (waits_in t)) (sym tables) (subst (λ l. HaveRooms l (links_in old.tables) (waits_in old.tables)) (sym steps)
     (rooms_more (steps_of old) (ToField seat h) (links_in old.tables) (waits_in old.tables)
@@ -70,7 +71,7 @@ pub goes_exchanged : (old new : Frame) (class : Class) (number : ℕ) (r : Optio
     → with_record class number r new.store ≡ old.store → Fits (ToRecord class number r) (contents new) → GoesOn old new
 goes_exchanged old new class number r steps tables undone fits =
     goes_one old new (ToRecord class number r) steps
-    (λ i. record { numbered = undone i; links = (links_in (tables i)).key_of; waits = (waits_in (tables i)).waiting })
+    (λ i. record { numbered = undone i; index = (tables i).index; links = (links_in (tables i)).key_of; waits = (waits_in (tables i)).waiting })
     fits
     (λ rooms. subst (λ (t : CatalogueTables). HaveRooms (steps_of new) (links_in t) (waits_in t)) (sym tables) (subst (λ l. HaveRooms l (links_in old.tables) (waits_in old.tables)) (sym steps)
     (rooms_more (steps_of old) (ToRecord class number r) (links_in old.tables) (waits_in old.tables)
@@ -85,8 +86,8 @@ set_back {V} seat was now things is s = by (same_seat seat s) refl
     by true e = is ∙ ap things ((seat_Decides seat s).0 e)
     by false e = refl
 
-pub forms_same : (old new : CatalogueTables) → new.forms ≡ old.forms → new.index ≡ old.index → OnlyRows old new
-forms_same old new forms index = record { forms = keeps_same same_form forms; index = index }
+pub forms_same : (old new : CatalogueTables) → new.forms ≡ old.forms → FormsKeep old new
+forms_same old new forms = record { forms = keeps_same same_form forms }
 
 -- a link went out
 pub goes_unlinked : (old new : Frame) (seat : Seat) (number : Option ℕ) → steps_of new ≡ steps_of old ++ ToLink seat number ∷ [] → new.store ≡ old.store → OnlyLinks old.tables new.tables
@@ -95,14 +96,14 @@ goes_unlinked old new seat number steps store only was out =
     let waits_same : waits_in new.tables ≡ waits_in old.tables = ap waits only.waits in
     let gone : links_in new.tables ≡ link_out seat number (links_in old.tables) = out ∙ ap (λ n. link_out seat n (links_in old.tables)) (sym was) in
     goes_one old new (ToLink seat number) steps
-    ((λ i. record { numbered = store i; links = at_seat seat number (gone i).key_of; waits = (waits_same i).waiting })
-    ∙ (λ i. record { numbered = old.store; links = λ s. set_back seat number None (links_in old.tables).key_of was s i; waits = (waits_in old.tables).waiting }))
+    ((λ i. record { numbered = store i; index = only.index i; links = at_seat seat number (gone i).key_of; waits = (waits_same i).waiting })
+    ∙ (λ i. record { numbered = old.store; index = old.tables.index; links = λ s. set_back seat number None (links_in old.tables).key_of was s i; waits = (waits_in old.tables).waiting }))
     tt
     (λ r. subst (λ l. HaveRooms l (links_in new.tables) (waits_in new.tables)) (sym steps)
     (subst (λ (w : Waits). HaveRooms (steps_of old ++ ToLink seat number ∷ []) (links_in new.tables) w) (sym waits_same)
     (subst (λ (l : Links). HaveRooms (steps_of old ++ ToLink seat number ∷ []) l (waits_in old.tables)) (sym gone)
     (rooms_unlinked (steps_of old) seat number (links_in old.tables) (waits_in old.tables) r))))
-    (forms_same old.tables new.tables only.forms only.index)
+    (forms_same old.tables new.tables only.forms)
 
 -- a link came in
 pub goes_linked : (old new : Frame) (seat : Seat) (number : ℕ) → steps_of new ≡ steps_of old ++ ToLink seat None ∷ [] → new.store ≡ old.store → OnlyLinks old.tables new.tables
@@ -110,8 +111,8 @@ pub goes_linked : (old new : Frame) (seat : Seat) (number : ℕ) → steps_of ne
 goes_linked old new seat number steps store only free came =
     let waits_same : waits_in new.tables ≡ waits_in old.tables = ap waits only.waits in
     goes_one old new (ToLink seat None) steps
-    ((λ i. record { numbered = store i; links = at_seat seat None (came i).key_of; waits = (waits_same i).waiting })
-    ∙ (λ i. record { numbered = old.store; links = λ s. set_back seat None (Some number) (links_in old.tables).key_of (sym free) s i; waits = (waits_in old.tables).waiting }))
+    ((λ i. record { numbered = store i; index = only.index i; links = at_seat seat None (came i).key_of; waits = (waits_same i).waiting })
+    ∙ (λ i. record { numbered = old.store; index = old.tables.index; links = λ s. set_back seat None (Some number) (links_in old.tables).key_of (sym free) s i; waits = (waits_in old.tables).waiting }))
     tt
     (λ r. subst (λ l. HaveRooms l (links_in new.tables) (waits_in new.tables)) (sym steps)
     (subst (λ (w : Waits). HaveRooms (steps_of old ++ ToLink seat None ∷ []) (links_in new.tables) w) (sym waits_same)
@@ -119,7 +120,7 @@ goes_linked old new seat number steps store only free came =
     (ap (λ (l : Links). l.taken_from) came) refl
     (rooms_more (steps_of old) (ToLink seat None) (links_in old.tables) (waits_in old.tables)
     (record { links = λ s. refl; keys = λ n s. refl; waits = λ s. refl; forms = λ n s. refl; names = λ n s. refl }) r))))
-    (forms_same old.tables new.tables only.forms only.index)
+    (forms_same old.tables new.tables only.forms)
 
 -- what waits went out
 pub goes_unwaited : (old new : Frame) (seat : Seat) (waiting : Option Waiting) → steps_of new ≡ steps_of old ++ ToWait seat waiting ∷ [] → new.store ≡ old.store → OnlyWaits old.tables new.tables
@@ -128,14 +129,14 @@ goes_unwaited old new seat waiting steps store only was out =
     let links_same : links_in new.tables ≡ links_in old.tables = ap links only.links in
     let gone : waits_in new.tables ≡ wait_out seat waiting (waits_in old.tables) = out ∙ ap (λ n. wait_out seat n (waits_in old.tables)) (sym was) in
     goes_one old new (ToWait seat waiting) steps
-    ((λ i. record { numbered = store i; links = (links_same i).key_of; waits = at_seat seat waiting (gone i).waiting })
-    ∙ (λ i. record { numbered = old.store; links = (links_in old.tables).key_of; waits = λ s. set_back seat waiting None (waits_in old.tables).waiting was s i }))
+    ((λ i. record { numbered = store i; index = only.index i; links = (links_same i).key_of; waits = at_seat seat waiting (gone i).waiting })
+    ∙ (λ i. record { numbered = old.store; index = old.tables.index; links = (links_in old.tables).key_of; waits = λ s. set_back seat waiting None (waits_in old.tables).waiting was s i }))
     tt
     (λ r. subst (λ l. HaveRooms l (links_in new.tables) (waits_in new.tables)) (sym steps)
     (subst (λ (l : Links). HaveRooms (steps_of old ++ ToWait seat waiting ∷ []) l (waits_in new.tables)) (sym links_same)
     (subst (λ (w : Waits). HaveRooms (steps_of old ++ ToWait seat waiting ∷ []) (links_in old.tables) w) (sym gone)
     (rooms_unwaited (steps_of old) seat waiting (links_in old.tables) (waits_in old.tables) r))))
-    (forms_same old.tables new.tables only.forms only.index)
+    (forms_same old.tables new.tables only.forms)
 
 -- a seat waits now
 pub goes_waiting : (old new : Frame) (seat : Seat) (waiting : Waiting) → steps_of new ≡ steps_of old ++ ToWait seat None ∷ [] → new.store ≡ old.store → OnlyWaitsAndForms old.tables new.tables
@@ -143,8 +144,8 @@ pub goes_waiting : (old new : Frame) (seat : Seat) (waiting : Waiting) → steps
 goes_waiting old new seat waiting steps store only free came =
     let links_same : links_in new.tables ≡ links_in old.tables = ap links only.links in
     goes_one old new (ToWait seat None) steps
-    ((λ i. record { numbered = store i; links = (links_same i).key_of; waits = at_seat seat None (came i).waiting })
-    ∙ (λ i. record { numbered = old.store; links = (links_in old.tables).key_of; waits = λ s. set_back seat None (Some waiting) (waits_in old.tables).waiting (sym free) s i }))
+    ((λ i. record { numbered = store i; index = only.index i; links = (links_same i).key_of; waits = at_seat seat None (came i).waiting })
+    ∙ (λ i. record { numbered = old.store; index = old.tables.index; links = (links_in old.tables).key_of; waits = λ s. set_back seat None (Some waiting) (waits_in old.tables).waiting (sym free) s i }))
     tt
     (λ r. subst (λ l. HaveRooms l (links_in new.tables) (waits_in new.tables)) (sym steps)
     (subst (λ (l : Links). HaveRooms (steps_of old ++ ToWait seat None ∷ []) l (waits_in new.tables)) (sym links_same)
@@ -152,10 +153,10 @@ goes_waiting old new seat waiting steps store only free came =
     (rooms_waited (steps_of old ++ ToWait seat None ∷ []) seat waiting (links_in old.tables) (waits_in old.tables)
     (rooms_more (steps_of old) (ToWait seat None) (links_in old.tables) (waits_in old.tables)
     (record { links = λ s. refl; keys = λ n s. refl; waits = λ s. refl; forms = λ n s. refl; names = λ n s. refl }) r)))))
-    (record { forms = only.forms; index = only.index })
+    (record { forms = only.forms })
 
-pub rows_then : (a b c : CatalogueTables) → OnlyRows a b → OnlyRows b c → OnlyRows a c
-rows_then a b c first second = record { forms = keeps_then same_form a.forms b.forms c.forms first.forms second.forms; index = second.index ∙ first.index }
+pub rows_then : (a b c : CatalogueTables) → FormsKeep a b → FormsKeep b c → FormsKeep a c
+rows_then a b c first second = record { forms = keeps_then same_form a.forms b.forms c.forms first.forms second.forms }
 
 -- one after another
 pub goes_then : (a b c : Frame) → GoesOn a b → GoesOn b c → GoesOn a c
@@ -205,7 +206,7 @@ pub record IsUnderWay (position : ℕ) (start now : Frame) : Type 0 where
   pub same : SameForms start.tables now.tables
 
 pub under_way : (position : ℕ) (start : Frame) → CanGoBack (steps_of start) (contents start) → IsRoomy start → IsUnderWay position start start
-under_way position start can rooms = record { front = refl; back = refl; can = can; rooms = rooms; same = record { forms = refl; index = refl } }
+under_way position start can rooms = record { front = refl; back = refl; can = can; rooms = rooms; same = record { forms = refl } }
 
 module _ (position : ℕ) (start now popped : Frame) (change : Change) (way : IsUnderWay position start now) (is : now.log.items ≡ popped.log.items ++ change ∷ [])
     (store : popped.store ≡ now.store) (tables : popped.tables ≡ now.tables) where
@@ -213,7 +214,7 @@ module _ (position : ℕ) (start now popped : Frame) (change : Change) (way : Is
   parted = steps_pushed popped.log.items now.log.items change is
 
   same_contents : contents popped ≡ contents now
-  same_contents = λ i. record { numbered = store i; links = (links_in (tables i)).key_of; waits = (waits_in (tables i)).waiting }
+  same_contents = λ i. record { numbered = store i; index = (tables i).index; links = (links_in (tables i)).key_of; waits = (waits_in (tables i)).waiting }
 
   less : CanGoBack (steps_of popped) (apply (step_of change) (contents now)) × Fits (step_of change) (contents now)
   less = can_less (steps_of popped) (step_of change) (contents now) (subst (λ l. CanGoBack l (contents now)) parted way.can)
@@ -240,10 +241,7 @@ module _ (position : ℕ) (start now popped : Frame) (change : Change) (way : Is
             ∙ way.back;
         can = subst (λ l. CanGoBack l (contents next)) (sym left) (subst (λ x. CanGoBack (steps_of popped) x) (sym there) less.0);
         rooms = subst (λ l. HaveRooms l (links_in next.tables) (waits_in next.tables)) (sym left) (takes.rooms (steps_of popped) popped_rooms);
-        same = record {
-          forms = takes.same.forms ∙ ap (λ (t : CatalogueTables). t.forms) tables ∙ way.same.forms;
-          index = takes.same.index ∙ ap (λ (t : CatalogueTables). t.index) tables ∙ way.same.index;
-        };
+        same = record { forms = takes.same.forms ∙ ap (λ (t : CatalogueTables). t.forms) tables ∙ way.same.forms };
       }
 
 pub way_done : (position : ℕ) (start now : Frame) → IsUnderWay position start now → length now.log.items ≤ position → GoesBack position start now
@@ -259,13 +257,23 @@ way_done position start now way low =
 
 -- ---- keeping
 
+-- an index with the rows that it had, and after another
+pub keeps_none : (x : Indexed) → KeepsRows x x
+keeps_none x = record { rows = λ n. refl; ordered = λ keys order. order }
+
+pub keeps_as : (x y : Indexed) → y ≡ x → KeepsRows x y
+keeps_as x y e = subst (λ z. KeepsRows x z) (sym e) (keeps_none x)
+
+keeps_both : (x y z : Indexed) → KeepsRows x y → KeepsRows y z → KeepsRows x z
+keeps_both x y z first second = record { rows = λ n. second.rows n ∙ first.rows n; ordered = λ keys order. second.ordered keys (first.ordered keys order) }
+
 pub record IsKeeping (start here : Frame) : Type 0 where
-  pub now : contents here ≡ contents start
+  pub now : StaysButHeld (contents start) (contents here)
   pub rooms : IsRoomy here
   pub same : SameForms start.tables here.tables
 
 pub keeping : (start : Frame) → IsRoomy start → IsKeeping start start
-keeping start rooms = record { now = refl; rooms = rooms; same = record { forms = refl; index = refl } }
+keeping start rooms = record { now = record { numbered = refl; index = keeps_none start.tables.index; links = refl; waits = refl }; rooms = rooms; same = record { forms = refl } }
 
 module _ (start now popped : Frame) (change : Change) (way : IsKeeping start now) (is : now.log.items ≡ popped.log.items ++ change ∷ []) (tables : popped.tables ≡ now.tables) where
   pub last_rooms : HaveRooms (steps_of popped ++ step_of change ∷ []) (links_in popped.tables) (waits_in popped.tables)
@@ -275,18 +283,16 @@ module _ (start now popped : Frame) (change : Change) (way : IsKeeping start now
 
   pub one_gone : (next : Frame) → next.store ≡ now.store → next.log.items ≡ popped.log.items → LetsGo (step_of change) popped.tables next.tables → IsKeeping start next
   one_gone next store log gone = record {
-    now =
-        (λ i. record {
-          numbered = store i;
-          links = (gone.links ∙ ap (λ (t : CatalogueTables). (links_in t).key_of) tables) i;
-          waits = (gone.waits ∙ ap (λ (t : CatalogueTables). (waits_in t).waiting) tables) i;
-        })
-        ∙ way.now;
-    rooms = subst (λ l. HaveRooms l (links_in next.tables) (waits_in next.tables)) (sym (ap (map step_of) log)) (gone.rooms (steps_of popped) last_rooms);
-    same = record {
-      forms = gone.same.forms ∙ ap (λ (t : CatalogueTables). t.forms) tables ∙ way.same.forms;
-      index = gone.same.index ∙ ap (λ (t : CatalogueTables). t.index) tables ∙ way.same.index;
+    now = record {
+      numbered = store ∙ way.now.numbered;
+      index =
+          keeps_both start.tables.index popped.tables.index next.tables.index
+          (subst (λ (t : CatalogueTables). KeepsRows start.tables.index t.index) (sym tables) way.now.index) gone.index;
+      links = gone.links ∙ ap (λ (t : CatalogueTables). (links_in t).key_of) tables ∙ way.now.links;
+      waits = gone.waits ∙ ap (λ (t : CatalogueTables). (waits_in t).waiting) tables ∙ way.now.waits;
     };
+    rooms = subst (λ l. HaveRooms l (links_in next.tables) (waits_in next.tables)) (sym (ap (map step_of) log)) (gone.rooms (steps_of popped) last_rooms);
+    same = record { forms = gone.same.forms ∙ ap (λ (t : CatalogueTables). t.forms) tables ∙ way.same.forms };
   }
 
 -- the row that was added is what the seat waits for
@@ -300,13 +306,13 @@ waits_from old new seat asked keys store only adds =
       waiting = adds.row.waiting;
       asked_are = adds.asked_are;
       keys_are = adds.keys_are;
-      now = λ i. record { numbered = store i; links = (links_same i).key_of; waits = (came i).waiting };
+      now = λ i. record { numbered = store i; index = only.index i; links = (links_same i).key_of; waits = (came i).waiting };
     }
 
 -- ---- one step back
 
-forms_only : (old new : CatalogueTables) → new.forms ≡ old.forms → new.index ≡ old.index → SameForms old new
-forms_only old new forms index = record { forms = forms; index = index }
+pub forms_only : (old new : CatalogueTables) → new.forms ≡ old.forms → SameForms old new
+forms_only old new forms = record { forms = forms }
 
 -- a thing comes back to a seat from which what stood there went
 pub set_again : {V : Type 0} (seat : Seat) (was now : Option V) (things : Seat → Option V) (s : Seat) → at_seat seat was (at_seat seat now things) s ≡ at_seat seat was things s
@@ -329,12 +335,12 @@ pub back_linked : (old new : Frame) (seat : Seat) (number : Option ℕ) → new.
 back_linked old new seat number store log only is =
     let waits_same : waits_in new.tables ≡ waits_in old.tables = ap waits only.waits in
     record {
-      now = (λ i. record { numbered = store i; links = (is i).key_of; waits = (waits_same i).waiting })
-          ∙ (λ i. record { numbered = old.store; links = λ s. back_links seat number (links_in old.tables) s i; waits = (waits_in old.tables).waiting });
+      now = (λ i. record { numbered = store i; index = only.index i; links = (is i).key_of; waits = (waits_same i).waiting })
+          ∙ (λ i. record { numbered = old.store; index = old.tables.index; links = λ s. back_links seat number (links_in old.tables) s i; waits = (waits_in old.tables).waiting });
       rooms = λ steps r.
           subst (λ (w : Waits). HaveRooms steps (links_in new.tables) w) (sym waits_same)
           (subst (λ (l : Links). HaveRooms steps l (waits_in old.tables)) (sym is) (rooms_relinked steps seat number (links_in old.tables) (waits_in old.tables) r));
-      same = forms_only old.tables new.tables only.forms only.index;
+      same = forms_only old.tables new.tables only.forms;
       log = log;
     }
 
@@ -343,12 +349,12 @@ pub back_waiting : (old new : Frame) (seat : Seat) (waiting : Option Waiting) �
 back_waiting old new seat waiting store log only is =
     let links_same : links_in new.tables ≡ links_in old.tables = ap links only.links in
     record {
-      now = (λ i. record { numbered = store i; links = (links_same i).key_of; waits = (is i).waiting })
-          ∙ (λ i. record { numbered = old.store; links = (links_in old.tables).key_of; waits = λ s. back_waits seat waiting (waits_in old.tables) s i });
+      now = (λ i. record { numbered = store i; index = only.index i; links = (links_same i).key_of; waits = (is i).waiting })
+          ∙ (λ i. record { numbered = old.store; index = old.tables.index; links = (links_in old.tables).key_of; waits = λ s. back_waits seat waiting (waits_in old.tables) s i });
       rooms = λ steps r.
           subst (λ (l : Links). HaveRooms steps l (waits_in new.tables)) (sym links_same)
           (subst (λ (w : Waits). HaveRooms steps (links_in old.tables) w) (sym is) (rooms_rewaited steps seat waiting (links_in old.tables) (waits_in old.tables) r));
-      same = forms_only old.tables new.tables only.forms only.index;
+      same = forms_only old.tables new.tables only.forms;
       log = log;
     }
 
@@ -358,7 +364,7 @@ back_stored old new step tables log now = record {
   now = now;
   rooms = λ steps r.
       subst (λ (t : CatalogueTables). HaveRooms steps (links_in t) (waits_in t)) (sym tables) (rooms_less steps step (links_in old.tables) (waits_in old.tables) r);
-  same = forms_only old.tables new.tables (ap (λ (t : CatalogueTables). t.forms) tables) (ap (λ (t : CatalogueTables). t.index) tables);
+  same = forms_only old.tables new.tables (ap (λ (t : CatalogueTables). t.forms) tables);
   log = log;
 }
 
@@ -366,10 +372,11 @@ back_stored old new step tables log now = record {
 
 pub gone_stored : (step : Step) (tables : CatalogueTables) → LetsGo step tables tables
 gone_stored step tables = record {
+  index = keeps_none tables.index;
   links = refl;
   waits = refl;
   rooms = λ steps r. rooms_less steps step (links_in tables) (waits_in tables) r;
-  same = forms_only tables tables refl refl;
+  same = forms_only tables tables refl;
 }
 
 gone_links : (seat : Seat) (number : Option ℕ) (l : Links) → (link_gone seat number l).key_of ≡ l.key_of
@@ -384,29 +391,32 @@ pub gone_linked : (old new : CatalogueTables) (seat : Seat) (number : Option ℕ
 gone_linked old new seat number only is =
     let waits_same : waits_in new ≡ waits_in old = ap waits only.waits in
     record {
+      index = keeps_as old.index new.index only.index;
       links = ap (λ (l : Links). l.key_of) is ∙ gone_links seat number (links_in old);
       waits = ap (λ (w : Waits). w.waiting) waits_same;
       rooms = λ steps r.
           subst (λ (w : Waits). HaveRooms steps (links_in new) w) (sym waits_same)
           (subst (λ (l : Links). HaveRooms steps l (waits_in old)) (sym is) (rooms_link_gone steps seat number (links_in old) (waits_in old) r));
-      same = forms_only old new only.forms only.index;
+      same = forms_only old new only.forms;
     }
 
 pub gone_waiting : (old new : CatalogueTables) (seat : Seat) (waiting : Option Waiting) → OnlyWaits old new → waits_in new ≡ wait_gone seat waiting (waits_in old) → LetsGo (ToWait seat waiting) old new
 gone_waiting old new seat waiting only is =
     let links_same : links_in new ≡ links_in old = ap links only.links in
     record {
+      index = keeps_as old.index new.index only.index;
       links = ap (λ (l : Links). l.key_of) links_same;
       waits = ap (λ (w : Waits). w.waiting) is ∙ gone_waits seat waiting (waits_in old);
       rooms = λ steps r.
           subst (λ (l : Links). HaveRooms steps l (waits_in new)) (sym links_same)
           (subst (λ (w : Waits). HaveRooms steps (links_in old) w) (sym is) (rooms_wait_gone steps seat waiting (links_in old) (waits_in old) r));
-      same = forms_only old new only.forms only.index;
+      same = forms_only old new only.forms;
     }
 
 -- the row of the last step is out
 pub row_out : (steps : List Step) (step : Step) (tables : CatalogueTables) → HaveRooms (steps ++ step ∷ []) (links_in tables) (waits_in tables) → IsRowOut step tables
 row_out steps (ToRecord class number r) tables rooms = tt
 row_out steps (ToField seat h) tables rooms = tt
+row_out steps (ToIndex number row) tables rooms = tt
 row_out steps (ToLink seat number) tables rooms = last_link_out steps seat number (links_in tables) (waits_in tables) rooms
 row_out steps (ToWait seat waiting) tables rooms = last_wait_out steps seat waiting (links_in tables) (waits_in tables) rooms

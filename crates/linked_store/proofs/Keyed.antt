@@ -1,6 +1,6 @@
 -- Keys that get numbers, and what a store without records is.
-use Rattle.std.proofs.Common.{◌≡◌, ◌∙◌, sym, ap, refl, subst, ℕ, ◌<◌, ◌≤◌, arith, Bool, false, List, [], length, map, Some, None, Result, Ok, Err, OnOk, OnErr, IfOk}
-use Rattle.std.specs.Prelude.{slice_get}
+use Rattle.std.proofs.Common.{◌≡◌, ◌∙◌, sym, ap, refl, subst, ℕ, ◌<◌, ◌≤◌, arith, Bool, true, false, List, [], length, map, Option, Some, None, IsSome, Result, Ok, Err, OnOk, OnErr, IfOk}
+use Rattle.std.specs.Prelude.{find, slice_get}
 use Rattle.std.specs.List.{IsDistinct}
 use Rattle.std.specs.List.Sorted.{IsStrictlySortedBy}
 use Rattle.std.proofs.lemmas.Cmp.{eq_by_cmp_equiv}
@@ -9,7 +9,7 @@ use Rattle.marc_types.specs.declared.key.Class.TheVariants.{Authority, Bibliogra
 use Rattle.marc_types.specs.declared.key.Key.{Key}
 use Rattle.marc_types.specs.declared.key.Place.{Place}
 use Rattle.marc_types.specs.Order.{same_key, key_cmp_total}
-use Rattle.numbering.specs.Numbers.{IsNumberOf}
+use Rattle.numbering.specs.Numbers.{IsNumberOf, is_known, number_of}
 use Rattle.numbering.specs.declared.seat.Seat.{Seat}
 use Rattle.numbering.proofs.Numberlaws.{distinct_with, keeps_itself, keeps_with}
 use Rattle.catalogue_rules.specs.State.{KeptField, empty_state, rows_of}
@@ -30,7 +30,12 @@ use Rattle.linked_store.specs.Linked.{IsNumber, IsUnchanged, KeysGrow, empty_lin
 use Rattle.linked_store.specs.Sound.{AgreesWith, IsSound, at_start, key_lists, keys_of, linked_view, state_in}
 use Rattle.linked_store.specs.declared.frame.Frame.{Frame}
 use Rattle.linked_store.proofs.Agreed.{key_there, keys_alike}
-use Rattle.form_index.specs.Index.{IsInOrder, no_index}
+use Rattle.form_index.specs.Forms.{Forms}
+use Rattle.form_index.specs.Index.{Indexed, IsInOrder, no_index, row_under as row_in}
+use Rattle.entry_record.specs.Authority.{Linkable}
+use Rattle.catalogue_rules.specs.Choice.{has_key}
+use Rattle.marc_types.specs.declared.form.Form.{Form}
+use Rattle.catalogue_tables.specs.Following.{IsRowFor, TellsAuthorities}
 use Rattle.catalogue_tables.specs.declared.tables.CatalogueTables.{CatalogueTables}
 use Rattle.catalogue_tables.proofs.Followed.{tells_nobody}
 use Rattle.linked_store.proofs.Framed.{rows_same}
@@ -106,7 +111,7 @@ record_there class number s low =
 -- ---- nothing yet
 
 abbrev pub nothing : Contents
-nothing = record { numbered = empty_numbered; links = λ s. None; waits = λ s. None }
+nothing = record { numbered = empty_numbered; index = no_index; links = λ s. None; waits = λ s. None }
 
 holds_nowhere : (test : Class → KeptField → Bool) (p : Place) → false ≡ holds_at test empty_state p
 holds_nowhere test p = by p.class p.key p.field
@@ -118,11 +123,11 @@ holds_nowhere test p = by p.class p.key p.field
 within_none : (names : ℕ) (keys : KeyLists) → IsWithin names keys (λ n s. false)
 within_none names keys = record { named = λ n s e. absurd (false≢true e); seated = λ n s e. absurd (false≢true e) }
 
-agrees_nothing : (tables : CatalogueTables) → tables.index ≡ no_index → IsInOrder [] tables.index → AgreesWith tables nothing
+agrees_nothing : (tables : CatalogueTables) → IsInOrder [] no_index → AgreesWith tables nothing
 unfolding IsStrictlySortedBy
-agrees_nothing tables index order = record {
+agrees_nothing tables order = record {
   ordered = record { authorities = tt; bibliographic = tt };
-  told = tells_nobody tables.forms [] tables.index index order;
+  told = tells_nobody tables.forms [] no_index refl order;
   links_fit = within_none 0 (keys_of nothing);
   waits_fit = record { asking = within_none (length tables.forms) (keys_of nothing); naming = within_none 0 (keys_of nothing) };
   linked = λ key p. holds_nowhere (linked_at key) p;
@@ -132,7 +137,7 @@ agrees_nothing tables index order = record {
 
 module _ (f : Frame) (store : f.store ≡ empty_numbered) (links : links_in f.tables ≡ no_links) (waits : waits_in f.tables ≡ no_waits) (log : f.log.items ≡ []) (index : f.tables.index ≡ no_index) (order : (keys : List Key) → IsInOrder keys f.tables.index) where
   contents_none : contents f ≡ nothing
-  contents_none = λ i. record { numbered = store i; links = (links i).key_of; waits = (waits i).waiting }
+  contents_none = λ i. record { numbered = store i; index = index i; links = (links i).key_of; waits = (waits i).waiting }
 
   steps_none : steps_of f ≡ []
   steps_none = ap (map step_of) log
@@ -152,9 +157,9 @@ module _ (f : Frame) (store : f.store ≡ empty_numbered) (links : links_in f.ta
     rooms =
         subst (λ (l : List Step). HaveRooms l (links_in f.tables) (waits_in f.tables)) (sym steps_none)
         (subst (λ (l : Links). HaveRooms [] l (waits_in f.tables)) (sym links) (subst (λ (w : Waits). HaveRooms [] no_links w) (sym waits) rooms_none));
-    now = subst (λ c. AgreesWith f.tables c) (sym contents_none) (agrees_nothing f.tables index (order []));
-    mark = subst (λ c. AgreesWith f.tables c) (sym start_none) (agrees_nothing f.tables index (order []));
-    start = subst (λ c. AgreesWith f.tables c) (sym start_none) (agrees_nothing f.tables index (order []));
+    now = subst (λ c. AgreesWith f.tables c) (sym contents_none) (agrees_nothing f.tables (subst (IsInOrder []) index (order [])));
+    mark = subst (λ c. AgreesWith f.tables c) (sym start_none) (agrees_nothing f.tables (subst (IsInOrder []) index (order [])));
+    start = subst (λ c. AgreesWith f.tables c) (sym start_none) (agrees_nothing f.tables (subst (IsInOrder []) index (order [])));
   }
 
   pub view_none : linked_view f 0 ≡ empty_linked
@@ -170,7 +175,7 @@ module _ (f : Frame) (store : f.store ≡ empty_numbered) (links : links_in f.ta
 -- what the store's growth is to the frame
 pub frame_grown : (f g : Frame) → AreDistinct (key_lists f.store.keys) → GrowsBy f.store g.store → g.tables ≡ f.tables → g.log.items ≡ f.log.items → IsGrown f g
 frame_grown f g distinct by tables log = record {
-  grows = record { numbered = by.grows; links = ap (λ t. (links_in t).key_of) tables; waits = ap (λ t. (waits_in t).waiting) tables };
+  grows = record { numbered = by.grows; keep = by.keep.authorities; distinct = distinct.authorities; index = ap (λ t. t.index) tables; links = ap (λ t. (links_in t).key_of) tables; waits = ap (λ t. (waits_in t).waiting) tables };
   keep = by.keep;
   distinct = by.distinct distinct;
   rows = rows_same f.tables g.tables tables;
@@ -200,3 +205,21 @@ number_by_lists class key s (Err e) is = tt
 pub low_by_lists : {E : Type 0} (class : Class) (s : Numbered) (r : Result ℕ E) → IfOk r (λ n. n < length (keys_by class s.keys)) → IfOk r (λ n. IsNumber class n (key_lists s.keys))
 low_by_lists class s (Ok n) low = subst (λ (l : List Key). n < length l) (sym (keys_alike class s)) low
 low_by_lists class s (Err e) low = tt
+
+-- ---- authorities
+
+no_row_for : (names : List Form) (o : Option Linkable) (row : Option Forms) → IsRowFor names o row → row ≡ None → IsSome o → ⊥
+no_row_for names (Some c) (Some row) is none some = cc
+no_row_for names (Some c) None is none some = is
+no_row_for names None row is none some = absurd (false≢true some)
+
+-- an authority that can be linked to has a row, and so its key has a number
+pub known_authority : (names : List Form) (keys : List Key) (x : Indexed) (all : List Linkable) (key : Key) → TellsAuthorities names keys x all → IsSome (find (has_key key) all)
+    → is_known same_key keys key ≡ true
+known_authority names keys x all key tells some = by (is_known same_key keys key) refl
+  where
+    by : (b : Bool) → is_known same_key keys key ≡ b → is_known same_key keys key ≡ true
+    by true e = e
+    by false e =
+        absurd (no_row_for names (find (has_key key) all) (row_in (number_of same_key keys key) x) (tells.each key)
+        (tells.given (number_of same_key keys key) ((keeps_itself same_key keys).new_number key e)) some)

@@ -1,10 +1,14 @@
 pub mod Outside
 pub mod Going
 pub mod Framed
+pub mod Indexed
 pub mod Agreed
 pub mod Turned
+pub mod Seated
+pub mod Brought
 pub mod Sounding
 pub mod Keyed
 pub mod Wanting
 pub mod Fielded
 pub mod Listing
+pub mod Placed

@@ -106,10 +106,10 @@ module _ (tables : CatalogueTables) (c : Contents) (distinct : AreDistinct (keys
 
 pub chosen_as : (tables : CatalogueTables) (c : Contents) (class : Class) (h : KeptField) (keys : List Key) (chosen : Chosen) → keys ≡ (keys_of c).authorities → AreDistinct (keys_of c) → AgreesWith tables c
     → AreAuthoritiesInOrder (state_in c)
-    → ((s : State) → TellsState tables.forms keys tables.index s → chosen ≡ chosen_for keys (field_choice (linkable_authorities s) class h))
+    → ((s : State) → TellsState tables.forms keys c.index s → chosen ≡ chosen_for keys (field_choice (linkable_authorities s) class h))
     → chosen ≡ chosen_for (keys_of c).authorities (field_choice (linkable_authorities (state_in c)) class h)
 chosen_as tables c class h keys chosen same distinct agrees order told =
-    told (state_in c) (subst (λ (l : List Key). TellsState tables.forms l tables.index (state_in c)) (sym same) (record { distinct = distinct.authorities; in_order = order; tells = agrees.told }))
+    told (state_in c) (subst (λ (l : List Key). TellsState tables.forms l c.index (state_in c)) (sym same) (record { distinct = distinct.authorities; in_order = order; tells = agrees.told }))
     ∙ ap (λ (l : List Key). chosen_for l (field_choice (linkable_authorities (state_in c)) class h)) same
 
 -- ---- the seats of a numbering, in turn

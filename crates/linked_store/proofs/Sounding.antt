@@ -1,13 +1,21 @@
 -- The tables agree with the records now, at the mark and before all changes: through growth, changes and the way back.
-use Rattle.std.proofs.Common.{◌≡◌, ◌∙◌, sym, ap, refl, subst, ℕ, zero, suc, ◌+◌, ◌≤◌, arith, List, [], ◌∷◌, ◌++◌, length, length-append, take, drop, Option}
+use Rattle.std.proofs.Common.{◌≡◌, ◌∙◌, sym, ap, refl, subst, ℕ, zero, suc, ◌+◌, ◌<◌, ◌≤◌, arith, List, [], ◌∷◌, ◌++◌, length, length-append, take, drop, Option}
 use Rattle.numbering.specs.declared.seat.Seat.{Seat}
 use Rattle.wait_table.specs.declared.waiting.Waiting.{Waiting}
 use Rattle.numbered_store.specs.Numbered.{Grows, Numbered, KeyNumbers}
 use Rattle.numbered_store.specs.Steps as stored
 use Rattle.numbered_store.proofs.Growing.{grown_back}
+use Rattle.numbering.specs.Numbers.{Keeps}
+use Rattle.marc_types.specs.Order.{same_key}
+use Rattle.std.specs.List.{IsDistinct}
+use Rattle.form_index.proofs.Growing.{order_kept}
+use Rattle.catalogue_tables.specs.Following.{restored, without_row}
+use Rattle.catalogue_tables.proofs.WaysBack.{way_stays}
+use Rattle.catalogue_tables.proofs.Followed.{tells_rows_kept}
+use Rattle.catalogue_rules.specs.State.{linkable_authorities}
 use Rattle.catalogue_tables.specs.Seam.{AreDistinct, KeysKeep}
-use Rattle.linked_store.specs.Contents.{CanGoBack, Contents, Fits, Step, ToField, ToLink, ToRecord, ToWait, apply, apply_back, at_seat}
-use Rattle.linked_store.specs.Frames.{GoesBack, GoesOn, IsKept, IsRoomy, OnlyRows, contents, steps_of}
+use Rattle.linked_store.specs.Contents.{CanGoBack, Contents, CanReturn, Fits, Step, ToField, ToIndex, ToLink, ToRecord, ToWait, apply, apply_back, at_seat}
+use Rattle.linked_store.specs.Frames.{FormsKeep, GoesBack, GoesOn, IsKept, IsRoomy, StaysButHeld, contents, steps_of}
 use Rattle.catalogue_tables.specs.declared.tables.CatalogueTables.{CatalogueTables}
 use Rattle.linked_store.proofs.Framed.{forms_same}
 use Rattle.linked_store.specs.Linked.{Linked}
@@ -20,6 +28,9 @@ use Rattle.linked_store.proofs.Going.{back_join, can_join}
 
 pub record GrowsTo (c d : Contents) : Type 0 where
   pub numbered : Grows c.numbered d.numbered
+  pub keep : Keeps same_key c.numbered.keys.authorities d.numbered.keys.authorities
+  pub distinct : IsDistinct same_key c.numbered.keys.authorities
+  pub index : d.index ≡ c.index
   pub links : d.links ≡ c.links
   pub waits : d.waits ≡ c.waits
 
@@ -33,6 +44,9 @@ step_grown (ToRecord class number r) c d grows fits =
       both.0,
       record {
         numbered = record { state = both.1; longer = λ k n low. grows.numbered.longer k n low; same_key = λ k n low. grows.numbered.same_key k n low };
+        keep = grows.keep;
+        distinct = grows.distinct;
+        index = grows.index;
         links = grows.links;
         waits = grows.waits;
       },
@@ -42,14 +56,36 @@ step_grown (ToField seat h) c d grows fits =
       both.0,
       record {
         numbered = record { state = both.1; longer = λ k n low. grows.numbered.longer k n low; same_key = λ k n low. grows.numbered.same_key k n low };
+        keep = grows.keep;
+        distinct = grows.distinct;
+        index = grows.index;
+        links = grows.links;
+        waits = grows.waits;
+      },
+    )
+step_grown (ToIndex number row) c d grows fits =
+    let here : CanReturn d.numbered.keys.authorities number row c.index = record {
+      known = let low : number < length c.numbered.keys.authorities = fits.known in let long = grows.keep.longer in omega (arith, low, long);
+      ordered = order_kept c.numbered.keys.authorities d.numbered.keys.authorities grows.keep grows.distinct c.index fits.ordered;
+      held = fits.held;
+      ordered_without = order_kept c.numbered.keys.authorities d.numbered.keys.authorities grows.keep grows.distinct (without_row number c.index) fits.ordered_without;
+    } in
+    let way = way_stays c.numbered.keys.authorities d.numbered.keys.authorities number row (restored c.numbered.keys.authorities number row c.index) c.index grows.distinct grows.keep fits.known
+    (record { held = fits.held; restores = refl; ordered = fits.ordered_without }) in (
+      subst (λ x. CanReturn d.numbered.keys.authorities number row x) (sym grows.index) here,
+      record {
+        numbered = grows.numbered;
+        keep = grows.keep;
+        distinct = grows.distinct;
+        index = ap (restored d.numbered.keys.authorities number row) grows.index ∙ way.restores;
         links = grows.links;
         waits = grows.waits;
       },
     )
 step_grown (ToLink seat number) c d grows fits =
-    (tt, record { numbered = grows.numbered; links = ap (λ (l : Seat → Option ℕ). at_seat seat number l) grows.links; waits = grows.waits })
+    (tt, record { numbered = grows.numbered; keep = grows.keep; distinct = grows.distinct; index = grows.index; links = ap (λ (l : Seat → Option ℕ). at_seat seat number l) grows.links; waits = grows.waits })
 step_grown (ToWait seat waiting) c d grows fits =
-    (tt, record { numbered = grows.numbered; links = grows.links; waits = ap (λ (l : Seat → Option Waiting). at_seat seat waiting l) grows.waits })
+    (tt, record { numbered = grows.numbered; keep = grows.keep; distinct = grows.distinct; index = grows.index; links = grows.links; waits = ap (λ (l : Seat → Option Waiting). at_seat seat waiting l) grows.waits })
 
 pub back_grown : (steps : List Step) (c d : Contents) → GrowsTo c d → CanGoBack steps c → CanGoBack steps d × GrowsTo (apply_back steps c) (apply_back steps d)
 back_grown [] c d grows can = (tt, grows)
@@ -63,6 +99,7 @@ back_grown (step ∷ steps) c d grows can =
 keys_step : (step : Step) (c : Contents) → (apply step c).numbered.keys ≡ c.numbered.keys
 keys_step (ToRecord class number r) c = refl
 keys_step (ToField seat h) c = refl
+keys_step (ToIndex number row) c = refl
 keys_step (ToLink seat number) c = refl
 keys_step (ToWait seat waiting) c = refl
 
@@ -76,10 +113,10 @@ keys_then more rest c d keep =
     (subst (λ (k : KeyNumbers). KeysKeep (keys_of c) (key_lists k)) (sym (keys_back rest d)) keep)
 
 -- the tables that agreed behind some steps agree there once keys and forms have got numbers
-agrees_behind : (steps : List Step) (old new : CatalogueTables) (c d : Contents) → OnlyRows old new → AreDistinct (keys_of c) → KeysKeep (keys_of c) (keys_of d) → GrowsTo (apply_back steps c) (apply_back steps d)
+agrees_behind : (steps : List Step) (old new : CatalogueTables) (c d : Contents) → FormsKeep old new → AreDistinct (keys_of c) → KeysKeep (keys_of c) (keys_of d) → GrowsTo (apply_back steps c) (apply_back steps d)
     → AgreesWith old (apply_back steps c) → AgreesWith new (apply_back steps d)
 agrees_behind steps old new c d rows distinct keep grows agrees =
-    agrees_grown old new (apply_back steps c) (apply_back steps d) rows (subst (λ (k : KeyNumbers). AreDistinct (key_lists k)) (sym (keys_back steps c)) distinct) (keys_then steps steps c d keep) grows.links grows.waits grows.numbered.state agrees
+    agrees_grown old new (apply_back steps c) (apply_back steps d) rows (subst (λ (k : KeyNumbers). AreDistinct (key_lists k)) (sym (keys_back steps c)) distinct) (keys_then steps steps c d keep) grows.index grows.links grows.waits grows.numbered.state agrees
 
 can_drop : (n : ℕ) (steps : List Step) (c : Contents) → CanGoBack steps c → CanGoBack (drop n steps) c
 can_drop zero steps c can = can
@@ -91,7 +128,7 @@ pub record IsGrown (f g : Frame) : Type 0 where
   pub grows : GrowsTo (contents f) (contents g)
   pub keep : KeysKeep (keys_of (contents f)) (keys_of (contents g))
   pub distinct : AreDistinct (keys_of (contents g))
-  pub rows : OnlyRows f.tables g.tables
+  pub rows : FormsKeep f.tables g.tables
   pub steps : steps_of g ≡ steps_of f
   pub rooms : IsRoomy f → IsRoomy g
 
@@ -131,10 +168,10 @@ drop_join (suc n) [] ys low = absurd (omega (arith, low))
 drop_join (suc n) (x ∷ xs) ys low = drop_join n xs ys (omega (arith, low))
 
 -- what agreed behind some steps agrees by more forms
-pub agrees_still : (old new : CatalogueTables) (steps : List Step) (c : Contents) → OnlyRows old new → AreDistinct (keys_of c) → AgreesWith old (apply_back steps c) → AgreesWith new (apply_back steps c)
+pub agrees_still : (old new : CatalogueTables) (steps : List Step) (c : Contents) → FormsKeep old new → AreDistinct (keys_of c) → AgreesWith old (apply_back steps c) → AgreesWith new (apply_back steps c)
 agrees_still old new steps c rows distinct agrees =
     agrees_grown old new (apply_back steps c) (apply_back steps c) rows (subst (λ (k : KeyNumbers). AreDistinct (key_lists k)) (sym (keys_back steps c)) distinct)
-    (keys_keep (keys_of (apply_back steps c))) refl refl refl agrees
+    (keys_keep (keys_of (apply_back steps c))) refl refl refl refl agrees
 
 -- the frame went on, and its keys stayed
 module _ (f g : Frame) (marked : ℕ) (goes : GoesOn f g) (keys : g.store.keys ≡ f.store.keys) (sound : IsSound f marked) where
@@ -180,7 +217,7 @@ module _ (f g : Frame) (marked : ℕ) (steps : steps_of g ≡ steps_of f) (now :
   pub same_view : linked_view g marked ≡ linked_view f marked
   same_view = λ i. record { state = state_in (now i); keys = keys_of (now i); marked = state_in (same_mark i); before = state_in (same_start i) }
 
-  pub sound_same : OnlyRows f.tables g.tables → IsRoomy g → IsSound g marked
+  pub sound_same : FormsKeep f.tables g.tables → IsRoomy g → IsSound g marked
   sound_same rows rooms =
       let by : (steps : List Step) (d : Contents) → d ≡ apply_back steps (contents f) → AgreesWith f.tables (apply_back steps (contents f)) → AgreesWith g.tables d = λ steps d e agrees.
       subst (λ x. AgreesWith g.tables x) (sym e) (agrees_still f.tables g.tables steps (contents f) rows sound.distinct agrees) in
@@ -239,7 +276,7 @@ module _ (f g : Frame) (marked : ℕ) (back : GoesBack marked f g) (sound : IsSo
   sound_marked =
       let by : (steps : List Step) (d : Contents) → d ≡ apply_back steps (contents f) → AgreesWith f.tables (apply_back steps (contents f)) → AgreesWith g.tables d = λ steps d e agrees.
       subst (λ x. AgreesWith g.tables x) (sym e)
-      (agrees_still f.tables g.tables steps (contents f) (forms_same f.tables g.tables back.same.forms back.same.index) sound.distinct agrees) in
+      (agrees_still f.tables g.tables steps (contents f) (forms_same f.tables g.tables back.same.forms) sound.distinct agrees) in
       record {
         distinct =
             subst (λ (k : KeyNumbers). AreDistinct (key_lists k)) (sym (ap (λ (c : Contents). c.numbered.keys) back.now ∙ keys_back (drop marked (steps_of f)) (contents f))) sound.distinct;
@@ -312,29 +349,46 @@ view_at f marked now is = λ i. record {
   before = state_in (at_start f);
 }
 
+-- the tables agree as well where the index holds fewer places
+agrees_held : (tables : CatalogueTables) (c d : Contents) → StaysButHeld c d → AgreesWith tables c → AgreesWith tables d
+agrees_held tables c d held agrees =
+    subst (λ (y : Contents). AgreesWith tables y)
+    (λ i. record { numbered = sym held.numbered i; index = d.index; links = sym held.links i; waits = sym held.waits i }) (record {
+      ordered = agrees.ordered;
+      told =
+          tells_rows_kept tables.forms (keys_of c).authorities (linkable_authorities (state_in c)) c.index d.index held.index.rows
+          (held.index.ordered (keys_of c).authorities agrees.told.ordered) agrees.told;
+      links_fit = agrees.links_fit;
+      waits_fit = agrees.waits_fit;
+      linked = agrees.linked;
+      asking = agrees.asking;
+      naming = agrees.naming;
+    })
+
 module _ (f g : Frame) (marked : ℕ) (kept : IsKept f g) (sound : IsSound f marked) where
   kept_start : at_start g ≡ contents g
   kept_start = ap (λ (l : List Step). apply_back l (contents g)) kept.steps
 
   pub sound_kept : IsSound g 0
   sound_kept =
-      let by : (d : Contents) → d ≡ contents f → AgreesWith g.tables d = λ d e.
+      let by : (d : Contents) → d ≡ contents g → AgreesWith g.tables d = λ d e.
       subst (λ x. AgreesWith g.tables x) (sym e)
-      (agrees_still f.tables g.tables [] (contents f) (forms_same f.tables g.tables kept.same.forms kept.same.index) sound.distinct sound.now) in
+      (agrees_held g.tables (contents f) (contents g) kept.now
+      (agrees_still f.tables g.tables [] (contents f) (forms_same f.tables g.tables kept.same.forms) sound.distinct sound.now)) in
       record {
-        distinct = subst (λ (c : Contents). AreDistinct (keys_of c)) (sym kept.now) sound.distinct;
+        distinct = subst (λ (s : Numbered). AreDistinct (key_lists s.keys)) (sym kept.now.numbered) sound.distinct;
         low = omega arith;
         can = subst (λ (l : List Step). CanGoBack l (contents g)) (sym kept.steps) tt;
         rooms = kept.rooms;
-        now = by (contents g) kept.now;
-        mark = by (at_start g) (kept_start ∙ kept.now);
-        start = by (at_start g) (kept_start ∙ kept.now);
+        now = by (contents g) refl;
+        mark = by (at_start g) kept_start;
+        start = by (at_start g) kept_start;
       }
 
   pub view_kept : linked_view g 0 ≡ record { state = state_in (contents f); keys = keys_of (contents f); marked = state_in (contents f); before = state_in (contents f) }
   view_kept = λ i. record {
-    state = state_in (kept.now i);
-    keys = keys_of (kept.now i);
-    marked = state_in ((kept_start ∙ kept.now) i);
-    before = state_in ((kept_start ∙ kept.now) i);
+    state = (kept.now.numbered i).state;
+    keys = key_lists (kept.now.numbered i).keys;
+    marked = (ap state_in kept_start ∙ ap (λ (s : Numbered). s.state) kept.now.numbered) i;
+    before = (ap state_in kept_start ∙ ap (λ (s : Numbered). s.state) kept.now.numbered) i;
   }

@@ -18,6 +18,7 @@ use Rattle.linked_store.proofs.Framed.{set_again}
 pub no_link_comes : (seat : Seat) (link : Option ℕ) (c : Contents) → link ≡ None → c.links seat ≡ None → c ≡ apply (ToLink seat link) c
 no_link_comes seat link c is free = λ i. record {
   numbered = c.numbered;
+  index = c.index;
   links = λ s. (none_at seat c.links free s ∙ ap (λ l. at_seat seat l c.links s) (sym is)) i;
   waits = c.waits;
 }
@@ -26,7 +27,7 @@ pub no_row_comes : (seat : Seat) (row : Option Row) (f : Frame) → ((r : Row) �
 no_row_comes seat None f none free = record {
   waiting = None;
   is = tt;
-  now = λ i. record { numbered = (contents f).numbered; links = (contents f).links; waits = λ s. none_at seat (contents f).waits free s i };
+  now = λ i. record { numbered = (contents f).numbered; index = (contents f).index; links = (contents f).links; waits = λ s. none_at seat (contents f).waits free s i };
 }
 no_row_comes seat (Some row) f none free = absurd (none row refl)
 
@@ -41,6 +42,7 @@ all_again : (seat : Seat) (h : KeptField) (link : Option ℕ) (waiting : Option 
     → apply (ToField seat h) (apply (ToWait seat waiting) (apply (ToLink seat link) (without_rows seat c))) ≡ turned seat h link waiting c
 all_again seat h link waiting c = λ i. record {
   numbered = with_field_of seat h c.numbered;
+  index = c.index;
   links = λ s. set_again seat link None c.links s i;
   waits = λ s. set_again seat waiting None c.waits s i;
 }

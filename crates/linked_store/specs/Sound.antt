@@ -43,7 +43,7 @@ seen_waits waits = record { waiting = waits; taken = λ seat. 0; taken_forms = �
 -- place what the state says, within the numbers that were given.
 pub record AgreesWith (tables : CatalogueTables) (c : Contents) : Type 0 where
   pub ordered : AreOrdered (state_in c)
-  pub told : TellsAuthorities tables.forms (keys_of c).authorities tables.index (linkable_authorities (state_in c))
+  pub told : TellsAuthorities tables.forms (keys_of c).authorities c.index (linkable_authorities (state_in c))
   pub links_fit : LinksFit (keys_of c) (seen_links c.links)
   pub waits_fit : WaitsFit (length tables.forms) (keys_of c) (seen_waits c.waits)
   pub linked : (key : Key) (p : Place) → linked_by (keys_of c) (seen_links c.links) key p ≡ holds_at (linked_at key) (state_in c) p

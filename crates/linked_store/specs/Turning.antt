@@ -39,6 +39,7 @@ pub record Wants (class : Class) (h : KeptField) (forms : List Form) (keys : Lis
 abbrev pub turned : Seat → KeptField → Option ℕ → Option Waiting → Contents → Contents
 turned seat h link waiting c = record {
   numbered = with_field_of seat h c.numbered;
+  index = c.index;
   links = at_seat seat link c.links;
   waits = at_seat seat waiting c.waits;
 }

@@ -3,14 +3,15 @@ ghost use Rattle.std.specs.Prelude.{◌≡◌, ◌≤◌, ◌++◌, ◌∷◌, [
 ghost use Rattle.std.specs.Option.{option_map};
 ghost use Rattle.catalogue_rules.specs.State.{kept_field, kept_record};
 ghost use Rattle.numbered_store.specs.Numbered.{IsNumber, SuitsSeat, field_of};
-ghost use Rattle.linked_store.specs.Contents.{CanGoBack, Fits, ToField, ToLink, ToRecord, ToWait, step_of};
-ghost use Rattle.linked_store.specs.Frames.{GoesBack, IsKept, IsRoomy, IsRowOut, LetsGo, TakesBack, contents, links_in, steps_of, waits_in};
+ghost use Rattle.linked_store.specs.Contents.{CanGoBack, Fits, ToField, ToIndex, ToLink, ToRecord, ToWait, step_of};
+ghost use Rattle.linked_store.specs.Frames.{GoesBack, IsInSomeOrder, IsKept, IsRoomy, IsRowOut, KeepsRows, LetsGo, TakesBack, contents, links_in, steps_of, waits_in};
 ghost use Rattle.linked_store.specs.Rooms.{IsOut, IsWaitOut};
 
 use crate::change::Change;
 use crate::frame::Frame;
 use crate::rows::{forget_link, forget_waiting, relink, wait_again};
 use catalogue_tables::CatalogueTables;
+use form_index::FormRow;
 use marc_types::{Class, Field, Kept, Tie};
 use numbering::Seat;
 use wait_table::Waiting;
@@ -28,7 +29,8 @@ pub(crate) fn go_back(frame: &mut Frame, position: usize)
 
 /// Lets all changes go: there is no way back from here.
 pub(crate) fn keep_all(frame: &mut Frame)
-    requires { IsRoomy frame.old }
+    requires rooms { IsRoomy frame.old }
+    requires order { IsInSomeOrder frame.old.tables.index }
     ensures { IsKept frame.old frame.new }
 {
     while let Some(change) = frame.log.pop() {
@@ -62,6 +64,7 @@ fn undo(frame: &mut Frame, change: Change)
             before,
         } => exchange_back(frame, class, number, before),
         Change::Swapped { seat, field, tie } => swap_back(frame, seat, field, tie),
+        Change::Followed { number, before } => index_back(frame, number, before),
         Change::Relinked { seat, before } => link_back(frame, seat, before),
         Change::Awaited { seat, before } => wait_back(frame, seat, before),
     }
@@ -82,6 +85,14 @@ fn swap_back(frame: &mut Frame, seat: Seat, field: Field, tie: Tie)
     let _after = frame.store.swap(seat, field, tie);
 }
 
+fn index_back(frame: &mut Frame, number: u32, before: Option<FormRow>)
+    requires { Fits (ToIndex number before) (contents frame.old) }
+    ensures { TakesBack (ToIndex number before) frame.old frame.new }
+{
+    let keys = frame.store.keys(Class::Authority);
+    frame.tables.restore_authority(keys, number, before);
+}
+
 fn link_back(frame: &mut Frame, seat: Seat, before: Option<u32>)
     requires { IsOut seat before (links_in frame.old.tables) }
     ensures { TakesBack (ToLink seat before) frame.old frame.new }
@@ -96,14 +107,30 @@ fn wait_back(frame: &mut Frame, seat: Seat, before: Option<Waiting>)
     wait_again(&mut frame.tables, seat, before);
 }
 
+// Gives back the places that the index holds for the row.
+fn forget_row(tables: &mut CatalogueTables, before: Option<FormRow>)
+    requires { IsInSomeOrder tables.old.index }
+    ensures rows { KeepsRows tables.old.index tables.new.index }
+    ensures forms { tables.new.forms ≡ tables.old.forms }
+    ensures links { tables.new.links ≡ tables.old.links }
+    ensures waits { tables.new.waits ≡ tables.old.waits }
+{
+    let Some(row) = before else {
+        return;
+    };
+    tables.let_authority_go(row);
+}
+
 // Gives back the room for what stood there before.
 fn forget(tables: &mut CatalogueTables, change: Change)
-    requires { IsRowOut (step_of change) tables.old }
+    requires out { IsRowOut (step_of change) tables.old }
+    requires order { IsInSomeOrder tables.old.index }
     ensures { LetsGo (step_of change) tables.old tables.new }
 {
     match change {
         Change::Exchanged { .. } => {}
         Change::Swapped { .. } => {}
+        Change::Followed { before, .. } => forget_row(tables, before),
         Change::Relinked { seat, before } => forget_link(tables, seat, before),
         Change::Awaited { seat, before } => forget_waiting(tables, seat, before),
     }

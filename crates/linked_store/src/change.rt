@@ -1,3 +1,4 @@
+use form_index::FormRow;
 use marc_types::{Class, Field, Kept, Tie};
 use numbering::Seat;
 use wait_table::Waiting;
@@ -14,6 +15,10 @@ pub(crate) enum Change {
         seat: Seat,
         field: Field,
         tie: Tie,
+    },
+    Followed {
+        number: u32,
+        before: Option<FormRow>,
     },
     Relinked {
         seat: Seat,

@@ -50,8 +50,8 @@ impl LinkedStore {
         Ok(Some(number))
     }
 
-    // What a field waits for, with its keys by their numbers.
-    fn numbered_row(
+    /// What a field waits for, with its keys by their numbers.
+    pub(crate) fn numbered_row(
         &mut self,
         alloc: Global,
         wanted: Option<Wanted>,

@@ -1,15 +1,19 @@
 //! A store, its tables and the log of their changes: each change is noted, and so it can be taken back.
 ghost use Rattle.std.specs.Prelude.{◌≡◌, OnOk, IsSome, None, Some};
 ghost use Rattle.std.specs.Option.{option_copied, option_map};
+ghost use Rattle.marc_types.specs.declared.key.Class.TheVariants.{Authority as AnAuthority};
 ghost use Rattle.catalogue_rules.specs.State.{kept_field, kept_record};
+ghost use Rattle.form_index.specs.Index.{IsInOrder};
 ghost use Rattle.catalogue_tables.specs.Waiting.{one_or_two};
 ghost use Rattle.numbered_store.specs.Numbered.{IsNumber, SuitsSeat, field_of};
 ghost use Rattle.linked_store.specs.Contents.{Step, ToField, ToLink, ToRecord, ToWait, apply};
+ghost use Rattle.linked_store.specs.Placing.{IsFollowed};
 ghost use Rattle.linked_store.specs.Frames.{GoesOn, WaitsNow, contents, links_in, waits_in};
 
 use crate::change::Change;
 use crate::rows::{take_link, take_waiting};
 use catalogue_tables::CatalogueTables;
+use entry_record::Prepared;
 use link_table::Link;
 use marc_types::{Class, Field, Form, Kept, NoMemory, Sequence, Tie};
 use numbered_store::NumberedStore;
@@ -57,6 +61,27 @@ impl Frame {
             number,
             before,
         });
+        Ok(())
+    }
+
+    /// The row of the index under the number becomes that of an authority's entry.
+    pub(crate) fn follow(
+        &mut self,
+        alloc: Global,
+        number: u32,
+        item: &Prepared,
+    ) -> Result<(), NoMemory>
+        requires class { item.now.class ≡ AnAuthority }
+        requires known { IsNumber AnAuthority number self.old.store }
+        requires ordered { IsInOrder self.old.store.keys.authorities self.old.tables.index }
+        ensures now { OnOk result (IsFollowed number item.now self.old self.new) }
+        ensures goes { GoesOn self.old self.new }
+        ensures store { self.new.store ≡ self.old.store }
+    {
+        self.log.reserve(1)?;
+        let keys = self.store.keys(Class::Authority);
+        let before = self.tables.follow_authority(alloc, keys, number, item)?;
+        self.log.push_reserved(Change::Followed { number, before });
         Ok(())
     }
 

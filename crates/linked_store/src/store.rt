@@ -1,11 +1,13 @@
-ghost use Rattle.std.specs.Prelude.{◌≡◌, ◌+◌, ◌<◌, ◌^◌, length, map, IfOk, OnErr, Some, None, if◌then◌else◌};
+ghost use Rattle.std.specs.Prelude.{◌≡◌, ◌+◌, ◌<◌, ◌^◌, true, length, map, find, IfOk, OnErr, IsSome, Some, None, if◌then◌else◌};
+ghost use Rattle.marc_types.specs.declared.key.Key.{Key as AnyKey};
+ghost use Rattle.catalogue_rules.specs.Choice.{has_key};
 ghost use Rattle.std.specs.Option.{option_map};
 ghost use Rattle.marc_types.specs.Order.{same_key};
 ghost use Rattle.numbering.specs.Numbers.{is_known, number_of, IsNumberOf};
-ghost use Rattle.catalogue_rules.specs.State.{rows_of, kept_record};
+ghost use Rattle.catalogue_rules.specs.State.{kept_record, linkable_authorities, rows_of};
 ghost use Rattle.record_store.specs.Store.{shown_row};
 ghost use Rattle.catalogue_tables.specs.Seam.{keys_in};
-ghost use Rattle.linked_store.specs.Linked.{IsNumber, IsUnchanged, empty_linked, record_at};
+ghost use Rattle.linked_store.specs.Linked.{IsNumber, IsUnchanged, empty_linked, key_of, record_at};
 
 use crate::frame::Frame;
 use catalogue_tables::CatalogueTables;
@@ -57,6 +59,14 @@ impl LinkedStore {
         self.frame.store.count(class)
     }
 
+    /// The key that has the number.
+    pub fn key(&self, class: Class, number: u32) -> &Key
+        requires { IsNumber class number self.now.keys }
+        ensures { result.now ≡ key_of class number self.now.keys }
+    {
+        self.frame.store.keys(class).at(number).unwrap()
+    }
+
     /// The number of a key, if it has one.
     pub fn number_of(&self, class: Class, key: &Key) -> Option<u32>
         ensures { result ≡ (if is_known same_key (keys_in class self.now.keys) key.now
@@ -97,5 +107,12 @@ impl LinkedStore {
         ensures { IfOk result (λ rows. map shown_row rows.entries ≡ rows_of class self.now.state) }
     {
         self.frame.store.rows(alloc, class)
+    }
+    /// The key of each authority that fields can be linked to has a number.
+    pub fn each_authority_has_a_number(&self)
+        ensures { (key : AnyKey) → IsSome (find (has_key key) (linkable_authorities self.now.state))
+            → is_known same_key self.now.keys.authorities key ≡ true }
+    {
+        let _frame = &self.frame;
     }
 }

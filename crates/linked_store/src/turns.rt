@@ -40,8 +40,8 @@ impl Frame {
         self.swap(seat, field, tie)
     }
 
-    // Takes the seat's link out, and all that it waits for.
-    fn take_rows(&mut self, seat: Seat) -> Result<(), NoMemory>
+    /// Takes the seat's link out, and all that it waits for.
+    pub(crate) fn take_rows(&mut self, seat: Seat) -> Result<(), NoMemory>
         ensures now { OnOk result (contents self.new ≡ without_rows seat (contents self.old)) }
         ensures goes { GoesOn self.old self.new }
         ensures store { self.new.store ≡ self.old.store }
@@ -80,7 +80,13 @@ impl Frame {
         }
     }
 
-    fn put_row(&mut self, alloc: Global, seat: Seat, row: Option<Row>) -> Result<(), NoMemory>
+    /// Lets a seat that waits for nothing wait for what a row says.
+    pub(crate) fn put_row(
+        &mut self,
+        alloc: Global,
+        seat: Seat,
+        row: Option<Row>,
+    ) -> Result<(), NoMemory>
         requires { (contents self.old).waits seat ≡ None }
         ensures now { OnOk result (IsWaiting seat row self.old self.new) }
         ensures goes { GoesOn self.old self.new }

@@ -33,8 +33,8 @@ pub fn gather<R: Wait, S: Source, G: Gate>(
         if held >= size {
             return (batch, None);
         }
-        let ordinal = before + u64::from(held) + refused.len() as u64 + 1;
-        gate.before(rt, loader, ordinal);
+        let pieces = before + u64::from(held) + refused.len() as u64;
+        gate.before(rt, loader, pieces + 1);
         match entries.next(alloc) {
             NextEntry::Entry(item) => match batch.push(item) {
                 Ok(()) => {}
@@ -44,7 +44,10 @@ pub fn gather<R: Wait, S: Source, G: Gate>(
                 Ok(()) => {}
                 Err(_) => return (batch, Some(FileEnd::NoMemory)),
             },
-            NextEntry::End => return (batch, Some(FileEnd::Done)),
+            NextEntry::End => {
+                gate.ended(rt, loader, pieces);
+                return (batch, Some(FileEnd::Done));
+            }
             NextEntry::ReadFault => return (batch, Some(FileEnd::ReadFault)),
             NextEntry::NoMemory => return (batch, Some(FileEnd::NoMemory)),
         }

@@ -1,8 +1,8 @@
--- One walk over holdings finds the groups of two or more.
+-- One walk over postings finds the groups of two or more.
 use Rattle.std.proofs.Common.{◌≡◌, ◌∙◌, ℕ, Bool, true, false, cond, List, [], ◌∷◌, ◌++◌, refl, sym, ap, append_assoc, if◌then◌else◌}
 use Rattle.std.specs.Prelude.{filter, bytes_eq, ◌&&◌, ◌==◌}
 use Rattle.marc_types.specs.Order.{text_Decides}
-use Rattle.match_report.specs.Holdings.{Holding}
+use Rattle.match_report.specs.Postings.{Posting}
 use Rattle.match_report.specs.Groups.{NumberGroup, number_group, same_number, joined, groups_of, is_match}
 use Rattle.match_report.specs.Walk.{matching, matches_from}
 use Rattle.match_report.specs.declared.number.Number.{Number}
@@ -19,14 +19,14 @@ abbrev merged : NumberGroup → List NumberGroup → List NumberGroup
 merged g [] = g ∷ []
 merged g (x ∷ xs) = if same_number g.number x.number then number_group g.number (g.keys ++ x.keys) ∷ xs else g ∷ x ∷ xs
 
-abbrev alone : Holding → NumberGroup
+abbrev alone : Posting → NumberGroup
 alone h = number_group h.number (h.key ∷ [])
 
-joined_merged : (h : Holding) (gs : List NumberGroup) → joined h gs ≡ merged (alone h) gs
+joined_merged : (h : Posting) (gs : List NumberGroup) → joined h gs ≡ merged (alone h) gs
 joined_merged h [] = refl
 joined_merged h (g ∷ gs) = refl
 
-merged_same : (g : NumberGroup) (h : Holding) → same_number g.number h.number ≡ true → (gs : List NumberGroup) →
+merged_same : (g : NumberGroup) (h : Posting) → same_number g.number h.number ≡ true → (gs : List NumberGroup) →
     merged g (merged (alone h) gs) ≡ merged (number_group g.number (g.keys ++ h.key ∷ [])) gs
 merged_same g h same [] = rw same refl
 merged_same g h same (x ∷ xs) = at (same_number h.number x.number) refl
@@ -41,7 +41,7 @@ merged_same g h same (x ∷ xs) = at (same_number h.number x.number) refl
     at true e = rw (e, also true e, same) (ap (λ keys. number_group g.number keys ∷ xs) (sym (append_assoc g.keys (h.key ∷ []) x.keys)))
     at false e = rw (e, also false e, same) refl
 
-merged_other : (g : NumberGroup) (h : Holding) → same_number g.number h.number ≡ false → (gs : List NumberGroup) → merged g (merged (alone h) gs) ≡ g ∷ merged (alone h) gs
+merged_other : (g : NumberGroup) (h : Posting) → same_number g.number h.number ≡ false → (gs : List NumberGroup) → merged g (merged (alone h) gs) ≡ g ∷ merged (alone h) gs
 merged_other g h other [] = rw other refl
 merged_other g h other (x ∷ xs) = at (same_number h.number x.number) refl
   where
@@ -56,7 +56,7 @@ match_first g gs = at (is_match g)
     at true = refl
     at false = refl
 
-walked : (g : NumberGroup) (hs : List Holding) → matches_from g hs ≡ filter is_match (merged g (groups_of hs))
+walked : (g : NumberGroup) (hs : List Posting) → matches_from g hs ≡ filter is_match (merged g (groups_of hs))
 walked g [] = refl
 walked g (h ∷ hs) =
     at (same_number g.number h.number) refl (walked (number_group g.number (g.keys ++ h.key ∷ [])) hs) (walked (alone h) hs)
@@ -72,5 +72,5 @@ walked g (h ∷ hs) =
         ap (λ gs. matching g ++ gs) other ∙ sym (match_first g (merged (alone h) (groups_of hs)))
         ∙ ap (filter is_match) (sym (merged_other g h e (groups_of hs)))
 
-pub matches_walked : (h : Holding) (hs : List Holding) → matches_from (number_group h.number (h.key ∷ [])) hs ≡ filter is_match (groups_of (h ∷ hs))
+pub matches_walked : (h : Posting) (hs : List Posting) → matches_from (number_group h.number (h.key ∷ [])) hs ≡ filter is_match (groups_of (h ∷ hs))
 matches_walked h hs = walked (alone h) hs ∙ ap (filter is_match) (sym (joined_merged h (groups_of hs)))

@@ -6,7 +6,7 @@ use Rattle.std.specs.BTreeSet.{insert_key}
 use Rattle.marc_types.specs.declared.key.Key.{Key}
 use Rattle.heading_fields.specs.Numbers.{key_text}
 use Rattle.catalogue_rules.specs.Lines.{line, then_words}
-use Rattle.match_report.specs.Holdings.{Holding, number_rank, number_text, holding_cmp}
+use Rattle.match_report.specs.Postings.{Posting, number_rank, number_text, posting_cmp}
 use Rattle.match_report.specs.declared.number.Number.{Number}
 use Rattle.match_report.specs.declared.number.Number.TheVariants.{Isbn, Lccn}
 
@@ -14,15 +14,15 @@ use Rattle.match_report.specs.declared.number.Number.TheVariants.{Isbn, Lccn}
 abbrev pub Numbered : Type 0
 Numbered = Key × List Number
 
-abbrev pub holding : Number → Key → Holding
-holding number key = record { number = number; key = key }
+abbrev pub posting : Number → Key → Posting
+posting number key = record { number = number; key = key }
 
-abbrev pub holdings_of_row : Numbered → List Holding
-holdings_of_row row = map (λ number. holding number row.0) row.1
+abbrev pub postings_of_row : Numbered → List Posting
+postings_of_row row = map (λ number. posting number row.0) row.1
 
 -- each number beside each record that has it, once, in their order
-abbrev pub holdings_of : List Numbered → List Holding
-holdings_of rows = fold (insert_key holding_cmp) [] (flat_map holdings_of_row rows)
+abbrev pub postings_of : List Numbered → List Posting
+postings_of rows = fold (insert_key posting_cmp) [] (flat_map postings_of_row rows)
 
 -- a number, and the keys of the records that have it
 pub record NumberGroup : Type 0 where
@@ -36,14 +36,14 @@ abbrev pub same_number : Number → Number → Bool
 same_number m n = (number_rank m == number_rank n) && bytes_eq (number_text m) (number_text n)
 
 -- a record joins the group behind it where that is of its number
-abbrev pub joined : Holding → List NumberGroup → List NumberGroup
+abbrev pub joined : Posting → List NumberGroup → List NumberGroup
 joined h [] = number_group h.number (h.key ∷ []) ∷ []
 joined h (g ∷ gs) =
     if same_number h.number g.number then number_group h.number (h.key ∷ g.keys) ∷ gs
     else number_group h.number (h.key ∷ []) ∷ g ∷ gs
 
--- the groups of holdings in order
-abbrev pub groups_of : List Holding → List NumberGroup
+-- the groups of postings in order
+abbrev pub groups_of : List Posting → List NumberGroup
 groups_of [] = []
 groups_of (h ∷ hs) = joined h (groups_of hs)
 
@@ -53,7 +53,7 @@ is_match g = nat_le 2 (length g.keys)
 
 -- the groups of two or more, of rows
 unfoldable pub matches_of : List Numbered → List NumberGroup
-matches_of rows = filter is_match (groups_of (holdings_of rows))
+matches_of rows = filter is_match (groups_of (postings_of rows))
 
 abbrev pub number_word : Number → List ℕ
 number_word (Isbn text) = codes "ISBN"

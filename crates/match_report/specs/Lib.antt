@@ -1,5 +1,5 @@
 pub mod Groups
-pub mod Holdings
+pub mod Postings
 pub mod Isbn
 pub mod Matches
 pub mod Numbers

@@ -3,12 +3,12 @@ ghost use Rattle.std.specs.Prelude.{◌≡◌, ◌++◌, ◌∷◌, [], List, fi
 ghost use Rattle.std.specs.Io.KnownBytes.{Appends};
 ghost use Rattle.outside.specs.Fault.{HasCause};
 ghost use Rattle.outside.specs.Sink.{WritesFront};
-ghost use Rattle.match_report.specs.Holdings.{Holding};
+ghost use Rattle.match_report.specs.Postings.{Posting};
 ghost use Rattle.match_report.specs.Groups.{groups_of, is_match, number_group, lines_of};
 ghost use Rattle.match_report.specs.Walk.{matching, matches_from};
 
-use crate::holding::Held;
 use crate::number::Number;
+use crate::posting::PostingRef;
 use crate::writing::write_lines;
 use marc_types::{Key, NoMemory};
 use outside::{Failed, Sink};
@@ -34,7 +34,7 @@ impl<'a> Model for Group<'a> {
 }
 
 impl<'a> Group<'a> {
-    fn begin(alloc: Global, first: &Held<'a>) -> Result<Group<'a>, NoMemory>
+    fn begin(alloc: Global, first: &PostingRef<'a>) -> Result<Group<'a>, NoMemory>
         ensures { IfOk result (λ group. group ≡ number_group first.now.number (first.now.key ∷ [])) }
     {
         let mut keys = Vec::with_capacity(alloc, 1)?;
@@ -45,7 +45,7 @@ impl<'a> Group<'a> {
         })
     }
 
-    fn join(&mut self, next: &Held<'a>) -> Result<(), NoMemory>
+    fn join(&mut self, next: &PostingRef<'a>) -> Result<(), NoMemory>
         ensures { OnOk result (self.new ≡ number_group self.old.number (self.old.keys ++ next.now.key ∷ [])) }
     {
         self.keys.push(next.key)?;
@@ -84,9 +84,9 @@ impl<'a> Groups<'a> {
         &mut self,
         alloc: Global,
         group: &mut Group<'a>,
-        next: &Held<'a>,
+        next: &PostingRef<'a>,
     ) -> Result<(), NoMemory>
-        ensures { OnOk result ((rest : List Holding) → self.new ++ matches_from group.new rest ≡ self.old ++ matches_from group.old (next.now ∷ rest)) }
+        ensures { OnOk result ((rest : List Posting) → self.new ++ matches_from group.new rest ≡ self.old ++ matches_from group.old (next.now ∷ rest)) }
     {
         if group.number.is_same(next.number) {
             return group.join(next);
@@ -110,11 +110,11 @@ impl Groups<'_> {
     }
 }
 
-/// The groups of two or more among holdings in order.
+/// The groups of two or more among postings in order.
 #[tactic(auto, using(crate::proofs::Walks::matches_walked))]
 pub(crate) fn groups_among<'a>(
     alloc: Global,
-    held: BTreeSet<Held<'a>>,
+    held: BTreeSet<PostingRef<'a>>,
 ) -> Result<Groups<'a>, NoMemory>
     ensures { IfOk result (λ groups. groups ≡ filter is_match (groups_of held.entry.keys)) }
 {

@@ -8,10 +8,10 @@ pub use table::Matches;
 
 mod fields;
 mod groups;
-mod holding;
 mod isbn;
 pub mod laws;
 mod number;
+mod posting;
 mod table;
 #[cfg(test)]
 mod tests;

@@ -1,5 +1,5 @@
 ghost use Rattle.std.specs.Prelude.{◌≡◌, ◌↔◌, IsTrue};
-ghost use Rattle.match_report.specs.Holdings.{number_rank, number_text};
+ghost use Rattle.match_report.specs.Postings.{number_rank, number_text};
 ghost use Rattle.match_report.specs.Groups.{number_word, same_number};
 
 use marc_types::{Sequence, Text};

@@ -7,14 +7,14 @@ ghost use Rattle.marc_types.specs.Order.{key_cmp, same_key};
 ghost use Rattle.entry_record.specs.Identity.{is_deletion};
 ghost use Rattle.catalogue_rules.specs.Settle.{arrival_of};
 ghost use Rattle.match_report.specs.Numbers.{numbers_of};
-ghost use Rattle.match_report.specs.Holdings.{holding_cmp};
-ghost use Rattle.match_report.specs.Groups.{holdings_of, holdings_of_row, matches_of};
+ghost use Rattle.match_report.specs.Postings.{posting_cmp};
+ghost use Rattle.match_report.specs.Groups.{postings_of, postings_of_row, matches_of};
 ghost use Rattle.match_report.specs.Matches.{take_numbers};
 
 use crate::fields::numbers;
 use crate::groups::{Groups, groups_among};
-use crate::holding::Held;
 use crate::number::Numbers;
+use crate::posting::PostingRef;
 use entry_record::is_deletion;
 use marc_types::{Class, Entry, Key, NoMemory, Record, TryCopy};
 use std::alloc::Global;
@@ -37,15 +37,15 @@ impl Model for Matches {
 }
 
 /// The numbers of a record, each beside the record's key.
-fn add_holdings<'a>(
+fn add_postings<'a>(
     key: &'a Key,
     numbers: &'a Numbers,
-    held: &mut BTreeSet<Held<'a>>,
+    held: &mut BTreeSet<PostingRef<'a>>,
 ) -> Result<(), NoMemory>
-    ensures { OnOk result (held.new.keys ≡ fold (insert_key holding_cmp) held.old.keys (holdings_of_row (key.now, numbers.now))) }
+    ensures { OnOk result (held.new.keys ≡ fold (insert_key posting_cmp) held.old.keys (postings_of_row (key.now, numbers.now))) }
 {
     for number in numbers.as_slice() {
-        held.insert(Held { number, key })?;
+        held.insert(PostingRef { number, key })?;
     }
     Ok(())
 }
@@ -95,12 +95,12 @@ impl Matches {
     }
 
     #[tactic(auto, using(crate::proofs::Folds::next_row))]
-    fn holdings(&self, alloc: Global) -> Result<BTreeSet<Held<'_>>, NoMemory>
-        ensures { IfOk result (λ held. held.keys ≡ holdings_of self.now) }
+    fn postings(&self, alloc: Global) -> Result<BTreeSet<PostingRef<'_>>, NoMemory>
+        ensures { IfOk result (λ held. held.keys ≡ postings_of self.now) }
     {
         let mut held = BTreeSet::new(alloc);
         for (key, found) in self.rows.iter() {
-            add_holdings(key, found, &mut held)?;
+            add_postings(key, found, &mut held)?;
         }
         Ok(held)
     }
@@ -110,7 +110,7 @@ impl Matches {
     pub fn groups(&self, alloc: Global) -> Result<Groups<'_>, NoMemory>
         ensures { IfOk result (λ groups. groups ≡ matches_of self.now) }
     {
-        let held = self.holdings(alloc)?;
+        let held = self.postings(alloc)?;
         groups_among(alloc, held)
     }
 }

@@ -6,7 +6,7 @@ ghost use Rattle.outside.specs.Fault.{HasCause};
 ghost use Rattle.outside.specs.Sink.{WritesFront};
 ghost use Rattle.heading_fields.specs.Numbers.{key_text};
 ghost use Rattle.catalogue_rules.specs.Lines.{then_word, then_words};
-ghost use Rattle.match_report.specs.Holdings.{number_text};
+ghost use Rattle.match_report.specs.Postings.{number_text};
 ghost use Rattle.match_report.specs.Groups.{number_word, group_line, total_line, lines_of};
 
 use crate::groups::Group;

@@ -9,6 +9,7 @@ mod gate;
 mod held;
 mod names;
 mod opening;
+mod progress;
 mod room;
 mod sink;
 mod source;
@@ -18,6 +19,7 @@ mod tests;
 
 pub use disk::FileDisk;
 pub use gate::OpenGate;
+pub use progress::ProgressGate;
 pub use room::FileRoom;
 pub use sink::FileSink;
 pub use source::{FileSource, LONGEST_INPUT};

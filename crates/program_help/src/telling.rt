@@ -19,6 +19,8 @@ fn text_of(topic: Topic) -> &'static str
         Topic::Report => texts::REPORT,
         Topic::Make => texts::MAKE,
         Topic::Verify => texts::VERIFY,
+        Topic::Matches => texts::MATCHES,
+        Topic::Migrate => texts::MIGRATE,
         Topic::Help => texts::HELP,
         Topic::Version => texts::VERSION,
     }

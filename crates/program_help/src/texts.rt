@@ -10,6 +10,8 @@ export JOURNAL OUT [CODE]              write the journal's records into OUT
 report JOURNAL OUT                     write the report on the journal's headings into OUT
 make SEED COUNT OUT                    write made-up records into OUT, to try the program with
 verify JOURNAL                         tell what the journal has, and write nothing
+matches JOURNAL OUT                    write which records share a number into OUT
+migrate OLD NEW                        bring a journal of version 1 into a new one
 help [COMMAND]                         tell this, or how that command is used
 version                                tell the program's version
 ";
@@ -81,6 +83,27 @@ stand behind its end, as a crash may leave them, a line with the place of the la
 Status: 0 it is a journal; 2 wrong words; 3 it isn't there, or couldn't be read; 4 the console couldn't be written; 6 it is
 no journal; 8 memory ran out.
 Example: union_cat verify union.jnl
+";
+
+pub const MATCHES: &str = "union_cat matches JOURNAL OUT
+
+Writes which of the journal's bibliographic records have an ISBN or an LCCN in common.
+Writes: OUT. JOURNAL is only put in order, and made if it isn't there.
+Status: 0 all was written; 2 wrong words; 4 OUT couldn't be written; 5 the journal's disk failed; 6 it is no journal; 7 it
+has more than a catalogue takes; 8 memory ran out.
+Example: union_cat matches union.jnl same.txt
+";
+
+pub const MIGRATE: &str = "union_cat migrate OLD NEW
+
+Brings the history of the journal OLD, of version 1, into the journal NEW, of version 2. It can be given again after any
+stop: it goes on where it was.
+Writes: NEW, which is made if it isn't there; on the console a line with the number of OLD's entries. OLD is only put in
+order.
+Status: 0 NEW has all; 2 wrong words; 4 NEW has all, but the console couldn't be written; 5 a journal's disk failed; 6 one
+of them is no journal; 7 one has more than a catalogue takes; 8 memory ran out; 9 OLD isn't of version 1, or NEW is; 10 NEW
+has another history.
+Example: union_cat migrate old.jnl union.jnl
 ";
 
 pub const HELP: &str = "union_cat help

@@ -10,7 +10,7 @@ use Rattle.durable_catalogue.specs.Openings.{IsOpening, KeepsContent}
 use Rattle.durable_catalogue.specs.Refused.{LeavesAlone, LeavesDiskAlone, IsPutInOrder}
 use Rattle.durable_catalogue.specs.Durables.{Opening, IsLeft, marked}
 use Rattle.durable_catalogue.proofs.Keeping.{some_of}
-use Rattle.room_files.specs.Journals.{log_bytes, KeepsLog, KeepsHistory, Unopened, Opened, IsClosedTo, IsDurable}
+use Rattle.room_files.specs.Journals.{log_bytes, KeepsLog, KeepsHistory, Unopened, Opened, IsClosedDisk, IsClosedTo, IsDurable}
 
 -- a log that was opened: what it was before and is now
 module _ (old new : DiskView) (log : List ℕ) (told : old.content ≡ Some log) (begins : old.moment ≡ 0) (opening : IsOpening old new) where
@@ -48,15 +48,15 @@ module _ (old new : DiskView) (log : List ℕ) (told : old.content ≡ Some log)
   refusal_alone failed alone = subst (λ o. LeavesAlone failed log (bytes_or_none o)) (sym now_told.1) (alone log now_told.0 told now_told.1)
 
 -- a log that is closed has what its disk has
-module _ (old new : RoomView) (name : List ℕ) (disk : DiskView) (file : new.file name ≡ disk.content) (same : SameDisk disk (new.log name)) where
+module _ (old new : RoomView) (name : List ℕ) (disk : DiskView) (file : new.file name ≡ disk.content) (closed : IsClosedDisk disk new name) where
   pub closed_history : (failed : Type 0) → LeavesAlone failed (log_bytes old name) (bytes_or_none disk.content)
       → ((entries : List Entry) → HasHistory entries (log_bytes old name) → HasHistory entries (bytes_or_none disk.content))
       → ((entries : List Entry) (s : ℕ) (c : List ℕ) → HasHistory entries (log_bytes old name) → disk.synced 0 ≡ Some s → disk.left s c → HasHistory entries c)
       → (disk.dated ≡ true → disk.synced 0 ≡ None → bytes_or_none disk.content ≡ log_bytes old name)
       → KeepsHistory failed old new name
   closed_history failed alone content images unsynced =
-      let unchanged = same.unchanged in
-      Opened
+      let unchanged = closed.same.unchanged in
+      Opened closed.is_log
       (subst (λ o. LeavesAlone failed (log_bytes old name) (bytes_or_none o)) (sym file) alone)
       (λ entries has. subst (λ o. HasHistory entries (bytes_or_none o)) (sym file) (content entries has))
       (λ entries s c has synced left. images entries s c has (sym (unchanged.syncs 0) ∙ synced) ((unchanged.lefts s c).0 left))
@@ -71,8 +71,9 @@ module _ (old new : RoomView) (name : List ℕ) (disk : DiskView) (file : new.fi
   -- and what was read of it is durable
   pub closed_durable : (log : List ℕ) → KeepsLog log disk → IsDurable new name
   closed_durable log keeps =
-      let unchanged = same.unchanged in
+      let unchanged = closed.same.unchanged in
       record {
+        is_log = closed.is_log;
         synced = λ dated. ap is_some (unchanged.syncs 0) ∙ keeps.synced (sym unchanged.dated ∙ dated);
         only = λ c image. keeps.only c ((unchanged.images c).0 image) ∙ sym (ap bytes_or_none file);
       }
@@ -84,8 +85,8 @@ unopened_keeps failed old new name stays = Unopened (record { file = stays.files
 -- what is kept where one thing failed is kept where another did that comes with it
 pub keeps_where : (failed also : Type 0) (old new : RoomView) (name : List ℕ) → (failed → also) → KeepsHistory failed old new name → KeepsHistory also old new name
 keeps_where failed also old new name is (Unopened untouched) = Unopened untouched
-keeps_where failed also old new name is (Opened alone content images unsynced) =
-    Opened (record { leaves = alone.leaves; bytes = λ other. alone.bytes (λ f. other (is f)) }) content images unsynced
+keeps_where failed also old new name is (Opened is_log alone content images unsynced) =
+    Opened is_log (record { leaves = alone.leaves; bytes = λ other. alone.bytes (λ f. other (is f)) }) content images unsynced
 
 -- the same disk is left
 left_same : (o : Opening) (entries more : List Entry) (disk now : DiskView) → SameDisk disk now → IsLeft o entries more disk → IsLeft o entries more now

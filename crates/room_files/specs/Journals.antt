@@ -63,12 +63,18 @@ pub record IsUntouched (old new : RoomView) (name : List ℕ) : Type 0 where
   pub is_log : new.has_log name ≡ old.has_log name
   pub log : old.has_log name ≡ true → SameDisk (old.log name) (new.log name)
 
--- The log of that name keeps its history: it was not opened, and is as it was; or it was, and its file is left alone, with the
--- history that it had, and so has each image since the first sync; of a log that tells its moments and has not synced the file is as
--- it was. Where a device failed, the file still has the frames that it had.
+-- the file of that name is the log that this disk was closed as, with its moments
+pub record IsClosedDisk (disk : DiskView) (room : RoomView) (name : List ℕ) : Type 0 where
+  pub is_log : room.has_log name ≡ true
+  pub same : SameDisk disk (room.log name)
+
+-- The log of that name keeps its history: it was not opened, and is as it was; or it was, and was closed as a log again, and its file
+-- is left alone, with the history that it had, and so has each image since the first sync; of a log that tells its moments and has not
+-- synced the file is as it was. Where a device failed, the file still has the frames that it had.
 pub data KeepsHistory (failed : Type 0) (old new : RoomView) (name : List ℕ) : Type 0 where
   Unopened : IsUntouched old new name → KeepsHistory failed old new name
-  Opened : LeavesAlone failed (log_bytes old name) (log_bytes new name)
+  Opened : new.has_log name ≡ true
+      → LeavesAlone failed (log_bytes old name) (log_bytes new name)
       → ((entries : List Entry) → HasHistory entries (log_bytes old name) → HasHistory entries (log_bytes new name))
       → ((entries : List Entry) (s : ℕ) (c : List ℕ) → HasHistory entries (log_bytes old name) → (new.log name).synced 0 ≡ Some s → (new.log name).left s c
       → HasHistory entries c)
@@ -87,7 +93,9 @@ pub record KeepsLog (log : List ℕ) (disk : DiskView) : Type 0 where
   pub synced : disk.dated ≡ true → is_some (disk.synced 0) ≡ true
   pub only : (c : List ℕ) → disk.image c → c ≡ bytes_or_none disk.content
 
--- the closed log of that name is durable: it has synced, where it tells its moments, and its file is all that a crash may leave
+-- the file of that name is a closed log, and durable: it has synced, where it tells its moments, and its file is all that a crash may
+-- leave
 pub record IsDurable (room : RoomView) (name : List ℕ) : Type 0 where
+  pub is_log : room.has_log name ≡ true
   pub synced : (room.log name).dated ≡ true → is_some ((room.log name).synced 0) ≡ true
   pub only : (c : List ℕ) → (room.log name).image c → c ≡ log_bytes room name

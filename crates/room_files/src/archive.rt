@@ -1,13 +1,13 @@
 //! Journals that are only read.
 ghost use Rattle.std.specs.Prelude.{◌≡◌, ◌≢◌, true, Some, None, IfOk, IfErr, OnOk, OnErr, ◌∷◌, []};
-ghost use Rattle.outside.specs.Disk.{SameDisk};
 ghost use Rattle.outside.specs.Fault.{Rose};
 ghost use Rattle.outside.specs.Room.{AsLog, SameBut};
+ghost use Rattle.commit_journal.specs.Log.{version_of};
 ghost use Rattle.durable_catalogue.specs.declared.fault.OpenFault.TheVariants.{DeviceFault, OldVersion};
 ghost use Rattle.durable_catalogue.specs.Logs.{HasHistory};
 ghost use Rattle.durable_catalogue.specs.Openings.{IsUnopened};
 ghost use Rattle.entry_record.specs.History.{IsWithin};
-ghost use Rattle.room_files.specs.Journals.{journal_limits, log_bytes, KeepsHistory, KeepsLog};
+ghost use Rattle.room_files.specs.Journals.{journal_limits, log_bytes, IsClosedDisk, KeepsHistory, KeepsLog};
 
 use crate::JOURNAL_LIMITS;
 use durable_catalogue::{Archive, OpenFault};
@@ -28,6 +28,7 @@ pub fn open_archive<R: Room>(
 
     // The catalogue has the log's history, within the limits, and the log keeps it.
     ensures history { IfOk result (λ a. (R.seen room.old).tells ≡ true → HasHistory a.core.history (log_bytes (R.seen room.old) name.now)) }
+    ensures version { IfOk result (λ a. (R.seen room.old).tells ≡ true → version_of (log_bytes (R.seen room.old) name.now) ≡ a.journal.version) }
     ensures within { IfOk result (λ a. IsWithin journal_limits a.core.history) }
     ensures kept { IfOk result (λ a. (R.seen room.old).tells ≡ true →
         KeepsLog (log_bytes (R.seen room.old) name.now) (R.Log.seen a.journal.disk)) }
@@ -62,7 +63,7 @@ pub fn close_archive<R: Room>(room: &mut R, name: &str, archive: Archive<R::Log>
 
     // The log and its file are what the archive left.
     ensures file { (R.seen room.old).tells ≡ true → (R.seen room.new).file name.now ≡ (R.Log.seen archive.journal.disk).content }
-    ensures log { (R.seen room.old).tells ≡ true → SameDisk (R.Log.seen archive.journal.disk) ((R.seen room.new).log name.now) }
+    ensures log { (R.seen room.old).tells ≡ true → IsClosedDisk (R.Log.seen archive.journal.disk) (R.seen room.new) name.now }
 {
     room.close_log(name, archive.close());
 }

@@ -1,17 +1,17 @@
 //! The program `union_cat`: carries out the command of its words over the files of the system.
 #![tactic(auto)]
 
-use command_words::Words;
+use command_words::{Words, libraries, request};
 use marc_types::Text;
-use outside_real::{FileRoom, FileSink, OpenGate, Target};
+use outside_real::{FileRoom, FileSink, ProgressGate, Target};
 use std::io::ErrorKind;
 use std::process::ExitCode;
 use std::sync::Wait;
 use std::thread::Threads;
 use std::{env, io};
-use union_top::run;
+use union_top::{is_alone, run, run_alone};
 
-/// The exit status where there is no memory for the words of the command line.
+/// The exit status where there is no memory for the words of the command line, or for the names in them.
 const NO_MEMORY: u8 = 8;
 
 fn main(rt: HostRuntime) -> ExitCode {
@@ -39,11 +39,27 @@ fn words_of(rt: &HostRuntime) -> io::Result<Words> {
     Ok(Words::from_vec(words))
 }
 
-/// Carries out the command of the words. `threads` starts the loaders.
+/// Carries out the command of the words. `threads` starts the loaders; a command without them waits for nobody.
 fn command<H: Threads + Wait + Sync>(rt: &HostRuntime, threads: &H) -> io::Result<u8> {
     let alloc = rt.alloc();
     let words = words_of(rt)?;
     let mut room = FileRoom::new(rt.clone()?, alloc);
     let mut console = FileSink::direct(alloc, Target::Console(rt.clone()?));
-    Ok(run(threads, alloc, &words, &mut room, &mut console, &OpenGate))
+    let status = match request(&words) {
+        Some(asked) if is_alone(asked) => {
+            run_alone(alloc, &words, asked, &mut room, &mut console).status()
+        }
+        _ => {
+            let Ok(libraries) = libraries(alloc, &words) else {
+                return Ok(NO_MEMORY);
+            };
+            let files = libraries
+                .iter()
+                .map(|library| library.file.as_str())
+                .collect(alloc)?;
+            let gate = ProgressGate::new(rt.clone()?, files);
+            run(threads, alloc, &words, &mut room, &mut console, &gate)
+        }
+    };
+    Ok(status)
 }

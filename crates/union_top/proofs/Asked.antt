@@ -5,7 +5,7 @@ use Rattle.marc_types.specs.Valid.{is_code}
 use Rattle.outside.specs.Room.{RoomView, SameBut, IsNoneOf}
 use Rattle.outside.proofs.Rooms.{same_but_none}
 use Rattle.command_words.specs.declared.library.Library.{Library}
-use Rattle.command_words.specs.Command.{Command, Pass, Run, Load, Export, Report, Make, Verify, Help, Version, libraries_of, names_of, AreNames}
+use Rattle.command_words.specs.Command.{Command, Pass, Run, Load, Export, Report, Make, Verify, Matches, Migrate, Help, Version, libraries_of, names_of, AreNames}
 use Rattle.console_lines.specs.Ends.{Outcome, IsTold}
 use Rattle.console_lines.specs.declared.end.End.TheVariants.{Told}
 use Rattle.console_lines.specs.declared.fault.Fault.TheVariants as fault
@@ -45,6 +45,8 @@ NamesFiles (Export journal out code) = Unit {0}
 NamesFiles (Report journal out) = Unit {0}
 NamesFiles (Make seed count out) = Unit {0}
 NamesFiles (Verify journal) = ⊥
+NamesFiles (Matches journal out) = ⊥
+NamesFiles (Migrate from into) = ⊥
 NamesFiles (Help topic) = ⊥
 NamesFiles Version = ⊥
 
@@ -57,6 +59,8 @@ names_files (Export journal out code) loads = tt
 names_files (Report journal out) loads = tt
 names_files (Make seed count out) loads = tt
 names_files (Verify journal) loads = absurd (true≢false loads)
+names_files (Matches journal out) loads = absurd (true≢false loads)
+names_files (Migrate from into) loads = absurd (true≢false loads)
 names_files (Help topic) loads = absurd (true≢false loads)
 names_files Version loads = absurd (true≢false loads)
 
@@ -86,5 +90,7 @@ module _ (o : Outcome) (told : o.end ≡ Told fault.Memory) (tells : IsTold faul
   unasked words (Report journal out) takes names = reads journal out _ names.1.0
   unasked words (Make seed count out) takes names = makes_no_memory seed count out o told tells (λ room. files.AsItWas (stays.files out tt))
   unasked words (Verify journal) takes names = absurd takes
+  unasked words (Matches journal out) takes names = absurd takes
+  unasked words (Migrate from into) takes names = absurd takes
   unasked words (Help topic) takes names = absurd takes
   unasked words Version takes names = absurd takes

@@ -9,7 +9,7 @@ use Rattle.marc_types.specs.declared.entry.Entry.{Entry}
 use Rattle.outside.specs.Room.{RoomView}
 use Rattle.marc_stream.specs.Pieces.{Item, items}
 use Rattle.command_words.specs.declared.library.Library.{Library}
-use Rattle.command_words.specs.Command.{Command, Pass, Run, Load, Export, Report, Make, Verify, Help, Version, command_of, libraries_of}
+use Rattle.command_words.specs.Command.{Command, Pass, Run, Load, Export, Report, Make, Verify, Matches, Migrate, Help, Version, command_of, libraries_of}
 use Rattle.entry_record.specs.History.{entry_size, entries_size}
 use Rattle.file_entries.specs.Files.{IsJudged, Accepts}
 use Rattle.file_entries.proofs.Every.{every_judged}
@@ -30,10 +30,12 @@ use Rattle.plain_commands.specs.Loading.{IsFullAt, EndsLoading}
 use Rattle.plain_commands.specs.Making.{Makes, EndsMake}
 use Rattle.plain_commands.specs.Totals.{IsWithinLimits, most_entries, most_bytes}
 use Rattle.journal_loading.specs.Inputs.{IsInputFault}
+use Rattle.match_command.specs.Telling.{TellsMatches}
 use Rattle.union_top.specs.Commands.{Loads, Runs, Ends, EndsWith}
 use Rattle.union_top.specs.Complete.{Stayed, Around, InputsStayed, IsUnhinderedPass, IsUnhinderedMake, IsUnhinderedReading, IsUnhinderedLoad, IsUnhinderedRun, IsUnhindered}
 use Rattle.program_help.specs.Telling.{help_text, version_text}
 use Rattle.union_top.proofs.Untroubled.{verify_well, tells_well}
+use Rattle.union_top.proofs.Migrated.{migrates_well}
 use Rattle.union_top.proofs.Made.{made, made_first}
 use Rattle.union_top.proofs.Unopened.{MayBe, may_be}
 use Rattle.union_top.proofs.Judgements.{fits_judged}
@@ -141,6 +143,14 @@ module _ (o : Outcome) where
       w.is ∙ read_why (log_bytes o.old journal) w.reason (may_be (log_bytes o.old journal) w.reason u.fits (w.so u.tells))
       (subst EndsReading (is ∙ ap Told w.is) r.ends) (λ device. u.device (r.device (is ∙ ap Told (w.is ∙ device)))))
 
+  matches_well : (journal out : List ℕ) → TellsMatches journal out o → IsUnhinderedReading journal out seen → EndsWell o.end
+  matches_well journal out r u =
+      by_end o.end (λ is. u.output (r.out_cause is)) (λ is. subst EndsReading is r.ends) (λ is. subst EndsReading is r.ends)
+      (λ why is.
+      let w = (r.told why is).1 in
+      w.is ∙ read_why (log_bytes o.old journal) w.reason (may_be (log_bytes o.old journal) w.reason u.fits (w.so u.tells))
+      (subst EndsReading (is ∙ ap Told w.is) r.ends) (λ device. u.device (r.device (is ∙ ap Told (w.is ∙ device)))))
+
   input_stayed : (libraries : List Library) → InputsStayed libraries o.old o.new → IsInputFault libraries o.old o.new → ⊥
   input_stayed libraries stayed i = at_index (λ (l : Library). Stayed (o.old.in_faults l.file) (o.new.in_faults l.file)) libraries i.index i.library stayed i.named i.rose
 
@@ -168,6 +178,8 @@ module _ (o : Outcome) where
   ends_well words (Report journal out) ends u = reads_well journal out _ ends u
   ends_well words (Make seed count out) ends u = makes_well seed count out ends u
   ends_well words (Verify journal) ends u = verify_well o journal ends u
+  ends_well words (Matches journal out) ends u = matches_well journal out ends u
+  ends_well words (Migrate from into) ends u = migrates_well o from into ends u
   ends_well words (Help topic) ends u = tells_well o (help_text topic) ends u
   ends_well words Version ends u = tells_well o version_text ends u
 

@@ -20,9 +20,10 @@ use Rattle.loader_workers.specs.declared.result.FileResult.{FileResult}
 use Rattle.output_files.specs.Outputs.{IsPartWritten}
 use Rattle.journal_loading.specs.Outcomes.{Fails}
 use Rattle.union_top.specs.Texts.{files_text, has_refused}
-use Rattle.union_top.specs.Runs.{AreOutputs, AreOutAndPart, WhyNotLoad, WhyNotRun}
+use Rattle.union_top.specs.Runs.{EndsLoad, EndsRun, AreOutputs, AreOutAndPart, WhyNotLoad, WhyNotRun}
 use Rattle.union_top.specs.Commands.{Loads, Runs}
 use Rattle.union_top.proofs.OneHistory.{MergedBy}
+use Rattle.union_top.proofs.Missing.{told_of_loading, loading_untold, running_untold, unloaded_keeps, unrun_keeps}
 
 pub decide_name : {P : Type 0} (a b : List ℕ) → (a ≡ b → P) → (a ≢ b → P) → P
 decide_name {P} a b same other = decided (bytes_eq a b) refl
@@ -58,8 +59,10 @@ module _ (libraries : List Library) (journal : List ℕ) (o : Outcome) where
   pub loads_failed : (why : Fault) → o.end ≡ Told why → IsTold why o
       → Fails o.old o.new journal libraries why (WhyNotLoad o.old o.new journal libraries why) → Loads libraries journal o
   loads_failed why is told f = record {
+    ends = subst EndsLoad (sym is) (told_of_loading why f.no_usage f.no_other_history);
     told = λ other also. subst (λ w. IsTold w o × (w ≢ fault.Usage)) (told_once o.end why other is also) (told, f.no_usage);
     because = λ other also tells. subst (WhyNotLoad o.old o.new journal libraries) (told_once o.end why other is also) (f.because tells);
+    missing = λ other also tells. unloaded_keeps o.old o.new journal libraries why tells (f.because tells);
     device = λ also. f.device (told_once o.end why fault.Device is also);
     input = λ also. f.input (told_once o.end why fault.Input is also);
     console_cause = λ also. absurd (told_not_unwritten o.end why unwritten.Console is also);
@@ -71,8 +74,10 @@ module _ (libraries : List Library) (journal : List ℕ) (o : Outcome) where
   pub loads_told : (entries : List Entry) (results : List FileResult) → TellsLines entries results
       → (o.end ≡ console_unwritten → Rose o.faults o.faults_now) → Loads libraries journal o
   loads_told entries results t cause = record {
+    ends = loading_untold o.end t.untold t.no_output;
     told = λ why also. absurd (never_told o.end why t.untold also);
     because = λ why also. absurd (never_told o.end why t.untold also);
+    missing = λ why also. absurd (never_told o.end why t.untold also);
     device = λ also. absurd (never_told o.end fault.Device t.untold also);
     input = λ also. absurd (never_told o.end fault.Input t.untold also);
     console_cause = cause;
@@ -98,8 +103,10 @@ module _ (libraries : List Library) (journal : List ℕ) (o : Outcome) where
         → Fails o.old o.new journal libraries why (WhyNotRun o.old o.new journal out report libraries why) → Runs libraries journal out report o
     runs_failed why is told apart f =
         let no = told_not_unwritten o.end why in record {
+          ends = subst EndsRun (sym is) (told_of_loading why f.no_usage f.no_other_history);
           told = λ other also. subst (λ w. IsTold w o × (w ≢ fault.Usage)) (told_once o.end why other is also) (told, f.no_usage);
           because = λ other also tells. subst (WhyNotRun o.old o.new journal out report libraries) (told_once o.end why other is also) (f.because tells);
+          missing = λ other also tells. unrun_keeps o.old o.new journal out report libraries why tells (f.because tells);
           untouched = λ other also no_memory. apart (λ memory. no_memory (sym (told_once o.end why other is also) ∙ memory));
           device = λ also. f.device (told_once o.end why fault.Device is also);
           input = λ also. f.input (told_once o.end why fault.Input is also);
@@ -118,8 +125,10 @@ module _ (libraries : List Library) (journal : List ℕ) (o : Outcome) where
         → (o.end ≡ console_unwritten → Rose o.faults o.faults_now) → (o.old.tells ≡ true → AreOutputs o.new out report entries)
         → Runs libraries journal out report o
     runs_told entries results t cause outputs = record {
+      ends = running_untold o.end t.untold;
       told = λ why also. absurd (never_told o.end why t.untold also);
       because = λ why also. absurd (never_told o.end why t.untold also);
+      missing = λ why also. absurd (never_told o.end why t.untold also);
       untouched = λ why also. absurd (never_told o.end why t.untold also);
       device = λ also. absurd (never_told o.end fault.Device t.untold also);
       input = λ also. absurd (never_told o.end fault.Input t.untold also);
@@ -155,8 +164,10 @@ module _ (libraries : List Library) (journal : List ℕ) (o : Outcome) where
           → Runs libraries journal out report o
       runs_in_out is rose apart part =
           let no : (why : Fault) → o.end ≡ Told why → ⊥ = λ why also. told_not_unwritten o.end why unwritten.Out also is in record {
+            ends = subst EndsRun (sym is) tt;
             told = λ why also. absurd (no why also);
             because = λ why also. absurd (no why also);
+            missing = λ why also. absurd (no why also);
             untouched = λ why also. absurd (no why also);
             device = λ also. absurd (no fault.Device also);
             input = λ also. absurd (no fault.Input also);
@@ -177,8 +188,10 @@ module _ (libraries : List Library) (journal : List ℕ) (o : Outcome) where
           → (o.old.tells ≡ true → AreOutAndPart o.old o.new out report entries) → Runs libraries journal out report o
       runs_in_report is rose part =
           let no : (why : Fault) → o.end ≡ Told why → ⊥ = λ why also. told_not_unwritten o.end why unwritten.Report also is in record {
+            ends = subst EndsRun (sym is) tt;
             told = λ why also. absurd (no why also);
             because = λ why also. absurd (no why also);
+            missing = λ why also. absurd (no why also);
             untouched = λ why also. absurd (no why also);
             device = λ also. absurd (no fault.Device also);
             input = λ also. absurd (no fault.Input also);
@@ -204,6 +217,7 @@ no_memory old new journal libraries so closed because = record {
   device = λ is. cc;
   input = λ is. cc;
   no_usage = λ is. cc;
+  no_other_history = λ is. cc;
 }
 
 -- a journal was opened in a room and closed: no name is open

@@ -1,7 +1,9 @@
 mod Merging
+mod Migrated
 mod OneHistory
 mod Textual
 mod Written
+mod Missing
 mod Ended
 mod Weights
 mod Made

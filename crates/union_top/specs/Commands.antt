@@ -2,7 +2,7 @@
 use Rattle.std.specs.Prelude.{◌≡◌, ◌≢◌, ◌⊎◌, ℕ, Bool, true, false, List, [], ◌∷◌}
 use Rattle.outside.specs.Fault.{Rose}
 use Rattle.command_words.specs.declared.library.Library.{Library}
-use Rattle.command_words.specs.Command.{Command, Pass, Run, Load, Export, Report, Make, Verify, Help, Version, libraries_of}
+use Rattle.command_words.specs.Command.{Command, Pass, Run, Load, Export, Report, Make, Verify, Matches, Migrate, Help, Version, libraries_of}
 use Rattle.console_lines.specs.Ends.{Outcome, IsTold, IsAllDone, IsSilent, end_status, out_unwritten, report_unwritten, console_unwritten}
 use Rattle.console_lines.specs.declared.end.End.{End}
 use Rattle.console_lines.specs.declared.end.End.TheVariants.{Told}
@@ -14,15 +14,21 @@ use Rattle.archive_commands.specs.Reads.{Reads}
 use Rattle.plain_commands.specs.Passing.{Passes}
 use Rattle.plain_commands.specs.Making.{Makes}
 use Rattle.journal_verification.specs.Verifying.{Verifies}
+use Rattle.match_command.specs.Telling.{TellsMatches}
+use Rattle.migrate_command.specs.Migrates.{Migrates}
 use Rattle.program_help.specs.Telling.{help_text, version_text, Tells}
 use Rattle.journal_loading.specs.Inputs.{IsInputFault}
-use Rattle.union_top.specs.Runs.{IsWholeLoad, IsUntoldLoad, IsWholeRun, IsRunInOut, IsRunInReport, IsUntoldRun, WhyNotLoad, WhyNotRun}
+use Rattle.journal_loading.specs.Outcomes.{IsFileMissing, HasSameHistory}
+use Rattle.union_top.specs.Runs.{EndsLoad, EndsRun, IsWholeLoad, IsUntoldLoad, IsWholeRun, IsRunInOut, IsRunInReport, IsUntoldRun, WhyNotLoad, WhyNotRun}
 
 -- The command `load`: the files of libraries into a journal.
 pub record Loads (libraries : List Library) (journal : List ℕ) (o : Outcome) : Type 0 where
+  pub ends : EndsLoad o.end
   -- a fault that is told is one of loading
   pub told : (why : Fault) → o.end ≡ Told why → IsTold why o × (why ≢ Usage)
   pub because : (why : Fault) → o.end ≡ Told why → o.old.tells ≡ true → WhyNotLoad o.old o.new journal libraries why
+  -- and where a file isn't there, the journal has the history that it had
+  pub missing : (why : Fault) → o.end ≡ Told why → o.old.tells ≡ true → IsFileMissing libraries o.old → HasSameHistory o.old o.new journal
   -- the outside's faults have their cause
   pub device : o.end ≡ Told Device → Rose (o.old.log_faults journal) (o.new.log_faults journal)
   pub input : o.end ≡ Told Input → IsInputFault libraries o.old o.new
@@ -34,9 +40,12 @@ pub record Loads (libraries : List Library) (journal : List ℕ) (o : Outcome) :
 
 -- The command `run`: the same, and then the export and the report of the journal.
 pub record Runs (libraries : List Library) (journal out report : List ℕ) (o : Outcome) : Type 0 where
+  pub ends : EndsRun o.end
   -- a fault that is told is one of loading, and leaves the outputs untouched, unless memory ran out
   pub told : (why : Fault) → o.end ≡ Told why → IsTold why o × (why ≢ Usage)
   pub because : (why : Fault) → o.end ≡ Told why → o.old.tells ≡ true → WhyNotRun o.old o.new journal out report libraries why
+  -- and where a file isn't there, the journal has the history that it had
+  pub missing : (why : Fault) → o.end ≡ Told why → o.old.tells ≡ true → IsFileMissing libraries o.old → HasSameHistory o.old o.new journal
   pub untouched : (why : Fault) → o.end ≡ Told why → why ≢ Memory → SameBut o.old o.new (journal ∷ [])
   -- the outside's faults have their cause
   pub device : o.end ≡ Told Device → Rose (o.old.log_faults journal) (o.new.log_faults journal)
@@ -63,6 +72,8 @@ is_alone (Export journal out code) = true
 is_alone (Report journal out) = true
 is_alone (Make seed count out) = true
 is_alone (Verify journal) = true
+is_alone (Matches journal out) = true
+is_alone (Migrate from into) = true
 is_alone (Help topic) = true
 is_alone Version = true
 
@@ -75,6 +86,8 @@ Ends words (Export journal out code) o = Reads journal out (reads.Export code) o
 Ends words (Report journal out) o = Reads journal out reads.Report o
 Ends words (Make seed count out) o = Makes seed count out o
 Ends words (Verify journal) o = Verifies journal o
+Ends words (Matches journal out) o = TellsMatches journal out o
+Ends words (Migrate from into) o = Migrates from into o
 Ends words (Help topic) o = Tells (help_text topic) o
 Ends words Version o = Tells version_text o
 

@@ -8,13 +8,14 @@ use Rattle.outside.specs.Room.{RoomView}
 use Rattle.marc_stream.specs.Pieces.{items}
 use Rattle.commit_journal.specs.Log.{version_of}
 use Rattle.command_words.specs.declared.library.Library.{Library}
-use Rattle.command_words.specs.Command.{Command, Pass, Run, Load, Export, Report, Make, Verify, Help, Version, libraries_of}
+use Rattle.command_words.specs.Command.{Command, Pass, Run, Load, Export, Report, Make, Verify, Matches, Migrate, Help, Version, libraries_of}
 use Rattle.file_entries.specs.Files.{IsJudged}
 use Rattle.file_entries.specs.declared.refused.RefusedItem.{RefusedItem}
 use Rattle.entry_record.specs.History.{entries_size}
 use Rattle.durable_catalogue.specs.Logs.{HasHistory}
 use Rattle.room_files.specs.Journals.{journal_limits, log_bytes}
 use Rattle.archive_commands.specs.Archives.{HasFittingHistory}
+use Rattle.journal_migration.specs.Migrations.{IsFit}
 use Rattle.plain_commands.specs.Totals.{IsWithinLimits}
 use Rattle.union_top.specs.Merged.{AreJudged}
 
@@ -74,7 +75,7 @@ pub record IsUnhinderedMake (out : List ℕ) (a : Around) : Type 0 where
   pub output : Stayed (a.old.out_faults out) (a.new.out_faults out)
   pub console : Stayed a.faults a.faults_now
 
--- nothing hinders an export or a report in a room that tells its files
+-- nothing hinders an export, a report or a match report in a room that tells its files
 pub record IsUnhinderedReading (journal out : List ℕ) (a : Around) : Type 0 where
   pub tells : a.old.tells ≡ true
   pub device : Stayed (a.old.log_faults journal) (a.new.log_faults journal)
@@ -90,6 +91,19 @@ pub record IsUnhinderedVerify (journal : List ℕ) (a : Around) : Type 0 where
   pub console : Stayed a.faults a.faults_now
   pub there : a.old.file journal ≡ Some bytes
   pub was : HasHistory entries bytes
+
+-- nothing hinders the bringing of a journal's history into another one in a room that tells its files: the old one is of version 1, and
+-- the new one, which may be blank or none, is fit for its history
+pub record IsUnhinderedMigrate (from into : List ℕ) (a : Around) : Type 0 where
+  pub tells : a.old.tells ≡ true
+  pub history : List Entry
+  pub entries : List Entry
+  pub device : Stayed (a.old.log_faults from) (a.new.log_faults from)
+  pub new_device : Stayed (a.old.log_faults into) (a.new.log_faults into)
+  pub console : Stayed a.faults a.faults_now
+  pub was : HasHistory history (log_bytes a.old from)
+  pub version : version_of (log_bytes a.old from) ≡ 1
+  pub fits : ∥ IsFit journal_limits history entries (log_bytes a.old into) ∥₁
 
 -- nothing hinders the telling of a text
 pub record IsUnhinderedTelling (a : Around) : Type 0 where
@@ -118,5 +132,7 @@ IsUnhindered words (Export journal out code) a = IsUnhinderedReading journal out
 IsUnhindered words (Report journal out) a = IsUnhinderedReading journal out a
 IsUnhindered words (Make seed count out) a = IsUnhinderedMake out a
 IsUnhindered words (Verify journal) a = IsUnhinderedVerify journal a
+IsUnhindered words (Matches journal out) a = IsUnhinderedReading journal out a
+IsUnhindered words (Migrate from into) a = IsUnhinderedMigrate from into a
 IsUnhindered words (Help topic) a = IsUnhinderedTelling a
 IsUnhindered words Version a = IsUnhinderedTelling a

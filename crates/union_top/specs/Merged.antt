@@ -4,7 +4,8 @@ use Rattle.marc_types.specs.declared.entry.Entry.{Entry}
 use Rattle.outside.specs.Room.{RoomView}
 use Rattle.command_words.specs.declared.library.Library.{Library}
 use Rattle.marc_stream.specs.Pieces.{items}
-use Rattle.commit_journal.specs.Log.{version_of}
+use Rattle.commit_journal.specs.Log.{version_of, walk_of}
+use Rattle.commit_journal.specs.Journal.{EndsAt}
 use Rattle.file_entries.specs.Files.{IsJudged}
 use Rattle.file_entries.specs.declared.refused.RefusedItem.{RefusedItem}
 use Rattle.entry_record.specs.History.{IsMerged, IsWithin}
@@ -37,6 +38,8 @@ pub record IsOneHistory (old new : RoomView) (journal : List ℕ) (libraries : L
   pub there : is_some (new.file journal) ≡ true
   pub is : HasHistory (before ++ added) (log_bytes new journal)
   pub images : (c : List ℕ) → (new.log journal).image c → HasHistory (before ++ added) c
+  -- and that nothing stands behind it
+  pub ended : EndsAt (walk_of (log_bytes new journal)).place (log_bytes new journal)
   -- each image at each moment since the opening's first sync begins with what it was, and is a front of what it is; where the log
   -- tells its moments there was that sync
   pub synced : (new.log journal).dated ≡ true → is_some ((new.log journal).synced 0) ≡ true

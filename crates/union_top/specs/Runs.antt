@@ -11,11 +11,40 @@ use Rattle.catalogue_rules.specs.Output.{export_of, all_keys, report_of}
 use Rattle.console_lines.specs.Ends.{end_of}
 use Rattle.console_lines.specs.declared.end.End.{End}
 use Rattle.console_lines.specs.declared.fault.Fault.{Fault}
-use Rattle.console_lines.specs.declared.fault.Fault.TheVariants.{Memory}
+use Rattle.console_lines.specs.declared.end.End.TheVariants.{Done, Refused, Unwritten, Told}
+use Rattle.console_lines.specs.declared.end.Unwritten.TheVariants as unwritten
+use Rattle.console_lines.specs.declared.fault.Fault.TheVariants.{Usage, Input, Device, NotAJournal, Full, Memory, OldVersion, OtherHistory}
 use Rattle.output_files.specs.Outputs.{IsPartWritten}
 use Rattle.journal_loading.specs.Outcomes.{IsLoadingFault}
 use Rattle.union_top.specs.Merged.{IsOneHistory}
 use Rattle.union_top.specs.Console.{console_of, any_refused}
+
+-- the faults that loading tells: not that words are no command, nor that another journal has another history
+abbrev pub IsToldOfLoading : Fault → Type 0
+IsToldOfLoading Usage = ⊥
+IsToldOfLoading Input = Unit {0}
+IsToldOfLoading Device = Unit {0}
+IsToldOfLoading (NotAJournal place) = Unit {0}
+IsToldOfLoading Full = Unit {0}
+IsToldOfLoading Memory = Unit {0}
+IsToldOfLoading OldVersion = Unit {0}
+IsToldOfLoading OtherHistory = ⊥
+
+-- how `load` ends: it has no output but the console
+abbrev pub EndsLoad : End → Type 0
+EndsLoad Done = Unit {0}
+EndsLoad Refused = Unit {0}
+EndsLoad (Unwritten unwritten.Out) = ⊥
+EndsLoad (Unwritten unwritten.Report) = ⊥
+EndsLoad (Unwritten unwritten.Console) = Unit {0}
+EndsLoad (Told why) = IsToldOfLoading why
+
+-- how `run` ends
+abbrev pub EndsRun : End → Type 0
+EndsRun Done = Unit {0}
+EndsRun Refused = Unit {0}
+EndsRun (Unwritten which) = Unit {0}
+EndsRun (Told why) = IsToldOfLoading why
 
 -- Files were loaded whole, and make one history behind what the journal had.
 pub record IsMergedLoad (old new : RoomView) (journal : List ℕ) (libraries : List Library) : Type 0 where

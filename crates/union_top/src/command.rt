@@ -14,6 +14,8 @@ use command_words::{Request, Words, libraries, request};
 use console_lines::{End, Fault, tell};
 use journal_verification::verify;
 use marc_types::NoMemory;
+use match_command::write_matches;
+use migrate_command::migrate_journal;
 use outside::{Gate, Room};
 use plain_commands::{make, pass};
 use program_help::{help, version};
@@ -22,7 +24,7 @@ use std::sync::Wait;
 use std::thread::Threads;
 
 /// Whether a command starts no threads.
-fn is_alone(asked: Request<'_>) -> bool
+pub fn is_alone(asked: Request<'_>) -> bool
     ensures { result ≡ is_alone (command_asked asked.entry) }
 {
     match asked {
@@ -32,6 +34,8 @@ fn is_alone(asked: Request<'_>) -> bool
         | Request::Report { .. }
         | Request::Make { .. }
         | Request::Verify { .. }
+        | Request::Matches { .. }
+        | Request::Migrate { .. }
         | Request::Help { .. }
         | Request::Version => true,
     }
@@ -69,6 +73,8 @@ pub fn run_alone<R: Room>(
             read(alloc, room, console, journal, out, Due::Report)
         }
         Request::Make { seed, count, out } => make(alloc, room, console, seed, count, out),
+        Request::Matches { journal, out } => write_matches(alloc, room, console, journal, out),
+        Request::Migrate { old, new } => migrate_journal(alloc, room, console, old, new),
         Request::Verify { journal } => verify(alloc, room, console, journal),
         Request::Help { topic } => help(console, topic),
         Request::Version => version(console),
@@ -116,6 +122,8 @@ fn run_loading<H: Threads + Wait + Sync, R: Room, G: Gate + Sync>(
         | Request::Report { .. }
         | Request::Make { .. }
         | Request::Verify { .. }
+        | Request::Matches { .. }
+        | Request::Migrate { .. }
         | Request::Help { .. }
         | Request::Version => unreachable!(),
     }
@@ -148,7 +156,8 @@ fn carry_out<H: Threads + Wait + Sync, R: Room, G: Gate + Sync>(
 
 /// Carries out the command of some words over a room, and answers its exit status: 0, or 1 where something was refused; 2 where
 /// the words are no command, 3 where an input failed, 4 where an output failed, 5 where the journal's device failed, 6 where it is no
-/// journal, 7 where there is more than a catalogue takes, 8 where memory ran out, 9 where the journal's version is an old one.
+/// journal, 7 where there is more than a catalogue takes, 8 where memory ran out, 9 where a journal's
+/// version is not the one that is wanted, 10 where another journal's history is not how this one's begins.
 pub fn run<H: Threads + Wait + Sync, R: Room, G: Gate + Sync>(
     rt: &H,
     alloc: Global,

@@ -73,6 +73,8 @@ impl Gate for Doorkeeper {
         }
     }
 
+    fn ended(&self, _rt: &impl Wait, _loader: u32, _pieces: u64) {}
+
     fn batch(&self) -> u32 {
         match self.turns {
             Turns::Open => LARGEST_BATCH,

@@ -1,7 +1,7 @@
 use Rattle.std.proofs.Common.{rules, ◌≡◌, false}
 use Rattle.std.proofs.lemmas.Bool.{both_ways}
 use Rattle.std.proofs.lemmas.Result.{err_from_is_err_and}
-use Rattle.entry_history.proofs.ReadOld.{holds_old, held_old, empty_holds_none, holds_no_old}
+use Rattle.entry_history.proofs.ReadOld.{holds_old, held_old, empty_holds_none, holds_no_old, so_many_old}
 use Rattle.entry_history.proofs.old.read_payload.Goals as goal
 
 pub returns-in_default-clause-bad : goal.returns-in_default-clause-bad
@@ -22,3 +22,7 @@ returns-in_err-items-clause-bad c =
 pub returns-clause-holds : goal.returns-clause-holds
 returns-clause-holds c =
     holds_old c.args.payload.now c.in-Some.bytes.now c.in-Some.count.now c.in_ok-items.items.items c.in-Some.ensures.cases.0 (c.is_count.ensures.0 (search rules)) c.in_ok-items.ensures.read
+
+pub returns-clause-few : goal.returns-clause-few
+returns-clause-few c =
+    so_many_old c.args.payload.now c.in-Some.bytes.now c.in-Some.count.now c.in_ok-items.items.items c.in-Some.ensures.cases.0 c.in_ok-items.ensures.read

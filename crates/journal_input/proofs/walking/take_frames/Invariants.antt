@@ -8,8 +8,9 @@ invariant-gates g l =
     let left = g.S.Source.left in
     record {
       taken : (b : List ℕ) → Comes l.initial.coming.window.items (left l.initial.coming.source) b
-          → HasTaken l.version l.initial.coming.place b l.reader.entries l.frames l.coming.place l.coming.window.items (left l.coming.source);
-      version : l.reader.version ≡ l.version;
+          → HasTaken l.version l.initial.coming.place b l.counter.extent l.frames l.coming.place l.coming.window.items (left l.coming.source);
+      version : l.counter.version ≡ l.version;
+      counted : l.counter.extent.count ≤ l.coming.place;
       few : l.frames ≤ l.coming.place;
       faults : g.S.Source.faults l.initial.coming.source ≤ g.S.Source.faults l.coming.source;
     }

@@ -7,7 +7,7 @@ use Rattle.command_words.specs.declared.library.Library.{Library}
 use Rattle.journal_loading.specs.Inputs.{IsInputFault, AreInputs, IsFresh}
 use Rattle.journal_loading.specs.Outcomes.{Unopened}
 use Rattle.journal_loading.proofs.Opened.{inputs_after, take_all, fault_between}
-use Rattle.journal_loading.proofs.Begun.{unbegun, opening_usage, opening_input, opening_device}
+use Rattle.journal_loading.proofs.Begun.{unbegun, opening_usage, opening_other_history, opening_input, opening_device}
 use Rattle.journal_loading.proofs.loading.begin.Goals as goal
 
 pub returns-in-Err-clause-failed : goal.returns-in-Err-clause-failed
@@ -19,6 +19,7 @@ returns-in-Err-clause-failed g c =
       device = λ device. e.cause (opening_device c.in-Err.fault (sym is ∙ device));
       input = λ input. absurd (opening_input c.in-Err.fault (sym is ∙ input));
       no_usage = λ usage. opening_usage c.in-Err.fault (sym is ∙ usage);
+      no_other_history = λ other. opening_other_history c.in-Err.fault (sym is ∙ other);
     }
 
 pub open_inputs-inputs-requires-clause-free : goal.open_inputs-inputs-requires-clause-free
@@ -81,4 +82,6 @@ returns-in-Some-clause-failed g c =
           (λ n. let a = c.close_inputs.ensures.stays.ins n in let b = c.close_journal.ensures.apart.ins n in omega (arith, a, b));
       no_usage = λ usage. let memory = other (λ input. let no : fault.Usage ≡ fault.Input = sym usage ∙ input in cc) in
           let no : fault.Usage ≡ fault.Memory = sym usage ∙ memory in cc;
+      no_other_history = λ history. let memory = other (λ input. let no : fault.OtherHistory ≡ fault.Input = sym history ∙ input in cc) in
+          let no : fault.OtherHistory ≡ fault.Memory = sym history ∙ memory in cc;
     }

@@ -6,7 +6,8 @@ use Rattle.room_files.specs.Journals.{IsOpenedFrom}
 use Rattle.journal_loading.specs.Outcomes.{HasLoaded, NotBegun}
 use Rattle.journal_loading.proofs.Opened.{get_within}
 use Rattle.journal_loading.proofs.Loaded.{inputs_count}
-use Rattle.journal_loading.proofs.Begun.{same_count, result_count, stopped_device, stopped_input, stopped_usage, loaded_whole, loaded_part, if_ok_more, if_err_more, on_ok_at, err_at, ok_at}
+use Rattle.journal_loading.proofs.Begun.{same_count, result_count, stopped_device, stopped_input, stopped_usage, stopped_other_history, loaded_whole, loaded_part, if_ok_more, if_err_more, on_ok_at, err_at, ok_at}
+use Rattle.journal_loading.proofs.Kept.{loading_keeps}
 use Rattle.journal_loading.proofs.loading.load_journal.Goals as goal
 
 pub returns-in-Err-clause-failed : goal.returns-in-Err-clause-failed
@@ -17,7 +18,13 @@ returns-in-Err-clause-failed g c =
       device = f.device;
       input = f.input;
       no_usage = f.no_usage;
+      no_other_history = f.no_other_history;
     }
+
+pub returns-in-Err-clause-missing : goal.returns-in-Err-clause-missing
+returns-in-Err-clause-missing g c tells missing =
+    loading_keeps _ _ _ _ _ tells
+    (NotBegun (c.in-Err.ensures.failed.because tells)) missing
 
 pub load_files-durable-requires-clause-some : goal.load_files-durable-requires-clause-some
 load_files-durable-requires-clause-some g c κs within =
@@ -128,4 +135,12 @@ returns-clause-failed g c =
             rose = omega (arith, rose, first, last);
           };
       no_usage = stopped_usage why results stopped;
+      no_other_history = stopped_other_history why results stopped;
     }) c.finish.ensures.ended
+
+pub returns-clause-missing : goal.returns-clause-missing
+returns-clause-missing g c =
+    let seen = g.R.Room.seen in
+    if_err_more c.finish.result (λ why at failed tells missing.
+    loading_keeps (seen c.args.room.now) (seen c.finish.new.room) c.args.journal.now c.args.libraries.now why tells (failed.because tells) missing)
+    (returns-clause-failed g c)

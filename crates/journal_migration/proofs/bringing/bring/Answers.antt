@@ -1,14 +1,15 @@
-use Rattle.std.proofs.Common.{subst}
+use Rattle.std.proofs.Common.{◌≡◌, ◌∙◌, sym, subst}
 use Rattle.std.proofs.lemmas.Result.{err_from_is_err_and, on_ok_weaker}
-use Rattle.journal_migration.specs.Fronts.{Brings, HasBrought}
-use Rattle.journal_migration.proofs.Fronts.{front_is}
-use Rattle.journal_migration.proofs.Gaining.{brings_none}
+use Rattle.journal_migration.specs.Fronts.{Brings, MayGain, HasBrought}
+use Rattle.journal_migration.proofs.Fronts.{front_is, may_gain}
+use Rattle.journal_migration.proofs.Gaining.{brings_none, brings_where}
 use Rattle.journal_migration.proofs.bringing.bring.Goals as goal
 
 pub returns-in_err-count-clause-brings : goal.returns-in_err-count-clause-brings
 returns-in_err-count-clause-brings g c entries version held =
     let journal = c.args.journal.now in
-    brings_none (g.D.Disk.seen journal.disk) (journal.settled c.requires.whole).only (g.met.D.Disk.only_now journal.disk) c.args.core.now.history entries
+    brings_none (g.D.Disk.seen journal.disk) (journal.settled c.requires.whole).only (g.met.D.Disk.only_now journal.disk)
+    (MayGain journal.version c.args.limits.now c.args.core.now.history entries) c.args.core.now.history entries
 
 pub returns-in_err-count-clause-fault : goal.returns-in_err-count-clause-fault
 returns-in_err-count-clause-fault g c version =
@@ -22,8 +23,11 @@ returns-clause-brings g c entries version held =
     let journal = c.args.journal.now in
     let history = c.args.core.now.history in
     let front = rw c.version.ensures at c.in_ok-count.ensures.front in
-    subst (λ es. Brings history es (seen journal.disk) (seen c.bring_rest.new.journal.disk))
-    (front_is journal.version c.args.frames.now c.args.limits.now history c.in_ok-count.count entries (front version) held) c.bring_rest.ensures.brings
+    let newest : journal.version ≡ 2 = sym c.version.ensures ∙ c.in_ok-count.ensures.version in
+    brings_where (MayGain journal.version c.args.limits.now history entries) history entries (seen journal.disk) (seen c.bring_rest.new.journal.disk)
+    (may_gain journal.version c.args.frames.now c.args.limits.now history c.in_ok-count.count entries newest (front version) held)
+    (subst (λ es. Brings (Unit {0}) history es (seen journal.disk) (seen c.bring_rest.new.journal.disk))
+    (front_is journal.version c.args.frames.now c.args.limits.now history c.in_ok-count.count entries (front version) held) c.bring_rest.ensures.brings)
 
 pub returns-clause-brought : goal.returns-clause-brought
 returns-clause-brought g c =

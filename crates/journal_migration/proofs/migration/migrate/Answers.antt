@@ -43,9 +43,9 @@ returns-in-Ok-bring-clause-crash g c was is_history =
     let new = c.bring.new.journal.disk in
     let history = c.args.old.now.core.history in
     let brings = rw (c.as_slice.ensures, c.core.ensures.value) at c.bring.ensures.brings in
-    subst (λ d. IsMigration history (seen c.args.new) (seen d)) (sym c.close.ensures)
+    subst (λ d. IsMigration c.args.limits history (seen c.args.new) (seen d)) (sym c.close.ensures)
     (migrated history c.in-Ok.frames journal.place journal.version (seen c.args.new) (seen journal.disk) c.in-Ok.ensures.recovered c.in-Ok.ensures.crash
-    c.in-Ok.ensures.content (seen new) c.bring.ensures.continues was is_history (g.met.D.Disk.content_is_image new) brings
+    c.in-Ok.ensures.content (seen new) c.bring.ensures.continues was is_history (g.met.D.Disk.content_is_image new) c.args.limits brings
     (g.met.D.Disk.synced_by_now journal.disk (seen c.args.new).moment) c.in-Ok.ensures.synced (g.met.D.Disk.undated_syncs new (seen c.args.new).moment))
 
 pub returns-in-Ok-clause-crash : goal.returns-in-Ok-clause-crash
@@ -55,9 +55,9 @@ returns-in-Ok-clause-crash g c was is_history =
     let new = c.bring.new.journal.disk in
     let history = c.args.old.now.core.history in
     let brings = rw (c.as_slice.ensures, c.core.ensures.value) at c.bring.ensures.brings in
-    subst (λ d. IsMigration history (seen c.args.new) (seen d)) (sym c.close-in-Err-bring.ensures)
+    subst (λ d. IsMigration c.args.limits history (seen c.args.new) (seen d)) (sym c.close-in-Err-bring.ensures)
     (migrated history c.in-Ok.frames journal.place journal.version (seen c.args.new) (seen journal.disk) c.in-Ok.ensures.recovered c.in-Ok.ensures.crash
-    c.in-Ok.ensures.content (seen new) c.bring.ensures.continues was is_history (g.met.D.Disk.content_is_image new) brings
+    c.in-Ok.ensures.content (seen new) c.bring.ensures.continues was is_history (g.met.D.Disk.content_is_image new) c.args.limits brings
     (g.met.D.Disk.synced_by_now journal.disk (seen c.args.new).moment) c.in-Ok.ensures.synced (g.met.D.Disk.undated_syncs new (seen c.args.new).moment))
 
 pub returns-in-Ok-clause-fault : goal.returns-in-Ok-clause-fault
@@ -81,7 +81,7 @@ returns-in-Ok-clause-left_alone g c refusal =
 
 pub returns-clause-crash : goal.returns-clause-crash
 returns-clause-crash g c was is_history =
-    opened_alone c.args.old.now.core.history (g.D.Disk.seen c.args.new) (g.D.Disk.seen c.in-Err.failed.0) c.in-Err.ensures.crash c.in-Err.ensures.content
+    opened_alone c.args.limits c.args.old.now.core.history (g.D.Disk.seen c.args.new) (g.D.Disk.seen c.in-Err.failed.0) c.in-Err.ensures.crash c.in-Err.ensures.content
 
 pub returns-clause-fault : goal.returns-clause-fault
 returns-clause-fault g c log told =

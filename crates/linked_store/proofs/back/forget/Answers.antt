@@ -1,5 +1,6 @@
 use Rattle.linked_store.specs.Contents.{step_of}
 use Rattle.linked_store.proofs.Framed.{gone_linked, gone_stored, gone_waiting}
+use Rattle.linked_store.proofs.Indexed.{gone_indexed}
 use Rattle.linked_store.proofs.back.forget.Goals as goal
 
 pub returns-in-Exchanged : goal.returns-in-Exchanged
@@ -17,3 +18,9 @@ pub returns : goal.returns
 returns c =
     rw c.in-Awaited.is
     (gone_waiting c.args.tables.now c.forget_waiting.new.tables c.in-Awaited.seat c.in-Awaited.before c.forget_waiting.ensures.only c.forget_waiting.ensures.now)
+
+pub returns-in-Followed : goal.returns-in-Followed
+returns-in-Followed c =
+    rw c.in-Followed.is
+    (gone_indexed c.args.tables.now c.forget_row.new.tables c.in-Followed.number c.in-Followed.before c.forget_row.ensures.rows c.forget_row.ensures.links c.forget_row.ensures.waits
+    c.forget_row.ensures.forms)

@@ -6,13 +6,19 @@ use Rattle.linked_store.proofs.Framed.{keeping, last_rooms, one_gone, row_out}
 use Rattle.linked_store.proofs.back.keep_all.Goals as goal
 
 pub loop-change-init : goal.loop-change-init
-loop-change-init c = keeping c.args.frame.now c.requires
+loop-change-init c = keeping c.args.frame.now c.requires.rooms
 
-pub forget-requires : goal.forget-requires
-forget-requires c =
+pub forget-requires-clause-out : goal.forget-requires-clause-out
+forget-requires-clause-out c =
     let popped : Frame = record { store = c.loop-change.frame.store; tables = c.loop-change.frame.tables; log = c.pop.new.self } in
     row_out (steps_of popped) (step_of c.in-Some.change) popped.tables
     (last_rooms c.args.frame.now c.loop-change.frame popped c.in-Some.change c.loop-change.invariant c.in-Some.ensures.items refl)
+
+pub forget-requires-clause-order : goal.forget-requires-clause-order
+forget-requires-clause-order c = record {
+  keys = c.requires.order.keys;
+  ordered = c.loop-change.invariant.now.index.ordered c.requires.order.keys c.requires.order.ordered;
+}
 
 pub loop-change-preserved : goal.loop-change-preserved
 loop-change-preserved c =

@@ -20,7 +20,8 @@ returns-in-Err-clause-keeps g c told =
     let told_still = c.in-Ok.ensures.apart.tells ∙ told in
     let begins = c.in-Ok.ensures.beginning in
     let refused = c.in-Err.ensures in
-    closed_history (room c.args.room.now) (room c.close_log.new.self) c.args.name.now now (c.close_log.ensures.bytes told_still) (c.close_log.ensures.moments told_still) failed
+    closed_history (room c.args.room.now) (room c.close_log.new.self) c.args.name.now now (c.close_log.ensures.bytes told_still)
+    (record { is_log = c.close_log.ensures.log told_still; same = c.close_log.ensures.moments told_still }) failed
     (refusal_alone was now log was_told begins refused.crash failed refused.left_alone)
     (content_keeps was now log was_told begins refused.crash refused.content)
     (images_keep was now log was_told begins refused.crash)

@@ -14,6 +14,7 @@ use Rattle.plain_commands.specs.Making.{EndsMake}
 use Rattle.plain_commands.specs.Passing.{Passes}
 use Rattle.archive_commands.specs.Reads.{EndsReading}
 use Rattle.journal_verification.specs.Verifying.{EndsVerifying}
+use Rattle.migrate_command.specs.Migrates.{EndsMigrating}
 use Rattle.program_help.specs.Telling.{EndsTelling}
 use Rattle.union_top.specs.Commands.{Ends}
 use Rattle.union_top.proofs.Asked.{NamesFiles, unasked, only}
@@ -115,3 +116,29 @@ returns-in-Version-clause-ends g c =
 
 pub returns-in-Version-clause-command : goal.returns-in-Version-clause-command
 returns-in-Version-clause-command g c usage = subst EndsTelling usage c.version.ensures.ends
+
+pub write_matches-requires-clause-differ : goal.write_matches-requires-clause-differ
+write_matches-requires-clause-differ g c κs within =
+    let asked : command_of c.args.words.now ≡ Some (command.Matches c.in-Matches.journal.now c.in-Matches.out.now) = c.requires.asks ∙ ap (λ r. Some (command_asked r)) c.in-Matches.is in
+    (c.names_are_apart.ensures.names (command.Matches c.in-Matches.journal.now c.in-Matches.out.now) asked).1.0
+
+pub returns-in-Matches-clause-ends : goal.returns-in-Matches-clause-ends
+returns-in-Matches-clause-ends g c =
+    let o : Outcome = outcome g.R.Room.seen g.R.Out.Sink.written g.R.Out.Sink.faults c.args.room.now c.write_matches.new.room c.args.console.now c.write_matches.new.console c.write_matches.result in
+    subst (λ r. Ends c.args.words.now (command_asked r) o) (sym c.in-Matches.is) c.write_matches.ensures.ends
+
+pub returns-in-Matches-clause-command : goal.returns-in-Matches-clause-command
+returns-in-Matches-clause-command g c usage = subst EndsReading usage c.write_matches.ensures.ends.ends
+
+pub migrate_journal-requires-clause-differ : goal.migrate_journal-requires-clause-differ
+migrate_journal-requires-clause-differ g c κs within =
+    let asked : command_of c.args.words.now ≡ Some (command.Migrate c.in-Migrate.old.now c.in-Migrate.new.now) = c.requires.asks ∙ ap (λ r. Some (command_asked r)) c.in-Migrate.is in
+    (c.names_are_apart.ensures.names (command.Migrate c.in-Migrate.old.now c.in-Migrate.new.now) asked).1.0
+
+pub returns-in-Migrate-clause-ends : goal.returns-in-Migrate-clause-ends
+returns-in-Migrate-clause-ends g c =
+    let o : Outcome = outcome g.R.Room.seen g.R.Out.Sink.written g.R.Out.Sink.faults c.args.room.now c.migrate_journal.new.room c.args.console.now c.migrate_journal.new.console c.migrate_journal.result in
+    subst (λ r. Ends c.args.words.now (command_asked r) o) (sym c.in-Migrate.is) c.migrate_journal.ensures.ends
+
+pub returns-in-Migrate-clause-command : goal.returns-in-Migrate-clause-command
+returns-in-Migrate-clause-command g c usage = subst EndsMigrating usage c.migrate_journal.ensures.ends.ends

@@ -16,6 +16,7 @@ returns-in-Err-clause-ends g c =
       device = f.device;
       input = f.input;
       no_usage = f.no_usage;
+      no_other_history = f.no_other_history;
     })
 
 pub files_text-text-requires : goal.files_text-text-requires

@@ -9,7 +9,7 @@ returns-in_err-reserve-clause-goes c = goes_none c.args.self.now _ refl refl c.r
 pub returns-in_err-add_link-clause-goes : goal.returns-in_err-add_link-clause-goes
 returns-in_err-add_link-clause-goes c =
     goes_still c.args.self.now _ refl c.reserve.ensures.items c.in_err-add_link.ensures.err (ap waits c.add_link.ensures.only.waits)
-    (forms_same c.args.self.now.tables c.add_link.new.self c.add_link.ensures.only.forms c.add_link.ensures.only.index)
+    c.add_link.ensures.only.index (forms_same c.args.self.now.tables c.add_link.new.self c.add_link.ensures.only.forms)
 
 pub returns-clause-goes : goal.returns-clause-goes
 returns-clause-goes c =

@@ -12,7 +12,7 @@ returns-in_err-reserve-clause-goes c = goes_none c.args.self.now _ refl refl c.r
 pub returns-in_err-add_waiting-clause-goes : goal.returns-in_err-add_waiting-clause-goes
 returns-in_err-add_waiting-clause-goes c =
     goes_still c.args.self.now _ refl c.reserve.ensures.items (ap links c.add_waiting.ensures.only.links) c.in_err-add_waiting.ensures.err
-    (record { forms = c.add_waiting.ensures.only.forms; index = c.add_waiting.ensures.only.index })
+    c.add_waiting.ensures.only.index (record { forms = c.add_waiting.ensures.only.forms })
 
 pub returns-clause-now : goal.returns-clause-now
 returns-clause-now c = waits_from c.args.self.now _ c.args.seat _ _ refl c.add_waiting.ensures.only c.in_ok-add_waiting.ensures.ok

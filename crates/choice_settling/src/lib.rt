@@ -1,0 +1,6 @@
+//! An unlinked heading field is given its choice.
+#![tactic(auto)]
+
+pub use settling::settle_unlinked;
+
+mod settling;

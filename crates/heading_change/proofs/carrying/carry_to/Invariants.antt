@@ -1,0 +1,6 @@
+use Rattle.field_settling.specs.Held.{heading_as}
+use Rattle.heading_change.proofs.Carried.{IsCarrying}
+use Rattle.heading_change.proofs.carrying.carry_to.Given as goal
+
+abbrev pub invariant-loop-seat : goal.invariant-loop-seat
+invariant-loop-seat g l = IsCarrying l.key (heading_as l.heading) l.seats l.seat-index l.fn.store l.store l.fn.steps l.steps

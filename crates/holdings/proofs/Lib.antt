@@ -1,0 +1,5 @@
+pub mod Ascending
+pub mod Found
+pub mod Groups
+pub mod Keys
+pub mod Regrouped

@@ -1,0 +1,109 @@
+//! Which records are holdings.
+ghost use Rattle.std.specs.Prelude.{◌≡◌, None, IfOk, OnOk, IfErr, IsTrue};
+ghost use Rattle.std.specs.Option.{option_copied};
+ghost use Rattle.marc_types.specs.Valid.{is_number};
+ghost use Rattle.heading_fields.specs.Numbers.{without_blanks};
+ghost use Rattle.entry_record.specs.Identity.{first_control, has_tag};
+ghost use Rattle.holdings.specs.Admission.{is_holdings_type, target_number_of, holding_refusal, IsHoldingOf};
+ghost use Rattle.holdings.specs.Refusals.{IsRefusalOf};
+
+use crate::holding::{Holding, HoldingContent};
+use crate::refusal::{HoldingFault, HoldingRefusal};
+use entry_record::key_of;
+use iso2709_record::fits;
+use marc_types::{Field, Key, NoMemory, Record, Refusal, Tag, Text, TryCopy, can_be_number};
+use std::alloc::Global;
+
+const BLANK: u8 = b' ';
+
+/// Leader 06 of holdings: of an item of a form that isn't told, of one in parts, of one in a single part, and of a serial.
+fn is_holdings_type(rtype: u8) -> bool
+    ensures { result ≡ is_holdings_type rtype }
+{
+    matches!(rtype, b'u' | b'v' | b'x' | b'y')
+}
+
+/// The tag of the control number of the record that a holding belongs to, 004.
+fn is_target_tag(tag: &Tag) -> bool
+    ensures { result ≡ has_tag 48 48 52 tag.now }
+{
+    tag.a == b'0' && tag.b == b'0' && tag.c == b'4'
+}
+
+/// The text of the first 004.
+fn first_target(fields: &[Field]) -> Option<&Text>
+    ensures { option_copied result ≡ first_control 52 fields.now }
+{
+    for field in fields {
+        if let Field::Control { tag, text } = field
+            && is_target_tag(tag)
+        {
+            return Some(text);
+        }
+    }
+    None
+}
+
+fn filled_bytes(alloc: Global, text: &[u8]) -> Result<Vec<u8>, NoMemory>
+    ensures { IfOk result (λ filled. filled.items ≡ without_blanks text.now) }
+{
+    let filled = text
+        .iter()
+        .copied()
+        .filter(|byte| *byte != BLANK)
+        .collect(alloc)?;
+    Ok(filled)
+}
+
+/// The first 004 without its blanks; empty where there is none.
+#[tactic(auto, unfolding(crate::specs::Admission::target_number_of))]
+fn target_number(alloc: Global, fields: &[Field]) -> Result<Vec<u8>, NoMemory>
+    ensures { IfOk result (λ number. number.items ≡ target_number_of fields.now) }
+{
+    match first_target(fields) {
+        Some(text) => filled_bytes(alloc, text.as_bytes()),
+        None => Ok(Vec::new(alloc)),
+    }
+}
+
+/// A number of graphic characters as a text.
+#[tactic(auto, unfolding(marc_types::specs::Valid::is_number), using(entry_record::proofs::Graphic::text_of_graphic))]
+fn number_text(number: Vec<u8>) -> Text
+    requires { IsTrue (is_number number.items) }
+    ensures { result ≡ number.items }
+{
+    match String::from_utf8(number) {
+        Ok(text) => Text::from_string(text),
+        Err(_) => unreachable!(),
+    }
+}
+
+/// The holding of a record in a file of that library code. Its target has the holding's own code, and the number in its first
+/// 004. A record is refused for the first reason that there is against it: another type than a holding's, no proper number,
+/// no proper code, no proper target, or that it doesn't fit its written form.
+#[tactic(auto, unfolding(crate::specs::Admission::holding_refusal, crate::specs::Admission::target_of, entry_record::specs::Identity::key_of))]
+pub fn admit_holding(alloc: Global, rec: Record, code: &Text) -> Result<Holding, HoldingFault>
+    ensures holding { IfOk result (IsHoldingOf code.now rec) }
+    ensures taken { OnOk result (holding_refusal code.now rec.leader rec.fields ≡ None) }
+    ensures refused { IfErr result (IsRefusalOf (holding_refusal code.now rec.leader rec.fields)) }
+{
+    if !is_holdings_type(rec.leader.rtype) {
+        return Err(HoldingFault::of_record(Refusal::OtherType));
+    }
+    let key = key_of(alloc, &rec, code)?;
+    let number = target_number(alloc, rec.fields.as_slice())?;
+    if !can_be_number(&number) {
+        return Err(HoldingFault::Refused(HoldingRefusal::NoTarget));
+    }
+    if !fits(&rec) {
+        return Err(HoldingFault::of_record(Refusal::NoRoom));
+    }
+    let target = Key {
+        code: key.code.copy(alloc)?,
+        number: number_text(number),
+    };
+    Ok(Holding {
+        key,
+        content: HoldingContent { target, rec },
+    })
+}

@@ -1,0 +1,41 @@
+ghost use Rattle.std.specs.Prelude.{◌≡◌, IsTrue};
+ghost use Rattle.iso2709_record.specs.Written.{fits};
+
+use marc_types::{Key, Record};
+
+/// A holdings record, which fits its written form, and the key of the bibliographic record that it belongs to.
+#[derive(Debug, Drop)]
+pub struct HoldingContent {
+    pub target: Key,
+    pub rec: Record,
+    ghost fits: { IsTrue (fits rec.fields) },
+}
+
+/// What a library holds of a bibliographic record: a holdings record, its own key, and the key of the record that it belongs
+/// to, its target.
+#[derive(Debug, Drop)]
+pub struct Holding {
+    pub(crate) key: Key,
+    pub(crate) content: HoldingContent,
+}
+
+impl Holding {
+    pub fn key(&self) -> &Key
+        ensures { result.now ≡ self.now.key }
+    {
+        &self.key
+    }
+
+    pub fn target(&self) -> &Key
+        ensures { result.now ≡ self.now.content.target }
+    {
+        &self.content.target
+    }
+
+    pub fn rec(&self) -> &Record
+        ensures value { result.now ≡ self.now.content.rec }
+        ensures fits { IsTrue (fits result.now.fields) }
+    {
+        &self.content.rec
+    }
+}

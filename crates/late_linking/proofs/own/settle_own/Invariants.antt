@@ -1,0 +1,6 @@
+use Rattle.catalogue_rules.specs.State.{linkable_authorities}
+use Rattle.late_linking.proofs.InTurn.{IsInTurn}
+use Rattle.late_linking.proofs.own.settle_own.Given as goal
+
+abbrev pub invariant-loop-place : goal.invariant-loop-place
+invariant-loop-place g l = IsInTurn (linkable_authorities l.fn.store.state) l.class l.number l.fields l.place l.fn.store l.store l.fn.steps l.steps

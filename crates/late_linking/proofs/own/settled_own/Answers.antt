@@ -1,0 +1,14 @@
+use Rattle.std.proofs.Common.{refl}
+use Rattle.std.proofs.lemmas.Result.{IfOk-weaker}
+use Rattle.catalogue_rules.specs.State.{new_field}
+use Rattle.late_linking.proofs.Settled.{choice_made, in_order}
+use Rattle.late_linking.proofs.own.settled_own.Goals as goal
+
+pub settle_unlinked-requires : goal.settle_unlinked-requires
+settle_unlinked-requires g c = in_order c.args.store.now.state c.requires.middle
+
+pub returns-clause-made : goal.returns-clause-made
+returns-clause-made g c =
+    IfOk-weaker c.settle_unlinked.result _ _
+    (choice_made c.args.store.now c.args.seat (new_field c.args.field.now) c.requires.middle c.requires.known c.requires.stands refl c.is_proper.ensures)
+    c.settle_unlinked.ensures.settled

@@ -1,0 +1,27 @@
+use Rattle.std.proofs.Common.{◌≡◌, subst}
+use Rattle.std.specs.Option.{option_map}
+use Rattle.marc_types.specs.declared.entry.Entry.{Entry}
+use Rattle.catalogue_rules.specs.State.{kept_record}
+use Rattle.linked_store.specs.Contents.{ToRecord, apply}
+use Rattle.linked_store.specs.Frames.{contents}
+use Rattle.linked_store.specs.Placing.{IsReseated}
+use Rattle.linked_store.proofs.Framed.{goes_then}
+use Rattle.linked_store.proofs.Seated.{placed_on}
+use Rattle.linked_store.proofs.frame.Frame.place.Goals as goal
+
+pub returns-in_err-exchange-clause-goes : goal.returns-in_err-exchange-clause-goes
+returns-in_err-exchange-clause-goes c = goes_then c.args.self.now c.reseat.new.self c.exchange.new.self c.reseat.ensures.goes c.exchange.ensures.goes
+
+pub returns-clause-now : goal.returns-clause-now
+returns-clause-now c =
+    placed_on c.follow_entry.result c.args.number c.args.item.now c.args.rows.items (option_map kept_record c.args.kept) c.args.self.now c.reseat.new.self c.exchange.new.self
+    c.follow_entry.new.self
+    (subst (λ (e : Entry). IsReseated e.class c.args.number c.args.rows.items c.args.self.now c.reseat.new.self) c.entry.ensures.value c.in_ok-reseat.ensures.now)
+    (subst (λ (e : Entry). contents c.exchange.new.self ≡ apply (ToRecord e.class c.args.number (option_map kept_record c.args.kept)) (contents c.reseat.new.self)) c.entry.ensures.value
+    c.in_ok-exchange.ensures.now)
+    c.exchange.ensures.tables c.requires.kept c.follow_entry.ensures.store c.follow_entry.ensures.goes.rows c.follow_entry.ensures.now c.follow_entry.ensures.seats
+
+pub returns-clause-goes : goal.returns-clause-goes
+returns-clause-goes c =
+    goes_then c.args.self.now c.exchange.new.self c.follow_entry.new.self
+    (goes_then c.args.self.now c.reseat.new.self c.exchange.new.self c.reseat.ensures.goes c.exchange.ensures.goes) c.follow_entry.ensures.goes

@@ -1,0 +1,124 @@
+-- A record comes into its place, with the rows of its seats and its authority's row of the index.
+use Rattle.std.specs.Prelude.{◌≡◌, ℕ, suc, ◌<◌, ◌≤◌, false, List, [], ◌∷◌, length, slice_get, Option, None, Some, if◌then◌else◌, ⊤}
+use Rattle.marc_types.specs.declared.entry.Entry.{Entry}
+use Rattle.marc_types.specs.declared.field.Field.{Field}
+use Rattle.marc_types.specs.declared.form.Form.{Form}
+use Rattle.marc_types.specs.declared.key.Class.{Class}
+use Rattle.marc_types.specs.declared.key.Class.TheVariants.{Authority, Bibliographic}
+use Rattle.marc_types.specs.declared.key.Key.{Key}
+use Rattle.numbering.specs.Seats.{same_seat}
+use Rattle.numbering.specs.declared.seat.Seat.{Seat}
+use Rattle.entry_record.specs.Identity.{is_deletion}
+use Rattle.catalogue_rules.specs.Settle.{Arrival, arrival_of}
+use Rattle.catalogue_rules.specs.State.{KeptRecord, State, new_field, new_record}
+use Rattle.linking_laws.specs.Partway.{HasAtMost}
+use Rattle.form_index.specs.Index.{IsInOrder}
+use Rattle.catalogue_tables.specs.Following.{FollowsAuthority, authority_brought}
+use Rattle.numbered_store.specs.Numbered.{with_record}
+use Rattle.linked_store.specs.Contents.{Contents}
+use Rattle.linked_store.specs.Fielding.{IsRowFor}
+use Rattle.linked_store.specs.Frames.{contents}
+use Rattle.linked_store.specs.Turns.{IsWaitingOf}
+use Rattle.linked_store.specs.declared.frame.Frame.{Frame}
+use Rattle.linked_store.specs.declared.turns.Row.{Row}
+use Rattle.linked_store.specs.declared.wanted.Wanted.{Wanted}
+use Rattle.linked_store.specs.Wanted.{IsWanted}
+
+-- the record that an entry brings; a deletion brings none
+abbrev pub record_brought : Arrival → Option KeptRecord
+record_brought a = if is_deletion a.leader then None else Some (new_record a.leader a.fields)
+
+abbrev pub fields_brought : Arrival → List Field
+fields_brought a = if is_deletion a.leader then [] else a.fields
+
+-- ---- the index
+
+-- what the seats have stays
+pub record StaysInSeats (old new : Frame) : Type 0 where
+  pub links : (contents new).links ≡ (contents old).links
+  pub waits : (contents new).waits ≡ (contents old).waits
+
+-- the index has the row of the entry's authority under the number, or none; all else stays
+pub record IsFollowed (number : ℕ) (e : Entry) (old new : Frame) : Type 0 where
+  pub follows : FollowsAuthority new.tables.forms number (authority_brought (arrival_of e)) old.tables.index new.tables.index
+  pub ordered : IsInOrder old.store.keys.authorities new.tables.index
+  pub seats : StaysInSeats old new
+
+-- the index follows an authority's entry, and stays with a bibliographic one
+abbrev pub IndexFollows : Class → ℕ → Entry → Frame → Frame → Type 0
+IndexFollows Authority number e old new =
+    FollowsAuthority new.tables.forms number (authority_brought (arrival_of e)) old.tables.index new.tables.index
+    × IsInOrder old.store.keys.authorities new.tables.index
+IndexFollows Bibliographic number e old new = new.tables.index ≡ old.tables.index
+
+-- ---- seats
+
+abbrev pub seat_in : Class → ℕ → ℕ → Seat
+seat_in class number field = record { class = class; number = number; field = field }
+
+-- the seat isn't one of a record's fields from one on, below another
+abbrev pub IsElsewhere : Class → ℕ → ℕ → ℕ → Seat → Type 0
+IsElsewhere class number first end seat = (field : ℕ) → first ≤ field → field < end → same_seat (seat_in class number field) seat ≡ false
+
+-- a seat is linked to nothing, and waits for what the row says
+pub record HasRow (forms : List Form) (row : Option Row) (seat : Seat) (c : Contents) : Type 0 where
+  pub link : c.links seat ≡ None
+  pub waiting : IsWaitingOf forms row (c.waits seat)
+
+-- the seats of a record's fields from one on have these rows
+abbrev pub HaveRowsFrom : List Form → Class → ℕ → ℕ → List (Option Row) → Contents → Type 0
+HaveRowsFrom forms class number first [] c = ⊤
+HaveRowsFrom forms class number first (row ∷ rows) c =
+    HasRow forms row (seat_in class number first) c × HaveRowsFrom forms class number (suc first) rows c
+
+-- the links and rows of a seat are as they were
+pub record StaysAt (seat : Seat) (old new : Contents) : Type 0 where
+  pub link : new.links seat ≡ old.links seat
+  pub waiting : new.waits seat ≡ old.waits seat
+
+-- one seat has this row now, and all else stays
+pub record IsSeated (seat : Seat) (row : Option Row) (old new : Frame) : Type 0 where
+  pub store : new.store ≡ old.store
+  pub index : new.tables.index ≡ old.tables.index
+  pub own : HasRow new.tables.forms row seat (contents new)
+  pub others : (other : Seat) → same_seat seat other ≡ false → StaysAt other (contents old) (contents new)
+
+-- the seats of a record's fields have these rows, and all else stays
+pub record IsReseated (class : Class) (number : ℕ) (rows : List (Option Row)) (old new : Frame) : Type 0 where
+  pub store : new.store ≡ old.store
+  pub index : new.tables.index ≡ old.tables.index
+  pub own : HaveRowsFrom new.tables.forms class number 0 rows (contents new)
+  pub others : (seat : Seat) → IsElsewhere class number 0 (length rows) seat → StaysAt seat (contents old) (contents new)
+
+-- ---- the whole
+
+-- another record, or none, stands under the number, with the index and the rows
+pub record IsPlaced (number : ℕ) (e : Entry) (rows : List (Option Row)) (old new : Frame) : Type 0 where
+  pub store : new.store ≡ with_record e.class number (record_brought (arrival_of e)) old.store
+  pub index : IndexFollows e.class number e old new
+  pub own : HaveRowsFrom new.tables.forms e.class number 0 rows (contents new)
+  pub others : (seat : Seat) → IsElsewhere e.class number 0 (length rows) seat → StaysAt seat (contents old) (contents new)
+
+-- ---- the rows of new fields
+
+-- the row of a field that comes in; where there is no field, there is none
+abbrev pub IsRowAt : Class → List Key → Option Field → Option Row → Type 0
+IsRowAt class keys None row = row ≡ None
+IsRowAt class keys (Some field) row = IsRowFor class (new_field field) keys row
+
+-- what a field that comes in waits for; where there is no field, nothing waits
+abbrev pub IsWantedAt : Class → Option Field → Option Wanted → Type 0
+IsWantedAt class None wanted = wanted ≡ None
+IsWantedAt class (Some field) wanted = IsWanted class (new_field field) wanted
+
+-- the rows of these fields, from one on
+abbrev pub AreRowsFrom : Class → List Key → List Field → ℕ → List (Option Row) → Type 0
+AreRowsFrom class keys fields first [] = ⊤
+AreRowsFrom class keys fields first (row ∷ rows) =
+    IsRowAt class keys (slice_get fields first) row × AreRowsFrom class keys fields (suc first) rows
+
+-- there are so many rows that each field of the entry has one, and each of the record that stands in its place; and there are few
+pub record CoversFields (e : Entry) (rows : ℕ) (s : State) : Type 0 where
+  pub old : HasAtMost e.class e.key rows s
+  pub new : length e.rec.fields ≤ rows
+  pub few : rows ≤ 8331

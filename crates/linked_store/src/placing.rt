@@ -1,0 +1,184 @@
+//! A record that comes into its place, with its rows in the tables.
+ghost use Rattle.std.specs.Prelude.{◌≡◌, ◌≤◌, length, map, slice_get, IfOk, OnOk, OnErr};
+ghost use Rattle.std.specs.Option.{option_copied, option_map};
+ghost use Rattle.marc_types.specs.Order.{same_key};
+ghost use Rattle.numbering.specs.Numbers.{IsNumberOf};
+ghost use Rattle.catalogue_tables.specs.Seam.{keys_in};
+ghost use Rattle.catalogue_rules.specs.Settle.{arrival_of};
+ghost use Rattle.catalogue_rules.specs.State.{kept_record, new_record, new_tie};
+ghost use Rattle.linking_laws.specs.Commits.{placed_by};
+ghost use Rattle.linking_laws.specs.Partway.{HasAtMost};
+ghost use Rattle.linked_store.specs.Linked.{IsAhead, IsNumber, IsUnchanged, key_of};
+ghost use Rattle.linked_store.specs.Placing.{AreRowsFrom, CoversFields, IsRowAt, IsWantedAt, fields_brought, record_brought};
+
+use crate::back::go_back;
+use crate::store::LinkedStore;
+use crate::turns::Row;
+use crate::wanted::{Wanted, wants_of};
+use entry_record::Prepared;
+use marc_types::{Class, Field, Kept, Links, NoMemory, Record, Tie, TryCopy};
+use std::alloc::Global;
+
+// A record comes in with no link, no field whole, and nothing awaited.
+const NEW_TIE: Tie = Tie {
+    key: None,
+    whole: false,
+    awaits: None,
+};
+
+impl LinkedStore {
+    /// Puts an entry's record under its key, in place of the one that stood there; a deletion takes that away. The fields stand as
+    /// they came, with no link. The keys that they name get numbers, also where memory ends.
+    pub fn place(&mut self, alloc: Global, number: u32, item: &Prepared) -> Result<(), NoMemory>
+        requires number { IsNumberOf same_key (keys_in item.now.class self.old.keys) item.now.key number }
+        ensures ok { OnOk result (self.new.state ≡ placed_by item.now.class self.old.state item.now) }
+        ensures err { OnErr result (self.new.state ≡ self.old.state) }
+        ensures ahead { IsAhead self.old self.new }
+    {
+        let kept = kept_of(alloc, item)?;
+        let rows = self.rows_for(alloc, number, item)?;
+        self.put(alloc, number, kept, rows, item)
+    }
+
+    // What the seats of the entry's fields are to wait for, and those of the record that stands in its place.
+    fn rows_for(
+        &mut self,
+        alloc: Global,
+        number: u32,
+        item: &Prepared,
+    ) -> Result<Vec<Option<Row>>, NoMemory>
+        requires number { IsNumberOf same_key (keys_in item.now.class self.old.keys) item.now.key number }
+        ensures unchanged { IsUnchanged self.old self.new }
+        ensures rows { IfOk result (λ rows.
+            AreRowsFrom item.now.class self.new.keys.authorities (fields_brought (arrival_of item.now)) 0 rows.items) }
+        ensures covers { IfOk result (λ rows. CoversFields item.now (length rows.items) self.new.state) }
+    {
+        let places = self.places_of(number, item);
+        let mut rows = Vec::new(alloc);
+        for place in 0..places {
+            let row = self.row_at(alloc, item, place)?;
+            rows.push(row)?;
+        }
+        Ok(rows)
+    }
+
+    // How many seats the entry's fields have, or those of the record that stands in its place, if they are more.
+    fn places_of(&self, number: u32, item: &Prepared) -> usize
+        requires { IsNumberOf same_key (keys_in item.now.class self.now.keys) item.now.key number }
+        ensures { CoversFields item.now result self.now.state }
+    {
+        let entry = item.entry();
+        let own = entry.rec.fields.len();
+        let old = self.fields_under(entry.class, number);
+        if own < old { old } else { own }
+    }
+
+    // How many fields the record under the key that has the number has.
+    fn fields_under(&self, class: Class, number: u32) -> usize
+        requires { IsNumber class number self.now.keys }
+        ensures most { HasAtMost class (key_of class number self.now.keys) result self.now.state }
+        ensures few { result ≤ 8331 }
+    {
+        match self.look(class, number) {
+            Some(kept) => kept.rec.fields.len(),
+            None => 0,
+        }
+    }
+
+    // What the entry's field at a place is to wait for, if there is one.
+    fn row_at(
+        &mut self,
+        alloc: Global,
+        item: &Prepared,
+        place: usize,
+    ) -> Result<Option<Row>, NoMemory>
+        ensures unchanged { IsUnchanged self.old self.new }
+        ensures ok { IfOk result (λ row.
+            IsRowAt item.now.class self.new.keys.authorities (slice_get (fields_brought (arrival_of item.now)) place) row) }
+    {
+        let Some(wanted) = wanted_at(alloc, item, place)? else {
+            return Ok(None);
+        };
+        self.numbered_row(alloc, Some(wanted))
+    }
+
+    // Puts the record into its place with its rows, or leaves all as it was.
+    fn put(
+        &mut self,
+        alloc: Global,
+        number: u32,
+        kept: Option<Kept>,
+        rows: Vec<Option<Row>>,
+        item: &Prepared,
+    ) -> Result<(), NoMemory>
+        requires number { IsNumberOf same_key (keys_in item.now.class self.old.keys) item.now.key number }
+        requires kept { option_map kept_record kept ≡ record_brought (arrival_of item.now) }
+        requires rows { AreRowsFrom item.now.class self.old.keys.authorities (fields_brought (arrival_of item.now)) 0 rows.items }
+        requires covers { CoversFields item.now (length rows.items) self.old.state }
+        ensures ok { OnOk result (self.new.state ≡ placed_by item.now.class self.old.state item.now) }
+        ensures err { OnErr result (self.new.state ≡ self.old.state) }
+        ensures ahead { IsAhead self.old self.new }
+    {
+        let position = self.frame.log.len();
+        if let Err(error) = self.frame.place(alloc, number, kept, rows, item) {
+            go_back(&mut self.frame, position);
+            return Err(error);
+        }
+        Ok(())
+    }
+}
+
+// What the entry's field at a place waits for; where there is no field, nothing waits.
+fn wanted_at(alloc: Global, item: &Prepared, place: usize) -> Result<Option<Wanted>, NoMemory>
+    ensures { IfOk result (IsWantedAt item.now.class (slice_get (fields_brought (arrival_of item.now)) place)) }
+{
+    let Some(field) = field_at(item, place) else {
+        return Ok(None);
+    };
+    wants_of(alloc, item.entry().class, field, &NEW_TIE)
+}
+
+fn field_at(item: &Prepared, place: usize) -> Option<&Field>
+    ensures { option_copied result ≡ slice_get (fields_brought (arrival_of item.now)) place }
+{
+    brought(item).get(place)
+}
+
+// The fields that an entry brings; a deletion brings none.
+fn brought(item: &Prepared) -> &[Field]
+    ensures { result.now ≡ fields_brought (arrival_of item.now) }
+{
+    if item.is_deletion() {
+        return &[];
+    }
+    item.entry().rec.fields.as_slice()
+}
+
+// The record that an entry brings, as it is kept; a deletion brings none.
+fn kept_of(alloc: Global, item: &Prepared) -> Result<Option<Kept>, NoMemory>
+    ensures { IfOk result (λ kept. option_map kept_record kept ≡ record_brought (arrival_of item.now)) }
+{
+    if item.is_deletion() {
+        return Ok(None);
+    }
+    let rec = item.entry().rec.copy(alloc)?;
+    let kept = incoming(alloc, rec)?;
+    Ok(Some(kept))
+}
+
+fn incoming(alloc: Global, rec: Record) -> Result<Kept, NoMemory>
+    ensures { IfOk result (λ kept. kept_record kept ≡ new_record rec.leader rec.fields) }
+{
+    let links = new_ties(alloc, rec.fields.as_slice())?;
+    Ok(Kept { rec, links })
+}
+
+fn new_ties(alloc: Global, fields: &[Field]) -> Result<Links, NoMemory>
+    ensures { IfOk result (λ ties. ties ≡ map (λ field. new_tie) fields.now) }
+{
+    let mut ties = Vec::with_capacity(alloc, fields.len())?;
+    for _field in fields {
+        ties.push(NEW_TIE)?;
+    }
+    Ok(Links::from_vec(ties))
+}

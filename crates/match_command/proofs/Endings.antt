@@ -1,0 +1,130 @@
+-- How the command ends, from what its steps say.
+use Rattle.std.proofs.Common.{◌≡◌, ◌≢◌, ◌∙◌, ℕ, true, List, [], ◌∷◌, Some, refl, sym, ap, subst}
+use Rattle.marc_types.specs.declared.entry.Entry.{Entry}
+use Rattle.outside.specs.Disk.{DiskView}
+use Rattle.outside.specs.Fault.{Rose}
+use Rattle.outside.specs.Room.{RoomView, SameBut}
+use Rattle.durable_catalogue.specs.Logs.{HasHistory}
+use Rattle.entry_record.specs.History.{IsWithin}
+use Rattle.durable_catalogue.specs.Openings.{IsUnopened}
+use Rattle.durable_catalogue.specs.declared.fault.OpenFault.{OpenFault}
+use Rattle.durable_catalogue.specs.declared.fault.OpenFault.TheVariants as opening
+use Rattle.console_lines.specs.Ends.{Outcome, IsTold, IsUntold, IsSilent, out_unwritten}
+use Rattle.console_lines.specs.declared.end.End.{End}
+use Rattle.console_lines.specs.declared.end.End.TheVariants.{Done, Told}
+use Rattle.console_lines.specs.declared.end.Unwritten.TheVariants.{Out}
+use Rattle.console_lines.specs.declared.fault.Fault.{Fault}
+use Rattle.console_lines.specs.declared.fault.Fault.TheVariants.{Device, Memory}
+use Rattle.console_lines.proofs.Ends.{told_once, told_not_unwritten, told_not_done, done_not_unwritten, never_told}
+use Rattle.room_files.specs.Journals.{journal_limits, log_bytes, IsClosedDisk, KeepsHistory, KeepsLog, IsDurable}
+use Rattle.output_files.specs.Outputs.{IsPartWritten}
+use Rattle.room_files.proofs.Journals.{closed_keeps, closed_durable, keeps_where}
+use Rattle.room_files.specs.Faults.{fault_of_opening}
+use Rattle.archive_commands.specs.Archives.{WhyUnopened}
+use Rattle.archive_commands.specs.Reads.{EndsReading}
+use Rattle.archive_commands.proofs.Rooms.{part_opened}
+use Rattle.archive_commands.proofs.Histories.{whole_of_any, part_of_any, fitting_history}
+use Rattle.match_command.specs.Telling.{matches_due, TellsMatches}
+
+-- an opening's fault that is one of reading
+ends_unopened : (reason : OpenFault) → reason ≢ opening.OldVersion → EndsReading (Told (fault_of_opening reason))
+ends_unopened opening.DeviceFault current = tt
+ends_unopened (opening.NotAJournal place) current = tt
+ends_unopened opening.OldVersion current = absurd (current refl)
+ends_unopened opening.Full current = tt
+ends_unopened opening.NoMemory current = tt
+
+is_device : (reason : OpenFault) → fault_of_opening reason ≡ Device → reason ≡ opening.DeviceFault
+is_device opening.DeviceFault is = refl
+is_device (opening.NotAJournal place) is = cc
+is_device opening.OldVersion is = cc
+is_device opening.Full is = cc
+is_device opening.NoMemory is = cc
+
+module _ (journal out : List ℕ) (o : Outcome) where
+  -- a fault was told, of a journal that was not opened or where memory ran out behind that
+  pub tells_fault : (reason : OpenFault) → o.end ≡ Told (fault_of_opening reason) → IsTold (fault_of_opening reason) o
+      → SameBut o.old o.new (journal ∷ []) → reason ≢ opening.OldVersion
+      → (o.old.tells ≡ true → IsUnopened journal_limits (log_bytes o.old journal) reason)
+      → (o.old.tells ≡ true → KeepsHistory (reason ≡ opening.DeviceFault) o.old o.new journal)
+      → (reason ≡ opening.DeviceFault → Rose (o.old.log_faults journal) (o.new.log_faults journal)) → TellsMatches journal out o
+  tells_fault reason is told apart current so keeps cause = record {
+    ends = subst EndsReading (sym is) (ends_unopened reason current);
+    keeps = λ tells.
+        keeps_where (reason ≡ opening.DeviceFault) (o.end ≡ Told Device) o.old o.new journal (λ device. is ∙ ap (λ r. Told (fault_of_opening r)) device) (keeps tells);
+    told = λ why also. subst (λ w. IsTold w o × WhyUnopened o.old journal w) (told_once o.end (fault_of_opening reason) why is also)
+        (told, record { reason = reason; is = refl; so = so });
+    untouched = λ why also. apart;
+    silent = λ untold. absurd (never_told o.end (fault_of_opening reason) untold is);
+    device = λ also. cause (is_device reason (told_once o.end (fault_of_opening reason) Device is also));
+    out_cause = λ also. absurd (told_not_unwritten o.end (fault_of_opening reason) Out is also);
+    history = λ untold. absurd (never_told o.end (fault_of_opening reason) untold is);
+    durable = λ untold. absurd (never_told o.end (fault_of_opening reason) untold is);
+    whole = λ entries also. absurd (told_not_done o.end (fault_of_opening reason) is also);
+    part = λ entries also. absurd (told_not_unwritten o.end (fault_of_opening reason) Out is also);
+  }
+
+  -- what is due of the history of a journal that was opened, written so far as it could be
+  pub record WasRead (history : List Entry) : Type 1 where
+    pub keeps : (failed : Type 0) → o.old.tells ≡ true → KeepsHistory failed o.old o.new journal
+    pub durable : o.old.tells ≡ true → IsDurable o.new journal
+    pub has : o.old.tells ≡ true → HasHistory history (log_bytes o.old journal)
+    pub within : IsWithin journal_limits history
+    pub part : o.old.tells ≡ true → IsPartWritten (o.old.file out) (o.new.file out) (matches_due history)
+
+  pub was_read : (mid : RoomView) (disk : DiskView) (history : List Entry) → journal ≢ out → SameBut o.old mid (journal ∷ [])
+      → (mid.tells ≡ true → o.new.file journal ≡ disk.content) → (mid.tells ≡ true → IsClosedDisk disk o.new journal)
+      → (o.old.tells ≡ true → HasHistory history (log_bytes o.old journal)) → IsWithin journal_limits history
+      → (o.old.tells ≡ true → KeepsLog (log_bytes o.old journal) disk)
+      → (mid.tells ≡ true → IsPartWritten (mid.file out) (o.new.file out) (matches_due history)) → WasRead history
+  was_read mid disk history differ opened file log has within kept part = record {
+    keeps = λ failed tells. let then = opened.tells ∙ tells in closed_keeps o.old o.new journal disk (file then) (log then) failed (kept tells);
+    durable = λ tells. let then = opened.tells ∙ tells in closed_durable o.old o.new journal disk (file then) (log then) (log_bytes o.old journal) (kept tells);
+    has = has;
+    within = within;
+    part = λ tells. part_opened o.old mid o.new journal out (matches_due history) differ opened (part (opened.tells ∙ tells));
+  }
+
+  module _ (history : List Entry) (r : WasRead history) where
+    part_is : (entries : List Entry) → o.old.tells ≡ true → HasHistory entries (log_bytes o.old journal)
+        → IsPartWritten (o.old.file out) (o.new.file out) (matches_due entries)
+    part_is entries tells has =
+        part_of_any matches_due entries history (log_bytes o.old journal) (o.old.file out) (o.new.file out) has (r.has tells) (r.part tells)
+
+    pub tells_whole : o.end ≡ Done → IsSilent o
+        → (o.old.tells ≡ true → o.new.file out ≡ Some (matches_due history)) → TellsMatches journal out o
+    tells_whole is silent bytes = record {
+      ends = subst EndsReading (sym is) tt;
+      keeps = r.keeps (o.end ≡ Told Device);
+      told = λ why also. absurd (told_not_done o.end why also is);
+      untouched = λ why also. absurd (told_not_done o.end why also is);
+      silent = λ untold. silent;
+      device = λ also. absurd (told_not_done o.end Device also is);
+      out_cause = λ also. absurd (done_not_unwritten o.end Out is also);
+      durable = λ untold. r.durable;
+      history = λ untold tells. fitting_history history (log_bytes o.old journal) (r.has tells) r.within;
+      whole = λ entries also tells has.
+          whole_of_any matches_due entries history (log_bytes o.old journal) (o.new.file out) has (r.has tells) (bytes tells);
+      part = λ entries also. part_is entries;
+    }
+
+    pub tells_failed : o.end ≡ out_unwritten → IsSilent o
+        → Rose (o.old.out_faults out) (o.new.out_faults out) → TellsMatches journal out o
+    tells_failed is silent rose = record {
+      ends = subst EndsReading (sym is) tt;
+      keeps = r.keeps (o.end ≡ Told Device);
+      told = λ why also. absurd (told_not_unwritten o.end why Out also is);
+      untouched = λ why also. absurd (told_not_unwritten o.end why Out also is);
+      silent = λ untold. silent;
+      device = λ also. absurd (told_not_unwritten o.end Device Out also is);
+      out_cause = λ also. rose;
+      durable = λ untold. r.durable;
+      history = λ untold tells. fitting_history history (log_bytes o.old journal) (r.has tells) r.within;
+      whole = λ entries also. absurd (done_not_unwritten o.end Out also is);
+      part = λ entries also. part_is entries;
+    }
+
+    -- memory ran out over the table: no output was begun
+    pub tells_no_memory : o.end ≡ Told Memory → IsTold Memory o → SameBut o.old o.new (journal ∷ []) → TellsMatches journal out o
+    tells_no_memory is told apart =
+        tells_fault opening.NoMemory is told apart (λ e. cc) (λ tells. tt) (r.keeps (opening.NoMemory ≡ opening.DeviceFault)) (λ e. cc)

@@ -1,0 +1,38 @@
+ghost use Rattle.std.specs.Prelude.{◌≡◌, ◌≢◌, ℕ, List, [], ◌∷◌, None};
+ghost use Rattle.console_lines.specs.Ends.{outcome};
+ghost use Rattle.outside.specs.Room.{SameBut};
+ghost use Rattle.match_command.specs.Telling.{TellsMatches};
+
+use crate::writing::write_history;
+use console_lines::{End, Fault, Unwritten, tell};
+use history_logs::open_history;
+use outside::{Room, WriteFault};
+use room_files::fault_of_opening;
+use std::alloc::Global;
+
+/// The command `matches`: writes which of a journal's bibliographic records share a number into the file `out`. It makes no
+/// catalogue. It tells why the journal is not opened, and want of memory.
+pub fn write_matches<R: Room>(
+    alloc: Global,
+    room: &mut R,
+    console: &mut R::Out,
+    journal: &str,
+    out: &str,
+) -> End
+    requires closed { (name : List ℕ) → (R.seen room.old).open_as name ≡ None }
+    requires differ { journal.now ≢ out.now }
+    ensures closed { (name : List ℕ) → (R.seen room.new).open_as name ≡ None }
+    ensures apart { SameBut (R.seen room.old) (R.seen room.new) (journal.now ∷ out.now ∷ []) }
+    ensures ends { TellsMatches journal.now out.now
+        (outcome R.seen R.Out.written R.Out.faults room.old room.new console.old console.new result) }
+{
+    let history = match open_history(alloc, room, journal) {
+        Ok(history) => history,
+        Err(fault) => return tell(console, fault_of_opening(fault)),
+    };
+    match write_history(alloc, room, journal, out, history) {
+        Ok(()) => End::Done,
+        Err(WriteFault::OutputFault) => End::Unwritten(Unwritten::Out),
+        Err(WriteFault::NoMemory) => tell(console, Fault::Memory),
+    }
+}

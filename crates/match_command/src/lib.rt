@@ -1,0 +1,7 @@
+//! The command on a journal that tells which records share a number.
+#![tactic(auto)]
+
+pub use command::write_matches;
+
+mod command;
+mod writing;

@@ -1,0 +1,204 @@
+-- How a log's history came into another, or why it didn't, from the steps that were taken.
+use Rattle.std.proofs.Common.{◌≡◌, ◌≢◌, ◌∙◌, inl, inr, ℕ, true, List, [], ◌∷◌, ◌++◌, length, Result, Ok, Err, refl, sym, ap, subst, arith}
+use Rattle.std.proofs.Math.Logic.{∥∥₁_elim, ∥∥₁_prop}
+use Rattle.std.proofs.lemmas.List.{append-nil}
+use Rattle.std.specs.Coded.{Coded-set, coded_ℕ}
+use Rattle.marc_types.specs.declared.entry.Entry.{Entry}
+use Rattle.outside.specs.Disk.{DiskView}
+use Rattle.outside.specs.Fault.{Rose}
+use Rattle.outside.specs.Room.{RoomView, SameBut}
+use Rattle.outside.proofs.Rooms.{same_but_none, same_but_then}
+use Rattle.commit_journal.specs.Log.{version_of}
+use Rattle.entry_record.specs.History.{IsWithin}
+use Rattle.entry_history.specs.Payloads.{IsHistory}
+use Rattle.entry_history.proofs.Histories.{history_once}
+use Rattle.catalogue_core.specs.Catalogues.{Catalogued, all_entries}
+use Rattle.durable_catalogue.specs.Logs.{payloads_of, IsLogOf, HasHistory}
+use Rattle.durable_catalogue.specs.Openings.{IsUnopened}
+use Rattle.durable_catalogue.specs.Refused.{LeavesAlone}
+use Rattle.durable_catalogue.specs.declared.fault.OpenFault.{OpenFault}
+use Rattle.durable_catalogue.specs.declared.fault.OpenFault.TheVariants as opening
+use Rattle.durable_catalogue.proofs.Opened.{either_version}
+use Rattle.console_lines.specs.declared.fault.Fault.{Fault}
+use Rattle.console_lines.specs.declared.fault.Fault.TheVariants.{Device, OldVersion}
+use Rattle.room_files.specs.Faults.{fault_of_opening}
+use Rattle.room_files.specs.Journals.{journal_limits, log_bytes, IsClosedDisk, KeepsHistory, KeepsLog, IsUntouched}
+use Rattle.room_files.proofs.Journals.{closed_keeps, keeps_where}
+use Rattle.archive_commands.specs.Archives.{HasFittingHistory}
+use Rattle.archive_commands.proofs.Histories.{fitting_history}
+use Rattle.journal_migration.specs.Migrations.{IsFit, IsUnmigrated}
+use Rattle.migrate_command.specs.Bringing as bringing
+use Rattle.migrate_command.specs.Bringing.{IsBroughtInto, IsUnbrought, Refused, IsDeviceFaultOf, IsBroughtOver}
+use Rattle.migrate_command.specs.Migrates.{BringsInto, Unopened, HasInEachImage, NotOpened, Newest}
+use Rattle.migrate_command.proofs.Endings.{ok_not_err, err_once}
+use Rattle.migrate_command.proofs.Rooms.{bytes_first, bytes_last, brings_across, images_across, alone_across}
+
+opening_device : (reason : OpenFault) → fault_of_opening reason ≡ Device → reason ≡ opening.DeviceFault
+opening_device opening.DeviceFault is = refl
+opening_device (opening.NotAJournal place) is = cc
+opening_device opening.OldVersion is = cc
+opening_device opening.Full is = cc
+opening_device opening.NoMemory is = cc
+
+-- a log is read as one history
+reading_once : (entries others : List Entry) (log : List ℕ) → IsLogOf entries log → IsLogOf others log → entries ≡ others
+reading_once entries others log is also =
+    let same : also.frames ≡ is.frames = cc (is.found, also.found) in
+    history_once (version_of log) [] entries others (payloads_of is.frames) is.holds
+    (subst (λ frames. IsHistory (version_of log) [] (payloads_of frames) others) same also.holds)
+
+-- the length of an archive's history, with nothing staged
+pub history_counted : (count : ℕ) (core archived : Catalogued) → count ≡ length (all_entries core) → core.staged ≡ [] → core ≡ archived
+    → count ≡ length archived.history
+history_counted count core archived is unstaged same =
+    is ∙ ap (λ es. length (core.history ++ es)) unstaged ∙ ap length (append-nil core.history) ∙ ap (λ (k : Catalogued). length k.history) same
+
+-- the old log was not opened
+module _ (from into : List ℕ) (differ : into ≢ from) (old opened : RoomView) (apart : SameBut old opened (from ∷ [])) where
+  other_untouched : IsUntouched old opened into
+  other_untouched = record {
+    file = apart.files into (differ, tt);
+    is_log = apart.log_names into (differ, tt);
+    log = apart.logs into (differ, tt);
+  }
+
+  pub over_unopened : (reason : OpenFault) (result : Result ℕ Fault) → result ≡ Err (fault_of_opening reason) → reason ≢ opening.OldVersion
+      → (old.tells ≡ true → IsUnopened journal_limits (log_bytes old from) reason)
+      → (old.tells ≡ true → KeepsHistory (reason ≡ opening.DeviceFault) old opened from)
+      → (reason ≡ opening.DeviceFault → Rose (old.log_faults from) (opened.log_faults from)) → IsBroughtOver from into old opened result
+  over_unopened reason result is current so keeps rose =
+      let fault = fault_of_opening reason in
+      record {
+        keeps = λ tells. keeps_where (reason ≡ opening.DeviceFault) (IsDeviceFaultOf old opened from result) old opened from
+            (λ device. (is ∙ ap (λ r. Err (fault_of_opening r)) device, rose device)) (keeps tells);
+        brings = λ entries tells has. ∣ Unopened other_untouched ∣₁;
+        refused = λ why also. inl (NotOpened reason current (err_once result why fault also is) so, apart);
+        device = λ also. inl (rose (opening_device reason (err_once result fault Device is also)));
+        history = λ count ok. absurd (ok_not_err result count fault ok is);
+        version = λ count ok. absurd (ok_not_err result count fault ok is);
+        fit = λ count entries ok. absurd (ok_not_err result count fault ok is);
+        all = λ count entries ok. absurd (ok_not_err result count fault ok is);
+        durable = λ count entries ok. absurd (ok_not_err result count fault ok is);
+      }
+
+-- it was opened, the history of its archive was brought into the new one or not, and it was closed again
+module _ (from into : List ℕ) (differ : into ≢ from) (old opened brought closed : RoomView) (disk : DiskView) (history : List Entry) (version : ℕ)
+    (first : SameBut old opened (from ∷ [])) (second : SameBut opened brought (into ∷ [])) (last : SameBut brought closed (from ∷ []))
+    (has : old.tells ≡ true → HasHistory history (log_bytes old from)) (named : old.tells ≡ true → version_of (log_bytes old from) ≡ version)
+    (within : IsWithin journal_limits history) (kept : old.tells ≡ true → KeepsLog (log_bytes old from) disk)
+    (file : brought.tells ≡ true → closed.file from ≡ disk.content) (log : brought.tells ≡ true → IsClosedDisk disk closed from)
+    (brings : (was : List ℕ) → opened.tells ≡ true → HasHistory history was → BringsInto history opened brought into) where
+  first_bytes : log_bytes opened into ≡ log_bytes old into
+  first_bytes = bytes_first history old opened brought closed from into differ first last
+
+  -- any history of the old log is the archive's
+  of_any : (entries : List Entry) (P : List Entry → Type 0) → old.tells ≡ true → HasHistory entries (log_bytes old from) → P history → ∥ P entries ∥₁
+  of_any entries P tells also so =
+      ∥∥₁_elim also ∥∥₁_prop (λ (is : IsLogOf entries (log_bytes old from)). ∥∥₁_elim (has tells) ∥∥₁_prop (λ (too : IsLogOf history (log_bytes old from)).
+      ∣ subst P (reading_once history entries (log_bytes old from) too is) so ∣₁))
+
+  -- what has the archive's history has any that the old log has
+  has_any : (entries : List Entry) (bytes : List ℕ) → old.tells ≡ true → HasHistory entries (log_bytes old from) → HasHistory history bytes → HasHistory entries bytes
+  has_any entries bytes tells also so =
+      ∥∥₁_elim (of_any entries (λ es. HasHistory es bytes) tells also so) ∥∥₁_prop (λ (it : HasHistory entries bytes). it)
+
+  -- and that is one that fits
+  fits : old.tells ≡ true → HasFittingHistory (log_bytes old from)
+  fits tells = fitting_history history (log_bytes old from) (has tells) within
+
+  keeps_opened : (failed : Type 0) → old.tells ≡ true → KeepsHistory failed old closed from
+  keeps_opened failed tells =
+      let now = second.tells ∙ first.tells ∙ tells in
+      closed_keeps old closed from disk (file now) (log now) failed (kept tells)
+
+  brings_opened : (entries : List Entry) → old.tells ≡ true → HasHistory entries (log_bytes old from) → ∥ BringsInto entries old closed into ∥₁
+  brings_opened entries tells also =
+      of_any entries (λ es. BringsInto es old closed into) tells also
+      (brings_across history old opened brought closed from into differ first last (brings (log_bytes old from) (first.tells ∙ tells) (has tells)))
+
+  pub over_brought : (count : ℕ) (result : Result ℕ Fault) → result ≡ Ok count → count ≡ length history → IsBroughtInto history version opened brought into
+      → IsBroughtOver from into old closed result
+  over_brought count result is number b = record {
+    keeps = keeps_opened (IsDeviceFaultOf old closed from result);
+    brings = brings_opened;
+    refused = λ why err. absurd (ok_not_err result count why is err);
+    device = λ err. absurd (ok_not_err result count Device is err);
+    history = λ n ok. fits;
+    version = λ n ok tells. named tells ∙ b.oldest;
+    fit = λ n entries ok tells also.
+        let f = b.fit (first.tells ∙ tells) in
+        of_any entries (λ es. (front : List Entry) × IsFit journal_limits es front (log_bytes old into)) tells also
+        (f.0, subst (λ l. IsFit journal_limits history f.0 l) first_bytes f.1);
+    all = λ n entries ok tells also. (counted n entries ok tells also, all_brought entries tells also);
+    durable = λ n entries ok tells also.
+        let left = images_brought tells in record {
+          is_log = left.is_log;
+          images = λ c image. has_any entries c tells also (left.images c image);
+        };
+  }
+    where
+      counted : (n : ℕ) (entries : List Entry) → result ≡ Ok n → old.tells ≡ true → HasHistory entries (log_bytes old from) → n ≡ length entries
+      counted n entries ok tells also =
+          let both : Ok n ≡ Ok count = sym ok ∙ is in
+          let same : n ≡ count = cc in
+          let sized : length history ≡ length entries =
+          ∥∥₁_elim also (Coded-set coded_ℕ _ _) (λ (it : IsLogOf entries (log_bytes old from)). ∥∥₁_elim (has tells) (Coded-set coded_ℕ _ _)
+          (λ (too : IsLogOf history (log_bytes old from)). ap length (reading_once history entries (log_bytes old from) too it))) in
+          same ∙ number ∙ sized
+
+      all_brought : (entries : List Entry) → old.tells ≡ true → HasHistory entries (log_bytes old from) → HasHistory entries (log_bytes closed into)
+      all_brought entries tells also =
+          let now = b.all (log_bytes old from) (first.tells ∙ tells) (has tells) in
+          has_any entries (log_bytes closed into) tells also
+          (subst (λ bytes. HasHistory history bytes) (sym (bytes_last history old opened brought closed from into differ first last)) now)
+
+      images_brought : old.tells ≡ true → HasInEachImage history closed into
+      images_brought tells =
+          images_across history old opened brought closed from into differ first last (b.durable (log_bytes old from) (first.tells ∙ tells) (has tells))
+
+  pub over_unbrought : (why : Fault) (result : Result ℕ Fault) → result ≡ Err why → IsUnbrought history version opened brought into why
+      → IsBroughtOver from into old closed result
+  over_unbrought why result is (bringing.Newest newest other stays) = record {
+    keeps = keeps_opened (IsDeviceFaultOf old closed from result);
+    brings = brings_opened;
+    refused = λ w err. inl (Newest (err_once result w why err is ∙ newest) (λ tells. (two tells, fits tells)), apart);
+    device = λ err. let device : why ≡ Device = err_once result why Device is err in let never : OldVersion ≡ Device = sym newest ∙ device in cc;
+    history = λ count ok. absurd (ok_not_err result count why ok is);
+    version = λ count ok. absurd (ok_not_err result count why ok is);
+    fit = λ count entries ok. absurd (ok_not_err result count why ok is);
+    all = λ count entries ok. absurd (ok_not_err result count why ok is);
+    durable = λ count entries ok. absurd (ok_not_err result count why ok is);
+  }
+    where
+      two : old.tells ≡ true → version_of (log_bytes old from) ≡ 2
+      two tells =
+          let either = either_version (log_bytes old from) in
+          let no : version_of (log_bytes old from) ≢ 1 = λ one. other (sym (named tells) ∙ one) in
+          omega (arith, either.first, either.last, no)
+
+      apart : SameBut old closed (from ∷ [])
+      apart = same_but_then old opened closed (from ∷ []) first (same_but_then opened brought closed (from ∷ []) (same_but_none opened brought (from ∷ []) stays) last)
+  over_unbrought why result is (Refused reason oldest told so alone rose) = record {
+    keeps = keeps_opened (IsDeviceFaultOf old closed from result);
+    brings = brings_opened;
+    refused = λ w err. inr (record {
+      reason = reason;
+      is = err_once result w why err is ∙ told;
+      oldest = λ tells. named tells ∙ oldest;
+      so = λ tells. (history, has tells, subst (λ l. IsUnmigrated journal_limits history l reason) first_bytes (so (first.tells ∙ tells)));
+      alone = λ tells refusal.
+          alone_across history old opened brought closed from into differ first last (w ≡ Device)
+          (subst (λ f. LeavesAlone (f ≡ Device) (log_bytes opened into) (log_bytes brought into)) (sym (err_once result w why err is))
+          (alone (log_bytes old from) (first.tells ∙ tells) (has tells) refusal));
+    });
+    device = λ err.
+        let risen = rose (err_once result why Device is err) in
+        let before = first.log_counts into in
+        let behind = last.log_counts into in
+        inr (omega (arith, risen, before, behind));
+    history = λ count ok. absurd (ok_not_err result count why ok is);
+    version = λ count ok. absurd (ok_not_err result count why ok is);
+    fit = λ count entries ok. absurd (ok_not_err result count why ok is);
+    all = λ count entries ok. absurd (ok_not_err result count why ok is);
+    durable = λ count entries ok. absurd (ok_not_err result count why ok is);
+  }

@@ -1,0 +1,124 @@
+-- What a room keeps of a log into which a history was brought.
+use Rattle.std.proofs.Common.{◌≡◌, ◌≢◌, ◌∙◌, ℕ, ◌≤◌, true, List, [], ◌∷◌, Some, None, is_some, sym, ap, subst}
+use Rattle.marc_types.specs.declared.entry.Entry.{Entry}
+use Rattle.outside.specs.Disk.{DiskView, SameDisk}
+use Rattle.outside.specs.Fault.{Rose, count_sum}
+use Rattle.outside.specs.Room.{RoomView, SameBut, bytes_or_none}
+use Rattle.outside.proofs.Counts.{rose_closed}
+use Rattle.outside.proofs.Disks.{same_disk_then}
+use Rattle.outside.proofs.Rooms.{same_but_then, same_but_first, same_but_more}
+use Rattle.durable_catalogue.specs.Logs.{HasHistory}
+use Rattle.durable_catalogue.specs.Refused.{LeavesAlone, LeavesDiskAlone}
+use Rattle.durable_catalogue.proofs.Keeping.{some_of}
+use Rattle.room_files.specs.Journals.{journal_limits, log_bytes}
+use Rattle.archive_commands.proofs.Rooms.{closed_opened}
+use Rattle.journal_migration.specs.Migrations.{IsMigration, IsAmid, IsFit}
+use Rattle.migrate_command.specs.Migrates.{BringsInto, Unopened, Opened, IsAmidInto, HasInEachImage}
+
+-- a log was opened as a disk, into which a history was brought, and the disk was closed as the log
+module _ (history : List Entry) (old new : RoomView) (name : List ℕ) (before disk : DiskView) (told : before.content ≡ Some (log_bytes old name))
+    (file : new.file name ≡ disk.content) (m : IsMigration journal_limits history before disk) where
+  -- its bytes now
+  told_now : (now : List ℕ) × (disk.content ≡ Some now)
+  told_now = some_of disk.content (m.tells ∙ ap is_some told)
+
+  pub brings_into : before.moment ≡ 0 → new.has_log name ≡ true → SameDisk disk (new.log name) → BringsInto history old new name
+  brings_into begins is_log same =
+      let unchanged = same.unchanged in
+      Opened is_log
+      (λ entries s c has synced left.
+      m.images s (log_bytes old name) c entries (ap disk.synced begins ∙ sym (unchanged.syncs 0) ∙ synced) told ((unchanged.lefts s c).0 left) has)
+      (λ entries has.
+      subst (λ o. IsAmidInto history entries old name (bytes_or_none o)) (sym (file ∙ told_now.1)) (m.content (log_bytes old name) told_now.0 entries told told_now.1 has))
+      (λ dated none.
+      ap bytes_or_none file
+      ∙ ap bytes_or_none (m.unsynced (sym m.dated ∙ sym unchanged.dated ∙ dated) (ap disk.synced begins ∙ sym (unchanged.syncs 0) ∙ none) ∙ told))
+
+  pub all_into : ((c : List ℕ) → disk.content ≡ Some c → HasHistory history c) → HasHistory history (log_bytes new name)
+  all_into all = subst (λ o. HasHistory history (bytes_or_none o)) (sym (file ∙ told_now.1)) (all told_now.0 told_now.1)
+
+  -- a log that is refused is left alone
+  pub alone_into : (failed also : Type 0) → (failed → also) → LeavesDiskAlone failed before disk → LeavesAlone also (log_bytes old name) (log_bytes new name)
+  alone_into failed also is alone =
+      let left = alone (log_bytes old name) told_now.0 told told_now.1 in
+      subst (λ o. LeavesAlone also (log_bytes old name) (bytes_or_none o)) (sym (file ∙ told_now.1))
+      (record { leaves = left.leaves; bytes = λ other. left.bytes (λ f. other (is f)) })
+
+pub images_into : (history : List Entry) (room : RoomView) (name : List ℕ) (disk : DiskView) → room.has_log name ≡ true → SameDisk disk (room.log name)
+    → ((c : List ℕ) → disk.image c → HasHistory history c) → HasInEachImage history room name
+images_into history room name disk is_log same all = record { is_log = is_log; images = λ c image. all c ((same.unchanged.images c).0 image) }
+
+pub untouched_into : (history : List Entry) (old new : RoomView) (name : List ℕ) → SameBut old new [] → BringsInto history old new name
+untouched_into history old new name stays =
+    Unopened (record { file = stays.files name tt; is_log = stays.log_names name tt; log = stays.logs name tt })
+
+-- a fault of a log that had none when it was opened is one of its name
+pub rose_into : (before opened closed was now : ℕ) → was ≡ 0 → before ≤ opened → closed ≡ count_sum opened now → Rose was now → Rose before closed
+rose_into before opened closed was now fresh earlier counted rose =
+    subst (Rose before) (sym counted) (rose_closed before opened now earlier (subst (λ n. Rose n now) fresh rose))
+
+-- another log is opened before, and closed behind
+module _ (history : List Entry) (old opened brought closed : RoomView) (from into : List ℕ) (differ : into ≢ from) (first : SameBut old opened (from ∷ []))
+    (last : SameBut brought closed (from ∷ [])) where
+  pub bytes_first : log_bytes opened into ≡ log_bytes old into
+  bytes_first = ap bytes_or_none (first.files into (differ, tt))
+
+  pub bytes_last : log_bytes closed into ≡ log_bytes brought into
+  bytes_last = ap bytes_or_none (last.files into (differ, tt))
+
+  amid_first : (entries : List Entry) (c : List ℕ) → IsAmidInto history entries opened into c → IsAmidInto history entries old into c
+  amid_first entries c amid = subst (λ log. ∥ IsAmid (IsFit journal_limits history entries log) history entries c ∥₁) bytes_first amid
+
+  has_first : (entries : List Entry) → HasHistory entries (log_bytes old into) → HasHistory entries (log_bytes opened into)
+  has_first entries has = subst (λ bytes. HasHistory entries bytes) (sym bytes_first) has
+
+  pub brings_across : BringsInto history opened brought into → BringsInto history old closed into
+  brings_across (Unopened u) =
+      Unopened (record {
+        file = last.files into (differ, tt) ∙ u.file ∙ first.files into (differ, tt);
+        is_log = last.log_names into (differ, tt) ∙ u.is_log ∙ first.log_names into (differ, tt);
+        log = λ is.
+            let then = first.log_names into (differ, tt) ∙ is in
+            same_disk_then (old.log into) (opened.log into) (closed.log into) (first.logs into (differ, tt) is)
+            (same_disk_then (opened.log into) (brought.log into) (closed.log into) (u.log then) (last.logs into (differ, tt) (u.is_log ∙ then)));
+      })
+  brings_across (Opened is_log images content unsynced) =
+      let unchanged = (last.logs into (differ, tt) is_log).unchanged in
+      Opened (last.log_names into (differ, tt) ∙ is_log)
+      (λ entries s c has synced left.
+      amid_first entries c (images entries s c (has_first entries has) (sym (unchanged.syncs 0) ∙ synced) ((unchanged.lefts s c).0 left)))
+      (λ entries has.
+      subst (λ bytes. IsAmidInto history entries old into bytes) (sym bytes_last)
+      (amid_first entries (log_bytes brought into) (content entries (has_first entries has))))
+      (λ dated none. bytes_last ∙ unsynced (sym unchanged.dated ∙ dated) (sym (unchanged.syncs 0) ∙ none) ∙ bytes_first)
+
+  -- what the log is once it is closed it is still
+  pub images_across : HasInEachImage history brought into → HasInEachImage history closed into
+  images_across has = record {
+    is_log = last.log_names into (differ, tt) ∙ has.is_log;
+    images = λ c image. has.images c (((last.logs into (differ, tt) has.is_log).unchanged.images c).0 image);
+  }
+
+  pub alone_across : (failed : Type 0) → LeavesAlone failed (log_bytes opened into) (log_bytes brought into)
+      → LeavesAlone failed (log_bytes old into) (log_bytes closed into)
+  alone_across failed alone =
+      subst (λ log. LeavesAlone failed log (log_bytes closed into)) bytes_first
+      (subst (λ now. LeavesAlone failed (log_bytes opened into) now) (sym bytes_last) alone)
+
+-- three steps that touch two names alone
+module _ (old opened brought closed : RoomView) (from into : List ℕ) (first : SameBut old opened (from ∷ [])) (second : SameBut opened brought (into ∷ []))
+    (third : SameBut brought closed (from ∷ [])) where
+  apart_behind : SameBut opened closed (from ∷ into ∷ [])
+  apart_behind =
+      let names : List (List ℕ) = from ∷ into ∷ [] in
+      same_but_then opened brought closed names (same_but_more opened brought (into ∷ []) names (λ n other. (other.1.0, tt)) second)
+      (same_but_first brought closed from (into ∷ []) third)
+
+  pub apart_over : SameBut old closed (from ∷ into ∷ [])
+  apart_over = same_but_then old opened closed (from ∷ into ∷ []) (same_but_first old opened from (into ∷ []) first) apart_behind
+
+  -- where no name was open, and the two were opened and closed again, none is open
+  pub closed_over : into ≢ from → closed.open_as from ≡ None → brought.open_as into ≡ None → ((name : List ℕ) → old.open_as name ≡ None)
+      → (name : List ℕ) → closed.open_as name ≡ None
+  closed_over differ closed_from closed_into free =
+      closed_opened old opened closed from into first apart_behind closed_from (third.open_names into (differ, tt) ∙ closed_into) free

@@ -1,0 +1,94 @@
+use Rattle.std.proofs.Common.{◌≡◌, ◌∙◌, [], ◌∷◌, is_some, refl, sym, ap}
+use Rattle.outside.proofs.Rooms.{same_but_itself}
+use Rattle.console_lines.specs.declared.fault.Fault.TheVariants.{Device}
+use Rattle.room_files.specs.Journals.{log_bytes}
+use Rattle.journal_migration.specs.declared.fault.MigrateFault.TheVariants as migrating
+use Rattle.migrate_command.specs.Faults.{fault_of_migrating}
+use Rattle.migrate_command.specs.Bringing.{Newest, Refused}
+use Rattle.migrate_command.proofs.Endings.{migrating_device}
+use Rattle.migrate_command.proofs.Rooms.{brings_into, all_into, alone_into, images_into, untouched_into, rose_into}
+use Rattle.migrate_command.proofs.bringing.bring_into.Goals as goal
+
+-- the archive is of the newest version
+pub returns-then-version-ne1-clause-apart : goal.returns-then-version-ne1-clause-apart
+returns-then-version-ne1-clause-apart g c = same_but_itself (g.R.Room.seen c.args.room.now) (c.args.into.now ∷ [])
+
+pub returns-then-version-ne1-clause-brings : goal.returns-then-version-ne1-clause-brings
+returns-then-version-ne1-clause-brings g c was tells is_history =
+    let room = g.R.Room.seen c.args.room.now in
+    untouched_into c.args.archive.now.core.history room room c.args.into.now (same_but_itself room [])
+
+pub returns-then-version-ne1-clause-fault : goal.returns-then-version-ne1-clause-fault
+returns-then-version-ne1-clause-fault g c =
+    Newest refl (λ one. c.if-version-ne1.true (c.version.ensures ∙ one)) (same_but_itself (g.R.Room.seen c.args.room.now) [])
+
+-- the new log was not opened
+pub returns-in_default-clause-brings : goal.returns-in_default-clause-brings
+returns-in_default-clause-brings g c was tells is_history = untouched_into _ _ _ _ c.in_default.ensures.failed
+
+pub returns-in_default-clause-fault : goal.returns-in_default-clause-fault
+returns-in_default-clause-fault g c =
+    Refused migrating.DeviceFault (sym c.version.ensures ∙ c.if-version-ne1.false) refl (λ tells. tt) (λ was tells is_history refusal. absurd refusal)
+    (λ device. c.in_default.ensures.cause.failed)
+
+-- the history was brought into it
+pub returns-in-Ok-migrate-clause-brings : goal.returns-in-Ok-migrate-clause-brings
+returns-in-Ok-migrate-clause-brings g c was tells is_history =
+    let disk = g.R.Log.Disk.seen in
+    let room = g.R.Room.seen in
+    let open_tells = c.in-Ok.ensures.apart.tells ∙ tells in
+    let closing = c.close_log.ensures in
+    brings_into c.args.archive.now.core.history (room c.args.room.now) (room c.close_log.new.self) c.args.into.now (disk c.in-Ok.log) (disk c.in-Ok-migrate.log)
+    (c.in-Ok.ensures.bytes tells) (closing.bytes open_tells) (c.in-Ok-migrate.ensures.crash was is_history)
+    c.in-Ok.ensures.beginning (closing.log open_tells) (closing.moments open_tells)
+
+pub returns-in-Ok-migrate-clause-brought : goal.returns-in-Ok-migrate-clause-brought
+returns-in-Ok-migrate-clause-brought g c =
+    let disk = g.R.Log.Disk.seen in
+    let room = g.R.Room.seen in
+    let history = c.args.archive.now.core.history in
+    let into = c.args.into.now in
+    let migrated = c.in-Ok-migrate.ensures in
+    let closing = c.close_log.ensures in record {
+      oldest = sym c.version.ensures ∙ c.if-version-ne1.false;
+      fit = λ tells. migrated.fit (log_bytes (room c.args.room.now) into) (c.in-Ok.ensures.bytes tells);
+      all = λ was tells is_history.
+          all_into history (room c.args.room.now) (room c.close_log.new.self) into (disk c.in-Ok.log) (disk c.in-Ok-migrate.log)
+          (c.in-Ok.ensures.bytes tells) (closing.bytes (c.in-Ok.ensures.apart.tells ∙ tells)) (migrated.crash was is_history)
+          (λ bytes is_now. migrated.content was bytes is_history is_now);
+      durable = λ was tells is_history.
+          images_into history (room c.close_log.new.self) into (disk c.in-Ok-migrate.log)
+          (closing.log (c.in-Ok.ensures.apart.tells ∙ tells)) (closing.moments (c.in-Ok.ensures.apart.tells ∙ tells))
+          (λ bytes image. migrated.all was bytes is_history (ap is_some (c.in-Ok.ensures.bytes tells)) image);
+    }
+
+-- it was not, and the new log is closed again
+pub returns-in-Err-clause-brings : goal.returns-in-Err-clause-brings
+returns-in-Err-clause-brings g c was tells is_history =
+    let disk = g.R.Log.Disk.seen in
+    let room = g.R.Room.seen in
+    let open_tells = c.in-Ok.ensures.apart.tells ∙ tells in
+    let closing = c.close_log-in-Err.ensures in
+    brings_into c.args.archive.now.core.history (room c.args.room.now) (room c.close_log-in-Err.new.self) c.args.into.now (disk c.in-Ok.log) (disk c.in-Err.failed.0)
+    (c.in-Ok.ensures.bytes tells) (closing.bytes open_tells) (c.in-Err.ensures.crash was is_history)
+    c.in-Ok.ensures.beginning (closing.log open_tells) (closing.moments open_tells)
+
+pub returns-in-Err-clause-fault : goal.returns-in-Err-clause-fault
+returns-in-Err-clause-fault g c =
+    let disk = g.R.Log.Disk.seen in
+    let room = g.R.Room.seen in
+    let into = c.args.into.now in
+    let failed = c.in-Err.failed in
+    let told = c.fault_of_migrating.ensures in
+    let closing = c.close_log-in-Err.ensures in
+    Refused failed.1 (sym c.version.ensures ∙ c.if-version-ne1.false) told
+    (λ tells. c.in-Err.ensures.fault (log_bytes (room c.args.room.now) into) (c.in-Ok.ensures.bytes tells))
+    (λ was tells is_history refusal.
+    alone_into c.args.archive.now.core.history (room c.args.room.now) (room c.close_log-in-Err.new.self) into (disk c.in-Ok.log) (disk failed.0)
+    (c.in-Ok.ensures.bytes tells) (closing.bytes (c.in-Ok.ensures.apart.tells ∙ tells)) (c.in-Err.ensures.crash was is_history)
+    (failed.1 ≡ migrating.DeviceFault) (c.fault_of_migrating.result ≡ Device) (λ device. told ∙ ap fault_of_migrating device)
+    (c.in-Err.ensures.left_alone refusal))
+    (λ device.
+    rose_into ((room c.args.room.now).log_faults into) ((room c.open_log.new.self).log_faults into) ((room c.close_log-in-Err.new.self).log_faults into)
+    (disk c.in-Ok.log).faults (disk failed.0).faults c.in-Ok.ensures.fresh c.in-Ok.ensures.cause.later closing.counted
+    (c.in-Err.ensures.failed (migrating_device failed.1 (sym told ∙ device))))

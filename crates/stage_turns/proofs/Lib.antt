@@ -1,0 +1,5 @@
+pub mod Ending
+pub mod Looping
+pub mod Reading
+pub mod Suiting
+pub mod Turning

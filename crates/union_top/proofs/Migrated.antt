@@ -1,0 +1,112 @@
+-- A migration that nothing hinders ends well, or memory ran out.
+use Rattle.std.proofs.Common.{◌≡◌, ◌≢◌, ◌⊎◌, inl, inr, ℕ, true, List, [], ◌∷◌, refl, sym, ap, subst, ◌∙◌, arith}
+use Rattle.std.proofs.Math.Logic.{∥∥₁_map, ∥∥₁_elim, ∥∥₁_prop}
+use Rattle.marc_types.specs.declared.entry.Entry.{Entry}
+use Rattle.outside.specs.Fault.{Rose}
+use Rattle.outside.specs.Room.{SameBut}
+use Rattle.console_lines.specs.Ends.{Outcome, IsAllDone, console_unwritten}
+use Rattle.console_lines.specs.declared.end.End.{End}
+use Rattle.console_lines.specs.declared.end.End.TheVariants.{Done, Refused, Unwritten, Told}
+use Rattle.console_lines.specs.declared.end.Unwritten.TheVariants.{Out, Report, Console}
+use Rattle.console_lines.specs.declared.fault.Fault.{Fault}
+use Rattle.console_lines.specs.declared.fault.Fault.TheVariants as fault
+use Rattle.commit_journal.specs.Log.{version_of}
+use Rattle.durable_catalogue.specs.declared.fault.OpenFault.{OpenFault}
+use Rattle.durable_catalogue.specs.declared.fault.OpenFault.TheVariants as opening
+use Rattle.durable_catalogue.specs.Logs.{IsLogOf, HasHistory}
+use Rattle.room_files.specs.Faults.{fault_of_opening}
+use Rattle.room_files.specs.Journals.{journal_limits, log_bytes}
+use Rattle.archive_commands.specs.Archives.{HasFittingHistory}
+use Rattle.journal_migration.specs.Migrations.{Begins, AreWithin, IsFit, IsUnmigrated}
+use Rattle.journal_migration.specs.declared.fault.MigrateFault.{MigrateFault}
+use Rattle.journal_migration.specs.declared.fault.MigrateFault.TheVariants as migrating
+use Rattle.migrate_command.specs.Faults.{fault_of_migrating}
+use Rattle.migrate_command.specs.Migrates.{EndsMigrating, WhyNotFrom, NotOpened, Newest, WhyNotInto, Migrates}
+use Rattle.union_top.specs.Complete.{Around, IsUnhinderedMigrate}
+use Rattle.union_top.proofs.Unopened.{MayBe, may_be, no_journal, reading_once}
+use mathlib.Core.HLevel.{⊥_prop}
+
+migrated_well : (end : End) → EndsMigrating end → (end ≡ console_unwritten → ⊥) → ((why : Fault) → end ≡ Told why → why ≡ fault.Memory)
+    → IsAllDone end ⊎ (end ≡ Told fault.Memory)
+migrated_well Done kind console told = inl tt
+migrated_well Refused kind console told = absurd kind
+migrated_well (Unwritten Out) kind console told = absurd kind
+migrated_well (Unwritten Report) kind console told = absurd kind
+migrated_well (Unwritten Console) kind console told = absurd (console refl)
+migrated_well (Told why) kind console told = inr (ap Told (told why refl))
+
+-- a fault of the old journal's opening that remains
+opening_well : (log : List ℕ) (reason : OpenFault) → reason ≢ opening.OldVersion → MayBe log reason → (fault_of_opening reason ≡ fault.Device → ⊥)
+    → fault_of_opening reason ≡ fault.Memory
+opening_well log opening.DeviceFault current may device = absurd (device refl)
+opening_well log (opening.NotAJournal place) current may device = absurd may
+opening_well log opening.OldVersion current may device = absurd (current refl)
+opening_well log opening.Full current may device = absurd may
+opening_well log opening.NoMemory current may device = refl
+
+-- one of the new journal that does, where that is fit for the old one's history
+module _ (from into : List ℕ) (history entries : List Entry) (was : HasHistory history from) (fits : ∥ IsFit journal_limits history entries into ∥₁) where
+  -- what is so of these histories is so of any others of the logs
+  of_others : (P : List Entry → List Entry → Type 0) (others found : List Entry) → HasHistory others from → IsLogOf found into
+      → (IsFit journal_limits history entries into → P history entries) → (P others found → ⊥) → ⊥
+  of_others P others found also is so none =
+      ∥∥₁_elim fits ⊥_prop (λ (fit : IsFit journal_limits history entries into).
+      ∥∥₁_elim was ⊥_prop (λ (one : IsLogOf history from).
+      ∥∥₁_elim also ⊥_prop (λ (other : IsLogOf others from).
+      none (subst (λ es. P others es) (reading_once entries found into fit.has is)
+      (subst (λ hs. P hs entries) (reading_once history others from one other) (so fit))))))
+
+  migrating_well : (reason : MigrateFault) (others : List Entry) → HasHistory others from → IsUnmigrated journal_limits others into reason
+      → (fault_of_migrating reason ≡ fault.Device → ⊥) → fault_of_migrating reason ≡ fault.Memory
+  migrating_well migrating.DeviceFault others also why device = absurd (device refl)
+  migrating_well (migrating.NotAJournal place) others also why device =
+      absurd (∥∥₁_elim fits ⊥_prop (λ (fit : IsFit journal_limits history entries into). no_journal into place entries fit.has why))
+  migrating_well migrating.OldVersion others also why device =
+      absurd (∥∥₁_elim fits ⊥_prop (λ (fit : IsFit journal_limits history entries into). let both : 1 ≡ 2 = sym why.0 ∙ fit.version in cc))
+  migrating_well migrating.Full others also why device =
+      absurd (of_others (AreWithin journal_limits) others why.1.0 also why.1.1 (λ fit. fit.within) why.1.2)
+  migrating_well migrating.NotPrefix others also why device =
+      absurd (of_others Begins others why.1.0 also why.1.1 (λ fit. fit.begins) why.1.3)
+  migrating_well migrating.NoMemory others also why device = refl
+
+module _ (o : Outcome) where
+  abbrev seen : Around
+  seen = record { old = o.old; new = o.new; faults = o.faults; faults_now = o.faults_now }
+
+  module _ (from into : List ℕ) (m : Migrates from into o) (u : IsUnhinderedMigrate from into seen) where
+    no_device : (why : Fault) → o.end ≡ Told why → why ≡ fault.Device → ⊥
+    no_device why is device = either (m.device (is ∙ ap Told device))
+      where
+        either : Rose (o.old.log_faults from) (o.new.log_faults from) ⊎ Rose (o.old.log_faults into) (o.new.log_faults into) → ⊥
+        either (inl rose) = u.device rose
+        either (inr rose) = u.new_device rose
+
+    old_fits : HasFittingHistory (log_bytes o.old from)
+    old_fits =
+        ∥∥₁_elim u.fits ∥∥₁_prop (λ (fit : IsFit journal_limits u.history u.entries (log_bytes o.old into)).
+        ∥∥₁_map u.was (λ is. (u.history, is, fit.within.old_within)))
+
+    of_old : (why : Fault) → o.end ≡ Told why → WhyNotFrom o.old from why → why ≡ fault.Memory
+    of_old why is (NotOpened reason current told so) =
+        told ∙ opening_well (log_bytes o.old from) reason current (may_be (log_bytes o.old from) reason old_fits (so u.tells))
+        (λ device. no_device why is (told ∙ device))
+    of_old why is (Newest told so) =
+        let oldest : version_of (log_bytes o.old from) ≡ 1 = u.version in
+        let newest : version_of (log_bytes o.old from) ≡ 2 = (so u.tells).0 in
+        absurd (omega (arith, oldest, newest))
+
+    of_new : (why : Fault) → o.end ≡ Told why → WhyNotInto o.old o.new from into why → why ≡ fault.Memory
+    of_new why is w =
+        let so = w.so u.tells in
+        w.is ∙ migrating_well (log_bytes o.old from) (log_bytes o.old into) u.history u.entries u.was u.fits w.reason so.0 so.1 so.2
+        (λ device. no_device why is (w.is ∙ device))
+
+    remains : (why : Fault) → o.end ≡ Told why → why ≡ fault.Memory
+    remains why is = either (m.told why is).1
+      where
+        either : (WhyNotFrom o.old from why × SameBut o.old o.new (from ∷ [])) ⊎ WhyNotInto o.old o.new from into why → why ≡ fault.Memory
+        either (inl of_from) = of_old why is of_from.0
+        either (inr of_into) = of_new why is of_into
+
+    pub migrates_well : IsAllDone o.end ⊎ (o.end ≡ Told fault.Memory)
+    migrates_well = migrated_well o.end m.ends (λ is. u.console (m.console is)) remains
