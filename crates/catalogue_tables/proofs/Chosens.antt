@@ -1,6 +1,6 @@
 -- The choice of a field is by a number, else by its full form, else by its base form.
 use Rattle.std.proofs.Common.{◌≡◌, ◌∙◌, sym, ap, refl, List, true, Option, Some, None, unwrap_or, if◌then◌else◌}
-use Rattle.std.specs.Option.{option_map, option_map_or, option_or}
+use Rattle.std.specs.Option.{option_map, option_or}
 use Rattle.marc_types.specs.Fields.{tag_of}
 use Rattle.marc_types.specs.declared.field.Field.{Field}
 use Rattle.marc_types.specs.declared.form.Form.{Form}
@@ -16,7 +16,7 @@ use Rattle.entry_record.specs.Prepared.{heading_base_form}
 use Rattle.entry_record.proofs.Undivided.{full_either}
 use Rattle.catalogue_rules.specs.Choice.{Choice, Unlinked, by_base_form, by_form, by_full_form, by_number, choice}
 use Rattle.catalogue_rules.specs.State.{KeptField, State, linkable_authorities, new_field}
-use Rattle.catalogue_tables.specs.Choosing.{TellsState, chosen_for, field_choice, form_choice, link_by_taker, taker_by_number, unlinked}
+use Rattle.catalogue_tables.specs.Choosing.{TellsState, chosen_for, form_choice, heading_choice, link_by_taker, taker_by_number, unlinked}
 use Rattle.catalogue_tables.specs.declared.choosing.Chosen.{Chosen}
 use Rattle.catalogue_tables.specs.declared.choosing.Taker.{Taker}
 use Rattle.catalogue_tables.proofs.Takers.{taken_by_number}
@@ -41,7 +41,7 @@ module _ (names : List Form) (keys : List Key) (x : Indexed) (class : Class) (ki
       (option_or (by_full_form (linkable_authorities s) class kind h) (by_base_form (linkable_authorities s) class kind h)) (link_by_taker class h taker)
       (ap (option_map (link_by_taker class h)) e ∙ taken_by_number names keys x s tells class kind h)
 
-  by_no_number : None ≡ taker_by_number names keys x class kind h → by_number (linkable_authorities s) class kind h ≡ None
+  pub by_no_number : None ≡ taker_by_number names keys x class kind h → by_number (linkable_authorities s) class kind h ≡ None
   by_no_number e =
       none_of (chosen_for keys) (by_number (linkable_authorities s) class kind h) (ap (option_map (link_by_taker class h)) e ∙ taken_by_number names keys x s tells class kind h)
 
@@ -74,7 +74,7 @@ form_made f (Some kind) base e =
     let same : base.kind ≡ kind = ap (λ (x : Form). x.kind) is ∙ formed kind f in
     is ∙ ap (λ k. base_form k f) (sym same)
 
-kind_made : (f : Field) (o : Option Kind) (base : Form) → Some base ≡ option_map (λ kind. base_form kind f) o → o ≡ Some base.kind
+pub kind_made : (f : Field) (o : Option Kind) (base : Form) → Some base ≡ option_map (λ kind. base_form kind f) o → o ≡ Some base.kind
 kind_made f None base e = cc
 kind_made f (Some kind) base e =
     let is : base ≡ base_form kind f = ap (λ (o : Option Form). unwrap_or o base) e in
@@ -82,9 +82,10 @@ kind_made f (Some kind) base e =
     ap (λ (k : Kind). Some k) (sym same)
 
 pub field_chosen : (keys : List Key) (all : List Linkable) (class : Class) (h : KeptField) (base : Form) (c : Chosen) → Some base ≡ heading_base_form class h.field
-    → c ≡ chosen_for keys (choice all class base.kind h) → c ≡ chosen_for keys (field_choice all class h)
+    → c ≡ chosen_for keys (choice all class base.kind h) → Some c ≡ option_map (chosen_for keys) (heading_choice all class h)
 field_chosen keys all class h base c e is =
-    is ∙ ap (λ o. chosen_for keys (option_map_or (λ kind. choice all class kind h) o Unlinked)) (sym (kind_made h.field (heading_kind class h.field) base e))
+    ap (λ (d : Chosen). Some d) is
+    ∙ ap (λ (o : Option Kind). option_map (chosen_for keys) (option_map (λ kind. choice all class kind h) o)) (sym (kind_made h.field (heading_kind class h.field) base e))
 
 -- by the full form, where the field takes subdivisions: one without any has its base form as its full form
 pub by_full : (keys : List Key) (all : List Linkable) (class : Class) (kind : Kind) (f : Field) (form base : Form) (divided : Option Form) (result : Option Chosen)

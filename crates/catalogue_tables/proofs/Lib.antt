@@ -2,12 +2,15 @@ pub mod Brought
 pub mod Chosens
 pub mod Comings
 pub mod Followed
+pub mod Knowing
 pub mod Linked
 pub mod Numbered
 pub mod Picked
 pub mod Ranked
 pub mod Rowed
 pub mod Seams
+pub mod Shared
+pub mod Standings
 pub mod Takers
 pub mod Waited
 pub mod WaysBack

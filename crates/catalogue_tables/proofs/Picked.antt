@@ -20,11 +20,11 @@ use Rattle.catalogue_tables.specs.Rows.{IsTold, rows_among}
 use Rattle.catalogue_tables.specs.declared.choosing.Chosen.TheVariants as chosen
 use Rattle.catalogue_tables.proofs.Seams.{key_numbered}
 
-abbrev keys_of : List Linkable → List Key
+abbrev pub keys_of : List Linkable → List Key
 keys_of cs = map (λ c. c.key) cs
 
 -- the rows that pass have the keys of the authorities that pass
-keys_found : (test : IndexRow → Bool) (cs : List Linkable) → keys_with test (map index_row cs) ≡ keys_of (filter (λ c. test (index_row c)) cs)
+pub keys_found : (test : IndexRow → Bool) (cs : List Linkable) → keys_with test (map index_row cs) ≡ keys_of (filter (λ c. test (index_row c)) cs)
 keys_found test [] = refl
 keys_found test (c ∷ cs) = at (test (index_row c)) (keys_found test cs)
   where
@@ -34,16 +34,16 @@ keys_found test (c ∷ cs) = at (test (index_row c)) (keys_found test cs)
     at true is = ap (λ (l : List Key). c.key ∷ l) is
     at false is = is
 
-keys_among : (among : Among) (test : IndexRow → Bool) (all : List Linkable)
+pub keys_among : (among : Among) (test : IndexRow → Bool) (all : List Linkable)
     → keys_with test (rows_among among all) ≡ keys_of (filter (λ c. test (index_row c)) (authorities_among among all))
 keys_among All test all = keys_found test all
 keys_among Bare test all = keys_found test (authorities_among Bare all)
 
-nobody_left : (cs : List Linkable) → keys_of cs ≡ [] → cs ≡ []
+pub nobody_left : (cs : List Linkable) → keys_of cs ≡ [] → cs ≡ []
 nobody_left [] e = refl
 nobody_left (c ∷ cs) e = cc
 
-somebody : (whole : Bool) (cs : List Linkable) (other : Option Choice) → cs ≢ [] → option_or (choice_among whole cs) other ≡ choice_among whole cs
+pub somebody : (whole : Bool) (cs : List Linkable) (other : Option Choice) → cs ≢ [] → option_or (choice_among whole cs) other ≡ choice_among whole cs
 somebody whole [] other some = absurd (some refl)
 somebody whole (c ∷ []) other some = refl
 somebody whole (c ∷ d ∷ more) other some = refl

@@ -36,7 +36,7 @@ above_too : (k x : Key) (xs : List Key) → key_cmp k x ≡ Less → AllByRecurs
 above_too k x [] less all = tt
 above_too k x (y ∷ ys) less all = (key_cmp_total.trans k x y less all.0, above_too k x ys less all.1)
 
-abbrev SameMembers : List Key → List Key → Type 0
+abbrev pub SameMembers : List Key → List Key → Type 0
 SameMembers xs ys = (k : Key) → list_any (same_key k) xs ≡ list_any (same_key k) ys
 
 itself : (k : Key) (xs : List Key) → list_any (same_key k) (k ∷ xs) ≡ true
@@ -64,7 +64,7 @@ tails x xs ys above beyond same k = by (same_key k x) refl
     by false e =
         ap (λ b. b || list_any (same_key k) xs) (sym e) ∙ same k ∙ ap (λ b. b || list_any (same_key k) ys) e
 
-same_keys : (xs ys : List Key) → IsStrictlySortedBy key_cmp xs → IsStrictlySortedBy key_cmp ys → SameMembers xs ys → xs ≡ ys
+pub same_keys : (xs ys : List Key) → IsStrictlySortedBy key_cmp xs → IsStrictlySortedBy key_cmp ys → SameMembers xs ys → xs ≡ ys
 unfolding IsStrictlySortedBy
 same_keys [] [] above beyond same = refl
 same_keys [] (y ∷ ys) above beyond same = let clash : false ≡ true = same y ∙ itself y ys in cc
@@ -88,11 +88,11 @@ rising_keys keys [] rising = tt
 rising_keys keys (n ∷ ns) rising = (all_rising keys n ns rising.0, rising_keys keys ns rising.1)
 
 module _ (keys : List Key) (distinct : IsDistinct same_key keys) where
-  known_at : (ns : List ℕ) → AllByRecursion (λ n. n < length keys) ns → AllByRecursion (λ k. is_known same_key keys k ≡ true) (map (key_at keys) ns)
+  pub known_at : (ns : List ℕ) → AllByRecursion (λ n. n < length keys) ns → AllByRecursion (λ k. is_known same_key keys k ≡ true) (map (key_at keys) ns)
   known_at [] low = tt
   known_at (n ∷ ns) low = ((key_numbered keys n distinct low.0).known, known_at ns low.1)
 
-  numbered : (ns : List ℕ) (k : Key) → AllByRecursion (λ n. n < length keys) ns → list_any (same_key k) (map (key_at keys) ns) ≡ has (number_of same_key keys k) ns
+  pub numbered : (ns : List ℕ) (k : Key) → AllByRecursion (λ n. n < length keys) ns → list_any (same_key k) (map (key_at keys) ns) ≡ has (number_of same_key keys k) ns
   numbered [] k low = refl
   numbered (n ∷ ns) k low =
       let at = key_numbered keys n distinct low.0 in
@@ -103,7 +103,7 @@ module _ (keys : List Key) (distinct : IsDistinct same_key keys) where
       ∙ ap (λ b. (n == number_of same_key keys k) || b) (numbered ns k low.1)
 
   -- a key is the one that its number stands for
-  key_back : (k : Key) → is_known same_key keys k ≡ true → same_key k (key_at keys (number_of same_key keys k)) ≡ true
+  pub key_back : (k : Key) → is_known same_key keys k ≡ true → same_key k (key_at keys (number_of same_key keys k)) ≡ true
   key_back k known =
       let at = key_numbered keys (number_of same_key keys k) distinct (number_below same_key keys k known) in
       sym (alike same_key (eq_by_cmp_equiv key_cmp_total) keys k (key_at keys (number_of same_key keys k)) known)
@@ -114,14 +114,14 @@ unknown_one keys k x true e known unknown =
     let clash : true ≡ false = sym known ∙ sym (list_any_congr (eq_by_cmp_equiv key_cmp_total) k x keys e) ∙ unknown in cc
 unknown_one keys k x false e known unknown = refl
 
-none_known : (keys : List Key) (k : Key) (xs : List Key) → AllByRecursion (λ x. is_known same_key keys x ≡ true) xs → is_known same_key keys k ≡ false → list_any (same_key k) xs ≡ false
+pub none_known : (keys : List Key) (k : Key) (xs : List Key) → AllByRecursion (λ x. is_known same_key keys x ≡ true) xs → is_known same_key keys k ≡ false → list_any (same_key k) xs ≡ false
 none_known keys k [] known unknown = refl
 none_known keys k (x ∷ xs) known unknown =
     ap (λ b. b || list_any (same_key k) xs) (unknown_one keys k x (same_key k x) refl known.0 unknown) ∙ none_known keys k xs known.1 unknown
 
 -- ---- keys of rows
 
-all_with : (P : Key → Type 0) (test : IndexRow → Bool) (rows : List IndexRow) → AllByRecursion P (row_keys rows) → AllByRecursion P (keys_with test rows)
+pub all_with : (P : Key → Type 0) (test : IndexRow → Bool) (rows : List IndexRow) → AllByRecursion P (row_keys rows) → AllByRecursion P (keys_with test rows)
 all_with P test [] all = tt
 all_with P test (r ∷ rows) all = by (test r) (all_with P test rows all.1)
   where
@@ -135,14 +135,14 @@ unfolding IsStrictlySortedBy
 sorted_step true test r rows above rest = (above, rest)
 sorted_step false test r rows above rest = rest
 
-sorted_with : (test : IndexRow → Bool) (rows : List IndexRow) → IsStrictlySortedBy key_cmp (row_keys rows) → IsStrictlySortedBy key_cmp (keys_with test rows)
+pub sorted_with : (test : IndexRow → Bool) (rows : List IndexRow) → IsStrictlySortedBy key_cmp (row_keys rows) → IsStrictlySortedBy key_cmp (keys_with test rows)
 unfolding IsStrictlySortedBy
 sorted_with test [] sorted = tt
 sorted_with test (r ∷ rows) sorted = sorted_step (test r) test r rows (all_with (λ k. key_cmp r.key k ≡ Less) test rows sorted.0) (sorted_with test rows sorted.1)
 
 -- ---- the candidates
 
-no_numbers : (keys : List Key) → Ascends keys []
+pub no_numbers : (keys : List Key) → Ascends keys []
 unfolding IsStrictlySortedBy
 no_numbers keys = record { known = tt; rising = tt }
 
@@ -161,7 +161,7 @@ module _ (keys : List Key) (x : Indexed) (rows : List IndexRow) (distinct : IsDi
       none_known keys k (map (key_at keys) numbers) (known_at keys distinct numbers ascends.known) unknown
       ∙ sym (none_known keys k (keys_with passes rows) (all_with (λ key. is_known same_key keys key ≡ true) passes rows known_rows) unknown)
 
-  scan_told : (numbers : List ℕ) → ((n : ℕ) → has n numbers ≡ option_map_or belongs (row_under n x) false) → Ascends keys numbers
+  pub scan_told : (numbers : List ℕ) → ((n : ℕ) → has n numbers ≡ option_map_or belongs (row_under n x) false) → Ascends keys numbers
       → map (key_at keys) numbers ≡ keys_with passes rows
   scan_told numbers scan ascends = same_keys (map (key_at keys) numbers) (keys_with passes rows) (rising_keys keys numbers ascends.rising)
       (sorted_with passes rows sorted) (λ k. members numbers scan ascends k (is_known same_key keys k) refl)

@@ -90,7 +90,7 @@ above_unlisted passes key (c ∷ cs) above = by (passes (index_row c)) (above_un
     by false rest = rest
 
 -- of the authorities in key order, a key is listed where its authority passes
-listed_once : (passes : IndexRow → Bool) (key : Key) (cs : List Linkable) → AreInOrder cs
+pub listed_once : (passes : IndexRow → Bool) (key : Key) (cs : List Linkable) → AreInOrder cs
     → list_any (same_key key) (keys_with passes (map index_row cs)) ≡ option_map_or (λ c. passes (index_row c)) (find (has_key key) cs) false
 unfolding IsStrictlySortedBy
 listed_once passes key [] ordered = refl
@@ -137,7 +137,7 @@ listed_among Bare passes key all ordered =
 
 -- ---- a row in numbers is that of its authority
 
-or_none : (b : Bool) → (b || false) ≡ b
+pub or_none : (b : Bool) → (b || false) ≡ b
 or_none true = refl
 or_none false = refl
 
@@ -197,7 +197,7 @@ module _ (names : List Form) (among : Among) (form : ℕ) (high : length names �
 
 -- ---- all rows
 
-nobody : (names : List Form) (o : Option Linkable) → IsRowFor names o None → o ≡ None
+pub nobody : (names : List Form) (o : Option Linkable) → IsRowFor names o None → o ≡ None
 nobody names None of = refl
 nobody names (Some c) of = absurd of
 

@@ -67,7 +67,7 @@ form_there : (o : Option Form) (form : Form) → IsSomeAnd o (λ found. same_for
 form_there None form e = absurd e
 form_there (Some found) form same = ap (λ (f : Form). Some f) (sym ((form_Decides form found).0 same))
 
-form_at : (names : List Form) (form : Form) → is_known same_form names form ≡ true → slice_get names (number_of same_form names form) ≡ Some form
+pub form_at : (names : List Form) (form : Form) → is_known same_form names form ≡ true → slice_get names (number_of same_form names form) ≡ Some form
 form_at names form known = form_there (slice_get names (number_of same_form names form)) form (thing_at same_form names form known)
 
 module _ (names : List Form) (keys : List Key) (class : Class) (kind : Kind) (h : KeptField) where

@@ -2,7 +2,7 @@
 use Rattle.std.specs.Prelude.{ℕ, Bool, ◌&&◌, ◌||◌, ◌==◌, not, List, [], ◌∷◌, filter, slice_get, if◌then◌else◌}
 use Rattle.std.specs.Prelude.{Option, Some, None, option_and_then, unwrap_or}
 use Rattle.std.specs.List.{IsDistinct}
-use Rattle.std.specs.Option.{option_map_or, option_or}
+use Rattle.std.specs.Option.{option_map, option_or}
 use Rattle.marc_types.specs.Fields.{subfields_of}
 use Rattle.marc_types.specs.declared.field.Subfield.{Subfield}
 use Rattle.marc_types.specs.declared.form.Form.{Form}
@@ -41,8 +41,8 @@ chosen_for keys (rules.Ambiguous found) = chosen.Ambiguous
 chosen_for keys rules.Unlinked = chosen.Unlinked
 
 -- the choice of a field, if it is a heading
-abbrev pub field_choice : List Linkable → Class → KeptField → Choice
-field_choice all class h = option_map_or (λ kind. choice all class kind h) (heading_kind class h.field) rules.Unlinked
+abbrev pub heading_choice : List Linkable → Class → KeptField → Option Choice
+heading_choice all class h = option_map (λ kind. choice all class kind h) (heading_kind class h.field)
 
 -- the choice of a heading that no number decides
 abbrev pub form_choice : List Linkable → Class → Kind → KeptField → Choice

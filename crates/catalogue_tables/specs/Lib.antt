@@ -1,7 +1,12 @@
 pub mod Choosing
 pub mod Following
+pub mod Known
+pub mod Lent
+pub mod Meant
 pub mod Rows
 pub mod Seam
+pub mod Sharing
+pub mod Stands
 pub mod Tables
 pub mod Told
 pub mod Waiting

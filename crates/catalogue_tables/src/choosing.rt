@@ -8,7 +8,7 @@ ghost use Rattle.entry_record.specs.Headings.{divided_form};
 ghost use Rattle.entry_record.specs.Prepared.{heading_base_form};
 ghost use Rattle.catalogue_rules.specs.Choice.{asks_base, by_base_form, by_form, by_full_form, choice};
 ghost use Rattle.catalogue_rules.specs.State.{State, kept_field, linkable_authorities, new_field};
-ghost use Rattle.catalogue_tables.specs.Choosing.{TellsState, authorities_among, chosen_among, chosen_for, chosen_of, field_choice, form_choice, unlinked};
+ghost use Rattle.catalogue_tables.specs.Choosing.{TellsState, authorities_among, chosen_among, chosen_for, chosen_of, form_choice, heading_choice, unlinked};
 ghost use Rattle.catalogue_tables.specs.Choosing.{first_taker, link_by_taker, named_taker, taker_by_number, taker_of_row, taker_under};
 
 use crate::naming::named_key;
@@ -75,7 +75,7 @@ fn chosen_among(candidates: Candidates<'_>, whole: bool) -> Option<Chosen>
 }
 
 /// The full form of a field, where its subdivisions make that another one than its base form.
-fn divided_form(
+pub(crate) fn divided_form(
     alloc: Global,
     class: Class,
     field: &Field,
@@ -90,7 +90,7 @@ fn divided_form(
     Ok(Some(form(alloc, kind, &part)?))
 }
 
-fn full_or_base<'a>(base: &'a Form, divided: Option<&'a Form>) -> &'a Form
+pub(crate) fn full_or_base<'a>(base: &'a Form, divided: Option<&'a Form>) -> &'a Form
     ensures { result.now ≡ unwrap_or (option_copied divided.entry) base.now }
 {
     match divided {
@@ -100,7 +100,7 @@ fn full_or_base<'a>(base: &'a Form, divided: Option<&'a Form>) -> &'a Form
 }
 
 /// Whether the field is looked up by its base.
-fn asks_base(class: Class, field: &Field, tie: &Tie) -> bool
+pub(crate) fn asks_base(class: Class, field: &Field, tie: &Tie) -> bool
     ensures { result ≡ asks_base class (kept_field field.now tie.now) }
 {
     !tie.whole && (!takes_subdivisions(field.tag(), class) || has_subdivision(field))
@@ -108,7 +108,7 @@ fn asks_base(class: Class, field: &Field, tie: &Tie) -> bool
 
 /// The base form of a field that is a heading of its class.
 #[tactic(auto, unfolding(entry_record::specs::Authority::heading_kind, entry_record::specs::Authority::has_form))]
-fn heading_form(alloc: Global, class: Class, field: &Field) -> Result<Option<Form>, NoMemory>
+pub fn heading_form(alloc: Global, class: Class, field: &Field) -> Result<Option<Form>, NoMemory>
     ensures { IfOk result (λ made. made ≡ heading_base_form class field.now) }
 {
     let Some(kind) = heading_kind(field, class) else {
@@ -123,7 +123,7 @@ fn heading_form(alloc: Global, class: Class, field: &Field) -> Result<Option<For
 }
 
 impl CatalogueTables {
-    /// What an unlinked field is to be linked to; a field that is no heading is unlinked. It takes memory for keys and forms alone.
+    /// What an unlinked field is to be linked to, if it is a heading. It takes memory for keys and forms alone.
     pub fn choose_field(
         &self,
         alloc: Global,
@@ -131,15 +131,15 @@ impl CatalogueTables {
         class: Class,
         field: &Field,
         tie: &Tie,
-    ) -> Result<Chosen, NoMemory>
+    ) -> Result<Option<Chosen>, NoMemory>
         ensures { IfOk result (λ chosen. (s : State) → TellsState self.now.forms keys.now self.now.index s
-            → chosen ≡ chosen_for keys.now (field_choice (linkable_authorities s) class (kept_field field.now tie.now))) }
+            → chosen ≡ option_map (chosen_for keys.now) (heading_choice (linkable_authorities s) class (kept_field field.now tie.now))) }
     {
         let Some(base) = heading_form(alloc, class, field)? else {
-            return Ok(Chosen::Unlinked);
+            return Ok(None);
         };
         let chosen = self.choose(alloc, keys, class, field, tie, &base)?;
-        Ok(chosen)
+        Ok(Some(chosen))
     }
 
     /// What an unlinked heading is to be linked to, whose base form is given: by a number, else by its full form among all
@@ -228,7 +228,7 @@ impl CatalogueTables {
 
     /// The authority that takes the field by number: under the key that it awaits, else under the first key that a `$0` of it
     /// names, in order, whose authority can take it.
-    fn taker_by_number(
+    pub(crate) fn taker_by_number(
         &self,
         alloc: Global,
         keys: &Numbering<Key>,

@@ -1,8 +1,10 @@
 //! What the tables of a catalogue tell of its records, by keys, forms and places; they work in numbers.
 #![tactic(auto)]
 
-pub use choosing::Chosen;
+pub use choosing::{Chosen, heading_form};
+pub use known::KnownAuthority;
 pub use naming::named_key;
+pub use standing::Standing;
 pub use tables::CatalogueTables;
 
 mod authorities;
@@ -11,7 +13,10 @@ mod choosing;
 mod following;
 mod gathering;
 pub mod index_laws;
+mod known;
 pub mod laws;
 mod naming;
+mod sharing;
+mod standing;
 mod tables;
 mod waiting;

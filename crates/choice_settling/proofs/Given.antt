@@ -1,6 +1,6 @@
 -- What a choice makes of an unlinked field, where it is a link and where it isn't, and the visit that a link takes.
-use Rattle.std.proofs.Common.{◌≡◌, ◌∙◌, sym, ap, refl, subst, ℕ, List, Option, Some, None, Bool, true, inl, inr}
-use Rattle.std.specs.Prelude.{◌⊎◌, IfSome, is_some}
+use Rattle.std.proofs.Common.{◌≡◌, ◌∙◌, sym, ap, refl, subst, ℕ, List, Option, Some, None, Bool, true}
+use Rattle.std.specs.Prelude.{IfSome}
 use Rattle.std.specs.Option.{option_map, option_map_or}
 use Rattle.marc_types.specs.Valid.{is_field}
 use Rattle.marc_types.specs.declared.field.Field.{Field}
@@ -15,9 +15,7 @@ use Rattle.catalogue_rules.specs.State.{KeptField, kept_field, linkable_authorit
 use Rattle.catalogue_rules.specs.Choice.{Choice, Link, Ambiguous, Unlinked, choice}
 use Rattle.catalogue_rules.specs.Settle.{link_to, settle_unlinked, take_choice}
 use Rattle.linking_laws.specs.Middle.{AreAuthoritiesInOrder}
-use Rattle.linking_laws.specs.Visits.{link_visit}
-use Rattle.linking_laws.specs.Weights.{one_if}
-use Rattle.catalogue_tables.specs.Choosing.{chosen_for, field_choice}
+use Rattle.catalogue_tables.specs.Choosing.{chosen_for, heading_choice}
 use Rattle.catalogue_tables.specs.declared.choosing.Chosen.{Chosen}
 use Rattle.catalogue_tables.specs.declared.choosing.Chosen.TheVariants as chosen
 use Rattle.field_settling.specs.Held.{held_as, linked_by}
@@ -27,11 +25,11 @@ use Rattle.choice_settling.specs.Choosing.{heading_under, linked_under}
 use Rattle.choice_settling.specs.Settled.{IsChoiceSettledTo}
 use Rattle.choice_settling.proofs.Reached.{AreNumbered, IsAuthorityUnder, choice_found_by_key, reached}
 
-taken : (class : Class) (h : KeptField) (o : Option Kind) (f : Kind → Choice) → option_map_or (λ kind. take_choice class h (f kind)) o h ≡ take_choice class h (option_map_or f o Unlinked)
+taken : (class : Class) (h : KeptField) (o : Option Kind) (f : Kind → Choice) → option_map_or (λ kind. take_choice class h (f kind)) o h ≡ option_map_or (take_choice class h) (option_map f o) h
 taken class h None f = refl
 taken class h (Some kind) f = refl
 
-settled_choice : (all : List Linkable) (class : Class) (h : KeptField) → settle_unlinked all class h ≡ take_choice class h (field_choice all class h)
+pub settled_choice : (all : List Linkable) (class : Class) (h : KeptField) → settle_unlinked all class h ≡ option_map_or (take_choice class h) (heading_choice all class h) h
 settled_choice all class h = taken class h (heading_kind class h.field) (λ kind. choice all class kind h)
 
 -- a link to the authority under a number is what the choice makes of the field
@@ -43,57 +41,43 @@ record IsLinkTo (class : Class) (h : KeptField) (number : ℕ) (whole : Bool) (x
 some_same : {T : Type 0} (x y : T) → Some x ≡ Some y → x ≡ y
 some_same x y e = cc
 
-same_number : (a b : ℕ) (v w : Bool) → chosen.Link a v ≡ chosen.Link b w → a ≡ b
+same_number : (a b : ℕ) (v w : Bool) → Some (chosen.Link a v) ≡ Some (chosen.Link b w) → a ≡ b
 same_number a b v w e = cc
 
-same_whole : (a b : ℕ) (v w : Bool) → chosen.Link a v ≡ chosen.Link b w → v ≡ w
+same_whole : (a b : ℕ) (v w : Bool) → Some (chosen.Link a v) ≡ Some (chosen.Link b w) → v ≡ w
 same_whole a b v w e = cc
+
+pub told_so : (given told : Option Chosen) (c d : Chosen) → given ≡ Some c → c ≡ d → given ≡ told → Some d ≡ told
+told_so given told c d some is e = cc
 
 module _ (x : Linked) (order : AreAuthoritiesInOrder x.state) (numbered : AreNumbered x) (class : Class) (h : KeptField) where
   abbrev all : List Linkable
   all = linkable_authorities x.state
 
-  link_is : (number : ℕ) (whole : Bool) → chosen.Link number whole ≡ chosen_for x.keys.authorities (field_choice all class h) → IsLinkTo class h number whole x
-  link_is number whole told = by (field_choice all class h) refl told
+  -- what the store tells of the choice
+  abbrev pub told_choice : Option Chosen
+  told_choice = option_map (chosen_for x.keys.authorities) (heading_choice all class h)
+
+  link_is : (number : ℕ) (whole : Bool) → Some (chosen.Link number whole) ≡ told_choice → IsLinkTo class h number whole x
+  link_is number whole told = by (heading_choice all class h) refl told
     where
-      by : (ch : Choice) → field_choice all class h ≡ ch → chosen.Link number whole ≡ chosen_for x.keys.authorities ch → IsLinkTo class h number whole x
-      by (Link c w) is e = record {
+      by : (o : Option Choice) → heading_choice all class h ≡ o → Some (chosen.Link number whole) ≡ option_map (chosen_for x.keys.authorities) o
+          → IsLinkTo class h number whole x
+      by None is e = cc
+      by (Some (Link c w)) is e = record {
         authority = c;
         under = subst (λ (n : ℕ). IsAuthorityUnder n c x) (sym (same_number number _ whole w e)) (reached x order numbered c (choice_found_by_key x order numbered class h c w is));
-        settled = settled_choice all class h ∙ ap (take_choice class h) is ∙ ap (λ (b : Bool). link_to class h b c) (sym (same_whole number _ whole w e));
+        settled = settled_choice all class h ∙ ap (λ (o : Option Choice). option_map_or (take_choice class h) o h) is
+            ∙ ap (λ (b : Bool). link_to class h b c) (sym (same_whole number _ whole w e));
       }
-      by (Ambiguous keys) is e = cc
-      by Unlinked is e = cc
+      by (Some (Ambiguous keys)) is e = cc
+      by (Some Unlinked) is e = cc
 
-  -- where several could be meant, or none, the field stays
-  ambiguous_stays : chosen.Ambiguous ≡ chosen_for x.keys.authorities (field_choice all class h) → settle_unlinked all class h ≡ h
-  ambiguous_stays told = by (field_choice all class h) refl told
-    where
-      by : (ch : Choice) → field_choice all class h ≡ ch → chosen.Ambiguous ≡ chosen_for x.keys.authorities ch → settle_unlinked all class h ≡ h
-      by (Link c w) is e = cc
-      by (Ambiguous keys) is e = settled_choice all class h ∙ ap (take_choice class h) is
-      by Unlinked is e = cc
-
-  unlinked_stays : chosen.Unlinked ≡ chosen_for x.keys.authorities (field_choice all class h) → settle_unlinked all class h ≡ h
-  unlinked_stays told = by (field_choice all class h) refl told
-    where
-      by : (ch : Choice) → field_choice all class h ≡ ch → chosen.Unlinked ≡ chosen_for x.keys.authorities ch → settle_unlinked all class h ≡ h
-      by (Link c w) is e = cc
-      by (Ambiguous keys) is e = cc
-      by Unlinked is e = settled_choice all class h ∙ ap (take_choice class h) is
-
-  pub no_link_stays : (given : Chosen) → (given ≡ chosen.Ambiguous) ⊎ (given ≡ chosen.Unlinked) → given ≡ chosen_for x.keys.authorities (field_choice all class h) → settle_unlinked all class h ≡ h
-  no_link_stays given (inl is) told = ambiguous_stays (sym is ∙ told)
-  no_link_stays given (inr is) told = unlinked_stays (sym is ∙ told)
-
-  pub link_known : (number : ℕ) (whole : Bool) → chosen.Link number whole ≡ chosen_for x.keys.authorities (field_choice all class h) → IsNumber Authority number x.keys
+  pub link_known : (number : ℕ) (whole : Bool) → Some (chosen.Link number whole) ≡ told_choice → IsNumber Authority number x.keys
   link_known number whole told = (link_is number whole told).under.known
 
-  pub link_costs : (number : ℕ) (whole : Bool) → chosen.Link number whole ≡ chosen_for x.keys.authorities (field_choice all class h) → link_visit all class h ≡ 1
-  link_costs number whole told = ap (λ (g : KeptField). one_if (is_some g.tie.key)) (link_is number whole told).settled
-
 module _ (x : Linked) (order : AreAuthoritiesInOrder x.state) (numbered : AreNumbered x) (class : Class) (field : Field) (tie : Tie) (number : ℕ) (whole : Bool)
-    (told : chosen.Link number whole ≡ chosen_for x.keys.authorities (field_choice (linkable_authorities x.state) class (kept_field field tie))) where
+    (told : Some (chosen.Link number whole) ≡ option_map (chosen_for x.keys.authorities) (heading_choice (linkable_authorities x.state) class (kept_field field tie))) where
   abbrev h : KeptField
   h = kept_field field tie
 

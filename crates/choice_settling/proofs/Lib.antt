@@ -1,3 +1,4 @@
-mod Reached
-mod Given
-mod Headed
+pub mod Reached
+pub mod Given
+pub mod Headed
+pub mod Standing

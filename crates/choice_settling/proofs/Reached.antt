@@ -4,7 +4,7 @@ use Rattle.std.specs.Prelude.{◌&&◌, find, filter_map, nat_le, IsSome, IsSome
 use Rattle.std.specs.List.{AllByRecursion, cons_option, list_all}
 use Rattle.std.specs.List.Sorted.{IsStrictlySortedBy}
 use Rattle.std.specs.Map.{keys_of, lookup}
-use Rattle.std.specs.Option.{option_map_or}
+use Rattle.std.specs.Option.{option_map}
 use Rattle.std.specs.declared.cmp.Ordering.TheVariants.{Less}
 use Rattle.std.proofs.lemmas.Bool.{and_parts}
 use Rattle.std.proofs.lemmas.Grind.{common_steps}
@@ -20,7 +20,7 @@ use Rattle.numbering.specs.Numbers.{is_known, number_of}
 use Rattle.numbering.proofs.Numberlaws.{number_below, thing_at}
 use Rattle.entry_record.specs.Authority.{Linkable, heading_kind, linkable_of}
 use Rattle.catalogue_rules.specs.State.{KeptField, KeptRecord, Row, fields_of, linkable_authorities, row_linkable}
-use Rattle.catalogue_rules.specs.Choice.{Link, Unlinked, choice, has_key}
+use Rattle.catalogue_rules.specs.Choice.{Link, choice, has_key}
 use Rattle.catalogue_rules.specs.Receipt.{kept_under}
 use Rattle.catalogue_rules.specs.Valid.{IsAscending, IsRow}
 use Rattle.catalogue_rules.proofs.Elements.{Each}
@@ -29,7 +29,7 @@ use Rattle.catalogue_rules.proofs.Proper.{all_fit, proper_linkable}
 use Rattle.linking_laws.specs.Middle.{AreAuthoritiesInOrder}
 use Rattle.linking_laws.proofs.Others.{below_equal}
 use Rattle.form_index.specs.Order.{key_at}
-use Rattle.catalogue_tables.specs.Choosing.{field_choice}
+use Rattle.catalogue_tables.specs.Choosing.{heading_choice}
 use Rattle.catalogue_tables.proofs.Rowed.{above_none, above_rows}
 use Rattle.field_settling.specs.Held.{governing_of}
 use Rattle.field_settling.proofs.Headings.{heading_found}
@@ -113,11 +113,11 @@ all_data : (p : ℕ → Bool) → ((b : ℕ) → p b ≡ true → is_data b ≡ 
 all_data p f [] h = refl
 all_data p f (b ∷ bs) h = let both = and_parts (p b) (list_all p bs) h in rw (f b both.0) (all_data p f bs both.1)
 
-code_text : (code : List ℕ) → is_code code ≡ true → is_text code ≡ true
+pub code_text : (code : List ℕ) → is_code code ≡ true → is_text code ≡ true
 unfolding is_code is_text
 code_text code h = all_data is_code_byte code_data code (and_parts (nat_le 1 (length code) && nat_le (length code) 16) (list_all is_code_byte code) h).1
 
-number_text : (number : List ℕ) → is_number number ≡ true → is_text number ≡ true
+pub number_text : (number : List ℕ) → is_number number ≡ true → is_text number ≡ true
 unfolding is_number is_text
 number_text number h = all_data is_graphic graphic_data number (and_parts (nat_le 1 (length number) && nat_le (length number) 64) (list_all is_graphic number) h).1
 
@@ -166,9 +166,10 @@ module _ (x : Linked) (order : AreAuthoritiesInOrder x.state) (numbered : AreNum
   fits = all_fit x.state.authorities order.ascend (recursion_from_All (IsRow Authority) x.state.authorities order.rows)
 
   -- the authority of a choice is found by its key
-  pub choice_found_by_key : (class : Class) (h : KeptField) (c : Linkable) (whole : Bool) → field_choice all class h ≡ Link c whole → find (has_key c.key) all ≡ Some c
+  pub choice_found_by_key : (class : Class) (h : KeptField) (c : Linkable) (whole : Bool) → heading_choice all class h ≡ Some (Link c whole) → find (has_key c.key) all ≡ Some c
   choice_found_by_key class h c whole is = by (heading_kind class h.field) is
     where
-      by : (o : Option Kind) → option_map_or (λ kind. choice all class kind h) o Unlinked ≡ Link c whole → find (has_key c.key) all ≡ Some c
+      by : (o : Option Kind) → option_map (λ kind. choice all class kind h) o ≡ Some (Link c whole) → find (has_key c.key) all ≡ Some c
       by None e = cc
-      by (Some kind) e = (subst (IfLink (IsGood all class kind h)) e (good_choice all class kind h fits)).fit.found
+      by (Some kind) e =
+          (subst (IfLink (IsGood all class kind h)) (some_same (choice all class kind h) (Link c whole) e) (good_choice all class kind h fits)).fit.found

@@ -1,6 +1,8 @@
 //! An unlinked heading field is given its choice.
 #![tactic(auto)]
 
-pub use settling::settle_unlinked;
+pub use settled::{Settled, Stands};
+pub use settling::{settle_unlinked, settle_with_standing};
 
+mod settled;
 mod settling;

@@ -1,5 +1,5 @@
 //! The choice of an unlinked field by the tables, and the field that it makes: a link is written from its authority's record.
-ghost use Rattle.std.specs.Prelude.{◌≡◌, ◌+◌, ◌≤◌, true, IfOk, IfSome, option_map};
+ghost use Rattle.std.specs.Prelude.{◌≡◌, ◌+◌, ◌≤◌, true, None, IfOk, IfSome, option_map};
 ghost use Rattle.marc_types.specs.Valid.{is_field};
 ghost use Rattle.marc_types.specs.declared.key.Class.TheVariants.{Authority as AnAuthority};
 ghost use Rattle.catalogue_rules.specs.State.{kept_field, linkable_authorities};
@@ -9,7 +9,9 @@ ghost use Rattle.linking_laws.specs.Visits.{link_visit};
 ghost use Rattle.linked_store.specs.Linked.{IsNumber};
 ghost use Rattle.choice_settling.specs.Choosing.{heading_under, linked_under};
 ghost use Rattle.choice_settling.specs.Settled.{IsChoiceSettledTo};
+ghost use Rattle.choice_settling.specs.Standing.{stands_settled};
 
+use crate::settled::{Settled, Stands};
 use catalogue_tables::Chosen;
 use field_settling::{Heading, Held, governing, link_to};
 use linked_store::LinkedStore;
@@ -32,14 +34,47 @@ pub fn settle_unlinked<L: Ledger>(
     ensures settled { IfOk result (IsChoiceSettledTo (linkable_authorities store.now.state) class (kept_field field.now tie.now)) }
     ensures visits { steps.new ≤ steps.old + link_visit (linkable_authorities store.now.state) class (kept_field field.now tie.now) }
 {
+    let settled = settle_with_standing(store, alloc, class, field, tie, steps)?;
+    Ok(settled.made)
+}
+
+/// The same, and how the field stands then.
+pub fn settle_with_standing<L: Ledger>(
+    store: &LinkedStore,
+    alloc: Global,
+    class: Class,
+    field: &Field,
+    tie: &Tie,
+    steps: &mut Steps<L>,
+) -> Result<Settled, NoMemory>
+    requires { AreAuthoritiesInOrder store.now.state }
+    ensures settled { IfOk result (λ settled.
+        IsChoiceSettledTo (linkable_authorities store.now.state) class (kept_field field.now tie.now) settled.made) }
+    ensures stands { tie.now.key ≡ None → IfOk result (λ settled.
+        settled.stands ≡ stands_settled (linkable_authorities store.now.state) class (kept_field field.now tie.now)) }
+    ensures visits { steps.new ≤ steps.old + link_visit (linkable_authorities store.now.state) class (kept_field field.now tie.now) }
+{
     store.each_authority_has_a_number();
-    let chosen = store.choose(alloc, class, field, tie)?;
+    let Some(chosen) = store.choose(alloc, class, field, tie)? else {
+        return Ok(stays(Stands::NoHeading));
+    };
     match chosen {
         Chosen::Link { number, whole } => {
-            link_chosen(store, alloc, number, whole, class, field, steps)
+            let made = link_chosen(store, alloc, number, whole, class, field, steps)?;
+            let stands = Stands::Linked;
+            Ok(Settled { made, stands })
         }
-        Chosen::Ambiguous | Chosen::Unlinked => Ok(None),
+        Chosen::Ambiguous => Ok(stays(Stands::Ambiguous)),
+        Chosen::Unlinked => Ok(stays(Stands::Unlinked)),
     }
+}
+
+// The field is no other than it was.
+fn stays(stands: Stands) -> Settled
+    ensures made { result.made ≡ None }
+    ensures stands { result.stands ≡ stands }
+{
+    Settled { made: None, stands }
 }
 
 // The field linked to the authority under the key that has the number.

@@ -1,5 +1,5 @@
 -- Carrying a heading: what is made of one field, and what one visit counts.
-use Rattle.std.proofs.Common.{◌≡◌, ◌∙◌, sym, ap, refl, subst, ℕ, ◌+◌, ◌≤◌, ◌<◌, arith, List, map, length, get_or, Option, Some, None, Bool, true, false}
+use Rattle.std.proofs.Common.{◌≡◌, ◌∙◌, sym, ap, refl, subst, ℕ, ◌+◌, ◌≤◌, ◌<◌, arith, List, map, length, take, get_or, Option, Some, None, Bool, true, false}
 use Rattle.std.specs.Prelude.{find, if◌then◌else◌}
 use Rattle.std.specs.Option.{option_map, option_map_or}
 use Rattle.marc_types.specs.Valid.{is_field}
@@ -22,11 +22,13 @@ use Rattle.linking_laws.specs.Weights.{one_if, sum_fields}
 use Rattle.linking_laws.proofs.Listed.{carry_whole}
 use Rattle.linking_laws.proofs.Settling.{carry_either}
 use Rattle.linking_laws.specs.Partway.{IsWhole}
-use Rattle.catalogue_tables.specs.Seam.{place_at}
+use Rattle.catalogue_tables.specs.Seam.{AreDistinct, place_at}
 use Rattle.linked_store.specs.Linked.{Linked, ListsSeats, SuitsSeat, field_of}
 use Rattle.stage_turns.specs.Fields.{IsProperAt}
+use Rattle.stage_turns.specs.Noted.{AreNoted, NotesChanges, noted_with}
 use Rattle.stage_turns.specs.Turns.{IsCarriedOut, IsMade, IsToDo, IsTurned, visits_at}
 use Rattle.stage_turns.proofs.Looping.{IsAt, at_first, at_next, at_to_do, done_at_last, visits_at_last, visits_at_stop}
+use Rattle.stage_turns.proofs.Notes.{noting_last, noting_next}
 use Rattle.stage_turns.proofs.Suiting.{proper_at, stage_suits}
 use Rattle.heading_change.specs.Carrying.{IsHeadingOf, carry_heading, heading_in, linked_visits}
 
@@ -48,6 +50,9 @@ module _ (key : Key) (heading : Kind × Field) (all : List Linkable) (is : IsHea
 
   pub carried_whole : (old new : Linked) → IsCarriedOut all (carry_heading key heading) old new → IsCarriedOut all (carry_by key (find (has_key key) all)) old new
   carried_whole old new done = subst (λ (change : Class → KeptField → KeptField). IsCarriedOut all change old new) carries done
+
+  pub carried_noted : (x : Linked) (before noted : List Seat) → NotesChanges (carry_heading key heading) x before noted → NotesChanges (carry_by key (find (has_key key) all)) x before noted
+  carried_noted x before noted notes = subst (λ (change : Class → KeptField → KeptField). NotesChanges change x before noted) carries notes
 
   pub carried_visits : (s : State) (before after : ℕ) → after ≤ before + sum_fields (linked_visits key) s → after ≤ before + sum_fields (carry_visits key (find (has_key key) all)) s
   carried_visits s before after within =
@@ -124,6 +129,11 @@ module _ (key : Key) (heading : Kind × Field) (seats : List Seat) (old : Linked
         at_next (linkable_authorities old.state) (carry_heading key heading) (linked_visits key) (linked_at key) seats old before i seat now steps low is lists here new after
         (carries_either key heading (linkable_authorities old.state) is_heading) turned step
 
+    pub carry_notes : (start noted after : List Seat) → AreNoted (carry_heading key heading) old (take i seats) start noted → after ≡ noted_with (carry_heading key heading) now seat noted
+        → AreNoted (carry_heading key heading) old (take (i + 1) seats) start after
+    carry_notes start noted after =
+        noting_next (carry_heading key heading) (holds_at (linked_at key) old.state) seats old start lists i seat now noted after low is here.way.ahead here.way.partway
+
     pub carry_visits_stop : (after : ℕ) → after ≤ steps + visits_at (linked_visits key) now seat → after ≤ before + sum_fields (linked_visits key) old.state
     carry_visits_stop after step =
         visits_at_stop (linkable_authorities old.state) (carry_heading key heading) (linked_visits key) (linked_at key) seats old before i seat now steps low is lists here after step
@@ -143,3 +153,8 @@ module _ (key : Key) (heading : Kind × Field) (seats : List Seat) (old : Linked
     pub carry_visits_end : steps ≤ before + sum_fields (linked_visits key) old.state
     carry_visits_end =
         visits_at_last (linkable_authorities old.state) (carry_heading key heading) (linked_visits key) (linked_at key) seats old before n now steps past here lists
+
+    pub carry_all_noted : (start noted : List Seat) → AreDistinct old.keys → AreNoted (carry_heading key heading) old (take n seats) start noted
+        → NotesChanges (carry_heading key heading) old start noted
+    carry_all_noted start noted distinct =
+        noting_last (carry_heading key heading) (holds_at (linked_at key) old.state) seats old start lists n noted past distinct carry_is_whole

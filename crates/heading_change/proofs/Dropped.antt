@@ -19,7 +19,7 @@ use Rattle.catalogue_rules.proofs.Elements.{Each}
 use Rattle.catalogue_rules.proofs.Fit.{IsFit}
 use Rattle.catalogue_rules.proofs.Proper.{all_fit}
 use Rattle.record_store.specs.Store.{StaysRecord}
-use Rattle.catalogue_tables.specs.Seam.{HasKey, place_at}
+use Rattle.catalogue_tables.specs.Seam.{AreDistinct, HasKey, place_at}
 use Rattle.linking_laws.specs.Middle.{AreAuthoritiesInOrder, CanDrop, CanDropOn, IsSparedRightly, IsTiedButTo, IsWithinReach}
 use Rattle.linking_laws.specs.Partway.{AreOrdered, IsNext, IsSteady, is_place_among}
 use Rattle.linking_laws.specs.Stages.{Dropping, drop_by}
@@ -33,8 +33,10 @@ use Rattle.field_settling.specs.Held.{held_as}
 use Rattle.field_settling.specs.declared.held.Held.{Held}
 use Rattle.linked_store.specs.Linked.{Linked, ListsSeats, SuitsSeat, field_of, record_at}
 use Rattle.stage_turns.specs.Fields.{IsProperAt}
+use Rattle.stage_turns.specs.Noted.{AreNoted, NotesChanges, noted_with}
 use Rattle.stage_turns.specs.Turns.{AreWithinVisits, IsCarriedOut, IsDropping, IsMadeOf, IsToDo, IsTurned, visits_at}
 use Rattle.stage_turns.proofs.Looping.{last_within, listed_next, one_more, turn_stops_within, turn_to_do, turn_within}
+use Rattle.stage_turns.proofs.Notes.{noting_last, noting_next}
 use Rattle.stage_turns.proofs.Suiting.{field_at_place, proper_at}
 use Rattle.stage_turns.proofs.Turning.{drop_ends, drop_starts, drop_turns, known_there, map_join}
 use Rattle.heading_change.specs.Dropping.{IsChangedTo, IsDropTurn}
@@ -186,6 +188,14 @@ module _ (d : Dropping) (key : Key) (successor : Option Key) (seats : List Seat)
           old now lists here.way.ahead here.way.partway before steps after here.within (old_step after step);
     }
 
+    pub drop_notes : (start noted after : List Seat) → AreNoted (drop_by d (linkable_authorities old.state) key successor) old (take i seats) start noted
+        → after ≡ noted_with (drop_by d (linkable_authorities now.state) key successor) now seat noted
+        → AreNoted (drop_by d (linkable_authorities old.state) key successor) old (take (i + 1) seats) start after
+    drop_notes start noted after so_far note =
+        noting_next (drop_by d (linkable_authorities old.state) key successor) (holds_at (dropped_at key successor) old.state) seats old start lists
+        i seat now noted after low is here.way.ahead here.way.partway so_far
+        (note ∙ ap (λ (all : List Linkable). noted_with (drop_by d all key successor) now seat noted) here.way.authorities_stay)
+
     -- where a turn ends without memory
     pub drop_visits_at_stop : (after : ℕ) → after ≤ steps + visits_at (drop_visits_by d (linkable_authorities now.state) key successor) now seat
         → after ≤ before + sum_fields (drop_visits_by d (linkable_authorities old.state) key successor) old.state
@@ -203,3 +213,9 @@ module _ (d : Dropping) (key : Key) (successor : Option Key) (seats : List Seat)
     pub drop_visits_at_last : steps ≤ before + sum_fields (drop_visits_by d (linkable_authorities old.state) key successor) old.state
     drop_visits_at_last =
         last_within (drop_visits_by d (linkable_authorities old.state) key successor) old (holds_at (dropped_at key successor) old.state) seats n before steps past lists here.within
+
+    pub drop_all_noted : (start noted : List Seat) → CanDrop d key old.state → AreDistinct old.keys → AreNoted (drop_by d (linkable_authorities old.state) key successor) old (take n seats) start noted
+        → NotesChanges (drop_by d (linkable_authorities old.state) key successor) old start noted
+    drop_all_noted start noted can distinct =
+        noting_last (drop_by d (linkable_authorities old.state) key successor) (holds_at (dropped_at key successor) old.state) seats old start lists n noted past distinct
+        (drop_whole d key successor old.state (map (place_at old.keys) seats) can lists.places)

@@ -10,26 +10,28 @@ ghost use Rattle.linking_laws.specs.Visits.{carry_visits};
 ghost use Rattle.linking_laws.specs.Weights.{sum_fields};
 ghost use Rattle.linked_store.specs.Linked.{IsAhead, IsNumber, ListsSeats, key_of};
 ghost use Rattle.field_settling.specs.Held.{heading_as};
+ghost use Rattle.stage_turns.specs.Noted.{NotesChanges, noted_with};
 ghost use Rattle.stage_turns.specs.Turns.{IsCarriedOut, IsMadeOf, IsToDo, IsTurned, visits_at};
 ghost use Rattle.heading_change.specs.Carrying.{IsHeadingOf, carry_heading, linked_visits};
 
 use field_settling::{Heading, Held, link_to};
 use linked_store::LinkedStore;
 use marc_types::{Key, NoMemory};
-use numbering::Seat;
+use numbering::{Numbering, Seat};
 use record_store::Steps;
-use stage_turns::{exchange_made, visit_field};
+use stage_turns::{exchange_noted, visit_field};
 use std::alloc::Global;
 use std::sync::ledger::Ledger;
 
-/// Each field that is linked to the authority is rewritten from its heading. Where memory ends, the caller can take back what
-/// was done.
+/// Each field that is linked to the authority is rewritten from its heading. The seats whose field changes are noted. Where memory
+/// ends, the caller can take back what was done.
 pub fn carry<L: Ledger>(
     store: &mut LinkedStore,
     alloc: Global,
     number: u32,
     key: &Key,
     heading: Heading<'_>,
+    noted: &mut Numbering<Seat>,
     steps: &mut Steps<L>,
 ) -> Result<(), NoMemory>
     requires number { IsNumber AnAuthority number store.old.keys }
@@ -38,12 +40,14 @@ pub fn carry<L: Ledger>(
     requires middle { IsMiddle store.old.state }
     ensures ok { let all = linkable_authorities store.old.state in
         OnOk result (IsCarriedOut all (carry_by key.now (find (has_key key.now) all)) store.old store.new) }
+    ensures noted { let all = linkable_authorities store.old.state in
+        OnOk result (NotesChanges (carry_by key.now (find (has_key key.now) all)) store.old noted.old noted.new) }
     ensures ahead { IsAhead store.old store.new }
     ensures visits { let authority = find (has_key key.now) (linkable_authorities store.old.state) in
         steps.new ≤ steps.old + sum_fields (carry_visits key.now authority) store.old.state }
 {
     let seats = store.linked(alloc, number)?;
-    carry_to(store, alloc, &seats, key, heading, steps)
+    carry_to(store, alloc, &seats, key, heading, noted, steps)
 }
 
 // The seats are those of all places that are linked to the key.
@@ -53,17 +57,20 @@ fn carry_to<L: Ledger>(
     seats: &[Seat],
     key: &Key,
     heading: Heading<'_>,
+    noted: &mut Numbering<Seat>,
     steps: &mut Steps<L>,
 ) -> Result<(), NoMemory>
     requires lists { ListsSeats store.old.keys (holds_at (linked_at key.now) store.old.state) seats.now }
     requires heading { IsHeadingOf key.now (heading_as heading) (linkable_authorities store.old.state) }
     requires middle { IsMiddle store.old.state }
     ensures ok { OnOk result (IsCarriedOut (linkable_authorities store.old.state) (carry_heading key.now (heading_as heading.entry)) store.old store.new) }
+    ensures noted { OnOk result (NotesChanges (carry_heading key.now (heading_as heading.entry)) store.old noted.old noted.new) }
     ensures ahead { IsAhead store.old store.new }
     ensures visits { steps.new ≤ steps.old + sum_fields (linked_visits key.now) store.old.state }
 {
+    store.each_key_has_one_number();
     for seat in seats {
-        carry_at(store, alloc, *seat, key, heading, steps)?;
+        carry_at(store, alloc, *seat, key, heading, noted, steps)?;
     }
     Ok(())
 }
@@ -75,17 +82,19 @@ fn carry_at<L: Ledger>(
     seat: Seat,
     key: &Key,
     heading: Heading<'_>,
+    noted: &mut Numbering<Seat>,
     steps: &mut Steps<L>,
 ) -> Result<(), NoMemory>
     requires to_do { IsToDo (linked_at key.now) seat store.old }
     requires heading { IsHeadingOf key.now (heading_as heading) (linkable_authorities store.old.state) }
     requires middle { IsMiddle store.old.state }
     ensures ok { OnOk result (IsTurned (carry_heading key.now (heading_as heading.entry)) seat store.old store.new) }
+    ensures noted { OnOk result (noted.new ≡ noted_with (carry_heading key.now (heading_as heading.entry)) store.old seat noted.old) }
     ensures ahead { IsAhead store.old store.new }
     ensures visits { steps.new ≤ steps.old + visits_at (linked_visits key.now) store.old seat }
 {
     let made = carried(store, alloc, seat, key, heading, steps)?;
-    exchange_made(store, alloc, seat, made)
+    exchange_noted(store, alloc, seat, made, noted)
 }
 
 // The field at a seat with the heading carried to it.

@@ -1,5 +1,5 @@
 -- Choosing over the listing of the seats that wait, turn by turn.
-use Rattle.std.proofs.Common.{◌≡◌, ◌∙◌, sym, ap, refl, subst, ℕ, ◌+◌, ◌≤◌, ◌<◌, List, map, length, get_or, Option, Some, None, Bool, true, false}
+use Rattle.std.proofs.Common.{◌≡◌, ◌∙◌, sym, ap, refl, subst, ℕ, ◌+◌, ◌≤◌, ◌<◌, List, map, length, take, get_or, Option, Some, None, Bool, true, false}
 use Rattle.std.specs.Prelude.{not, if◌then◌else◌, is_some}
 use Rattle.std.specs.Option.{option_map_or}
 use Rattle.marc_types.specs.declared.form.Form.{Form}
@@ -9,8 +9,9 @@ use Rattle.marc_types.specs.declared.key.Place.{Place}
 use Rattle.entry_record.specs.Authority.{Linkable, heading_kind}
 use Rattle.numbering.specs.declared.seat.Seat.{Seat}
 use Rattle.catalogue_rules.specs.State.{KeptField, linkable_authorities}
+use Rattle.catalogue_rules.specs.Sameness.{same_kept}
 use Rattle.catalogue_rules.specs.Settle.{settle_field, settle_unlinked}
-use Rattle.catalogue_tables.specs.Seam.{KeyLists, place_at}
+use Rattle.catalogue_tables.specs.Seam.{AreDistinct, KeyLists, place_at}
 use Rattle.linking_laws.specs.Middle.{IsMiddle}
 use Rattle.linking_laws.specs.Partway.{swapped}
 use Rattle.linking_laws.specs.Stages.{choose_field}
@@ -21,8 +22,12 @@ use Rattle.linking_laws.specs.Weights.{sum_fields}
 use Rattle.linking_laws.proofs.Listed.{choose_whole}
 use Rattle.linking_laws.proofs.Settling.{choose_either}
 use Rattle.linked_store.specs.Linked.{Linked, ListsSeats, field_of}
+use Rattle.numbering.specs.Numbers.{with_thing}
+use Rattle.numbering.specs.Seats.{same_seat}
+use Rattle.stage_turns.specs.Noted.{AreNoted, NotesChanges, changes_at, noted_with}
 use Rattle.stage_turns.specs.Turns.{IsCarriedOut, IsToDo, IsTurned, visits_at}
 use Rattle.stage_turns.proofs.Looping.{IsAt, at_first, at_next, at_to_do, done_at_last, visits_at_last, visits_at_stop}
+use Rattle.stage_turns.proofs.Notes.{noting_last, noting_next}
 use Rattle.late_linking.specs.Unlinked.{has_no_link, turn_visits}
 use Rattle.late_linking.proofs.Settled.{unlinked_settled, with_all}
 
@@ -61,6 +66,17 @@ module _ (forms : List Form) (key : Key) where
       ahead = turned.ahead;
       state = λ h there. turned.state h there ∙ ap (λ (g : KeptField). swapped (place_at x.keys seat) g x.state) (sym (chosen_settled all seat.class h (waits_there h there)));
     }
+
+    changes_chosen : (all : List Linkable) → changes_at (settle_field all) x seat ≡ changes_at (choose_field all forms key) x seat
+    changes_chosen all = by (field_of seat x) to_do.passes
+      where
+        by : (o : Option KeptField) → option_map_or (is_waiting_for forms key seat.class) o false ≡ true
+            → option_map_or (λ h. not (same_kept h (settle_field all seat.class h))) o false ≡ option_map_or (λ h. not (same_kept h (choose_field all forms key seat.class h))) o false
+        by None e = refl
+        by (Some h) e = ap (λ (g : KeptField). not (same_kept h g)) (sym (chosen_settled all seat.class h e))
+
+    pub noted_chosen : (all : List Linkable) (noted : List Seat) → noted_with (settle_field all) x seat noted ≡ noted_with (choose_field all forms key) x seat noted
+    noted_chosen all noted = ap (λ (b : Bool). if b then with_thing same_seat noted seat else noted) (changes_chosen all)
 
     pub visits_chosen : (all : List Linkable) → visits_at (turn_visits all) x seat ≡ visits_at (choose_visits all forms key) x seat
     visits_chosen all = by (field_of seat x) to_do.passes
@@ -117,6 +133,12 @@ module _ (forms : List Form) (key : Key) (seats : List Seat) (old : Linked) (bef
         (turned_chosen forms key seat now waits all new (subst (λ (l : List Linkable). IsTurned (settle_field l) seat now new) here.way.middle.authorities_are turned))
         (within_turn after step)
 
+    pub choosing_notes : (start noted after : List Seat) → AreNoted change old (take i seats) start noted
+        → after ≡ noted_with (settle_field (linkable_authorities now.state)) now seat noted → AreNoted change old (take (i + 1) seats) start after
+    choosing_notes start noted after so_far note =
+        noting_next change (holds_at test old.state) seats old start lists i seat now noted after low is here.way.ahead here.way.partway so_far
+        (note ∙ ap (λ (l : List Linkable). noted_with (settle_field l) now seat noted) here.way.middle.authorities_are ∙ noted_chosen forms key seat now waits all noted)
+
     pub choosing_visits_stop : (after : ℕ) → after ≤ steps + visits_at (turn_visits (linkable_authorities now.state)) now seat → after ≤ before + sum_fields visits old.state
     choosing_visits_stop after step = visits_at_stop all change visits test seats old before i seat now steps low is lists here after (within_turn after step)
 
@@ -129,3 +151,7 @@ module _ (forms : List Form) (key : Key) (seats : List Seat) (old : Linked) (bef
 
     pub choosing_visits_end : steps ≤ before + sum_fields visits old.state
     choosing_visits_end = visits_at_last all change visits test seats old before n now steps past here lists
+
+    pub choosing_all_noted : (start noted : List Seat) → AreDistinct old.keys → AreNoted change old (take n seats) start noted → NotesChanges change old start noted
+    choosing_all_noted start noted distinct =
+        noting_last change (holds_at test old.state) seats old start lists n noted past distinct (choose_whole all forms key old.state (map (place_at old.keys) seats) lists.places)

@@ -1,3 +1,4 @@
-mod Settled
-mod Choosing
-mod InTurn
+pub mod Settled
+pub mod Choosing
+pub mod InTurn
+pub mod Counting

@@ -79,9 +79,3 @@ module _ (seat : Seat) (x : Linked) where
   turn_costs all h before visited after there one rest =
       let all_of : visits_at (turn_visits all) x seat ≡ 1 + link_visit all seat.class h = ap {B = ℕ} (λ (o : Option KeptField). option_map_or (turn_visits all seat.class) o 0) there in
       omega (arith, one, rest, all_of)
-
--- a record that is looked up is one
-pub proper_looked : (o : Option (Bor Kept)) (found : Option KeptRecord) → option_map (λ (kept : Bor Kept). kept_record kept.now) o ≡ found
-    → IfSome found (λ (r : KeptRecord). is_record r.leader (fields_of r) ≡ true)
-proper_looked None found e = subst (λ (x : Option KeptRecord). IfSome x (λ (r : KeptRecord). is_record r.leader (fields_of r) ≡ true)) e tt
-proper_looked (Some kept) found e = proper_there kept.now found e

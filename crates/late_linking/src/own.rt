@@ -8,10 +8,12 @@ ghost use Rattle.linking_laws.specs.Middle.{IsMiddle};
 ghost use Rattle.linking_laws.specs.Visits.{own_visits};
 ghost use Rattle.linked_store.specs.Linked.{IsAhead, IsNumber, field_of, key_of, record_at};
 ghost use Rattle.stage_turns.specs.Turns.{IsMadeOf, IsTurned};
+ghost use Rattle.choice_settling.specs.Standing.{stands_settled};
+ghost use Rattle.late_linking.specs.Counted.{AreCountsOf};
 ghost use Rattle.late_linking.specs.OwnFields.{HasFieldsAsCame, IsOwnSettled, own_visits_of};
 
-use choice_settling::settle_unlinked;
-use field_settling::Held;
+use crate::counts::{HeadingCounts, counted};
+use choice_settling::{Settled, Stands, settle_with_standing};
 use linked_store::LinkedStore;
 use marc_types::{Class, Field, NoMemory, Tie};
 use numbering::Seat;
@@ -20,8 +22,8 @@ use stage_turns::exchange_made;
 use std::alloc::Global;
 use std::sync::ledger::Ledger;
 
-/// The fields of the record under the key that has the number are settled. They stand there as they came, so that only a link makes
-/// a visit, to the record of its authority.
+/// The fields of the record under the key that has the number are settled, and counted by how they stand then. They stand there as
+/// they came, so that only a link makes a visit, to the record of its authority.
 pub fn settle_own<L: Ledger>(
     store: &mut LinkedStore,
     alloc: Global,
@@ -29,25 +31,32 @@ pub fn settle_own<L: Ledger>(
     number: u32,
     fields: &[Field],
     steps: &mut Steps<L>,
-) -> Result<(), NoMemory>
+) -> Result<HeadingCounts, NoMemory>
     requires number { IsNumber class number store.old.keys }
     requires came { HasFieldsAsCame class number fields.now store.old }
     requires middle { IsMiddle store.old.state }
     ensures ok { OnOk result (IsOwnSettled (linkable_authorities store.old.state) class (key_of class number store.old.keys) store.old store.new) }
+    ensures counts { IfOk result (AreCountsOf (linkable_authorities store.old.state) class fields.now) }
     ensures ahead { IsAhead store.old store.new }
     ensures visits { let all = linkable_authorities store.old.state in
         steps.new ≤ steps.old + own_visits_of all class (key_of class number store.old.keys) store.old.state }
 {
     is_proper(store, class, number);
+    let mut counts = HeadingCounts {
+        linked: 0,
+        ambiguous: 0,
+        unlinked: 0,
+    };
     for (place, field) in fields.iter().enumerate() {
         let seat = Seat {
             class,
             number,
             field: place as u32,
         };
-        settle_own_at(store, alloc, seat, field, steps)?;
+        let stands = settle_own_at(store, alloc, seat, field, steps)?;
+        counts = counted(counts, stands);
     }
-    Ok(())
+    Ok(counts)
 }
 
 // One turn. The field stands at the seat.
@@ -57,16 +66,19 @@ fn settle_own_at<L: Ledger>(
     seat: Seat,
     field: &Field,
     steps: &mut Steps<L>,
-) -> Result<(), NoMemory>
+) -> Result<Stands, NoMemory>
     requires known { HasKey store.old.keys seat }
     requires stands { field_of seat store.old ≡ Some (new_field field.now) }
     requires middle { IsMiddle store.old.state }
     ensures ok { OnOk result (IsTurned (settle_field (linkable_authorities store.old.state)) seat store.old store.new) }
+    ensures stands { IfOk result (λ stands.
+        stands ≡ stands_settled (linkable_authorities store.old.state) seat.class (new_field field.now)) }
     ensures ahead { IsAhead store.old store.new }
     ensures visits { steps.new ≤ steps.old + own_visits (linkable_authorities store.old.state) seat.class (new_field field.now) }
 {
-    let made = settled_own(store, alloc, seat, field, steps)?;
-    exchange_made(store, alloc, seat, made)
+    let settled = settled_own(store, alloc, seat, field, steps)?;
+    exchange_made(store, alloc, seat, settled.made)?;
+    Ok(settled.stands)
 }
 
 // What settling makes of a field that stands at the seat as it came.
@@ -76,11 +88,13 @@ fn settled_own<L: Ledger>(
     seat: Seat,
     field: &Field,
     steps: &mut Steps<L>,
-) -> Result<Option<Held>, NoMemory>
+) -> Result<Settled, NoMemory>
     requires known { HasKey store.now.keys seat }
     requires stands { field_of seat store.now ≡ Some (new_field field.now) }
     requires middle { IsMiddle store.now.state }
-    ensures made { IfOk result (IsMadeOf (settle_field (linkable_authorities store.now.state)) seat store.now) }
+    ensures made { IfOk result (λ settled. IsMadeOf (settle_field (linkable_authorities store.now.state)) seat store.now settled.made) }
+    ensures stands { IfOk result (λ settled.
+        settled.stands ≡ stands_settled (linkable_authorities store.now.state) seat.class (new_field field.now)) }
     ensures visits { steps.new ≤ steps.old + own_visits (linkable_authorities store.now.state) seat.class (new_field field.now) }
 {
     is_proper(store, seat.class, seat.number);
@@ -89,13 +103,13 @@ fn settled_own<L: Ledger>(
         whole: false,
         awaits: None,
     };
-    settle_unlinked(store, alloc, seat.class, field, &tie, steps)
+    settle_with_standing(store, alloc, seat.class, field, &tie, steps)
 }
 
-// A record that is kept is a MARC record. It is looked up for the proof alone: nothing of it is read.
+// A record that is kept is a MARC record.
 fn is_proper(store: &LinkedStore, class: Class, number: u32)
     requires { IsNumber class number store.now.keys }
     ensures { IfSome (record_at class number store.now) (λ r. is_record r.leader (fields_of r) ≡ true) }
 {
-    store.look(class, number);
+    store.each_record_is_proper();
 }

@@ -4,6 +4,7 @@ ghost use Rattle.catalogue_rules.specs.Settle.{settle_field};
 ghost use Rattle.catalogue_rules.specs.State.{linkable_authorities};
 ghost use Rattle.linking_laws.specs.Middle.{IsMiddle};
 ghost use Rattle.linked_store.specs.Linked.{IsAhead};
+ghost use Rattle.stage_turns.specs.Noted.{noted_with};
 ghost use Rattle.stage_turns.specs.Turns.{IsMadeOf, IsToDo, IsTurned, visits_at};
 ghost use Rattle.late_linking.specs.Unlinked.{has_no_link, turn_visits};
 
@@ -11,27 +12,29 @@ use choice_settling::settle_unlinked;
 use field_settling::Held;
 use linked_store::LinkedStore;
 use marc_types::NoMemory;
-use numbering::Seat;
+use numbering::{Numbering, Seat};
 use record_store::Steps;
-use stage_turns::{exchange_made, visit_field};
+use stage_turns::{exchange_noted, visit_field};
 use std::alloc::Global;
 use std::sync::ledger::Ledger;
 
-/// Settles the unlinked field at the seat.
+/// Settles the unlinked field at the seat, which is noted where the field changes.
 pub(crate) fn settle_at<L: Ledger>(
     store: &mut LinkedStore,
     alloc: Global,
     seat: Seat,
+    noted: &mut Numbering<Seat>,
     steps: &mut Steps<L>,
 ) -> Result<(), NoMemory>
     requires to_do { IsToDo has_no_link seat store.old }
     requires middle { IsMiddle store.old.state }
     ensures ok { OnOk result (IsTurned (settle_field (linkable_authorities store.old.state)) seat store.old store.new) }
+    ensures noted { OnOk result (noted.new ≡ noted_with (settle_field (linkable_authorities store.old.state)) store.old seat noted.old) }
     ensures ahead { IsAhead store.old store.new }
     ensures visits { steps.new ≤ steps.old + visits_at (turn_visits (linkable_authorities store.old.state)) store.old seat }
 {
     let made = settled(store, alloc, seat, steps)?;
-    exchange_made(store, alloc, seat, made)
+    exchange_noted(store, alloc, seat, made, noted)
 }
 
 // What settling makes of the unlinked field at the seat. Its record is visited for it.

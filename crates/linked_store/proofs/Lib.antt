@@ -3,6 +3,7 @@ pub mod Going
 pub mod Framed
 pub mod Indexed
 pub mod Agreed
+pub mod Telling
 pub mod Turned
 pub mod Seated
 pub mod Brought

@@ -2,7 +2,7 @@
 use Rattle.std.proofs.Common.{◌≡◌, ◌∙◌, sym, ap, refl, subst, arith, ℕ, zero, suc, ◌+◌, ◌<◌, Bool, true, false, ◌||◌, List, [], ◌∷◌, ◌++◌, length, map, take, Option, Some, None}
 use Rattle.std.specs.Prelude.{filter, slice_get, ◌&&◌}
 use Rattle.std.specs.Borrow.{Bor}
-use Rattle.std.specs.Option.{option_copied, option_map_or, option_to_list}
+use Rattle.std.specs.Option.{option_copied, option_map, option_map_or, option_to_list}
 use Rattle.std.specs.Cmp.{IsEquivalence, decided}
 use Rattle.std.specs.List.{AllByRecursion, IsDistinct, list_any}
 use Rattle.marc_types.specs.declared.form.Form.{Form}
@@ -32,7 +32,7 @@ use Rattle.catalogue_tables.proofs.Seams.{key_numbered, places_listed}
 use Rattle.catalogue_tables.proofs.Waited.{waits_seated, waits_told}
 use Rattle.catalogue_tables.specs.declared.tables.CatalogueTables.{CatalogueTables}
 use Rattle.linked_store.specs.Contents.{Contents}
-use Rattle.catalogue_tables.specs.Choosing.{TellsState, chosen_for, field_choice}
+use Rattle.catalogue_tables.specs.Choosing.{TellsState, chosen_for, heading_choice}
 use Rattle.catalogue_tables.specs.declared.choosing.Chosen.{Chosen}
 use Rattle.linking_laws.specs.Middle.{AreAuthoritiesInOrder}
 use Rattle.linked_store.specs.Linked.{ListsSeats}
@@ -104,13 +104,13 @@ module _ (tables : CatalogueTables) (c : Contents) (distinct : AreDistinct (keys
 
 -- ---- the choice
 
-pub chosen_as : (tables : CatalogueTables) (c : Contents) (class : Class) (h : KeptField) (keys : List Key) (chosen : Chosen) → keys ≡ (keys_of c).authorities → AreDistinct (keys_of c) → AgreesWith tables c
+pub chosen_as : (tables : CatalogueTables) (c : Contents) (class : Class) (h : KeptField) (keys : List Key) (chosen : Option Chosen) → keys ≡ (keys_of c).authorities → AreDistinct (keys_of c) → AgreesWith tables c
     → AreAuthoritiesInOrder (state_in c)
-    → ((s : State) → TellsState tables.forms keys c.index s → chosen ≡ chosen_for keys (field_choice (linkable_authorities s) class h))
-    → chosen ≡ chosen_for (keys_of c).authorities (field_choice (linkable_authorities (state_in c)) class h)
+    → ((s : State) → TellsState tables.forms keys c.index s → chosen ≡ option_map (chosen_for keys) (heading_choice (linkable_authorities s) class h))
+    → chosen ≡ option_map (chosen_for (keys_of c).authorities) (heading_choice (linkable_authorities (state_in c)) class h)
 chosen_as tables c class h keys chosen same distinct agrees order told =
     told (state_in c) (subst (λ (l : List Key). TellsState tables.forms l c.index (state_in c)) (sym same) (record { distinct = distinct.authorities; in_order = order; tells = agrees.told }))
-    ∙ ap (λ (l : List Key). chosen_for l (field_choice (linkable_authorities (state_in c)) class h)) same
+    ∙ ap (λ (l : List Key). option_map (chosen_for l) (heading_choice (linkable_authorities (state_in c)) class h)) same
 
 -- ---- the seats of a numbering, in turn
 

@@ -1,30 +1,47 @@
-//! What a field is to be linked to.
-ghost use Rattle.std.specs.Prelude.{◌≡◌, IfOk};
+//! What a field is to be linked to, and what is known of an authority.
+ghost use Rattle.std.specs.Prelude.{◌≡◌, ◌<◌, length, find, IfOk};
+ghost use Rattle.std.specs.Option.{option_map};
+ghost use Rattle.marc_types.specs.declared.key.Class.TheVariants.{Authority as AnAuthority};
+ghost use Rattle.catalogue_rules.specs.Choice.{has_key};
 ghost use Rattle.catalogue_rules.specs.State.{kept_field, linkable_authorities};
-ghost use Rattle.catalogue_tables.specs.Choosing.{chosen_for, field_choice};
+ghost use Rattle.catalogue_tables.specs.Choosing.{chosen_for, heading_choice};
+ghost use Rattle.catalogue_tables.specs.Known.{IsKnownAs};
 ghost use Rattle.linking_laws.specs.Middle.{AreAuthoritiesInOrder};
+ghost use Rattle.linked_store.specs.Linked.{IsNumber, key_of};
 
 use crate::store::LinkedStore;
-use catalogue_tables::Chosen;
+use catalogue_tables::{Chosen, KnownAuthority};
 use marc_types::{Class, Field, NoMemory, Tie};
 use std::alloc::Global;
 
 impl LinkedStore {
-    /// What an unlinked field is to be linked to, by the tables alone; a field that is no heading is unlinked. It visits no record.
+    /// What an unlinked field is to be linked to, if it is a heading, by the tables alone. It visits no record.
     pub fn choose(
         &self,
         alloc: Global,
         class: Class,
         field: &Field,
         tie: &Tie,
-    ) -> Result<Chosen, NoMemory>
+    ) -> Result<Option<Chosen>, NoMemory>
         requires { AreAuthoritiesInOrder self.now.state }
-        ensures { IfOk result (λ chosen. chosen ≡ chosen_for self.now.keys.authorities
-            (field_choice (linkable_authorities self.now.state) class (kept_field field.now tie.now))) }
+        ensures { IfOk result (λ chosen. chosen ≡ option_map (chosen_for self.now.keys.authorities)
+            (heading_choice (linkable_authorities self.now.state) class (kept_field field.now tie.now))) }
     {
         let keys = self.frame.store.keys(Class::Authority);
         self.frame
             .tables
             .choose_field(alloc, keys, class, field, tie)
+    }
+
+    /// The kind and the forms of the authority under the key that has the number, if fields can be linked to it. It visits no record.
+    pub fn known_authority(
+        &self,
+        alloc: Global,
+        number: u32,
+    ) -> Result<Option<KnownAuthority>, NoMemory>
+        requires { IsNumber AnAuthority number self.now.keys }
+        ensures { IfOk result (IsKnownAs (find (has_key (key_of AnAuthority number self.now.keys)) (linkable_authorities self.now.state))) }
+    {
+        self.frame.tables.known_authority(alloc, number)
     }
 }

@@ -14,6 +14,7 @@ mod lists;
 mod placing;
 mod rows;
 mod seating;
+mod standings;
 mod store;
 mod turns;
 mod wanted;

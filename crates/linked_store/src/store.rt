@@ -1,12 +1,15 @@
-ghost use Rattle.std.specs.Prelude.{◌≡◌, ◌+◌, ◌<◌, ◌^◌, true, length, map, find, IfOk, OnErr, IsSome, Some, None, if◌then◌else◌};
+ghost use Rattle.std.specs.Prelude.{◌≡◌, ◌+◌, ◌<◌, ◌^◌, true, length, map, find, IfOk, OnErr, IsSome, IfSome, Some, None, if◌then◌else◌};
+ghost use Rattle.marc_types.specs.declared.key.Class.{Class as AnyClass};
 ghost use Rattle.marc_types.specs.declared.key.Key.{Key as AnyKey};
 ghost use Rattle.catalogue_rules.specs.Choice.{has_key};
 ghost use Rattle.std.specs.Option.{option_map};
 ghost use Rattle.marc_types.specs.Order.{same_key};
 ghost use Rattle.numbering.specs.Numbers.{is_known, number_of, IsNumberOf};
 ghost use Rattle.catalogue_rules.specs.State.{kept_record, linkable_authorities, rows_of};
+ghost use Rattle.catalogue_rules.specs.Receipt.{kept_under};
 ghost use Rattle.record_store.specs.Store.{shown_row};
-ghost use Rattle.catalogue_tables.specs.Seam.{keys_in};
+ghost use Rattle.catalogue_tables.specs.Seam.{AreDistinct, keys_in};
+ghost use Rattle.numbered_store.specs.Rows.{IsProper};
 ghost use Rattle.linked_store.specs.Linked.{IsNumber, IsUnchanged, empty_linked, key_of, record_at};
 
 use crate::frame::Frame;
@@ -108,10 +111,33 @@ impl LinkedStore {
     {
         self.frame.store.rows(alloc, class)
     }
+
     /// The key of each authority that fields can be linked to has a number.
     pub fn each_authority_has_a_number(&self)
         ensures { (key : AnyKey) → IsSome (find (has_key key) (linkable_authorities self.now.state))
             → is_known same_key self.now.keys.authorities key ≡ true }
+    {
+        let _frame = &self.frame;
+    }
+
+    /// Each key under which a record is kept has a number.
+    pub fn each_record_has_a_number(&self)
+        ensures { (class : AnyClass) (key : AnyKey) → IsSome (kept_under class key self.now.state)
+            → is_known same_key (keys_in class self.now.keys) key ≡ true }
+    {
+        self.frame.store.each_record_has_a_number();
+    }
+
+    /// Each kept record is a MARC record.
+    pub fn each_record_is_proper(&self)
+        ensures { (class : AnyClass) (key : AnyKey) → IfSome (kept_under class key self.now.state) IsProper }
+    {
+        self.frame.store.each_record_is_proper();
+    }
+
+    /// No key has two numbers.
+    pub fn each_key_has_one_number(&self)
+        ensures { AreDistinct self.now.keys }
     {
         let _frame = &self.frame;
     }

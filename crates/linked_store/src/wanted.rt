@@ -9,12 +9,11 @@ ghost use Rattle.heading_fields.specs.Numbers.{is_naming};
 ghost use Rattle.heading_fields.specs.Tables.{is_subdividable};
 ghost use Rattle.heading_fields.specs.Parts.{is_subdivided};
 ghost use Rattle.entry_record.specs.Authority.{base_form, is_valid_key};
-ghost use Rattle.entry_record.specs.Prepared.{heading_base_form};
 ghost use Rattle.catalogue_rules.specs.State.{kept_field};
 ghost use Rattle.linked_store.specs.Wanted.{AsksFor, IsWanted, NamesKeys, sought_by};
 
-use catalogue_tables::named_key;
-use heading_fields::{controlled, full, has_subdivision, heading_kind, takes_subdivisions};
+use catalogue_tables::{heading_form, named_key};
+use heading_fields::{full, has_subdivision, takes_subdivisions};
 use marc_types::{Class, Field, Form, Key, NoMemory, Subfield, Tie, TryCopy};
 use naco_form::form;
 use std::alloc::Global;
@@ -52,22 +51,6 @@ pub(crate) fn wants_of(
     let sought = forms_for(alloc, class, field, tie, base)?;
     let keys = named(alloc, field, tie)?;
     Ok(Some(Wanted { sought, keys }))
-}
-
-// The base form of a field that is a heading of its class.
-#[tactic(auto, unfolding(entry_record::specs::Authority::heading_kind, entry_record::specs::Authority::has_form))]
-fn heading_form(alloc: Global, class: Class, field: &Field) -> Result<Option<Form>, NoMemory>
-    ensures { IfOk result (λ made. made ≡ heading_base_form class field.now) }
-{
-    let Some(kind) = heading_kind(field, class) else {
-        return Ok(None);
-    };
-    let part = controlled(alloc, field, kind)?;
-    let base = form(alloc, kind, &part)?;
-    if base.items.is_empty() {
-        return Ok(None);
-    }
-    Ok(Some(base))
 }
 
 // The forms by which a heading field is looked up, of which the base form is given.

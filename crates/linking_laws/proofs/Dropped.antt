@@ -246,7 +246,7 @@ spared_found class h old (Some c) kind =
     ap (λ (b : Bool). (h.tie.whole || is_bare c) && b) (kind_agrees old.kind c.kind (kind_of class h.field) kind)
     ∙ spared_bits h (same_kind old.kind c.kind) (is_bare c) h.tie.whole refl
 
-spared_at : (key : Key) (before now : List Linkable) (class : Class) (h : KeptField) (o : Option Key) → h.tie.key ≡ o → IsTied before class h →
+pub spared_at : (key : Key) (before now : List Linkable) (class : Class) (h : KeptField) (o : Option Key) → h.tie.key ≡ o → IsTied before class h →
     IsSparedRightly (dropping_by (find (has_key key) before) (find (has_key key) now)) key now class h
 spared_at key before now class h None e t = λ linked. let off = unlinked_to key h e in cc
 spared_at key before now class h (Some own) e t = λ linked.

@@ -1,7 +1,9 @@
 pub mod Agreeing
+pub mod Alike
 pub mod Commits
 pub mod Counts
 pub mod Dropped
+pub mod Exchanged
 pub mod Exchanges
 pub mod Heart
 pub mod Listed
@@ -10,6 +12,7 @@ pub mod Others
 pub mod Owning
 pub mod Pairs
 pub mod Partial
+pub mod Sames
 pub mod Settling
 pub mod Staged
 pub mod Steadily

@@ -58,7 +58,7 @@ own_place_of : (f : KeptField → KeptField) (key k : Key) (i : ℕ) (rows : Lis
 own_place_of f key k i rows =
     ap (option_and_then (field_at i)) (lookup_changed key (each_in_record f) k rows) ∙ own_at f i (lookup (same_key k) rows) (same_key key k)
 
-own_in : (all : List Linkable) (class d : Class) (key k : Key) (i : ℕ) (s : State) →
+pub own_in : (all : List Linkable) (class d : Class) (key k : Key) (i : ℕ) (s : State) →
     place_of k i (rows_of d (settle_own all class key s))
     ≡ (if same_class class d && same_key key k then option_map (settle_field all d) (place_of k i (rows_of d s)) else place_of k i (rows_of d s))
 unfolding settle_own

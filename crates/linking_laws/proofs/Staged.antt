@@ -230,7 +230,7 @@ bibliographic_by_stages s e v admitted is =
 
 -- ---- the laws of a commit
 
-turn_by : (s : State) (e : Entry) → IsCommit Authority s e → IsTurn e.key (successor_in (arrival_of e)) (linkable_authorities s) (authorities_behind s e)
+pub turn_by : (s : State) (e : Entry) → IsCommit Authority s e → IsTurn e.key (successor_in (arrival_of e)) (linkable_authorities s) (authorities_behind s e)
 turn_by s e c = turn_of (arrival_of e) s c.class_is (fit_entry e c.admitted) c.valid
 
 pub chosen_alike : (s : State) (e : Entry) (class : Class) (h : KeptField) → IsCommit Authority s e → IsChosenAlike s e class h

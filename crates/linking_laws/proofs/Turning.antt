@@ -144,7 +144,7 @@ turned P p h g s m stands tied less short = record {
 }
 
 -- what holds of each field holds of the one at a place
-field_at_place : (P : Class → KeptField → Type 0) (s : State) (q : Place) (h : KeptField) (k : Class) → q.class ≡ k → EachField P s → field_under q s ≡ Some h → P k h
+pub field_at_place : (P : Class → KeptField → Type 0) (s : State) (q : Place) (h : KeptField) (k : Class) → q.class ≡ k → EachField P s → field_under q s ≡ Some h → P k h
 field_at_place P s q h Authority e a there = field_of_authority (P Authority) s q h a.0 e there
 field_at_place P s q h Bibliographic e a there = field_of_bibliographic (P Bibliographic) s q h a.1 e there
 

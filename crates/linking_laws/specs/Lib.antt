@@ -1,4 +1,5 @@
 pub mod Behind
+pub mod Changes
 pub mod Commits
 pub mod Middle
 pub mod Partway

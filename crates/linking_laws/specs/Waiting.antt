@@ -26,6 +26,10 @@ asked_base class kind h = if asks_base class h then base_form kind h.field ∷ [
 abbrev pub is_form_among : List Form → Form → Bool
 is_form_among forms form = list_any (same_form form) forms
 
+-- the same forms are in both lists
+abbrev pub AreSameForms : List Form → List Form → Type 0
+AreSameForms forms others = (form : Form) → is_form_among forms form ≡ is_form_among others form
+
 -- the forms by which a field of a kind is looked up, equal ones once
 unfoldable pub asked_forms : Class → Kind → KeptField → List Form
 asked_forms class kind h =

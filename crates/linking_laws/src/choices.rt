@@ -4,16 +4,19 @@ ghost use Rattle.marc_types.specs.declared.key.Class.{Class};
 ghost use Rattle.marc_types.specs.declared.key.Class.TheVariants.{Authority, Bibliographic};
 ghost use Rattle.marc_types.specs.declared.key.Key.{Key};
 ghost use Rattle.marc_types.specs.declared.entry.Entry.{Entry};
+ghost use Rattle.marc_types.specs.declared.form.Form.{Form};
 ghost use Rattle.marc_types.specs.declared.form.Kind.{Kind};
 ghost use Rattle.entry_record.specs.Authority.{Linkable};
-ghost use Rattle.catalogue_rules.specs.State.{KeptField, State, linkable_authorities};
+ghost use Rattle.catalogue_rules.specs.State.{KeptField, State, each_field, linkable_authorities};
 ghost use Rattle.catalogue_rules.specs.Choice.{choice};
 ghost use Rattle.catalogue_rules.specs.Settle.{Arrival, step};
 ghost use Rattle.catalogue_rules.specs.Settle.{arrival_of};
 ghost use Rattle.catalogue_rules.specs.Valid.{EachField, IsValid};
 ghost use Rattle.linking_laws.specs.Behind.{placed_in};
-ghost use Rattle.linking_laws.specs.Waiting.{names_key, others_of, IsUnasked};
-ghost use Rattle.linking_laws.specs.Stages.{settle_own};
+ghost use Rattle.linking_laws.specs.Waiting.{names_key, others_of, AreSameForms, IsUnasked};
+ghost use Rattle.linking_laws.specs.Stages.{choose_field, settle_own};
+ghost use Rattle.linking_laws.specs.Visits.{choose_visits};
+ghost use Rattle.linking_laws.specs.Weights.{sum_fields};
 ghost use Rattle.linking_laws.specs.Commits.{IsCommit, IsSound, IsChosenAlike, StaysUntouched, field_behind, field_staged, placed_by, state_staged};
 
 /// A choice is the same without the authorities of one key, where the field doesn't name the key and asks for none of their forms.
@@ -68,4 +71,16 @@ pub fn an_authority_is_committed_by_stages()
 pub fn a_bibliographic_record_is_committed_alone()
     ensures { (s : State) (e : Entry) → IsCommit Bibliographic s e
         → step s (arrival_of e) ≡ settle_own (linkable_authorities s) Bibliographic e.key (placed_by Bibliographic s e) }
+{}
+
+/// Lists with the same forms make the same stage: each field is given the same choice, with the same visits.
+pub fn the_same_forms_make_the_same_stage()
+    ensures field { (now : List Linkable) (forms others : List Form) (key : Key) (class : Class) (h : KeptField) → AreSameForms forms others
+        → choose_field now forms key class h ≡ choose_field now others key class h }
+    ensures visits { (now : List Linkable) (forms others : List Form) (key : Key) (class : Class) (h : KeptField) → AreSameForms forms others
+        → choose_visits now forms key class h ≡ choose_visits now others key class h }
+    ensures state { (now : List Linkable) (forms others : List Form) (key : Key) (s : State) → AreSameForms forms others
+        → each_field (choose_field now forms key) s ≡ each_field (choose_field now others key) s }
+    ensures sum { (now : List Linkable) (forms others : List Form) (key : Key) (s : State) → AreSameForms forms others
+        → sum_fields (choose_visits now forms key) s ≡ sum_fields (choose_visits now others key) s }
 {}

@@ -2,6 +2,7 @@
 #![tactic(auto)]
 
 pub mod between;
+pub mod changes;
 pub mod choices;
 pub mod numbers;
 pub mod places;

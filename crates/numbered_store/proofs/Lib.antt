@@ -5,3 +5,4 @@ pub mod Shelving
 pub mod Back
 pub mod Growing
 pub mod Listed
+pub mod Keeping

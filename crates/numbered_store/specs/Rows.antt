@@ -1,13 +1,14 @@
 -- Rows made of keys and slots side by side: a key's slot holds its record, or is blank.
-use Rattle.std.specs.Prelude.{◌≡◌, ℕ, List, [], ◌∷◌, length, map, slice_get, Option, Some, None}
+use Rattle.std.specs.Prelude.{◌≡◌, ℕ, true, List, [], ◌∷◌, length, map, slice_get, Option, Some, None}
 use Rattle.std.specs.List.{IsDistinct}
 use Rattle.std.specs.Map.{lookup, remove_entry}
 use Rattle.std.specs.Option.{option_and_then, option_map}
 use Rattle.std.specs.BTreeMap.{insert_entry}
+use Rattle.marc_types.specs.Valid.{is_record}
 use Rattle.marc_types.specs.declared.key.Key.{Key}
 use Rattle.marc_types.specs.declared.entry.Kept.{Kept}
 use Rattle.marc_types.specs.Order.{key_cmp, same_key}
-use Rattle.catalogue_rules.specs.State.{KeptField, KeptRecord, Row, kept_record}
+use Rattle.catalogue_rules.specs.State.{KeptField, KeptRecord, Row, fields_of, kept_record}
 use Rattle.record_store.specs.Store.{with_field_under}
 
 -- the keys whose slot isn't blank, each with what it holds
@@ -55,6 +56,10 @@ with_slot (Some key) (Some kept) rows = insert_entry key_cmp rows key (kept_reco
 pub record HaveSlots (keys : List Key) (slots : List (Option Kept)) : Type 0 where
   pub long : length slots ≡ length keys
   pub once : IsDistinct same_key keys
+
+-- a kept record is a MARC record
+abbrev pub IsProper : KeptRecord → Type 0
+IsProper r = is_record r.leader (fields_of r) ≡ true
 
 -- the record under a key; there is none where there is no key
 abbrev pub row_under : Option Key → List Row → Option KeptRecord

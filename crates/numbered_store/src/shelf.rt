@@ -1,10 +1,12 @@
-ghost use Rattle.std.specs.Prelude.{◌≡◌, ◌<◌, ◌^◌, [], length, map, IsSome, IfSome, IfOk, OnOk, OnErr, slice_get, Some, None, if◌then◌else◌};
+ghost use Rattle.std.specs.Prelude.{◌≡◌, ◌<◌, ◌^◌, true, [], length, map, IsSome, IfSome, IfOk, OnOk, OnErr, slice_get, Some, None, if◌then◌else◌};
+ghost use Rattle.std.specs.Map.{lookup};
 ghost use Rattle.std.specs.Option.{option_map, option_and_then};
+ghost use Rattle.marc_types.specs.declared.key.Key.{Key as AnyKey};
 ghost use Rattle.marc_types.specs.Order.{same_key};
 ghost use Rattle.numbering.specs.Numbers.{is_known, number_of, with_thing, IsNumberOf};
 ghost use Rattle.catalogue_rules.specs.State.{kept_field, kept_record};
 ghost use Rattle.record_store.specs.Store.{StaysRecord, field_at, shown_row};
-ghost use Rattle.numbered_store.specs.Rows.{row_under, with_row, with_row_field};
+ghost use Rattle.numbered_store.specs.Rows.{IsProper, row_under, with_row, with_row_field};
 
 use crate::listing::{RowMap, in_order};
 use crate::slots::{Slots, exchange_slot, kept_at, recounted, swap_slot};
@@ -82,6 +84,20 @@ impl Shelf {
         ensures { IfOk result (λ rows. map shown_row rows.entries ≡ self.now.rows) }
     {
         in_order(alloc, &self.keys, &self.slots)
+    }
+
+    /// Each key under which a record stands has a number.
+    pub(crate) fn each_record_has_a_number(&self)
+        ensures { (key : AnyKey) → IsSome (lookup (same_key key) self.now.rows) → is_known same_key self.now.keys key ≡ true }
+    {
+        let _slots = &self.slots;
+    }
+
+    /// Each record that stands here is a MARC record.
+    pub(crate) fn each_record_is_proper(&self)
+        ensures { (key : AnyKey) → IfSome (lookup (same_key key) self.now.rows) IsProper }
+    {
+        let _slots = &self.slots;
     }
 
     pub(crate) fn get(&self, number: u32) -> Option<&Kept>

@@ -1,9 +1,13 @@
-ghost use Rattle.std.specs.Prelude.{◌≡◌, ◌+◌, ◌<◌, ◌^◌, length, map, IsSome, IfOk, OnOk, OnErr, Some, None, if◌then◌else◌};
+ghost use Rattle.std.specs.Prelude.{◌≡◌, ◌+◌, ◌<◌, ◌^◌, true, length, map, IsSome, IfSome, IfOk, OnOk, OnErr, Some, None, if◌then◌else◌};
 ghost use Rattle.std.specs.Option.{option_map};
+ghost use Rattle.marc_types.specs.declared.key.Class.{Class as AnyClass};
+ghost use Rattle.marc_types.specs.declared.key.Key.{Key as AnyKey};
 ghost use Rattle.marc_types.specs.Order.{same_key};
 ghost use Rattle.numbering.specs.Numbers.{is_known, number_of, IsNumberOf};
 ghost use Rattle.catalogue_rules.specs.State.{rows_of, kept_field, kept_record};
+ghost use Rattle.catalogue_rules.specs.Receipt.{kept_under};
 ghost use Rattle.record_store.specs.Store.{shown_row};
+ghost use Rattle.numbered_store.specs.Rows.{IsProper};
 ghost use Rattle.numbered_store.specs.Numbered.{IsNumber, SuitsSeat, empty_numbered, field_of, keys_in, record_at, with_field_of, with_number, with_record};
 
 use crate::listing::RowMap;
@@ -99,6 +103,22 @@ impl NumberedStore {
         ensures { IfOk result (λ rows. map shown_row rows.entries ≡ rows_of class self.now.state) }
     {
         self.shelf(class).rows(alloc)
+    }
+
+    /// Each key under which a record is kept has a number.
+    pub fn each_record_has_a_number(&self)
+        ensures { (class : AnyClass) (key : AnyKey) → IsSome (kept_under class key self.now.state) → is_known same_key (keys_in class self.now.keys) key ≡ true }
+    {
+        self.authorities.each_record_has_a_number();
+        self.bibliographic.each_record_has_a_number();
+    }
+
+    /// Each kept record is a MARC record.
+    pub fn each_record_is_proper(&self)
+        ensures { (class : AnyClass) (key : AnyKey) → IfSome (kept_under class key self.now.state) IsProper }
+    {
+        self.authorities.each_record_is_proper();
+        self.bibliographic.each_record_is_proper();
     }
 
     /// Puts a record, or none, under the key that has the number, and gives what stood there. It takes no memory, and the

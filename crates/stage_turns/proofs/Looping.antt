@@ -33,7 +33,7 @@ listed_there (q ∷ done) p rest = ap (λ (b : Bool). same_place q p || b) (list
     either true = refl
     either false = refl
 
--- a place that isn't done holds what it held
+-- what isn't done yet holds what it held
 still_there : (change : Class → KeptField → KeptField) (done : List Place) (before now : State) (p : Place) → IsPartway change done before now → is_place_among done p ≡ false
     → field_under p now ≡ field_under p before
 still_there change done before now p way off = way.fields_are p ∙ by (field_under p before)
@@ -42,14 +42,16 @@ still_there change done before now p way off = way.fields_are p ∙ by (field_un
     by None = refl
     by (Some h) = ap (λ (b : Bool). Some (if b then change p.class h else h)) off
 
-module _ (change : Class → KeptField → KeptField) (test : Class → KeptField → Bool) (done rest : List Seat) (seat : Seat) (old now : Linked) where
-  next_still : ListsSeats old.keys (holds_at test old.state) (done ++ seat ∷ rest) → IsAhead old now → IsPartway change (map (place_at old.keys) done) old.state now.state
-      → field_under (place_at old.keys seat) now.state ≡ field_under (place_at old.keys seat) old.state
-  next_still lists ahead way =
-      let once : AreOnce (map (place_at old.keys) done ++ place_at old.keys seat ∷ map (place_at old.keys) rest) = subst AreOnce (map_join (place_at old.keys) done (seat ∷ rest)) lists.places.once in
-      still_there change (map (place_at old.keys) done) old.state now.state (place_at old.keys seat) way
-      (next_is_new (map (place_at old.keys) done) (place_at old.keys seat) (map (place_at old.keys) rest) once)
+-- and so does the next seat of a listing
+pub next_still : (change : Class → KeptField → KeptField) (members : Place → Bool) (done rest : List Seat) (seat : Seat) (old now : Linked)
+    → ListsSeats old.keys members (done ++ seat ∷ rest) → IsPartway change (map (place_at old.keys) done) old.state now.state
+    → field_under (place_at old.keys seat) now.state ≡ field_under (place_at old.keys seat) old.state
+next_still change members done rest seat old now lists way =
+    let once : AreOnce (map (place_at old.keys) done ++ place_at old.keys seat ∷ map (place_at old.keys) rest) = subst AreOnce (map_join (place_at old.keys) done (seat ∷ rest)) lists.places.once in
+    still_there change (map (place_at old.keys) done) old.state now.state (place_at old.keys seat) way
+    (next_is_new (map (place_at old.keys) done) (place_at old.keys seat) (map (place_at old.keys) rest) once)
 
+module _ (change : Class → KeptField → KeptField) (test : Class → KeptField → Bool) (done rest : List Seat) (seat : Seat) (old now : Linked) where
   -- the next seat of a listing is still to do
   pub next_to_do : ListsSeats old.keys (holds_at test old.state) (done ++ seat ∷ rest) → IsAhead old now → IsPartway change (map (place_at old.keys) done) old.state now.state
       → IsToDo test seat now
@@ -61,7 +63,7 @@ module _ (change : Class → KeptField → KeptField) (test : Class → KeptFiel
       ap (λ (l : List Place). is_place_among l p) (map_join (place_at old.keys) done (seat ∷ rest)) ∙ listed_there (map (place_at old.keys) done) p (map (place_at old.keys) rest) in
       record {
         known = ahead.keys.seats seat known;
-        passes = ap (holds_at test now.state) there ∙ ap (λ (o : Option KeptField). option_map_or (test seat.class) o false) (next_still lists ahead way)
+        passes = ap (holds_at test now.state) there ∙ ap (λ (o : Option KeptField). option_map_or (test seat.class) o false) (next_still change (holds_at test old.state) done rest seat old now lists way)
             ∙ sym (lists.places.members_are p) ∙ among;
       }
 
@@ -70,7 +72,7 @@ module _ (change : Class → KeptField → KeptField) (test : Class → KeptFiel
       → IsPartway change (map (place_at old.keys) done) old.state now.state → visits_at visits now seat ≡ visits_at visits old seat
   next_visits visits lists ahead way =
       let known : HasKey old.keys seat = known_there old.keys done rest seat lists.known in
-      ap (number_at visits now.state) (ahead.keys.places seat known) ∙ ap (λ (o : Option KeptField). option_map_or (visits seat.class) o 0) (next_still lists ahead way)
+      ap (number_at visits now.state) (ahead.keys.places seat known) ∙ ap (λ (o : Option KeptField). option_map_or (visits seat.class) o 0) (next_still change (holds_at test old.state) done rest seat old now lists way)
 
 -- ---- visits
 

@@ -8,10 +8,11 @@ ghost use Rattle.entry_record.specs.Authority.{Linkable};
 ghost use Rattle.numbering.specs.declared.seat.Seat.{Seat as AnySeat};
 ghost use Rattle.catalogue_rules.specs.State.{KeptField, linkable_authorities};
 ghost use Rattle.std.specs.Prelude.{Bool, map};
-ghost use Rattle.catalogue_tables.specs.Seam.{place_at};
+ghost use Rattle.catalogue_tables.specs.Seam.{AreDistinct, place_at};
 ghost use Rattle.linking_laws.specs.Middle.{CanDrop, IsEitherStage, IsMiddleWith};
-ghost use Rattle.linking_laws.specs.Partway.{IsWhole};
-ghost use Rattle.linked_store.specs.Linked.{Linked, ListsSeats, field_of};
+ghost use Rattle.linking_laws.specs.Partway.{IsPartway, IsWhole};
+ghost use Rattle.linked_store.specs.Linked.{IsAhead, Linked, ListsSeats, field_of};
+ghost use Rattle.stage_turns.specs.Noted.{AreNoted, NotesChanges, noted_with};
 ghost use Rattle.stage_turns.specs.Turns.{IsCarriedOut, IsDropping, IsExchanged, IsOnTheWay};
 
 /// Before its first seat a stage has changed nothing.
@@ -53,4 +54,23 @@ pub fn dropping_ends_with_its_last_seat()
         → CanDrop d key old.state → IsDropping d key successor done old now
         → IsWhole (drop_by d (linkable_authorities old.state) key successor) (map (place_at old.keys) done) old.state
         → IsCarriedOut (linkable_authorities old.state) (drop_by d (linkable_authorities old.state) key successor) old now }
+{}
+
+/// Before its first seat a stage has noted nothing.
+pub fn noting_begins_with_no_seat()
+    ensures { (change : Class → KeptField → KeptField) (x : Linked) (noted : List AnySeat) → AreNoted change x [] noted noted }
+{}
+
+/// A turn at the next seat of a listing that notes where the field changes takes noting one seat further.
+pub fn noting_goes_on_by_one_seat()
+    ensures { (change : Class → KeptField → KeptField) (test : Place → Bool) (done rest : List AnySeat) (seat : AnySeat) (old now : Linked) (before noted : List AnySeat)
+        → ListsSeats old.keys test (done ++ seat ∷ rest) → IsAhead old now → IsPartway change (map (place_at old.keys) done) old.state now.state
+        → AreNoted change old done before noted → AreNoted change old (done ++ seat ∷ []) before (noted_with change now seat noted) }
+{}
+
+/// Behind the last seat of a listing that leaves out nothing that the stage changes, all seats are noted that it changes.
+pub fn noting_ends_with_its_last_seat()
+    ensures { (change : Class → KeptField → KeptField) (test : Place → Bool) (done : List AnySeat) (x : Linked) (before noted : List AnySeat)
+        → AreDistinct x.keys → ListsSeats x.keys test done → IsWhole change (map (place_at x.keys) done) x.state
+        → AreNoted change x done before noted → NotesChanges change x before noted }
 {}

@@ -37,6 +37,15 @@ pub fn visit_field<'a, L: Ledger>(
     }
 }
 
+/// The field that stands at a seat, for those who only read. It counts no visit.
+pub(crate) fn look_at_field(store: &LinkedStore, seat: Seat) -> Option<FieldAt<'_>>
+    requires { HasKey store.now.keys seat }
+    ensures { option_map field_as result ≡ field_of seat store.now }
+{
+    let kept = store.look(seat.class, seat.number)?;
+    field_in(kept, seat.field)
+}
+
 // The field at a place of a record.
 #[tactic(auto, using(crate::proofs::Reading::tied_read, crate::proofs::Reading::tied_off))]
 fn field_in(kept: &Kept, place: u32) -> Option<FieldAt<'_>>

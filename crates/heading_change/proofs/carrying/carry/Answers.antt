@@ -6,7 +6,7 @@ use Rattle.numbering.specs.declared.seat.Seat.{Seat}
 use Rattle.linking_laws.specs.Tables.{holds_at, linked_at}
 use Rattle.linked_store.specs.Linked.{ListsSeats}
 use Rattle.stage_turns.proofs.Turning.{ahead_itself}
-use Rattle.heading_change.proofs.Carried.{carried_visits, carried_whole}
+use Rattle.heading_change.proofs.Carried.{carried_noted, carried_visits, carried_whole}
 use Rattle.heading_change.proofs.carrying.carry.Goals as goal
 
 pub returns-in_err-seats-clause-ahead : goal.returns-in_err-seats-clause-ahead
@@ -25,3 +25,7 @@ carry_to-requires-clause-lists g c =
     let lists : ListsSeats c.args.store.now.keys (holds_at (linked_at c.args.key.now) c.args.store.now.state) c.in_ok-seats.seats.items =
     subst (λ (key : Key). ListsSeats c.args.store.now.keys (holds_at (linked_at key) c.args.store.now.state) c.in_ok-seats.seats.items) c.requires.key c.in_ok-seats.ensures in
     subst (λ (seats : List Seat). ListsSeats c.args.store.now.keys (holds_at (linked_at c.args.key.now) c.args.store.now.state) seats) (sym c.deref.ensures.value) lists
+
+pub returns-clause-noted : goal.returns-clause-noted
+returns-clause-noted g c =
+    on_ok_weaker c.carry_to.result (carried_noted c.args.key.now (heading_as c.args.heading) _ c.requires.heading c.args.store.now c.args.noted.now c.carry_to.new.noted) c.carry_to.ensures.noted

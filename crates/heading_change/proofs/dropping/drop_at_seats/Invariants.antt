@@ -1,6 +1,11 @@
-use Rattle.heading_change.specs.Dropping.{dropping_of, successor_to}
+use Rattle.std.proofs.Common.{take}
+use Rattle.catalogue_rules.specs.State.{linkable_authorities}
+use Rattle.stage_turns.specs.Noted.{AreNoted}
+use Rattle.heading_change.specs.Dropping.{drop_ending, dropping_of, successor_to}
 use Rattle.heading_change.proofs.Dropped.{IsDropAt}
 use Rattle.heading_change.proofs.dropping.drop_at_seats.Given as goal
 
 abbrev pub invariant-loop-seat : goal.invariant-loop-seat
-invariant-loop-seat g l = IsDropAt (dropping_of l.links) l.links.key.now (successor_to l.links) l.seats l.seat-index l.fn.store l.store l.fn.steps l.steps
+invariant-loop-seat g l =
+    IsDropAt (dropping_of l.links) l.links.key.now (successor_to l.links) l.seats l.seat-index l.fn.store l.store l.fn.steps l.steps
+    × AreNoted (drop_ending l.links (linkable_authorities l.fn.store.state)) l.fn.store (take l.seat-index l.seats) l.fn.noted l.noted

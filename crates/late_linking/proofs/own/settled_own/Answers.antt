@@ -4,11 +4,14 @@ use Rattle.catalogue_rules.specs.State.{new_field}
 use Rattle.late_linking.proofs.Settled.{choice_made, in_order}
 use Rattle.late_linking.proofs.own.settled_own.Goals as goal
 
-pub settle_unlinked-requires : goal.settle_unlinked-requires
-settle_unlinked-requires g c = in_order c.args.store.now.state c.requires.middle
+pub settle_with_standing-requires : goal.settle_with_standing-requires
+settle_with_standing-requires g c = in_order c.args.store.now.state c.requires.middle
 
 pub returns-clause-made : goal.returns-clause-made
 returns-clause-made g c =
-    IfOk-weaker c.settle_unlinked.result _ _
-    (choice_made c.args.store.now c.args.seat (new_field c.args.field.now) c.requires.middle c.requires.known c.requires.stands refl c.is_proper.ensures)
-    c.settle_unlinked.ensures.settled
+    IfOk-weaker c.settle_with_standing.result _ _
+    (λ settled. choice_made c.args.store.now c.args.seat (new_field c.args.field.now) c.requires.middle c.requires.known c.requires.stands refl c.is_proper.ensures settled.made)
+    c.settle_with_standing.ensures.settled
+
+pub returns-clause-stands : goal.returns-clause-stands
+returns-clause-stands g c = c.settle_with_standing.ensures.stands refl

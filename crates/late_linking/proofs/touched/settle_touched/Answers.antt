@@ -7,6 +7,7 @@ use Rattle.linking_laws.specs.Stages.{choose_field}
 use Rattle.linking_laws.specs.Visits.{choose_visits}
 use Rattle.linking_laws.specs.Weights.{sum_fields}
 use Rattle.linked_store.specs.Linked.{key_of}
+use Rattle.stage_turns.specs.Noted.{NotesChanges}
 use Rattle.stage_turns.specs.Turns.{IsCarriedOut}
 use Rattle.stage_turns.proofs.Turning.{ahead_itself}
 use Rattle.late_linking.proofs.touched.settle_touched.Goals as goal
@@ -27,3 +28,10 @@ returns-clause-visits g c =
     let key = key_of Authority c.args.number c.args.store.now.keys in
     subst (λ (forms : List Form). c.settle_waiting.new.steps ≤ c.args.steps.now + sum_fields (choose_visits all forms key) c.args.store.now.state)
     (c.as_slice.ensures.value ∙ c.in_ok-forms.ensures) c.settle_waiting.ensures.visits
+
+pub returns-clause-noted : goal.returns-clause-noted
+returns-clause-noted g c =
+    let all = linkable_authorities c.args.store.now.state in
+    let key = key_of Authority c.args.number c.args.store.now.keys in
+    subst (λ (forms : List Form). OnOk c.settle_waiting.result (NotesChanges (choose_field all forms key) c.args.store.now c.args.noted.now c.settle_waiting.new.noted))
+    (c.as_slice.ensures.value ∙ c.in_ok-forms.ensures) c.settle_waiting.ensures.noted

@@ -1,0 +1,105 @@
+-- A heading that is carried, and none.
+use Rattle.std.proofs.Common.{◌≡◌, ◌∙◌, sym, ap, refl, subst, ℕ, ◌+◌, ◌≤◌, Bool, true, false, List, [], ◌∷◌, map, Option, Some, None}
+use Rattle.std.specs.Prelude.{IfSome, find, if◌then◌else◌}
+use Rattle.std.specs.Option.{option_map}
+use Rattle.marc_types.specs.Valid.{is_field, is_record}
+use Rattle.marc_types.specs.declared.entry.Entry.{Entry}
+use Rattle.marc_types.specs.declared.field.Field.{Field}
+use Rattle.marc_types.specs.declared.form.Kind.{Kind}
+use Rattle.marc_types.specs.declared.key.Class.{Class}
+use Rattle.entry_record.specs.Authority.{Linkable, linkable_of}
+use Rattle.entry_record.specs.History.{IsAdmitted}
+use Rattle.entry_record.specs.Identity.{is_deletion}
+use Rattle.numbering.specs.declared.seat.Seat.{Seat}
+use Rattle.catalogue_rules.specs.Choice.{has_key}
+use Rattle.catalogue_rules.specs.Settle.{arrival_of}
+use Rattle.catalogue_rules.specs.State.{KeptField, KeptRecord, State, fields_of, linkable_authorities, new_field, new_record}
+use Rattle.catalogue_rules.proofs.States.{fit_entry}
+use Rattle.catalogue_tables.specs.Following.{authority_brought}
+use Rattle.linking_laws.specs.Middle.{IsMiddle}
+use Rattle.linking_laws.specs.Stages.{carry_by}
+use Rattle.linking_laws.specs.Visits.{carry_visits}
+use Rattle.linking_laws.specs.Weights.{sum_fields}
+use Rattle.linked_store.specs.Linked.{Linked}
+use Rattle.field_settling.specs.Held.{governing_of}
+use Rattle.field_settling.proofs.Headings.{heading_found}
+use Rattle.stage_turns.specs.Turns.{IsCarriedOut}
+use Rattle.stage_turns.proofs.Turning.{ahead_itself}
+use Rattle.choice_settling.proofs.Headed.{heading_proper}
+use Rattle.choice_settling.proofs.Reached.{code_text, number_text}
+use Rattle.heading_change.specs.Carrying.{IsHeadingOf, heading_in}
+use Rattle.late_linking.proofs.Settled.{with_all}
+use Rattle.stage_turns.specs.Noted.{NotesChanges}
+use Rattle.commit_stages.proofs.Idle.{idle_noted}
+use Rattle.commit_stages.proofs.Parts.{same_state}
+
+fields_came : (fields : List Field) → map (λ (h : KeptField). h.field) (map new_field fields) ≡ fields
+fields_came [] = refl
+fields_came (f ∷ fields) = λ i. f ∷ fields_came fields i
+
+-- what an entry brings is the authority of its fields
+brings : (e : Entry) (c : Linkable) → authority_brought (arrival_of e) ≡ Some c → linkable_of e.key e.rec.fields ≡ Some c
+brings e c is = at (is_deletion e.rec.leader) is
+  where
+    at : (b : Bool) → (if b then None else linkable_of e.key e.rec.fields) ≡ Some c → linkable_of e.key e.rec.fields ≡ Some c
+    at true is = cc
+    at false is = is
+
+-- its heading can stand in a record
+proper_heading : (e : Entry) (c : Linkable) → authority_brought (arrival_of e) ≡ Some c → is_field c.heading ≡ true
+proper_heading e c is =
+    let r : KeptRecord = new_record e.rec.leader e.rec.fields in
+    let same : fields_of r ≡ e.rec.fields = fields_came e.rec.fields in
+    let valid : is_record e.rec.leader (fields_of r) ≡ true = ap (is_record e.rec.leader) same ∙ e.rec.valid in
+    let governs : governing_of (fields_of r) ≡ Some (c.kind, c.heading) = ap governing_of same ∙ heading_found e.key e.rec.fields c (brings e c is) in
+    subst (λ (o : Option (Kind × Field)). IfSome o (λ (heading : Kind × Field). is_field heading.1 ≡ true)) governs (heading_proper (Some r) valid)
+
+pub brought_heads : (e now : Entry) (all : List Linkable) (heading : Kind × Field) → now ≡ e → IsAdmitted e → find (has_key e.key) all ≡ authority_brought (arrival_of e)
+    → option_map heading_in (authority_brought (arrival_of e)) ≡ Some heading → IsHeadingOf now.key heading all
+brought_heads e now all heading same admitted own is = subst (λ (n : Entry). IsHeadingOf n.key heading all) (sym same) (at (authority_brought (arrival_of e)) refl is)
+  where
+    at : (o : Option Linkable) → authority_brought (arrival_of e) ≡ o → option_map heading_in o ≡ Some heading → IsHeadingOf e.key heading all
+    at None brought is = cc
+    at (Some c) brought is =
+        let heading_is : heading_in c ≡ heading = cc in
+        let fit = fit_entry e admitted in
+        record {
+          found = ap (option_map heading_in) (own ∙ brought) ∙ is;
+          proper = subst (λ (h : Kind × Field). is_field h.1 ≡ true) heading_is (proper_heading e c brought);
+          code = code_text e.key.code fit.code;
+          number = number_text e.key.number fit.number;
+        }
+
+module _ (e now : Entry) (all : List Linkable) where
+  pub carried_noted : (x : Linked) (before after : List Seat) → now ≡ e → find (has_key e.key) all ≡ authority_brought (arrival_of e)
+      → NotesChanges (carry_by now.key (find (has_key now.key) all)) x before after → NotesChanges (carry_by e.key (authority_brought (arrival_of e))) x before after
+  carried_noted x before after same own noted =
+      subst (λ (o : Option Linkable). NotesChanges (carry_by e.key o) x before after) own
+      (subst (λ (n : Entry). NotesChanges (carry_by n.key (find (has_key n.key) all)) x before after) same noted)
+
+  pub carried_steps : (s : State) (before after : ℕ) → now ≡ e → find (has_key e.key) all ≡ authority_brought (arrival_of e)
+      → after ≤ before + sum_fields (carry_visits now.key (find (has_key now.key) all)) s → after ≤ before + sum_fields (carry_visits e.key (authority_brought (arrival_of e))) s
+  carried_steps s before after same own low =
+      subst (λ (o : Option Linkable). after ≤ before + sum_fields (carry_visits e.key o) s) own
+      (subst (λ (n : Entry). after ≤ before + sum_fields (carry_visits n.key (find (has_key n.key) all)) s) same low)
+
+-- ---- none
+
+nobody : (o : Option Linkable) → option_map heading_in o ≡ None → o ≡ None
+nobody None e = refl
+nobody (Some c) e = cc
+
+idle : (e : Entry) → option_map heading_in (authority_brought (arrival_of e)) ≡ None → (class : Class) (h : KeptField) → carry_by e.key (authority_brought (arrival_of e)) class h ≡ h
+idle e none class h = ap (λ (o : Option Linkable). carry_by e.key o class h) (nobody (authority_brought (arrival_of e)) none)
+
+pub nothing_carried : (e : Entry) (x : Linked) → option_map heading_in (authority_brought (arrival_of e)) ≡ None → IsMiddle x.state
+    → IsCarriedOut (linkable_authorities x.state) (carry_by e.key (authority_brought (arrival_of e))) x x
+nothing_carried e x none middle = record {
+  ahead = ahead_itself x;
+  state = sym (same_state (carry_by e.key (authority_brought (arrival_of e))) x.state (idle e none));
+  middle = with_all x.state middle;
+}
+
+pub nothing_noted : (e : Entry) (x : Linked) (seats : List Seat) → option_map heading_in (authority_brought (arrival_of e)) ≡ None
+    → NotesChanges (carry_by e.key (authority_brought (arrival_of e))) x seats seats
+nothing_noted e x seats none = idle_noted (carry_by e.key (authority_brought (arrival_of e))) x seats (idle e none)

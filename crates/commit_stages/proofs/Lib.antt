@@ -1,0 +1,9 @@
+pub mod Alone
+pub mod Carried
+pub mod Changed
+pub mod Ended
+pub mod Idle
+pub mod Numbers
+pub mod Parts
+pub mod Staging
+pub mod Whole

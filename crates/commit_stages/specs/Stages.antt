@@ -1,0 +1,52 @@
+-- The stages of a commit for the entry that is committed.
+use Rattle.std.specs.Prelude.{◌≡◌, ℕ, Bool, List, [], if◌then◌else◌}
+use Rattle.std.specs.Option.{option_map_or}
+use Rattle.marc_types.specs.declared.entry.Entry.{Entry}
+use Rattle.marc_types.specs.declared.form.Form.{Form}
+use Rattle.marc_types.specs.declared.key.Class.{Class}
+use Rattle.entry_record.specs.Authority.{Linkable}
+use Rattle.entry_record.specs.Identity.{is_deletion}
+use Rattle.catalogue_rules.specs.Receipt.{Standing, is_linked, is_ambiguous, is_unlinked}
+use Rattle.catalogue_rules.specs.Settle.{Arrival, arrival_of}
+use Rattle.catalogue_rules.specs.State.{KeptField}
+use Rattle.linking_laws.specs.Stages.{Dropping, DropNone, DropBases, DropAll, drop_by, successor_in}
+use Rattle.linking_laws.specs.Visits.{drop_visits_by}
+use Rattle.linking_laws.specs.Waiting.{forms_of}
+use Rattle.catalogue_tables.specs.Following.{authority_brought}
+use Rattle.linked_store.specs.Linked.{Linked, record_at}
+use Rattle.linked_store.specs.Placing.{record_brought}
+use Rattle.late_linking.specs.Counted.{count_settled}
+use Rattle.late_linking.specs.declared.counts.HeadingCounts.{HeadingCounts}
+use Rattle.commit_stages.specs.declared.ending.Ending.{Ending}
+use Rattle.commit_stages.specs.declared.ending.Ending.TheVariants.{Nothing, Bases, All}
+
+abbrev pub dropping_to : Ending → Dropping
+dropping_to Nothing = DropNone
+dropping_to Bases = DropBases
+dropping_to All = DropAll
+
+-- what dropping makes of a field, over these authorities
+abbrev pub drop_of : Ending → Entry → List Linkable → Class → KeptField → KeptField
+drop_of ending e all = drop_by (dropping_to ending) all e.key (successor_in (arrival_of e))
+
+-- how many visits it takes
+abbrev pub drop_visits_of : Ending → Entry → List Linkable → Class → KeptField → ℕ
+drop_visits_of ending e all = drop_visits_by (dropping_to ending) all e.key (successor_in (arrival_of e))
+
+-- under the number stands the record that the entry brings, as it came, or none where it is a deletion
+abbrev pub IsBrought : ℕ → Entry → Linked → Type 0
+IsBrought number e x = record_at e.class number x ≡ record_brought (arrival_of e)
+
+-- how many of the fields that an entry brings stand so once they are settled; a deletion brings none
+abbrev pub stand_brought : (Standing → Bool) → List Linkable → Entry → ℕ
+stand_brought test all e =
+    if is_deletion e.rec.leader then 0 else count_settled test all e.class e.rec.fields
+
+pub record AreCountsBrought (all : List Linkable) (e : Entry) (counts : HeadingCounts) : Type 0 where
+  pub linked : counts.linked ≡ stand_brought is_linked all e
+  pub ambiguous : counts.ambiguous ≡ stand_brought is_ambiguous all e
+  pub unlinked : counts.unlinked ≡ stand_brought is_unlinked all e
+
+-- the forms under which the authority is found that an entry brings, if fields can be linked to it
+abbrev pub forms_of_brought : Arrival → List Form
+forms_of_brought a = option_map_or forms_of (authority_brought a) []

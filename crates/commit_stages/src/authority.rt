@@ -1,0 +1,112 @@
+//! The commit of an authority: what is linked to it or waits for it follows.
+ghost use Rattle.std.specs.Prelude.{◌≡◌, ℕ, ◌+◌, ◌≤◌, ◌++◌, [], Option, IfOk, OnOk};
+ghost use Rattle.std.specs.Option.{option_map_or};
+ghost use Rattle.marc_types.specs.declared.form.Form.{Form as AnyForm};
+ghost use Rattle.entry_record.specs.Authority.{Linkable};
+ghost use Rattle.linking_laws.specs.Waiting.{forms_of, is_form_among};
+ghost use Rattle.catalogue_tables.specs.Known.{IsKnownAs};
+ghost use Rattle.commit_stages.specs.Stages.{forms_of_brought};
+ghost use Rattle.marc_types.specs.Order.{same_key};
+ghost use Rattle.marc_types.specs.declared.key.Class.TheVariants.{Authority as AnAuthority};
+ghost use Rattle.numbering.specs.Numbers.{IsNumberOf};
+ghost use Rattle.catalogue_tables.specs.Seam.{keys_in};
+ghost use Rattle.catalogue_rules.specs.Settle.{arrival_of, step};
+ghost use Rattle.linking_laws.specs.Commits.{IsCommit};
+ghost use Rattle.linking_laws.specs.Receipts.{receipt_by};
+ghost use Rattle.linking_laws.specs.Visits.{touched};
+ghost use Rattle.linked_store.specs.Linked.{IsAhead};
+ghost use Rattle.commit_stages.specs.Receipts.{AreNumbersOf};
+
+use crate::changes::Changes;
+use crate::ending::links_that_end;
+use crate::stages::{carry_heading, drop_ended, settle_brought};
+use catalogue_tables::KnownAuthority;
+use entry_record::Prepared;
+use late_linking::settle_touched;
+use linked_store::LinkedStore;
+use marc_types::{Class, Form, NoMemory, TryCopy};
+use numbering::Numbering;
+use record_store::Steps;
+use stage_turns::count_records;
+use std::alloc::Global;
+use std::sync::ledger::Ledger;
+
+/// The entry's record comes into its place. Links to its key that can't stay are dropped, its heading is carried to the others, its own
+/// fields are settled, and then those that wait for the key, or for a form under which the authority was found or is.
+pub(crate) fn commit_authority<L: Ledger>(
+    store: &mut LinkedStore,
+    alloc: Global,
+    number: u32,
+    item: &Prepared,
+    steps: &mut Steps<L>,
+) -> Result<Changes, NoMemory>
+    requires commit { IsCommit AnAuthority store.old.state item.now }
+    requires number { IsNumberOf same_key (keys_in AnAuthority store.old.keys) item.now.key number }
+    ensures state { OnOk result (store.new.state ≡ step store.old.state (arrival_of item.now)) }
+    ensures changes { IfOk result (λ changes. (at : ℕ) → AreNumbersOf (receipt_by at store.old.state item.now) changes) }
+    ensures ahead { IsAhead store.old store.new }
+    ensures visits { steps.new ≤ steps.old + touched store.old.state item.now }
+{
+    store.each_record_has_a_number();
+    let known = store.known_authority(alloc, number)?;
+    let ending = links_that_end(known.as_ref(), item);
+    store.place(alloc, number, item)?;
+    let mut noted = Numbering::new(alloc);
+    drop_ended(store, alloc, number, item, ending, &mut noted, steps)?;
+    carry_heading(store, alloc, number, item, &mut noted, steps)?;
+    let counts = settle_brought(store, alloc, number, item, steps)?;
+    let forms = brought_forms(alloc, item)?;
+    settle_touched(
+        store,
+        alloc,
+        number,
+        known_forms(&known),
+        &forms,
+        &mut noted,
+        steps,
+    )?;
+    store.each_key_has_one_number();
+    let changed_records = count_records(alloc, &noted, Class::Authority, number)?;
+    Ok(Changes {
+        linked: counts.linked,
+        ambiguous: counts.ambiguous,
+        unlinked: counts.unlinked,
+        changed_records,
+    })
+}
+
+// The forms under which the authority is found that the entry brings; none where no field can be linked to it.
+fn brought_forms(alloc: Global, item: &Prepared) -> Result<Vec<Form>, NoMemory>
+    requires { item.now.class ≡ AnAuthority }
+    ensures { IfOk result (λ forms. forms.items ≡ forms_of_brought (arrival_of item.now)) }
+{
+    let mut forms = Vec::new(alloc);
+    if item.is_deletion() {
+        return Ok(forms);
+    }
+    if let Some(form) = item.established() {
+        forms.push(form.copy(alloc)?)?;
+        add_forms(&mut forms, alloc, item.see_from().as_slice())?;
+    }
+    Ok(forms)
+}
+
+fn add_forms(forms: &mut Vec<Form>, alloc: Global, more: &[Form]) -> Result<(), NoMemory>
+    ensures { OnOk result (forms.new.items ≡ forms.old.items ++ more.now) }
+{
+    for form in more {
+        forms.push(form.copy(alloc)?)?;
+    }
+    Ok(())
+}
+
+// The forms under which an authority was found.
+fn known_forms(known: &Option<KnownAuthority>) -> &[Form]
+    ensures { (before : Option Linkable) → IsKnownAs before known.now
+        → (form : AnyForm) → is_form_among result.now form ≡ is_form_among (option_map_or forms_of before []) form }
+{
+    match known {
+        Some(known) => &known.forms,
+        None => &[],
+    }
+}

@@ -1,0 +1,141 @@
+//! The stages of a commit, each for the entry that is committed.
+ghost use Rattle.std.specs.Prelude.{◌≡◌, ◌+◌, ◌≤◌, true, IfOk, OnOk, find};
+ghost use Rattle.std.specs.Option.{option_copied};
+ghost use Rattle.entry_record.specs.Authority.{is_valid_key};
+ghost use Rattle.marc_types.specs.declared.key.Class.TheVariants.{Authority as AnAuthority};
+ghost use Rattle.catalogue_rules.specs.Choice.{has_key};
+ghost use Rattle.catalogue_rules.specs.Settle.{arrival_of};
+ghost use Rattle.catalogue_rules.specs.State.{linkable_authorities};
+ghost use Rattle.catalogue_tables.specs.Following.{authority_brought};
+ghost use Rattle.linking_laws.specs.Middle.{CanDrop, IsMiddle};
+ghost use Rattle.linking_laws.specs.Stages.{carry_by, successor_in};
+ghost use Rattle.linking_laws.specs.Visits.{carry_visits};
+ghost use Rattle.linking_laws.specs.Weights.{sum_fields};
+ghost use Rattle.linked_store.specs.Linked.{IsAhead, IsNumber, key_of};
+ghost use Rattle.stage_turns.specs.Turns.{IsCarriedOut};
+ghost use Rattle.late_linking.specs.OwnFields.{IsOwnSettled, own_visits_of};
+ghost use Rattle.stage_turns.specs.Noted.{NotesChanges};
+ghost use Rattle.commit_stages.specs.Stages.{AreCountsBrought, IsBrought, drop_of, drop_visits_of, dropping_to};
+
+use crate::ending::{Ending, brought_heading};
+use entry_record::Prepared;
+use heading_change::{EndingLinks, carry, drop_links};
+use late_linking::{HeadingCounts, settle_own};
+use linked_store::LinkedStore;
+use marc_types::NoMemory;
+use numbering::{Numbering, Seat};
+use record_store::Steps;
+use std::alloc::Global;
+use std::sync::ledger::Ledger;
+
+/// The links to the entry's key that end are dropped.
+pub(crate) fn drop_ended<L: Ledger>(
+    store: &mut LinkedStore,
+    alloc: Global,
+    number: u32,
+    item: &Prepared,
+    ending: Ending,
+    noted: &mut Numbering<Seat>,
+    steps: &mut Steps<L>,
+) -> Result<(), NoMemory>
+    requires number { IsNumber AnAuthority number store.old.keys }
+    requires key { key_of AnAuthority number store.old.keys ≡ item.now.key }
+    requires can { CanDrop (dropping_to ending) item.now.key store.old.state }
+    ensures ok { let all = linkable_authorities store.old.state in
+        OnOk result (IsCarriedOut all (drop_of ending item.now all) store.old store.new) }
+    ensures noted { let all = linkable_authorities store.old.state in
+        OnOk result (NotesChanges (drop_of ending item.now all) store.old noted.old noted.new) }
+    ensures ahead { IsAhead store.old store.new }
+    ensures visits { let all = linkable_authorities store.old.state in
+        steps.new ≤ steps.old + sum_fields (drop_visits_of ending item.now all) store.old.state }
+{
+    match ending {
+        Ending::Nothing => Ok(()),
+        Ending::Bases => drop_links(store, alloc, number, ended(item, true), noted, steps),
+        Ending::All => drop_links(store, alloc, number, ended(item, false), noted, steps),
+    }
+}
+
+// The links to the entry's key, all or those by the base, with its successor.
+fn ended(item: &Prepared, only_base: bool) -> EndingLinks<'_>
+    ensures key { result.key.now ≡ item.now.key }
+    ensures only_base { result.only_base ≡ only_base }
+    ensures successor { option_copied result.successor ≡ successor_in (arrival_of item.now) }
+    ensures valid { is_valid_key item.now.key ≡ true }
+{
+    let entry = item.entry();
+    EndingLinks {
+        key: &entry.key,
+        only_base,
+        successor: item.successor(),
+    }
+}
+
+/// The heading that the entry brings is carried to what is linked to its key.
+pub(crate) fn carry_heading<L: Ledger>(
+    store: &mut LinkedStore,
+    alloc: Global,
+    number: u32,
+    item: &Prepared,
+    noted: &mut Numbering<Seat>,
+    steps: &mut Steps<L>,
+) -> Result<(), NoMemory>
+    requires class { item.now.class ≡ AnAuthority }
+    requires number { IsNumber AnAuthority number store.old.keys }
+    requires key { key_of AnAuthority number store.old.keys ≡ item.now.key }
+    requires own { find (has_key item.now.key) (linkable_authorities store.old.state) ≡ authority_brought (arrival_of item.now) }
+    requires middle { IsMiddle store.old.state }
+    ensures ok { let all = linkable_authorities store.old.state in
+        OnOk result (IsCarriedOut all (carry_by item.now.key (authority_brought (arrival_of item.now))) store.old store.new) }
+    ensures noted { OnOk result (NotesChanges (carry_by item.now.key (authority_brought (arrival_of item.now))) store.old noted.old noted.new) }
+    ensures ahead { IsAhead store.old store.new }
+    ensures visits { steps.new ≤ steps.old + sum_fields (carry_visits item.now.key (authority_brought (arrival_of item.now))) store.old.state }
+{
+    match brought_heading(item) {
+        Some(heading) => carry(
+            store,
+            alloc,
+            number,
+            &item.entry().key,
+            heading,
+            noted,
+            steps,
+        ),
+        None => Ok(()),
+    }
+}
+
+/// The fields of the record that the entry brings are settled; a deletion brings none.
+pub(crate) fn settle_brought<L: Ledger>(
+    store: &mut LinkedStore,
+    alloc: Global,
+    number: u32,
+    item: &Prepared,
+    steps: &mut Steps<L>,
+) -> Result<HeadingCounts, NoMemory>
+    requires number { IsNumber item.now.class number store.old.keys }
+    requires key { key_of item.now.class number store.old.keys ≡ item.now.key }
+    requires came { IsBrought number item.now store.old }
+    requires middle { IsMiddle store.old.state }
+    ensures ok { OnOk result (IsOwnSettled (linkable_authorities store.old.state) item.now.class item.now.key store.old store.new) }
+    ensures counts { IfOk result (AreCountsBrought (linkable_authorities store.old.state) item.now) }
+    ensures ahead { IsAhead store.old store.new }
+    ensures visits { steps.new ≤ steps.old + own_visits_of (linkable_authorities store.old.state) item.now.class item.now.key store.old.state }
+{
+    if item.is_deletion() {
+        return Ok(HeadingCounts {
+            linked: 0,
+            ambiguous: 0,
+            unlinked: 0,
+        });
+    }
+    let entry = item.entry();
+    settle_own(
+        store,
+        alloc,
+        entry.class,
+        number,
+        entry.rec.fields.as_slice(),
+        steps,
+    )
+}
