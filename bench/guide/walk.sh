@@ -40,11 +40,18 @@ cp "$here/../../crates/union_cat/data/everything.mrc" .
 run 1 'union_cat load sample.jnl ULIB=everything.mrc'
 run 0 'union_cat matches sample.jnl same.txt && cat same.txt'
 
+echo '# Which library holds a record'
+cp "$here/../../crates/union_cat/data/holdings.mrc" .
+run 1 'union_cat holdings sample.jnl all.out late.mrc ULIB=holdings.mrc'
+run 0 'union_cat holdings sample.jnl late.out later.mrc ULIB=late.mrc'
+run 0 'cmp late.mrc later.mrc'
+
 echo '# A copy'
 run 0 'flock --shared --nonblock union.jnl cp union.jnl union.copy && sync union.copy'
 run 0 'cmp union.jnl union.copy && union_cat verify union.copy'
 run 5 'flock --shared union.jnl union_cat load union.jnl ALIB=a.mrc'
-run 1 'union_cat load held.jnl ALIB=made.mrc & timeout 60 bash -c "until test -s held.jnl; do sleep 0.01; done"; flock --shared --nonblock held.jnl cp held.jnl held.copy; status=$?; wait; exit $status'
+run 0 'union_cat make 7 30000 many.mrc'
+run 1 'union_cat load held.jnl ALIB=many.mrc & timeout 60 bash -c "until test -s held.jnl; do sleep 0.01; done"; flock --shared --nonblock held.jnl cp held.jnl held.copy; status=$?; wait; exit $status'
 run 0 'test ! -e held.copy'
 run 0 'flock --shared --nonblock missing.jnl true && test -e missing.jnl'
 run 3 'union_cat verify nothing.jnl'

@@ -1,70 +1,148 @@
 -- Counting how fields stand, one record after another.
-use Rattle.std.proofs.Common.{◌≡◌, ℕ, ◌+◌, ◌*◌, ◌^◌, ◌<◌, ◌≤◌, Bool, List, [], ◌∷◌, suc, length, refl, sym, ap, ◌∙◌, arith}
+use Rattle.std.proofs.Common.{◌≡◌, ℕ, ◌+◌, ◌*◌, ◌^◌, ◌<◌, ◌≤◌, Bool, cond, List, [], ◌∷◌, length, map, refl, sym, ap, ◌∙◌, arith}
 use Rattle.std.specs.List.{sum_by, count_by}
-use Rattle.std.proofs.lemmas.List.Sums.{sum_by-cons}
+use Rattle.std.proofs.lemmas.List.Sums.{sum_by-cons, count_by-le-length}
 use Rattle.marc_types.specs.declared.key.Class.{Class}
+use Rattle.marc_types.specs.declared.key.Class.TheVariants.{Authority, Bibliographic}
 use Rattle.marc_types.specs.declared.key.Key.{Key}
+use Rattle.marc_types.specs.declared.entry.Kept.{Kept}
 use Rattle.entry_record.specs.Authority.{Linkable}
-use Rattle.catalogue_rules.specs.State.{Row, State, rows_of, linkable_authorities}
+use Rattle.catalogue_rules.specs.State.{KeptField, KeptRecord, Row, State, kept_record, linkable_authorities, rows_of, tied}
+use Rattle.catalogue_rules.specs.Output.{total_line}
 use Rattle.catalogue_rules.specs.Receipt as definition
-use Rattle.catalogue_rules.specs.Receipt.{is_linked, is_ambiguous, is_unlinked, count_standing}
-use Rattle.catalogue_core.specs.Stands.{stands_as, standings_of}
-use Rattle.catalogue_core.specs.Behind.{standings_rows}
-use Rattle.catalogue_core.specs.Counted.{is_linked_here, is_ambiguous_here, is_unlinked_here}
-use Rattle.catalogue_core.specs.declared.standing.Standing.{Standing}
-use Rattle.catalogue_core.proofs.Counting.{count_alike, linked_alike, ambiguous_alike, unlinked_alike}
-use Rattle.ambiguity_report.specs.Totals.{count_in, count_stood, AreTotals}
+use Rattle.catalogue_rules.specs.Receipt.{is_linked, is_ambiguous, is_unlinked, standing_of, count_standing}
+use Rattle.catalogue_tables.specs.Stands.{stands_as, field_standing}
+use Rattle.catalogue_tables.specs.declared.standing.Standing.{Standing}
+use Rattle.ambiguity_report.specs.Totals.{AddsRecord, AreAllTotals, AreTotals, HaveRoom, is_linked_here, is_ambiguous_here, is_unlinked_here, no_totals, totals_text}
 use Rattle.ambiguity_report.specs.declared.totals.Totals.{Totals}
 
+-- ---- how fields stand, by the rules
+
+linked_alike : (s : definition.Standing) → is_linked_here (stands_as s) ≡ is_linked s
+linked_alike (definition.LinkedTo key) = refl
+linked_alike (definition.AmbiguousAmong keys) = refl
+linked_alike definition.WithoutLink = refl
+linked_alike definition.WithoutHeading = refl
+
+ambiguous_alike : (s : definition.Standing) → is_ambiguous_here (stands_as s) ≡ is_ambiguous s
+ambiguous_alike (definition.LinkedTo key) = refl
+ambiguous_alike (definition.AmbiguousAmong keys) = refl
+ambiguous_alike definition.WithoutLink = refl
+ambiguous_alike definition.WithoutHeading = refl
+
+unlinked_alike : (s : definition.Standing) → is_unlinked_here (stands_as s) ≡ is_unlinked s
+unlinked_alike (definition.LinkedTo key) = refl
+unlinked_alike (definition.AmbiguousAmong keys) = refl
+unlinked_alike definition.WithoutLink = refl
+unlinked_alike definition.WithoutHeading = refl
+
+module _ (here : Standing → Bool) (test : definition.Standing → Bool) (same : (s : definition.Standing) → here (stands_as s) ≡ test s) (all : List Linkable) (class : Class) where
+  count_alike : (hs : List KeptField) → count_by here (map (field_standing all class) hs) ≡ count_by (λ h. test (standing_of all class h)) hs
+  count_alike [] = refl
+  count_alike (h ∷ hs) =
+      sum_by-cons (λ s. cond (here s) 1 0) (field_standing all class h) (map (field_standing all class) hs)
+      ∙ ap (λ b. cond b 1 0 + count_by here (map (field_standing all class) hs)) (same (standing_of all class h))
+      ∙ ap (λ n. cond (test (standing_of all class h)) 1 0 + n) (count_alike hs)
+      ∙ sym (sum_by-cons (λ g. cond (test (standing_of all class g)) 1 0) h hs)
+
+  count_kept : (kept : Kept) (xs : List Standing) → xs ≡ map (field_standing all class) (tied kept.rec.fields kept.links)
+      → count_by here xs ≡ count_standing test all class (kept_record kept)
+  unfolding kept_record
+  count_kept kept xs are = ap (count_by here) are ∙ count_alike (tied kept.rec.fields kept.links)
+
+-- ---- one count
+
+-- how many fields of these rows stand so
+abbrev count_rows : (definition.Standing → Bool) → List Linkable → Class → List Row → ℕ
+count_rows test all class rows = sum_by (λ row. count_standing test all class row.1) rows
+
 -- of all rows, what was counted and what the rows still to come will add; each row adds less than 2^64
-pub record IsCounting (test : Standing → Bool) (rows left : List (Key × List Standing)) (n : ℕ) : Type 0 where
-  pub split : n + count_stood test left ≡ count_stood test rows
+pub record IsCounting (test : definition.Standing → Bool) (all : List Linkable) (class : Class) (rows left : List Row) (n : ℕ) : Type 0 where
+  pub split : n + count_rows test all class left ≡ count_rows test all class rows
   pub room : n + 2 ^ 64 * length left ≤ 2 ^ 64 * length rows
 
-pub counting_begun : (test : Standing → Bool) (rows : List (Key × List Standing)) → IsCounting test rows rows 0
-counting_begun test rows = record { split = omega arith; room = omega arith }
+one_begun : (test : definition.Standing → Bool) (all : List Linkable) (class : Class) (rows : List Row) → IsCounting test all class rows rows 0
+one_begun test all class rows = record { split = omega arith; room = omega arith }
 
-pub counting_more : (test : Standing → Bool) (rows before after : List (Key × List Standing)) (key : Key) (xs : List Standing) (n c m : ℕ) →
-    IsCounting test rows before n → before ≡ (key, xs) ∷ after → c ≡ count_by test xs → c < 2 ^ 64 → m ≡ n + c → IsCounting test rows after m
-counting_more test rows before after key xs n c m so_far is here small sum =
-    let one = ap (count_stood test) is ∙ sum_by-cons (λ (row : Key × List Standing). count_by test row.1) (key, xs) after in
-    let long = ap length is in
-    let split = so_far.split in
-    let room = so_far.room in
-    record { split = omega arith; room = omega arith }
+module _ (here : Standing → Bool) (test : definition.Standing → Bool) (same : (s : definition.Standing) → here (stands_as s) ≡ test s) (all : List Linkable) (class : Class) where
+  one_more : (rows before after : List Row) (key : Key) (kept : Kept) (xs : List Standing) (n m : ℕ) → IsCounting test all class rows before n
+      → before ≡ (key, kept_record kept) ∷ after → xs ≡ map (field_standing all class) (tied kept.rec.fields kept.links) → length xs < 2 ^ 64
+      → m ≡ n + count_by here xs → IsCounting test all class rows after m
+  one_more rows before after key kept xs n m so_far is are few sum =
+      let row : Row = (key, kept_record kept) in
+      let first = ap (count_rows test all class) is ∙ sum_by-cons (λ (r : Row). count_standing test all class r.1) row after in
+      let own = count_kept here test same all class kept xs are in
+      let small = count_by-le-length here xs in
+      let long = ap (λ (l : List Row). length l) is in
+      let split = so_far.split in
+      let room = so_far.room in
+      record { split = omega arith; room = omega arith }
 
-stood_in : (test : Standing → Bool) (q : definition.Standing → Bool) → ((s : definition.Standing) → test (stands_as s) ≡ q s) → (all : List Linkable) (class : Class) (rows : List Row) →
-    count_stood test (standings_rows all class rows) ≡ sum_by (λ (row : Row). count_standing q all class row.1) rows
-stood_in test q same all class [] = refl
-stood_in test q same all class (row ∷ rows) =
-    sum_by-cons (λ (r : Key × List Standing). count_by test r.1) (row.0, standings_of all class row.1) (standings_rows all class rows)
-    ∙ ap (λ n. n + count_stood test (standings_rows all class rows)) (count_alike test q same all class row.1.fields)
-    ∙ ap (λ n. count_standing q all class row.1 + n) (stood_in test q same all class rows)
-    ∙ sym (sum_by-cons (λ (r : Row). count_standing q all class r.1) row rows)
+one_room : (test : definition.Standing → Bool) (all : List Linkable) (class : Class) (rows left : List Row) (n : ℕ) → length rows < 2 ^ 63
+    → IsCounting test all class rows left n → n < 2 ^ 127
+one_room test all class rows left n few so_far = let room = so_far.room in omega arith
 
-counted_in : (test : Standing → Bool) (q : definition.Standing → Bool) → ((s : definition.Standing) → test (stands_as s) ≡ q s) → (class : Class) (s : State) (rows : List (Key × List Standing)) (n : ℕ) →
-    rows ≡ standings_rows (linkable_authorities s) class (rows_of class s) → IsCounting test rows [] n → n ≡ count_in q class s
-counted_in test q same class s rows n are done =
-    let split = done.split in
-    let all : n ≡ count_stood test rows = omega arith in
-    all ∙ ap (count_stood test) are ∙ stood_in test q same (linkable_authorities s) class (rows_of class s)
+one_done : (test : definition.Standing → Bool) (all : List Linkable) (class : Class) (rows : List Row) (n : ℕ) → IsCounting test all class rows [] n
+    → n ≡ count_rows test all class rows
+one_done test all class rows n done = let split = done.split in omega arith
 
-pub totals_are : (class : Class) (s : State) (rows : List (Key × List Standing)) (totals : Totals) → rows ≡ standings_rows (linkable_authorities s) class (rows_of class s) →
-    IsCounting is_linked_here rows [] totals.linked → IsCounting is_ambiguous_here rows [] totals.ambiguous → IsCounting is_unlinked_here rows [] totals.unlinked → AreTotals class s totals
-totals_are class s rows totals are linked ambiguous unlinked = record {
-  linked = counted_in is_linked_here is_linked linked_alike class s rows totals.linked are linked;
-  ambiguous = counted_in is_ambiguous_here is_ambiguous ambiguous_alike class s rows totals.ambiguous are ambiguous;
-  unlinked = counted_in is_unlinked_here is_unlinked unlinked_alike class s rows totals.unlinked are unlinked;
+-- ---- the three counts
+
+pub record AreCounting (all : List Linkable) (class : Class) (rows left : List Row) (totals : Totals) : Type 0 where
+  pub linked : IsCounting is_linked all class rows left totals.linked
+  pub ambiguous : IsCounting is_ambiguous all class rows left totals.ambiguous
+  pub unlinked : IsCounting is_unlinked all class rows left totals.unlinked
+
+pub counting_begun : (all : List Linkable) (class : Class) (rows : List Row) → AreCounting all class rows rows no_totals
+counting_begun all class rows = record {
+  linked = one_begun is_linked all class rows;
+  ambiguous = one_begun is_ambiguous all class rows;
+  unlinked = one_begun is_unlinked all class rows;
 }
 
-few_rows : (all : List Linkable) (class : Class) (rows : List Row) → length (standings_rows all class rows) ≡ length rows
-few_rows all class [] = refl
-few_rows all class (row ∷ rows) = ap suc (few_rows all class rows)
+-- the next row is counted
+pub counting_more : (all : List Linkable) (class : Class) (rows before after : List Row) (key : Key) (kept : Kept) (xs : List Standing) (old new : Totals)
+    → AreCounting all class rows before old → before ≡ (key, kept_record kept) ∷ after → xs ≡ map (field_standing all class) (tied kept.rec.fields kept.links)
+    → AddsRecord xs old new → AreCounting all class rows after new
+counting_more all class rows before after key kept xs old new so_far is are adds = record {
+  linked = one_more is_linked_here is_linked linked_alike all class rows before after key kept xs old.linked new.linked so_far.linked is are adds.few adds.linked;
+  ambiguous = one_more is_ambiguous_here is_ambiguous ambiguous_alike all class rows before after key kept xs old.ambiguous new.ambiguous so_far.ambiguous is are
+      adds.few adds.ambiguous;
+  unlinked = one_more is_unlinked_here is_unlinked unlinked_alike all class rows before after key kept xs old.unlinked new.unlinked so_far.unlinked is are
+      adds.few adds.unlinked;
+}
 
--- a count that was begun over few rows has room
-pub counting_room : (test : Standing → Bool) (s : State) (class : Class) (rows left : List (Key × List Standing)) (n : ℕ) →
-    rows ≡ standings_rows (linkable_authorities s) class (rows_of class s) → length (rows_of class s) < 2 ^ 63 → IsCounting test rows left n → n < 2 ^ 127
-counting_room test s class rows left n are few so_far =
-    let long : length rows ≡ length (rows_of class s) = ap length are ∙ few_rows (linkable_authorities s) class (rows_of class s) in
-    let room = so_far.room in
-    omega arith
+-- counts over few rows have room
+pub counting_room : (all : List Linkable) (class : Class) (rows left : List Row) (totals : Totals) → length rows < 2 ^ 63 → AreCounting all class rows left totals
+    → HaveRoom totals
+counting_room all class rows left totals few so_far = record {
+  linked = one_room is_linked all class rows left totals.linked few so_far.linked;
+  ambiguous = one_room is_ambiguous all class rows left totals.ambiguous few so_far.ambiguous;
+  unlinked = one_room is_unlinked all class rows left totals.unlinked few so_far.unlinked;
+}
+
+pub counting_done : (class : Class) (s : State) (totals : Totals) → AreCounting (linkable_authorities s) class (rows_of class s) [] totals → AreTotals class s totals
+counting_done class s totals done = record {
+  linked = one_done is_linked (linkable_authorities s) class (rows_of class s) totals.linked done.linked;
+  ambiguous = one_done is_ambiguous (linkable_authorities s) class (rows_of class s) totals.ambiguous done.ambiguous;
+  unlinked = one_done is_unlinked (linkable_authorities s) class (rows_of class s) totals.unlinked done.unlinked;
+}
+
+-- both classes together
+pub totals_together : (s : State) (first second both : Totals) → AreTotals Authority s first → AreTotals Bibliographic s second
+    → both.linked ≡ first.linked + second.linked → both.ambiguous ≡ first.ambiguous + second.ambiguous → both.unlinked ≡ first.unlinked + second.unlinked
+    → AreAllTotals s both
+totals_together s first second both one two linked ambiguous unlinked = record {
+  linked = linked ∙ (λ i. one.linked i + two.linked i);
+  ambiguous = ambiguous ∙ (λ i. one.ambiguous i + two.ambiguous i);
+  unlinked = unlinked ∙ (λ i. one.unlinked i + two.unlinked i);
+}
+
+-- ---- the line
+
+pub line_is : (s : State) (authorities bibliographic : ℕ) (totals : Totals) → authorities ≡ length s.authorities → bibliographic ≡ length s.bibliographic
+    → AreAllTotals s totals → totals_text authorities bibliographic totals ≡ total_line s
+line_is s authorities bibliographic totals first second are =
+    ap (λ (n : ℕ). totals_text n bibliographic totals) first
+    ∙ ap (λ (n : ℕ). totals_text (length s.authorities) n totals) second
+    ∙ (λ i. totals_text (length s.authorities) (length s.bibliographic) (record { linked = are.linked i; ambiguous = are.ambiguous i; unlinked = are.unlinked i }))

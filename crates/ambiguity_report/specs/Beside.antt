@@ -9,8 +9,8 @@ use Rattle.heading_fields.specs.Numbers.{key_text}
 use Rattle.catalogue_rules.specs.State.{KeptField, Row, new_field, kept_field}
 use Rattle.catalogue_rules.specs.Lines.{line, then_words}
 use Rattle.catalogue_rules.specs.Output.{place_words, awaits_line}
-use Rattle.catalogue_core.specs.declared.standing.Standing.{Standing}
-use Rattle.catalogue_core.specs.declared.standing.Standing.TheVariants.{Linked, Ambiguous, Unlinked, NoHeading}
+use Rattle.catalogue_tables.specs.declared.standing.Standing.{Standing}
+use Rattle.catalogue_tables.specs.declared.standing.Standing.TheVariants.{Linked, Ambiguous, Unlinked, NoHeading}
 
 -- the line of a field that stands so
 abbrev pub ambiguous_text : Class → Key → ℕ → Field → Standing → List ℕ
@@ -23,6 +23,10 @@ ambiguous_text class key place field NoHeading = []
 -- the line of a field with this tie
 abbrev pub awaits_text : Class → Key → ℕ → Field → Tie → List ℕ
 awaits_text class key place field tie = awaits_line class key place (kept_field field tie)
+
+-- the line of two authorities of which the first is found under the other's established form
+abbrev pub cross_text : Key → Key → List ℕ
+cross_text first second = line (codes "CROSS" ++ then_words (key_text first ∷ key_text second ∷ []))
 
 -- the lines of fields from a place on, each by what stands beside it
 abbrev pub lines_beside : {X : Type 0} → (ℕ → Field → X → List ℕ) → ℕ → List Field → List X → List ℕ

@@ -1,2 +1,3 @@
 pub mod Beside
+pub mod Rows
 pub mod Totals

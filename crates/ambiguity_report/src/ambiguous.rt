@@ -1,19 +1,24 @@
 //! The lines of ambiguous fields.
-ghost use Rattle.std.specs.Prelude.{◌≡◌, ◌++◌, map, codes, is_some, OnOk};
+ghost use Rattle.std.specs.Prelude.{◌≡◌, ◌++◌, map, codes, is_some, IfOk, OnOk};
 ghost use Rattle.std.specs.Io.KnownBytes.{Appends};
 ghost use Rattle.outside.specs.Fault.{HasWriteCause};
 ghost use Rattle.outside.specs.Sink.{WritesFront};
 ghost use Rattle.heading_fields.specs.Numbers.{key_text};
+ghost use Rattle.record_store.specs.Store.{shown_row};
 ghost use Rattle.catalogue_rules.specs.State.{linkable_authorities, new_field, rows_of};
 ghost use Rattle.catalogue_rules.specs.Lines.{line, then_words};
 ghost use Rattle.catalogue_rules.specs.Output.{ambiguous_line, place_words};
 ghost use Rattle.ambiguity_report.specs.Beside.{ambiguous_text, lines_beside, rows_lines};
+ghost use Rattle.ambiguity_report.specs.Totals.{AreTotals, HaveRoom};
 
+use crate::standings::standings;
+use crate::totals::Totals;
 use crate::words::{LINE_FEED, add_key_words, begin_with_place};
 use catalogue_core::{Engine, Standing};
 use marc_types::{Class, Field, Key};
+use numbered_store::RowMap;
 use outside::{Sink, WriteFault};
-use std::alloc::AllocError;
+use std::alloc::{AllocError, Global};
 
 fn make_line(
     text: &mut Vec<u8>,
@@ -82,35 +87,34 @@ fn write_record<K: Sink>(
     Ok(())
 }
 
-/// Writes the line of each ambiguous field of the class, records in key order, fields ascending.
-#[tactic(auto, using(outside::proofs::Fronts::writing_begun, outside::proofs::Fronts::writing_more, outside::proofs::Fronts::writing_failed, outside::proofs::Fronts::writing_done))]
+/// Writes the line of each ambiguous field of the class, records in key order, fields ascending, and counts how its fields stand.
+#[tactic(auto, using(outside::proofs::Fronts::writing_begun, outside::proofs::Fronts::writing_stopped, outside::proofs::Fronts::writing_done))]
 pub(crate) fn write_ambiguous<K: Sink>(
+    alloc: Global,
     engine: &Engine,
     class: Class,
+    rows: &RowMap<'_>,
     text: &mut Vec<u8>,
     out: &mut K,
-) -> Result<(), WriteFault>
+) -> Result<Totals, WriteFault>
+    requires { map shown_row rows.now.entries ≡ rows_of class engine.now.state }
     ensures bytes { OnOk result (Appends (K.written out.old) (K.written out.new)
-        (rows_lines (ambiguous_line (linkable_authorities engine.now)) class (rows_of class engine.now))) }
+        (rows_lines (ambiguous_line (linkable_authorities engine.now.state)) class (rows_of class engine.now.state))) }
     ensures front { WritesFront (K.written out.old) (K.written out.new)
-        (rows_lines (ambiguous_line (linkable_authorities engine.now)) class (rows_of class engine.now)) }
+        (rows_lines (ambiguous_line (linkable_authorities engine.now.state)) class (rows_of class engine.now.state)) }
     ensures tells { is_some (K.written out.new) ≡ is_some (K.written out.old) }
     ensures cause { HasWriteCause (K.faults out.old) (K.faults out.new) result }
+    ensures totals { IfOk result (AreTotals class engine.now.state) }
+    ensures room { IfOk result HaveRoom }
 {
-    let mut standing_rows = engine.standing_rows(class);
-    for (key, kept) in engine.rows(class) {
-        // there is one for each record
-        let Some((_key, standings)) = standing_rows.next() else {
-            return Ok(());
+    let mut totals = Totals::none();
+    for (key, kept) in rows {
+        let (fields, ties) = (kept.rec.fields.as_slice(), kept.links.as_slice());
+        let Ok(standings) = standings(alloc, engine, class, fields, ties) else {
+            return Err(WriteFault::NoMemory);
         };
-        write_record(
-            class,
-            key,
-            kept.rec.fields.as_slice(),
-            standings.as_slice(),
-            text,
-            out,
-        )?;
+        write_record(class, key, fields, &standings, text, out)?;
+        totals = totals.with_record(&standings);
     }
-    Ok(())
+    Ok(totals)
 }

@@ -1,17 +1,18 @@
 //! The lines of fields that await a key.
-ghost use Rattle.std.specs.Prelude.{◌≡◌, ◌++◌, codes, is_some, OnOk};
+ghost use Rattle.std.specs.Prelude.{◌≡◌, ◌++◌, map, codes, is_some, OnOk};
 ghost use Rattle.std.specs.Io.KnownBytes.{Appends};
 ghost use Rattle.outside.specs.Fault.{HasWriteCause};
 ghost use Rattle.outside.specs.Sink.{WritesFront};
 ghost use Rattle.heading_fields.specs.Numbers.{key_text};
-ghost use Rattle.catalogue_rules.specs.State.{new_field, rows_of};
+ghost use Rattle.record_store.specs.Store.{shown_row};
+ghost use Rattle.catalogue_rules.specs.State.{new_field};
 ghost use Rattle.catalogue_rules.specs.Lines.{line, then_word};
 ghost use Rattle.catalogue_rules.specs.Output.{awaits_line, place_words};
 ghost use Rattle.ambiguity_report.specs.Beside.{awaits_text, lines_beside, rows_lines};
 
 use crate::words::{LINE_FEED, add_key_word, begin_with_place};
-use catalogue_core::Engine;
 use marc_types::{Class, Field, Key, Tie};
+use numbered_store::RowMap;
 use outside::{Sink, WriteFault};
 use std::alloc::AllocError;
 
@@ -85,19 +86,19 @@ fn write_record<K: Sink>(
 /// Writes the line of each field of the class that awaits a key, records in key order, fields ascending.
 #[tactic(auto, using(outside::proofs::Fronts::writing_begun, outside::proofs::Fronts::writing_more, outside::proofs::Fronts::writing_failed, outside::proofs::Fronts::writing_done))]
 pub(crate) fn write_awaits<K: Sink>(
-    engine: &Engine,
     class: Class,
+    rows: &RowMap<'_>,
     text: &mut Vec<u8>,
     out: &mut K,
 ) -> Result<(), WriteFault>
     ensures bytes { OnOk result
-        (Appends (K.written out.old) (K.written out.new) (rows_lines awaits_line class (rows_of class engine.now))) }
+        (Appends (K.written out.old) (K.written out.new) (rows_lines awaits_line class (map shown_row rows.now.entries))) }
     ensures front { WritesFront (K.written out.old) (K.written out.new)
-        (rows_lines awaits_line class (rows_of class engine.now)) }
+        (rows_lines awaits_line class (map shown_row rows.now.entries)) }
     ensures tells { is_some (K.written out.new) ≡ is_some (K.written out.old) }
     ensures cause { HasWriteCause (K.faults out.old) (K.faults out.new) result }
 {
-    for (key, kept) in engine.rows(class) {
+    for (key, kept) in rows {
         let (fields, ties) = (kept.rec.fields.as_slice(), kept.links.as_slice());
         write_record(class, key, fields, ties, text, out)?;
     }

@@ -8,7 +8,9 @@ mod ambiguous;
 mod awaits;
 mod cross;
 mod report;
+mod rows;
 mod shared;
+mod standings;
 #[cfg(test)]
 mod tests;
 mod totals;

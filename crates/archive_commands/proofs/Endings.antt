@@ -126,14 +126,18 @@ module _ (journal out : List ℕ) (due : DueView) (o : Outcome) where
       part = λ entries either. part_is entries;
     }
 
-    -- memory ran out over the report
-    pub reads_no_memory : o.end ≡ Told Memory → IsTold Memory o → IsReport due → Reads journal out due o
-    reads_no_memory is told report = record {
+    unbegun : IsReport due ⊎ SameBut o.old o.new (journal ∷ []) → (IsReport due → ⊥) → SameBut o.old o.new (journal ∷ [])
+    unbegun (inl report) other = absurd (other report)
+    unbegun (inr apart) other = apart
+
+    -- memory ran out over the report, or before the output was begun
+    pub reads_no_memory : o.end ≡ Told Memory → IsTold Memory o → IsReport due ⊎ SameBut o.old o.new (journal ∷ []) → Reads journal out due o
+    reads_no_memory is told either = record {
       ends = subst EndsReading (sym is) tt;
       keeps = r.keeps;
       told = λ why also. subst (λ w. IsTold w o × WhyUnopened o.old journal w) (told_once o.end Memory why is also)
           (told, record { reason = opening.NoMemory; is = refl; so = λ tells. tt });
-      untouched = λ why also some. absurd (some (told_once o.end why Memory also is, report));
+      untouched = λ why also some. unbegun either (λ report. some (told_once o.end why Memory also is, report));
       unread = λ also tells. inr (fitting_history history (log_bytes o.old journal) (r.has tells) r.within);
       silent = λ untold. absurd (never_told o.end Memory untold is);
       device = λ also. let no : Memory ≡ Device = told_once o.end Memory Device is also in cc;
@@ -141,5 +145,5 @@ module _ (journal out : List ℕ) (due : DueView) (o : Outcome) where
       history = λ untold. absurd (never_told o.end Memory untold is);
       durable = λ untold. absurd (never_told o.end Memory untold is);
       whole = λ entries also. absurd (told_not_done o.end Memory is also);
-      part = λ entries either. part_is entries;
+      part = λ entries so. part_is entries;
     }

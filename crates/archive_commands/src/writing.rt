@@ -1,7 +1,7 @@
 //! What is due of a catalogue, as a file.
-ghost use Rattle.std.specs.Prelude.{◌≡◌, ◌∷◌, [], true, Some, None, OnOk, IfErr};
+ghost use Rattle.std.specs.Prelude.{◌≡◌, ◌⊎◌, ◌∷◌, [], true, Some, None, OnOk, IsErrOf};
 ghost use Rattle.std.specs.Option.{option_copied};
-ghost use Rattle.outside.specs.Fault.{HasCause, HasWriteCause};
+ghost use Rattle.outside.specs.Fault.{HasWriteCause};
 ghost use Rattle.outside.specs.Room.{AsLog, SameBut};
 ghost use Rattle.catalogue_rules.specs.Settle.{state_of};
 ghost use Rattle.catalogue_rules.specs.Output.{export_of};
@@ -15,38 +15,40 @@ use catalogue_core::Catalogue;
 use durable_catalogue::Archive;
 use marc_types::Key;
 use output_files::{write_all_records, write_export, write_report_file};
-use outside::{Failed, Room, WriteFault};
+use outside::{Room, WriteFault};
 use room_files::close_archive;
 use selection::Selection;
 use std::alloc::Global;
 
 /// Writes the records of a catalogue into the file `out`: all, or those under keys with that code.
 fn write_kept<R: Room>(
+    alloc: Global,
     room: &mut R,
     out: &str,
     core: &Catalogue,
     code: Option<&str>,
-) -> Result<(), Failed>
+) -> Result<(), WriteFault>
     requires free { (R.seen room.old).open_as out.now ≡ None }
     requires staged { core.now.staged ≡ [] }
     ensures apart { SameBut (R.seen room.old) (R.seen room.new) (out.now ∷ []) }
     ensures closed { (R.seen room.new).open_as out.now ≡ None }
-    ensures cause { HasCause ((R.seen room.old).out_faults out.now) ((R.seen room.new).out_faults out.now) result }
+    ensures cause { HasWriteCause ((R.seen room.old).out_faults out.now) ((R.seen room.new).out_faults out.now) result }
+    ensures unbegun { IsErrOf result WriteFault.NoMemory → SameBut (R.seen room.old) (R.seen room.new) [] }
     ensures bytes { OnOk result ((R.seen room.old).tells ≡ true →
         (R.seen room.new).file out.now ≡ Some (export_of (kept_keys (option_copied code.entry)) (state_of core.now.history))) }
     ensures part { (R.seen room.old).tells ≡ true → IsPartWritten ((R.seen room.old).file out.now) ((R.seen room.new).file out.now)
         (export_of (kept_keys (option_copied code.entry)) (state_of core.now.history)) }
 {
     match code {
-        None => write_all_records(room, out, core),
+        None => write_all_records(alloc, room, out, core),
         Some(code) => {
             let coded = Selection::new(|key: &Key| key.code.as_str() == code);
-            write_export(room, out, core, &coded)
+            write_export(alloc, room, out, core, &coded)
         }
     }
 }
 
-/// Writes what is due of a catalogue into the file `out`. Only the report takes memory.
+/// Writes what is due of a catalogue into the file `out`. An export takes all its memory before that is begun.
 fn write_due<R: Room>(
     alloc: Global,
     room: &mut R,
@@ -59,17 +61,14 @@ fn write_due<R: Room>(
     ensures apart { SameBut (R.seen room.old) (R.seen room.new) (out.now ∷ []) }
     ensures closed { (R.seen room.new).open_as out.now ≡ None }
     ensures cause { HasWriteCause ((R.seen room.old).out_faults out.now) ((R.seen room.new).out_faults out.now) result }
-    ensures memory { IfErr result (λ fault. fault ≡ WriteFault.NoMemory → IsReport (due_view due.entry)) }
+    ensures memory { IsErrOf result WriteFault.NoMemory → IsReport (due_view due.entry) ⊎ SameBut (R.seen room.old) (R.seen room.new) [] }
     ensures bytes { OnOk result ((R.seen room.old).tells ≡ true →
         (R.seen room.new).file out.now ≡ Some (due_of (due_view due.entry) core.now.history)) }
     ensures part { (R.seen room.old).tells ≡ true →
         IsPartWritten ((R.seen room.old).file out.now) ((R.seen room.new).file out.now) (due_of (due_view due.entry) core.now.history) }
 {
     match due {
-        Due::Export(code) => match write_kept(room, out, core, code) {
-            Ok(()) => Ok(()),
-            Err(_) => Err(WriteFault::OutputFault),
-        },
+        Due::Export(code) => write_kept(alloc, room, out, core, code),
         Due::Report => write_report_file(alloc, room, out, core),
     }
 }
@@ -93,7 +92,8 @@ pub fn write_archive<R: Room>(
 
     // The output, as `write_due` leaves it.
     ensures cause { HasWriteCause ((R.seen room.old).out_faults out.now) ((R.seen room.new).out_faults out.now) result }
-    ensures memory { IfErr result (λ fault. fault ≡ WriteFault.NoMemory → IsReport (due_view due.entry)) }
+    ensures memory { IsErrOf result WriteFault.NoMemory →
+        IsReport (due_view due.entry) ⊎ SameBut (R.seen room.old) (R.seen room.new) (journal.now ∷ []) }
     ensures bytes { OnOk result ((R.seen room.old).tells ≡ true →
         (R.seen room.new).file out.now ≡ Some (due_of (due_view due.entry) archive.core.history)) }
     ensures part { (R.seen room.old).tells ≡ true →

@@ -1,6 +1,6 @@
 -- A catalogue before and after its calls.
 use Rattle.std.proofs.Common.{◌≡◌, ℕ, zero, suc, ◌+◌, ◌-◌, ◌<◌, ◌≤◌, Bool, true, false, ◌||◌, List, [], ◌∷◌, ◌++◌, length, take, drop, map, Option, Some, None, refl, sym, ap, ◌∙◌, arith, subst}
-use Rattle.std.specs.Prelude.{nat_lt, unwrap_or}
+use Rattle.std.specs.Prelude.{nat_lt}
 use Rattle.std.specs.List.{sum_by}
 use Rattle.std.proofs.lemmas.Bool.{or_parts, ltb-false, ltb-true, lt-ltb, le-ltb}
 use Rattle.std.proofs.lemmas.List.{take-append-drop, take-append-le, drop-append-le}
@@ -14,30 +14,32 @@ use Rattle.catalogue_rules.specs.Settle.{Arrival, step, state_after, arrival_of,
 use Rattle.entry_record.specs.History.{IsAdmitted, entry_size, entries_size}
 use Rattle.catalogue_rules.specs.Receipt.{receipt_of, receipt}
 use Rattle.catalogue_rules.proofs.Elements.{Each}
-use Rattle.catalogue_core.specs.Catalogues.{Catalogued, all_entries, is_full, with_staged, with_kept, without_staged, kept_count, catalogued, IsBefore, IsCatalogue}
+use Rattle.catalogue_core.specs.Catalogues.{Catalogued, all_entries, catalogued, is_full, receipt_with, with_kept, with_staged, without_staged, IsCatalogue}
 use Rattle.marc_types.specs.declared.entry.Receipt.{Receipt}
-use Rattle.catalogue_core.specs.Engines.{AreNumbersOf}
-use Rattle.catalogue_core.specs.declared.catalogue.Before.{Before}
-use Rattle.catalogue_core.specs.declared.engine.Changes.{Changes}
+use Rattle.catalogue_core.specs.Engines.{Engined, empty_engine}
+use Rattle.commit_stages.specs.Receipts.{AreNumbersOf}
 use Rattle.catalogue_core.proofs.Engines.{empty_is}
+use Rattle.commit_stages.specs.declared.changes.Changes.{Changes}
 
 -- ---- both lists are all entries
 
-pub all_is : (before : Option Before) (entries : List Entry) (limits : Limits) → all_entries (catalogued before entries limits) ≡ entries
-all_is before entries limits = take-append-drop (kept_count before entries) entries
+pub all_is : (kept : ℕ) (entries : List Entry) (limits : Limits) → all_entries (catalogued kept entries limits) ≡ entries
+all_is kept entries limits = take-append-drop kept entries
 
-pub engine_is : (engine : State) (before : Option Before) (entries : List Entry) (bytes : ℕ) (limits : Limits) → IsCatalogue engine before entries bytes limits →
-    engine ≡ state_of (all_entries (catalogued before entries limits))
-engine_is engine before entries bytes limits c = c.engine_is ∙ ap state_of (sym (all_is before entries limits))
+pub engine_is : (engine : Engined) (kept kept_bytes : ℕ) (entries : List Entry) (bytes : ℕ) (limits : Limits) → IsCatalogue engine kept kept_bytes entries bytes limits
+    → engine.state ≡ state_of (all_entries (catalogued kept entries limits))
+engine_is engine kept kept_bytes entries bytes limits c = c.state_is ∙ ap state_of (sym (all_is kept entries limits))
 
-pub catalogue_empty : (limits : Limits) → IsCatalogue empty_state None [] 0 limits
+pub catalogue_empty : (limits : Limits) → IsCatalogue empty_engine 0 0 [] 0 limits
 catalogue_empty limits = record {
-  engine_is = sym empty_is;
+  state_is = empty_is;
+  before_is = empty_is;
   admitted = All-from_recursion IsAdmitted [] tt;
   bytes_are = refl;
+  kept_bytes_are = refl;
   entries_fit = omega arith;
   bytes_fit = omega arith;
-  before_is = tt;
+  within = omega arith;
 }
 
 -- ---- one more entry
@@ -77,20 +79,10 @@ room_for entries limits e h =
     let parts = or_parts (nat_lt limits.entries (length entries + 1)) (nat_lt limits.bytes (entries_size entries + entry_size e)) h in
     record { count = ltb-false limits.entries (length entries + 1) parts.0; size = ltb-false limits.bytes (entries_size entries + entry_size e) parts.1 }
 
-room_of : (before : Option Before) (entries : List Entry) (limits : Limits) (e : Entry) → is_full (catalogued before entries limits) e ≡ false → HasRoomFor entries limits e
-room_of before entries limits e h =
+room_of : (kept : ℕ) (entries : List Entry) (limits : Limits) (e : Entry) → is_full (catalogued kept entries limits) e ≡ false → HasRoomFor entries limits e
+room_of kept entries limits e h =
     room_for entries limits e
-    (sym (ap (λ (all : List Entry). nat_lt limits.entries (length all + 1) || nat_lt limits.bytes (entries_size all + entry_size e)) (all_is before entries limits)) ∙ h)
-
--- what a catalogue was before its first staged entry
-abbrev pub first_before : Option Before → State → List Entry → ℕ → Before
-first_before before engine entries bytes = unwrap_or before (record { engine = engine; entries = length entries; bytes = bytes })
-
-take_all : (xs : List Entry) (e : Entry) → take (length xs) (xs ++ e ∷ []) ≡ xs
-take_all xs e = take-append_seam xs (e ∷ [])
-
-drop_all : (xs : List Entry) (e : Entry) → drop (length xs) (xs ++ e ∷ []) ≡ e ∷ []
-drop_all xs e = drop-append_seam xs (e ∷ [])
+    (sym (ap (λ (all : List Entry). nat_lt limits.entries (length all + 1) || nat_lt limits.bytes (entries_size all + entry_size e)) (all_is kept entries limits)) ∙ h)
 
 drop_none : (xs : List Entry) → drop (length xs) xs ≡ []
 drop_none [] = refl
@@ -100,83 +92,58 @@ take_whole : (xs : List Entry) → take (length xs) xs ≡ xs
 take_whole [] = refl
 take_whole (x ∷ xs) = ap (λ l. x ∷ l) (take_whole xs)
 
-before_added : (before : Option Before) (engine : State) (entries : List Entry) (bytes : ℕ) (limits : Limits) (e : Entry) → IsCatalogue engine before entries bytes limits →
-    IsBefore (entries ++ e ∷ []) (first_before before engine entries bytes)
-before_added None engine entries bytes limits e c =
-    let longer = length_last entries e in
-    record {
-      engine = c.engine_is ∙ ap state_of (sym (take_all entries e));
-      bytes = c.bytes_are ∙ ap entries_size (sym (take_all entries e));
-      within = omega arith;
-    }
-before_added (Some b) engine entries bytes limits e c =
-    let was = c.before_is in
-    let within = was.within in
-    let longer = length_last entries e in
-    let same = take-append-le b.entries entries (e ∷ []) within in
-    record {
-      engine = was.engine ∙ ap state_of (sym same);
-      bytes = was.bytes ∙ ap entries_size (sym same);
-      within = omega arith;
-    }
-
-pub catalogue_added : (engine next : State) (before : Option Before) (entries now : List Entry) (bytes : ℕ) (limits : Limits) (e : Entry) → IsCatalogue engine before entries bytes limits → IsAdmitted e →
-    is_full (catalogued before entries limits) e ≡ false → next ≡ step engine (arrival_of e) → now ≡ entries ++ e ∷ [] →
-    IsCatalogue next (Some (first_before before engine entries bytes)) now (bytes + entry_size e) limits
-catalogue_added engine next before entries now bytes limits e c admitted full is put =
-    let room = room_of before entries limits e full in
+pub catalogue_added : (engine next : Engined) (kept kept_bytes : ℕ) (entries now : List Entry) (bytes : ℕ) (limits : Limits) (e : Entry) → IsCatalogue engine kept kept_bytes entries bytes limits → IsAdmitted e
+    → is_full (catalogued kept entries limits) e ≡ false → next.state ≡ step engine.state (arrival_of e) → next.before ≡ engine.before → now ≡ entries ++ e ∷ []
+    → IsCatalogue next kept kept_bytes now (bytes + entry_size e) limits
+catalogue_added engine next kept kept_bytes entries now bytes limits e c admitted full is stays put =
+    let room = room_of kept entries limits e full in
     let size = size_last entries e in
     let longer = length_last entries e in
     let bytes_were = c.bytes_are in
     let count_fits = room.count in
     let size_fits = room.size in
-    subst (λ (all : List Entry). IsCatalogue next (Some (first_before before engine entries bytes)) all (bytes + entry_size e) limits) (sym put)
+    let within = c.within in
+    let same : take kept (entries ++ e ∷ []) ≡ take kept entries = take-append-le kept entries (e ∷ []) within in
+    subst (λ (all : List Entry). IsCatalogue next kept kept_bytes all (bytes + entry_size e) limits) (sym put)
     (record {
-      engine_is = is ∙ ap (λ (s : State). step s (arrival_of e)) c.engine_is ∙ sym (state_last entries e);
+      state_is = is ∙ ap (λ (s : State). step s (arrival_of e)) c.state_is ∙ sym (state_last entries e);
+      before_is = stays ∙ c.before_is ∙ ap state_of (sym same);
       admitted = All-from_recursion IsAdmitted (entries ++ e ∷ []) (each_last entries e (recursion_from_All IsAdmitted entries c.admitted) admitted);
       bytes_are = omega arith;
+      kept_bytes_are = c.kept_bytes_are ∙ ap entries_size (sym same);
       entries_fit = omega arith;
       bytes_fit = omega arith;
-      before_is = before_added before engine entries bytes limits e c;
+      within = omega arith;
     })
 
-staged_by : (before : Option Before) (engine : State) (entries : List Entry) (bytes : ℕ) (limits : Limits) (e : Entry) → IsCatalogue engine before entries bytes limits →
-    catalogued (Some (first_before before engine entries bytes)) (entries ++ e ∷ []) limits ≡ with_staged (catalogued before entries limits) e
-staged_by None engine entries bytes limits e c =
-    λ i. record {
-      history = (take_all entries e ∙ sym (take_whole entries)) i;
-      staged = (drop_all entries e ∙ ap (λ l. l ++ e ∷ []) (sym (drop_none entries))) i;
-      limits = limits;
-    }
-staged_by (Some b) engine entries bytes limits e c =
-    let within = c.before_is.within in
-    λ i. record {
-      history = take-append-le b.entries entries (e ∷ []) within i;
-      staged = drop-append-le b.entries entries (e ∷ []) within i;
-      limits = limits;
-    }
-
 -- the entry is staged behind the others
-pub staged_is : (engine : State) (before : Option Before) (entries now : List Entry) (bytes : ℕ) (limits : Limits) (e : Entry) → IsCatalogue engine before entries bytes limits → now ≡ entries ++ e ∷ [] →
-    catalogued (Some (first_before before engine entries bytes)) now limits ≡ with_staged (catalogued before entries limits) e
-staged_is engine before entries now bytes limits e c put =
-    ap (λ (all : List Entry). catalogued (Some (first_before before engine entries bytes)) all limits) put ∙ staged_by before engine entries bytes limits e c
+pub staged_is : (kept : ℕ) (entries now : List Entry) (limits : Limits) (e : Entry) → kept ≤ length entries → now ≡ entries ++ e ∷ []
+    → catalogued kept now limits ≡ with_staged (catalogued kept entries limits) e
+staged_is kept entries now limits e within put =
+    ap (λ (all : List Entry). catalogued kept all limits) put
+    ∙ (λ i. record { history = take-append-le kept entries (e ∷ []) within i; staged = drop-append-le kept entries (e ∷ []) within i; limits = limits })
 
 -- ---- what is staged is kept or dropped
 
-pub kept_is : (before : Option Before) (entries : List Entry) (limits : Limits) → catalogued None entries limits ≡ with_kept (catalogued before entries limits)
-kept_is before entries limits =
-    λ i. record { history = (take_whole entries ∙ sym (all_is before entries limits)) i; staged = drop_none entries i; limits = limits }
+pub kept_is : (kept n : ℕ) (entries : List Entry) (limits : Limits) → n ≡ length entries → catalogued n entries limits ≡ with_kept (catalogued kept entries limits)
+kept_is kept n entries limits whole =
+    ap (λ (m : ℕ). catalogued m entries limits) whole
+    ∙ (λ i. record { history = (take_whole entries ∙ sym (all_is kept entries limits)) i; staged = drop_none entries i; limits = limits })
 
-pub kept_catalogue : (engine : State) (before : Option Before) (entries : List Entry) (bytes : ℕ) (limits : Limits) → IsCatalogue engine before entries bytes limits → IsCatalogue engine None entries bytes limits
-kept_catalogue engine before entries bytes limits c = record {
-  engine_is = c.engine_is;
-  admitted = c.admitted;
-  bytes_are = c.bytes_are;
-  entries_fit = c.entries_fit;
-  bytes_fit = c.bytes_fit;
-  before_is = tt;
-}
+pub kept_catalogue : (engine next : Engined) (kept kept_bytes n : ℕ) (entries : List Entry) (bytes : ℕ) (limits : Limits) → IsCatalogue engine kept kept_bytes entries bytes limits
+    → next ≡ record { state = engine.state; before = engine.state } → n ≡ length entries → IsCatalogue next n bytes entries bytes limits
+kept_catalogue engine next kept kept_bytes n entries bytes limits c is whole =
+    let all : take n entries ≡ entries = ap (λ (m : ℕ). take m entries) whole ∙ take_whole entries in
+    record {
+      state_is = ap (λ (x : Engined). x.state) is ∙ c.state_is;
+      before_is = ap (λ (x : Engined). x.before) is ∙ c.state_is ∙ ap state_of (sym all);
+      admitted = c.admitted;
+      bytes_are = c.bytes_are;
+      kept_bytes_are = c.bytes_are ∙ ap entries_size (sym all);
+      entries_fit = c.entries_fit;
+      bytes_fit = c.bytes_fit;
+      within = omega (arith, whole);
+    }
 
 each_taken : (i : ℕ) (xs : List Entry) → Each IsAdmitted xs → Each IsAdmitted (take i xs)
 each_taken zero xs a = tt
@@ -194,30 +161,46 @@ length_taken zero xs = omega arith
 length_taken (suc i) [] = omega arith
 length_taken (suc i) (x ∷ xs) = let rest = length_taken i xs in omega arith
 
-pub undone_catalogue : (engine : State) (b : Before) (entries now : List Entry) (bytes : ℕ) (limits : Limits) → IsCatalogue engine (Some b) entries bytes limits → now ≡ take b.entries entries →
-    IsCatalogue b.engine None now b.bytes limits
-undone_catalogue engine b entries now bytes limits c put =
-    let was = c.before_is in
-    let size = size_taken b.entries entries in
-    let few = length_taken b.entries entries in
+take_again : (i : ℕ) (xs : List Entry) → take i (take i xs) ≡ take i xs
+take_again zero xs = refl
+take_again (suc i) [] = refl
+take_again (suc i) (x ∷ xs) = ap (λ l. x ∷ l) (take_again i xs)
+
+drop_taken : (i : ℕ) (xs : List Entry) → drop i (take i xs) ≡ []
+drop_taken zero xs = refl
+drop_taken (suc i) [] = refl
+drop_taken (suc i) (x ∷ xs) = drop_taken i xs
+
+taken_long : (i : ℕ) (xs : List Entry) → i ≤ length xs → length (take i xs) ≡ i
+taken_long zero xs h = refl
+taken_long (suc i) [] h = omega (arith, h)
+taken_long (suc i) (x ∷ xs) h = let rest = taken_long i xs (omega (arith, h)) in omega (arith, rest)
+
+pub undone_catalogue : (engine next : Engined) (kept kept_bytes : ℕ) (entries now : List Entry) (bytes : ℕ) (limits : Limits) → IsCatalogue engine kept kept_bytes entries bytes limits
+    → next ≡ record { state = engine.before; before = engine.before } → now ≡ take kept entries → IsCatalogue next kept kept_bytes now kept_bytes limits
+undone_catalogue engine next kept kept_bytes entries now bytes limits c is put =
+    let size = size_taken kept entries in
+    let few = length_taken kept entries in
     let size_fits = c.bytes_fit in
     let count_fits = c.entries_fit in
-    subst (λ (all : List Entry). IsCatalogue b.engine None all b.bytes limits) (sym put)
+    let long = taken_long kept entries c.within in
+    let again = take_again kept entries in
+    subst (λ (all : List Entry). IsCatalogue next kept kept_bytes all kept_bytes limits) (sym put)
     (record {
-      engine_is = was.engine;
-      admitted = All-from_recursion IsAdmitted (take b.entries entries) (each_taken b.entries entries (recursion_from_All IsAdmitted entries c.admitted));
-      bytes_are = was.bytes;
+      state_is = ap (λ (x : Engined). x.state) is ∙ c.before_is;
+      before_is = ap (λ (x : Engined). x.before) is ∙ c.before_is ∙ ap state_of (sym again);
+      admitted = All-from_recursion IsAdmitted (take kept entries) (each_taken kept entries (recursion_from_All IsAdmitted entries c.admitted));
+      bytes_are = c.kept_bytes_are;
+      kept_bytes_are = c.kept_bytes_are ∙ ap entries_size (sym again);
       entries_fit = omega arith;
       bytes_fit = omega arith;
-      before_is = tt;
+      within = omega (arith, long);
     })
 
-pub undone_is : (b : Before) (entries now : List Entry) (limits : Limits) → now ≡ take b.entries entries → catalogued None now limits ≡ without_staged (catalogued (Some b) entries limits)
-undone_is b entries now limits put =
-    λ i. record { history = (take_whole now ∙ put) i; staged = drop_none now i; limits = limits }
-
-pub nothing_undone : (entries : List Entry) (limits : Limits) → catalogued None entries limits ≡ without_staged (catalogued None entries limits)
-nothing_undone entries limits = λ i. record { history = take (length entries) entries; staged = drop_none entries i; limits = limits }
+pub undone_is : (kept : ℕ) (entries now : List Entry) (limits : Limits) → now ≡ take kept entries → catalogued kept now limits ≡ without_staged (catalogued kept entries limits)
+undone_is kept entries now limits put =
+    ap (λ (all : List Entry). catalogued kept all limits) put
+    ∙ (λ i. record { history = take_again kept entries i; staged = drop_taken kept entries i; limits = limits })
 
 append_none : (xs : List Entry) → xs ++ [] ≡ xs
 append_none [] = refl
@@ -241,33 +224,33 @@ same_test_at x y u v false true e f to from = let less = from (ltb-true u v f) i
 same_test : (x y u v : ℕ) → (x < y → u < v) → (u < v → x < y) → nat_lt x y ≡ nat_lt u v
 same_test x y u v to from = same_test_at x y u v (nat_lt x y) (nat_lt u v) refl refl to from
 
-full_all : (before : Option Before) (entries : List Entry) (limits : Limits) (e : Entry) →
-    (nat_lt limits.entries (length entries + 1) || nat_lt limits.bytes (entries_size entries + entry_size e)) ≡ is_full (catalogued before entries limits) e
-full_all before entries limits e =
-    ap (λ (all : List Entry). nat_lt limits.entries (length all + 1) || nat_lt limits.bytes (entries_size all + entry_size e)) (sym (all_is before entries limits))
+full_all : (kept : ℕ) (entries : List Entry) (limits : Limits) (e : Entry) →
+    (nat_lt limits.entries (length entries + 1) || nat_lt limits.bytes (entries_size entries + entry_size e)) ≡ is_full (catalogued kept entries limits) e
+full_all kept entries limits e =
+    ap (λ (all : List Entry). nat_lt limits.entries (length all + 1) || nat_lt limits.bytes (entries_size all + entry_size e)) (sym (all_is kept entries limits))
 
 -- there are as many entries as there may be
-pub full_count : (before : Option Before) (entries : List Entry) (limits : Limits) (e : Entry) → limits.entries ≤ length entries → true ≡ is_full (catalogued before entries limits) e
-full_count before entries limits e many =
-    ap (λ b. b || nat_lt limits.bytes (entries_size entries + entry_size e)) (sym (lt-ltb limits.entries (length entries + 1) (omega arith))) ∙ full_all before entries limits e
+pub full_count : (kept : ℕ) (entries : List Entry) (limits : Limits) (e : Entry) → limits.entries ≤ length entries → true ≡ is_full (catalogued kept entries limits) e
+full_count kept entries limits e many =
+    ap (λ b. b || nat_lt limits.bytes (entries_size entries + entry_size e)) (sym (lt-ltb limits.entries (length entries + 1) (omega arith))) ∙ full_all kept entries limits e
 
 not_many : (n most : ℕ) → n < most → nat_lt most (n + 1) ≡ false
 not_many n most few = le-ltb most (n + 1) (omega arith)
 
 -- or there are fewer, and the bytes decide
-pub full_size : (engine : State) (before : Option Before) (entries : List Entry) (bytes : ℕ) (limits : Limits) (e : Entry) → IsCatalogue engine before entries bytes limits → length entries < limits.entries →
-    nat_lt (limits.bytes - bytes) (entry_size e) ≡ is_full (catalogued before entries limits) e
-full_size engine before entries bytes limits e c few =
+pub full_size : (engine : Engined) (kept kept_bytes : ℕ) (entries : List Entry) (bytes : ℕ) (limits : Limits) (e : Entry) → IsCatalogue engine kept kept_bytes entries bytes limits → length entries < limits.entries →
+    nat_lt (limits.bytes - bytes) (entry_size e) ≡ is_full (catalogued kept entries limits) e
+full_size engine kept kept_bytes entries bytes limits e c few =
     let are = c.bytes_are in
     let fit = c.bytes_fit in
     same_test (limits.bytes - bytes) (entry_size e) limits.bytes (entries_size entries + entry_size e) (λ h. omega arith) (λ h. omega arith)
-    ∙ ap (λ b. b || nat_lt limits.bytes (entries_size entries + entry_size e)) (sym (not_many (length entries) limits.entries few)) ∙ full_all before entries limits e
+    ∙ ap (λ b. b || nat_lt limits.bytes (entries_size entries + entry_size e)) (sym (not_many (length entries) limits.entries few)) ∙ full_all kept entries limits e
 
 -- there is room for the bytes
-pub room_in_bytes : (engine : State) (before : Option Before) (entries : List Entry) (bytes : ℕ) (limits : Limits) (e : Entry) → IsCatalogue engine before entries bytes limits →
-    is_full (catalogued before entries limits) e ≡ false → bytes + entry_size e ≤ limits.bytes
-room_in_bytes engine before entries bytes limits e c full =
-    let room = (room_of before entries limits e full).size in
+pub room_in_bytes : (engine : Engined) (kept kept_bytes : ℕ) (entries : List Entry) (bytes : ℕ) (limits : Limits) (e : Entry) → IsCatalogue engine kept kept_bytes entries bytes limits →
+    is_full (catalogued kept entries limits) e ≡ false → bytes + entry_size e ≤ limits.bytes
+room_in_bytes engine kept kept_bytes entries bytes limits e c full =
+    let room = (room_of kept entries limits e full).size in
     let are = c.bytes_are in
     omega arith
 
@@ -285,26 +268,15 @@ length_mapped : (entries : List Entry) → length entries ≡ length (map arriva
 length_mapped [] = refl
 length_mapped (x ∷ xs) = ap suc (length_mapped xs)
 
-abbrev pub numbered : ℕ → Changes → Receipt
-numbered at changes = record {
-  at = at;
-  linked = changes.linked;
-  ambiguous = changes.ambiguous;
-  unlinked = changes.unlinked;
-  changed_records = changes.changed_records;
-}
-
-numbers_are : (at : ℕ) (s : State) (a : Arrival) (next : State) (changes : Changes) → AreNumbersOf (receipt_of at s a next) changes → numbered at changes ≡ receipt_of at s a next
+numbers_are : (at : ℕ) (s : State) (a : Arrival) (next : State) (changes : Changes) → AreNumbersOf (receipt_of at s a next) changes → receipt_with at changes ≡ receipt_of at s a next
 numbers_are at s a next changes n =
     λ i. record { at = at_is at s a next i; linked = n.linked i; ambiguous = n.ambiguous i; unlinked = n.unlinked i; changed_records = n.changed_records i }
 
--- the numbers of a step behind these entries are those of the entry's receipt
-pub receipt_made : (entries : List Entry) (e : Entry) (engine next : State) (changes : Changes) → engine ≡ state_of entries → next ≡ step engine (arrival_of e) →
-    ((at : ℕ) → AreNumbersOf (receipt_of at engine (arrival_of e) next) changes) → numbered (length entries) changes ≡ receipt (map arrival_of entries) (arrival_of e)
-receipt_made entries e engine next changes is made numbers =
-    let a = arrival_of e in
-    numbers_are (length entries) engine a next changes (numbers (length entries))
-    ∙ ap (receipt_of (length entries) engine a) made
-    ∙ ap (λ (s : State). receipt_of (length entries) s a (step s a)) is
-    ∙ ap (λ (n : ℕ). receipt_of n (state_of entries) a (step (state_of entries) a)) (length_mapped entries)
-    ∙ receipt_is (map arrival_of entries) a
+-- the receipt of an entry behind the others
+pub receipt_made : (entries : List Entry) (e : Entry) (engine : State) (changes : Changes) → engine ≡ state_of entries
+    → ((at : ℕ) → AreNumbersOf (receipt_of at engine (arrival_of e) (step engine (arrival_of e))) changes) → receipt_with (length entries) changes ≡ receipt (map arrival_of entries) (arrival_of e)
+receipt_made entries e engine changes is numbers =
+    numbers_are (length entries) engine (arrival_of e) (step engine (arrival_of e)) changes (numbers (length entries))
+    ∙ ap (λ (s : State). receipt_of (length entries) s (arrival_of e) (step s (arrival_of e))) is
+    ∙ ap (λ (n : ℕ). receipt_of n (state_of entries) (arrival_of e) (step (state_of entries) (arrival_of e))) (length_mapped entries)
+    ∙ receipt_is (map arrival_of entries) (arrival_of e)

@@ -1,20 +1,2 @@
-pub mod Authorities
-pub mod Building
-pub mod Catalogues
-pub mod Commits
-pub mod Committed
-pub mod Counting
-pub mod Engines
-pub mod Halfway
-pub mod Look
-pub mod Made
-pub mod Making
-pub mod Placed
-pub mod Receipts
-pub mod Rows
-pub mod Sames
-pub mod Seeking
-pub mod Standable
-pub mod Standings
-pub mod Sound
-pub mod Ties
+mod Catalogues
+mod Engines

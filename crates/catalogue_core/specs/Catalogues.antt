@@ -1,12 +1,12 @@
 -- What clauses see of a catalogue, and what its type keeps.
-use Rattle.std.specs.Prelude.{◌≡◌, ℕ, ◌+◌, ◌≤◌, Bool, true, false, ◌||◌, nat_lt, List, [], ◌∷◌, ◌++◌, length, take, drop, All, IfSome, Option}
-use Rattle.std.specs.Option.{option_map_or}
+use Rattle.std.specs.Prelude.{◌≡◌, ℕ, ◌+◌, ◌≤◌, Bool, true, false, ◌||◌, nat_lt, List, [], ◌∷◌, ◌++◌, length, take, drop, All}
 use Rattle.marc_types.specs.declared.entry.Entry.{Entry}
 use Rattle.marc_types.specs.declared.entry.Limits.{Limits}
+use Rattle.marc_types.specs.declared.entry.Receipt.{Receipt}
 use Rattle.entry_record.specs.History.{IsAdmitted, entry_size, entries_size, passes_limits}
 use Rattle.catalogue_rules.specs.Settle.{state_of}
-use Rattle.catalogue_rules.specs.State.{State}
-use Rattle.catalogue_core.specs.declared.catalogue.Before.{Before}
+use Rattle.commit_stages.specs.declared.changes.Changes.{Changes}
+use Rattle.catalogue_core.specs.Engines.{Engined}
 use Rattle.catalogue_core.specs.declared.catalogue.CoreFault.{CoreFault}
 use Rattle.catalogue_core.specs.declared.catalogue.CoreFault.TheVariants.{Full, NoMemory}
 
@@ -44,28 +44,28 @@ without_staged c = record { history = c.history; staged = []; limits = c.limits 
 abbrev pub with_entry : Catalogued → Entry → Catalogued
 with_entry c e = record { history = c.history ++ e ∷ []; staged = []; limits = c.limits }
 
--- how many entries are history: all, where nothing is staged
-abbrev pub kept_count : Option Before → List Entry → ℕ
-kept_count before entries = option_map_or (λ b. b.entries) before (length entries)
-
-abbrev pub catalogued : Option Before → List Entry → Limits → Catalogued
-catalogued before entries limits = record {
-  history = take (kept_count before entries) entries;
-  staged = drop (kept_count before entries) entries;
-  limits = limits;
+-- the receipt of an entry with so many before it, by what its commit did
+abbrev pub receipt_with : ℕ → Changes → Receipt
+receipt_with at changes = record {
+  at = at;
+  linked = changes.linked;
+  ambiguous = changes.ambiguous;
+  unlinked = changes.unlinked;
+  changed_records = changes.changed_records;
 }
 
--- the catalogue as it was before the first of the staged entries
-pub record IsBefore (entries : List Entry) (b : Before) : Type 0 where
-  pub engine : b.engine ≡ state_of (take b.entries entries)
-  pub bytes : b.bytes ≡ entries_size (take b.entries entries)
-  pub within : b.entries ≤ length entries
+-- so many of the entries are history, and the others are staged
+abbrev pub catalogued : ℕ → List Entry → Limits → Catalogued
+catalogued kept entries limits = record { history = take kept entries; staged = drop kept entries; limits = limits }
 
--- the state is that behind all entries, each was admitted, and together they are within the limits
-pub record IsCatalogue (engine : State) (before : Option Before) (entries : List Entry) (bytes : ℕ) (limits : Limits) : Type 0 where
-  pub engine_is : engine ≡ state_of entries
+-- The state is that behind all entries, and the one to which it can go back that behind the history. Each entry was admitted, and
+-- together they are within the limits.
+pub record IsCatalogue (engine : Engined) (kept : ℕ) (kept_bytes : ℕ) (entries : List Entry) (bytes : ℕ) (limits : Limits) : Type 0 where
+  pub state_is : engine.state ≡ state_of entries
+  pub before_is : engine.before ≡ state_of (take kept entries)
   pub admitted : All IsAdmitted entries
   pub bytes_are : bytes ≡ entries_size entries
+  pub kept_bytes_are : kept_bytes ≡ entries_size (take kept entries)
   pub entries_fit : length entries ≤ limits.entries
   pub bytes_fit : entries_size entries ≤ limits.bytes
-  pub before_is : IfSome before (IsBefore entries)
+  pub within : kept ≤ length entries

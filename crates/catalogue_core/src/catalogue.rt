@@ -6,19 +6,16 @@ ghost use Rattle.catalogue_rules.specs.State.{linkable_authorities, rows_of, kep
 ghost use Rattle.entry_record.specs.History.{IsAdmitted, entries_size};
 ghost use Rattle.catalogue_rules.specs.Settle.{arrival_of, state_of};
 ghost use Rattle.catalogue_rules.specs.Receipt.{kept_under, receipt};
-ghost use Rattle.catalogue_core.specs.Engines.{linkable_under, forms_as, forms_in};
-ghost use Rattle.catalogue_core.specs.Told.{told_as, field_told, field_candidates};
-ghost use Rattle.catalogue_core.specs.Catalogues.{all_entries, empty_catalogue, is_full, IsDue, with_staged, with_kept, without_staged, with_entry};
+ghost use Rattle.linking_laws.specs.Visits.{touched};
+ghost use Rattle.catalogue_core.specs.Catalogues.{receipt_with, all_entries, empty_catalogue, is_full, IsDue, with_staged, with_kept, without_staged, with_entry};
 
-use crate::engine::{Behind, Changes, Engine};
+use crate::engine::Engine;
+use commit_stages::Changes;
 use entry_record::Prepared;
-use marc_types::{
-    Class, Entry, Form, Forms, Kept, Key, Keys, Limits, NoMemory, Place, Receipt, Status,
-};
+use marc_types::{Class, Entry, Kept, Key, Limits, NoMemory, Receipt};
 use record_store::Steps;
 use std::alloc::Global;
 use std::marker::Model;
-use std::mem;
 use std::sync::ledger::Ledger;
 
 /// Why an entry isn't taken: the catalogue is full, or there is no memory.
@@ -26,14 +23,6 @@ use std::sync::ledger::Ledger;
 pub enum CoreFault {
     Full,
     NoMemory,
-}
-
-/// What a catalogue was before the first of the staged entries.
-#[derive(Drop)]
-struct Before {
-    engine: Engine,
-    entries: usize,
-    bytes: u64,
 }
 
 /// Committed entries, and the entries that are staged behind them until they are kept or undone. Contracts see these two lists
@@ -44,7 +33,28 @@ pub struct Catalogue {
     entries: Vec<Entry>,
     bytes: u64,
     limits: Limits,
-    before: Option<Before>,
+    // how many of the entries are history, and what these count in bytes
+    kept: usize,
+    kept_bytes: u64,
+}
+
+// The receipt of an entry with so many before it.
+fn receipt_at(at: u64, changes: Changes) -> Receipt
+    ensures { result ≡ receipt_with at changes }
+{
+    let Changes {
+        linked,
+        ambiguous,
+        unlinked,
+        changed_records,
+    } = changes;
+    Receipt {
+        at,
+        linked,
+        ambiguous,
+        unlinked,
+        changed_records,
+    }
 }
 
 impl Model for Catalogue {
@@ -52,9 +62,9 @@ impl Model for Catalogue {
 
     ghost Value = { Catalogued };
 
-    ghost view = { λ c. catalogued c.before c.entries.items c.limits };
+    ghost view = { λ c. catalogued c.kept c.entries.items c.limits };
 
-    ghost invariant = { λ c. IsCatalogue c.engine c.before c.entries.items c.bytes c.limits };
+    ghost invariant = { λ c. IsCatalogue c.engine c.kept c.kept_bytes c.entries.items c.bytes c.limits };
 }
 
 impl Catalogue {
@@ -67,14 +77,14 @@ impl Catalogue {
             entries: Vec::new(alloc),
             bytes: 0,
             limits,
-            before: None,
+            kept: 0,
+            kept_bytes: 0,
         }
     }
 
     /// The state behind all entries, the staged ones too.
-    #[tactic(auto, using(crate::proofs::Catalogues::engine_is))]
     pub fn engine(&self) -> &Engine
-        ensures { result.now ≡ state_of (all_entries self.now) }
+        ensures { result.now.state ≡ state_of (all_entries self.now) }
     {
         &self.engine
     }
@@ -86,7 +96,6 @@ impl Catalogue {
             || item.size() > self.limits.bytes - self.bytes
     }
 
-    #[tactic(auto, using(crate::proofs::Catalogues::staged_is))]
     fn add<L: Ledger>(
         &mut self,
         alloc: Global,
@@ -97,31 +106,16 @@ impl Catalogue {
         ensures receipt { IfOk result (λ r. r ≡ receipt (map arrival_of (all_entries self.old)) (arrival_of item)) }
         ensures staged { OnOk result (self.new ≡ with_staged self.old item) }
         ensures err { OnErr result (self.new ≡ self.old) }
+        ensures visits { steps.new ≤ steps.old + touched (state_of (all_entries self.old)) item }
     {
-        let entries = self.entries.len();
+        let at = self.entries.len() as u64;
         let size = item.size();
-        let Behind { engine, changes } = self.engine.behind(alloc, &item, steps)?;
-        self.entries.push(item.into_entry())?;
-        let before = Before {
-            engine: mem::replace(&mut self.engine, engine),
-            entries,
-            bytes: self.bytes,
-        };
-        self.before = Some(self.before.take().unwrap_or(before));
+        // room first: once the state has gone on, nothing can fail
+        self.entries.reserve(1)?;
+        let changes = self.engine.step(alloc, &item, steps)?;
+        self.entries.push_reserved(item.into_entry());
         self.bytes += size;
-        let Changes {
-            linked,
-            ambiguous,
-            unlinked,
-            changed_records,
-        } = changes;
-        Ok(Receipt {
-            at: entries as u64,
-            linked,
-            ambiguous,
-            unlinked,
-            changed_records,
-        })
+        Ok(receipt_at(at, changes))
     }
 
     /// Puts an entry behind those that are staged. Its receipt is that behind the history and the staged entries. Full comes
@@ -138,6 +132,7 @@ impl Catalogue {
         ensures room { OnOk result (is_full self.old item ≡ false) }
         ensures fault { IfErr result (IsDue (is_full self.old item)) }
         ensures err { OnErr result (self.new ≡ self.old) }
+        ensures visits { steps.new ≤ steps.old + touched (state_of (all_entries self.old)) item }
     {
         if self.is_full(&item) {
             return Err(CoreFault::Full);
@@ -149,24 +144,21 @@ impl Catalogue {
     }
 
     /// The staged entries become history. It takes no memory.
-    #[tactic(auto, using(crate::proofs::Catalogues::kept_is, crate::proofs::Catalogues::kept_catalogue))]
     pub fn keep(&mut self)
         ensures { self.new ≡ with_kept self.old }
     {
-        self.before = None;
+        self.engine.keep();
+        self.kept = self.entries.len();
+        self.kept_bytes = self.bytes;
     }
 
     /// The staged entries are dropped: the catalogue is what it was before the first of them. It takes no memory.
-    #[tactic(auto, using(crate::proofs::Catalogues::undone_is, crate::proofs::Catalogues::nothing_undone))]
     pub fn undo(&mut self)
         ensures { self.new ≡ without_staged self.old }
     {
-        let Some(before) = self.before.take() else {
-            return;
-        };
-        self.entries.truncate(before.entries);
-        self.engine = before.engine;
-        self.bytes = before.bytes;
+        self.engine.undo();
+        self.entries.truncate(self.kept);
+        self.bytes = self.kept_bytes;
     }
 
     /// Puts an entry behind the history. Full comes before all else, where with this entry the limits would be passed. After
@@ -184,6 +176,7 @@ impl Catalogue {
         ensures room { OnOk result (is_full self.old item ≡ false) }
         ensures fault { IfErr result (IsDue (is_full self.old item)) }
         ensures err { OnErr result (self.new ≡ self.old) }
+        ensures visits { steps.new ≤ steps.old + touched (state_of self.old.history) item }
     {
         let receipt = self.stage(alloc, item, steps)?;
         self.keep();
@@ -239,36 +232,5 @@ impl Catalogue {
         ensures { option_map (λ kept. kept_record kept.now) result ≡ kept_under class key.now (state_of (all_entries self.now)) }
     {
         self.engine().look(class, key)
-    }
-
-    /// The key and the record with so many before them in key order. It walks over those.
-    pub fn at(&self, class: Class, index: u64) -> Option<(&Key, &Kept)>
-        ensures { option_map shown_row result ≡ slice_get (rows_of class (state_of (all_entries self.now))) index }
-    {
-        self.engine().at(class, index)
-    }
-
-    /// The forms under which the key's authority is found: by its heading, and by its see from tracings. None where no authority
-    /// is kept under the key that fields can be linked to.
-    pub fn forms_of(&self, key: &Key) -> Option<(&Form, &Forms)>
-        ensures { option_map forms_as result ≡ option_map forms_in (linkable_under key.now (state_of (all_entries self.now))) }
-    {
-        self.engine().forms_of(key)
-    }
-
-    /// How a field stands; none where there is no such field.
-    pub fn status(&self, place: &Place) -> Option<Status<'_>>
-        ensures { let s = state_of (all_entries self.now) in
-            option_map told_as result ≡ option_map (field_told (linkable_authorities s) place.now.class) (field_under place.now s) }
-    {
-        self.engine().status(place)
-    }
-
-    /// The keys of the authorities that an ambiguous field can be linked to, in key order; none where the field isn't ambiguous.
-    pub fn candidates(&self, place: &Place) -> Option<&Keys>
-        ensures { let s = state_of (all_entries self.now) in
-            option_copied result ≡ option_and_then (field_candidates (linkable_authorities s) place.now.class) (field_under place.now s) }
-    {
-        self.engine().candidates(place)
     }
 }

@@ -1,291 +1,153 @@
 //! A catalogue's state, without its history.
-ghost use Rattle.std.specs.Prelude.{◌≡◌, ℕ, ◌+◌, ◌<◌, ◌^◌, length, IfOk, OnOk, OnErr, slice_get};
-ghost use Rattle.std.specs.Option.{option_map, option_and_then, option_copied};
-ghost use Rattle.record_store.specs.Store.{field_at, field_under, shown_row};
-ghost use Rattle.catalogue_rules.specs.State.{empty_state, rows_of, linkable_authorities, kept_record};
-ghost use Rattle.catalogue_rules.specs.Settle.{step, arrival_of};
+ghost use Rattle.std.specs.Prelude.{◌≡◌, ℕ, ◌+◌, ◌<◌, ◌≤◌, ◌^◌, length, map, IfOk, OnOk, OnErr, slice_get};
+ghost use Rattle.std.specs.Option.{option_map};
+ghost use Rattle.record_store.specs.Store.{shown_row};
+ghost use Rattle.catalogue_rules.specs.State.{kept_field, kept_record, linkable_authorities, rows_of};
+ghost use Rattle.catalogue_tables.specs.Sharing.{keys_crossing, keys_sharing, shown_keys};
+ghost use Rattle.catalogue_tables.specs.Stands.{field_standing};
+ghost use Rattle.catalogue_rules.specs.Settle.{arrival_of, step};
 ghost use Rattle.catalogue_rules.specs.Receipt.{kept_under, receipt_of};
 ghost use Rattle.catalogue_rules.specs.Valid.{IsValid};
-ghost use Rattle.catalogue_core.specs.Behind.{standings_rows};
-ghost use Rattle.catalogue_core.specs.Engines.{AreNumbersOf, linkable_under, forms_as, forms_in};
-ghost use Rattle.catalogue_core.specs.Stands.{field_standing};
-ghost use Rattle.catalogue_core.specs.Views.{linkables};
-ghost use Rattle.catalogue_core.specs.Told.{told_as, told_of, field_told, candidates_of, field_candidates};
+ghost use Rattle.linking_laws.specs.Visits.{touched};
+ghost use Rattle.commit_stages.specs.Receipts.{AreNumbersOf};
+ghost use Rattle.catalogue_core.specs.Engines.{empty_engine};
 
-use crate::authority::Authority;
-use crate::behind::{StateAfter, authorities_after, linkable, state_after};
-use crate::standing::{Standing, Standings};
+use catalogue_tables::Standing;
+use commit_stages::{Changes, commit_entry};
 use entry_record::Prepared;
-use marc_types::{Class, Form, Forms, Kept, Key, Keys, NoMemory, Place, Status};
-use record_store::{KeptRows, Rows, Shelf, Steps, Store};
+use linked_store::LinkedStore;
+use marc_types::{Class, Field, Kept, Key, NoMemory, Tie};
+use numbered_store::RowMap;
+use record_store::Steps;
 use std::alloc::Global;
 use std::marker::Model;
 use std::sync::ledger::Ledger;
 
-/// What one commit did to a state: of the committed record's heading fields, how many are linked, ambiguous and unlinked; and
-/// how many other records it changed.
-#[derive(Clone, Copy, Debug, PartialEq, Eq)]
-pub struct Changes {
-    pub linked: u32,
-    pub ambiguous: u32,
-    pub unlinked: u32,
-    pub changed_records: u64,
-}
-
-/// The state of a catalogue. Beside its records it keeps the forms of each authority that fields can be linked to, and how the
-/// fields of each record stand. Contracts see it as the state.
+/// The state of a catalogue, and the one to which it can go back. Contracts see both.
 #[derive(Drop)]
 pub struct Engine {
-    store: Store,
-    authorities: Shelf<Option<Authority>>,
-    authorities_stand: Shelf<Standings>,
-    bibliographic_stand: Shelf<Standings>,
+    store: LinkedStore,
 }
 
 impl Model for Engine {
-    ghost use Rattle.catalogue_rules.specs.State.{State};
-    ghost use Rattle.catalogue_core.specs.Engines.{IsEngine};
+    ghost use Rattle.catalogue_core.specs.Engines.{Engined, IsEngine};
 
-    ghost Value = { State };
+    ghost Value = { Engined };
 
-    ghost view = { λ e. e.store.state };
+    ghost view = { λ e. record { state = e.store.state; before = e.store.before } };
 
-    ghost invariant = { λ e. IsEngine e.store.state e.authorities.rows e.authorities_stand.rows e.bibliographic_stand.rows };
-}
-
-/// A state behind a commit, and what the commit did.
-#[derive(Drop)]
-pub(crate) struct Behind {
-    pub(crate) engine: Engine,
-    pub(crate) changes: Changes,
+    ghost invariant = { λ e. IsEngine e.store.state e.store.before };
 }
 
 impl Engine {
     /// No record yet.
-    #[tactic(auto, using(crate::proofs::Engines::engine_empty))]
     pub fn empty(alloc: Global) -> Engine
-        ensures { result ≡ empty_state }
+        ensures { result ≡ empty_engine }
     {
         Engine {
-            store: Store::new(alloc),
-            authorities: Shelf::new(alloc),
-            authorities_stand: Shelf::new(alloc),
-            bibliographic_stand: Shelf::new(alloc),
+            store: LinkedStore::new(alloc),
         }
     }
 
     /// Takes the state to that behind one more entry: the entry's record comes into its key's place, links that can't stay are
-    /// ended, and every heading is settled. It counts a step for each record before, which no clause bounds yet. Want of memory
-    /// changes nothing.
+    /// ended, and every heading is settled. It visits as many records as the entry touches, at most. Want of memory changes
+    /// nothing.
     pub fn step<L: Ledger>(
         &mut self,
         alloc: Global,
         item: &Prepared,
         steps: &mut Steps<L>,
     ) -> Result<Changes, NoMemory>
-        ensures state { OnOk result (self.new ≡ step self.old (arrival_of item.now)) }
-        ensures changes { IfOk result (λ changes. (at : ℕ) → AreNumbersOf (receipt_of at self.old (arrival_of item.now) self.new) changes) }
+        ensures state { OnOk result (self.new.state ≡ step self.old.state (arrival_of item.now)) }
+        ensures changes { IfOk result (λ changes. (at : ℕ)
+            → AreNumbersOf (receipt_of at self.old.state (arrival_of item.now) (step self.old.state (arrival_of item.now))) changes) }
+        ensures before { self.new.before ≡ self.old.before }
         ensures err { OnErr result (self.new ≡ self.old) }
+        ensures visits { steps.new ≤ steps.old + touched self.old.state item.now }
     {
-        let Behind { engine, changes } = self.behind(alloc, item, steps)?;
-        *self = engine;
+        // what its type says of the entry is needed behind the commit
+        let _entry = item.entry();
+        let changes = commit_entry(&mut self.store, alloc, item, steps)?;
         Ok(changes)
     }
 
-    /// The state behind one more entry; this one stays.
-    #[tactic(auto, using(crate::proofs::Engines::can_follow, crate::proofs::Engines::step_made, crate::proofs::Engines::engine_made, crate::proofs::Engines::few_changed))]
-    pub(crate) fn behind<L: Ledger>(
-        &self,
-        alloc: Global,
-        item: &Prepared,
-        steps: &mut Steps<L>,
-    ) -> Result<Behind, NoMemory>
-        ensures state { IfOk result (λ made. made.engine ≡ step self.now (arrival_of item.now)) }
-        ensures changes { IfOk result (λ made. (at : ℕ) → AreNumbersOf (receipt_of at self.now (arrival_of item.now) made.engine) made.changes) }
+    /// There is no way back behind this state. It takes no memory.
+    pub fn keep(&mut self)
+        ensures { self.new ≡ record { state = self.old.state; before = self.old.state } }
     {
-        // as many records can be counted
-        let _first = self.store.count(Class::Authority);
-        let _second = self.store.count(Class::Bibliographic);
-        let authorities = authorities_after(alloc, &self.authorities, item)?;
-        let StateAfter {
-            authorities: first,
-            bibliographic: second,
-            counts,
-        } = state_after(alloc, &self.store, &authorities, item, steps)?;
-        let changes = Changes {
-            linked: counts.linked,
-            ambiguous: counts.ambiguous,
-            unlinked: counts.unlinked,
-            changed_records: first.changed + second.changed,
-        };
-        let engine = Engine {
-            store: Store::of(first.kept, second.kept),
-            authorities,
-            authorities_stand: first.standings,
-            bibliographic_stand: second.standings,
-        };
-        Ok(Behind { engine, changes })
+        self.store.keep();
+    }
+
+    /// Goes back to the state before all steps that weren't kept. It takes no memory.
+    pub fn undo(&mut self)
+        ensures { self.new ≡ record { state = self.old.before; before = self.old.before } }
+    {
+        self.store.undo();
     }
 
     /// Says that the state is valid, whatever was committed.
     pub fn stays_valid(&self)
-        ensures { IsValid self.now }
+        ensures { IsValid self.now.state }
     {
         let _store = &self.store;
     }
 
     /// How many records of the class there are.
     pub fn count(&self, class: Class) -> u64
-        ensures count { result ≡ length (rows_of class self.now) }
-        ensures fits { result < 2 ^ 63 }
+        ensures count { result ≡ length (rows_of class self.now.state) }
+        ensures fits { result < 2 ^ 32 }
     {
         self.store.count(class)
     }
 
     /// The record under a key.
     pub fn look(&self, class: Class, key: &Key) -> Option<&Kept>
-        ensures { option_map (λ kept. kept_record kept.now) result ≡ kept_under class key.now self.now }
+        ensures { option_map (λ kept. kept_record kept.now) result ≡ kept_under class key.now self.now.state }
     {
-        self.store.look(class, key)
-    }
-
-    /// The key and the record with so many before them in key order. It walks over those.
-    pub fn at(&self, class: Class, index: u64) -> Option<(&Key, &Kept)>
-        ensures { option_map shown_row result ≡ slice_get (rows_of class self.now) index }
-    {
-        self.store.look_at(class, index)
-    }
-
-    /// The records of a class in key order.
-    pub fn rows(&self, class: Class) -> KeptRows<'_>
-        ensures { result ≡ rows_of class self.now }
-    {
-        self.store.rows(class)
-    }
-
-    /// How the fields of each record of a class stand, by its key, in key order.
-    pub fn standing_rows(&self, class: Class) -> Rows<'_, Standings>
-        ensures { result ≡ standings_rows (linkable_authorities self.now) class (rows_of class self.now) }
-    {
-        self.standings(class).rows()
-    }
-
-    /// The authorities that fields can be linked to, in key order.
-    #[tactic(auto, using(crate::proofs::Placed::linkable_is))]
-    pub fn linkable(&self, alloc: Global) -> Result<Vec<&Authority>, NoMemory>
-        ensures { IfOk result (λ found. linkables found.items ≡ linkable_authorities self.now) }
-    {
-        linkable(alloc, &self.authorities)
-    }
-
-    /// The forms under which the key's authority is found: by its heading, and by its see from tracings. None where no authority
-    /// is kept under the key that fields can be linked to.
-    #[tactic(auto, using(crate::proofs::Look::linkable_found))]
-    pub fn forms_of(&self, key: &Key) -> Option<(&Form, &Forms)>
-        ensures { option_map forms_as result ≡ option_map forms_in (linkable_under key.now self.now) }
-    {
-        match self.authority(key) {
-            Some(authority) => Some((&authority.established, &authority.see_from)),
+        self.store.each_record_has_a_number();
+        match self.store.number_of(class, key) {
+            Some(number) => self.store.look(class, number),
             None => None,
         }
     }
 
-    #[tactic(auto, using(crate::proofs::Look::linkable_found))]
-    fn authority(&self, key: &Key) -> Option<&Authority>
-        ensures { option_copied result ≡ linkable_under key.now self.now }
+    /// The records of a class in key order. They are put in order at each call.
+    pub fn rows(&self, alloc: Global, class: Class) -> Result<RowMap<'_>, NoMemory>
+        ensures { IfOk result (λ rows. map shown_row rows.entries ≡ rows_of class self.now.state) }
     {
-        match self.authorities.get(key) {
-            Some(authority) => authority.as_ref(),
-            None => None,
-        }
+        self.store.rows(alloc, class)
     }
 
-    /// How a field stands; none where there is no such field.
-    #[tactic(auto, using(crate::proofs::Look::status_is, crate::proofs::Look::status_none))]
-    pub fn status(&self, place: &Place) -> Option<Status<'_>>
-        ensures { option_map told_as result ≡ option_map (field_told (linkable_authorities self.now) place.now.class) (field_under place.now self.now) }
+    /// How a field with its tie stands, by the tables alone: an ambiguous one with the keys of the authorities that it could be linked
+    /// to, in key order.
+    #[tactic(auto, using(crate::proofs::Engines::valid_in_order))]
+    pub fn standing(
+        &self,
+        alloc: Global,
+        class: Class,
+        field: &Field,
+        tie: &Tie,
+    ) -> Result<Standing, NoMemory>
+        ensures { IfOk result (λ standing. standing ≡ field_standing (linkable_authorities self.now.state) class (kept_field field.now tie.now)) }
     {
-        let Some(standing) = self.standing(place) else {
-            return None;
-        };
-        told(standing, self.linked_key(place))
+        self.store.standing(alloc, class, field, tie)
     }
 
-    /// The keys of the authorities that an ambiguous field can be linked to, in key order; none where the field isn't ambiguous.
-    #[tactic(auto, using(crate::proofs::Look::candidates_is, crate::proofs::Look::candidates_none))]
-    pub fn candidates(&self, place: &Place) -> Option<&Keys>
-        ensures { option_copied result ≡ option_and_then (field_candidates (linkable_authorities self.now) place.now.class) (field_under place.now self.now) }
+    /// The keys of all authorities whose heading has the form of that of a key's authority, in key order; none where the key has no
+    /// authority that fields can be linked to.
+    #[tactic(auto, using(crate::proofs::Engines::valid_in_order))]
+    pub fn sharing(&self, alloc: Global, key: &Key) -> Result<Vec<&Key>, NoMemory>
+        ensures { IfOk result (λ found. shown_keys found.items ≡ keys_sharing key.now (linkable_authorities self.now.state)) }
     {
-        match self.standing(place) {
-            Some(standing) => candidates(standing),
-            None => None,
-        }
+        self.store.sharing(alloc, key)
     }
 
-    fn standings(&self, class: Class) -> &Shelf<Standings>
-        ensures { result.now.rows ≡ standings_rows (linkable_authorities self.now) class (rows_of class self.now) }
+    /// The keys of the other authorities under whose heading a key's authority is found, in key order; none where the key has no
+    /// authority that fields can be linked to.
+    #[tactic(auto, using(crate::proofs::Engines::valid_in_order))]
+    pub fn crossing(&self, alloc: Global, key: &Key) -> Result<Vec<&Key>, NoMemory>
+        ensures { IfOk result (λ found. shown_keys found.items ≡ keys_crossing key.now (linkable_authorities self.now.state)) }
     {
-        match class {
-            Class::Authority => &self.authorities_stand,
-            Class::Bibliographic => &self.bibliographic_stand,
-        }
-    }
-
-    #[tactic(auto, using(crate::proofs::Look::standing_found))]
-    fn standing(&self, place: &Place) -> Option<&Standing>
-        ensures { option_copied result ≡ option_map (field_standing (linkable_authorities self.now) place.now.class) (field_under place.now self.now) }
-    {
-        match self.standings(place.class).get(&place.key) {
-            Some(standings) => item_at(standings.as_slice(), place.field),
-            None => None,
-        }
-    }
-
-    #[tactic(auto, using(crate::proofs::Look::link_at))]
-    fn linked_key(&self, place: &Place) -> Option<&Key>
-        ensures { option_copied result ≡ option_and_then (λ h. h.tie.key) (field_under place.now self.now) }
-    {
-        match self.look(place.class, &place.key) {
-            Some(kept) => link(kept, place.field),
-            None => None,
-        }
-    }
-}
-
-fn item_at<T>(items: &[T], place: u32) -> Option<&T>
-    ensures { option_copied result ≡ slice_get items.now place }
-{
-    items.get(place as usize)
-}
-
-/// The key that the field at a place of a record is linked to.
-#[tactic(auto, using(crate::proofs::Look::link_at))]
-fn link(kept: &Kept, field: u32) -> Option<&Key>
-    ensures { option_copied result ≡ option_and_then (λ h. h.tie.key) (field_at field (kept_record kept.now)) }
-{
-    match item_at(kept.links.as_slice(), field) {
-        Some(tie) => tie.key.as_ref(),
-        None => None,
-    }
-}
-
-fn told<'a>(standing: &Standing, key: Option<&'a Key>) -> Option<Status<'a>>
-    ensures { option_map told_as result ≡ told_of standing.now (option_copied key.entry) }
-{
-    match (standing, key) {
-        (Standing::Linked, Some(key)) => Some(Status::Linked(key)),
-        (Standing::Linked, None) => None,
-        (Standing::Ambiguous(_), _) => Some(Status::Ambiguous),
-        (Standing::Unlinked, _) => Some(Status::Unlinked),
-        (Standing::NoHeading, _) => Some(Status::NoHeading),
-    }
-}
-
-fn candidates(standing: &Standing) -> Option<&Keys>
-    ensures { option_copied result ≡ candidates_of standing.now }
-{
-    match standing {
-        Standing::Ambiguous(keys) => Some(keys),
-        _ => None,
+        self.store.crossing(alloc, key)
     }
 }

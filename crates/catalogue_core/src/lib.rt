@@ -1,20 +1,11 @@
-//! A catalogue: its history, its state, and what a commit does to both. The bodies are plain: each commit looks at all
-//! authorities for all fields, and makes all records anew.
+//! A catalogue in memory: its history, what is staged behind it, and the state behind both, which each commit takes further by what
+//! it touches.
 #![tactic(auto)]
 
-pub use authority::Authority;
 pub use catalogue::{Catalogue, CoreFault};
-pub use engine::{Changes, Engine};
-pub use standing::{Standing, Standings};
+pub use catalogue_tables::Standing;
+pub use commit_stages::Changes;
+pub use engine::Engine;
 
-mod authority;
-mod behind;
 mod catalogue;
-mod choice;
-mod counts;
 mod engine;
-mod records;
-mod settling;
-mod standing;
-#[cfg(test)]
-mod tests;

@@ -1,12 +1,12 @@
 -- What every command has that words ask for.
-use Rattle.std.proofs.Common.{◌≡◌, ◌≢◌, ℕ, zero, suc, ◌<◌, ◌≤◌, Bool, true, false, ◌&&◌, List, [], ◌∷◌, length, Option, Some, None, refl, sym, ap, subst, ◌∙◌, arith, codes, if◌then◌else◌}
+use Rattle.std.proofs.Common.{◌≡◌, ◌≢◌, ℕ, zero, suc, ◌<◌, ◌≤◌, Bool, true, false, ◌&&◌, List, [], ◌∷◌, length, Option, Some, None, refl, sym, ap, subst, ◌∙◌, arith, codes, get_or, take, drop, ◌+◌, ◌-◌, if◌then◌else◌}
 use Rattle.std.specs.Prelude.{is_some, option_and_then, option_map, nat_le, All, map}
 use Rattle.std.specs.Str.Parse.{digits_value}
 use Rattle.std.proofs.lemmas.Bool.Decides.{nat_tests}
 use Rattle.std.specs.List.{list_all}
 use Rattle.std.specs.Str.{bytes_eq}
 use Rattle.std.proofs.lemmas.Bool.{and_parts, not-true, true≢false}
-use Rattle.std.proofs.lemmas.List.{length-map}
+use Rattle.std.proofs.lemmas.List.{length-map, take_all}
 use Rattle.std.proofs.lemmas.List.Elements.{All-nil, All-cons}
 use Rattle.std.proofs.lemmas.Slice.Eq.{bytes_eq-Decides}
 use Rattle.marc_types.specs.Valid.{is_code}
@@ -16,7 +16,7 @@ use Rattle.command_words.specs.declared.library.Library.{Library}
 use Rattle.command_words.specs.declared.topic.Topic.{Topic}
 use Rattle.command_words.specs.declared.topic.Topic.TheVariants as topic
 use Rattle.command_words.specs.Topics.{topic_of}
-use Rattle.command_words.specs.Command.{Command, Pass, Run, Load, Export, Report, Make, Verify, Migrate, Matches, Help, Version, is_name, differ, split_at_equals, library_of, are_libraries, is_free, number_upto, greatest_seed, are_two_names, pass_of, run_of, load_of, export_of, report_of, make_of, verify_of, migrate_of, matches_of, help_of, alone, command_of, words_of_files, libraries_of, file_count, names_of, AreNames, IsBounded}
+use Rattle.command_words.specs.Command.{Command, Pass, Run, Load, Export, Report, Make, Verify, Migrate, Matches, Holdings, Help, Version, is_name, differ, split_at_equals, library_of, are_libraries, is_free, number_upto, greatest_seed, are_two_names, are_three_names, pass_of, run_of, load_of, export_of, report_of, make_of, verify_of, migrate_of, matches_of, holdings_of, help_of, alone, told_of, over_journal, command_of, words_of_files, libraries_of, file_count, names_of, AreNames, IsBounded}
 
 -- a test and what it lets through
 if_some : {A : Type 0} (good : Bool) (a b : A) → (if good then Some a else None) ≡ Some b → (good ≡ true) × (a ≡ b)
@@ -236,6 +236,42 @@ matches_is verb (journal ∷ out ∷ []) c is =
     })
 matches_is verb (journal ∷ out ∷ other ∷ rest) c is = cc
 
+-- a log and two outputs with one file
+three_names : (verb journal out rest file : List ℕ) (code : Option (List ℕ)) (words : List (List ℕ)) → are_three_names (file ∷ []) journal out rest ≡ true
+    → IsCommand (verb ∷ journal ∷ out ∷ rest ∷ file ∷ words) (Holdings journal out rest code)
+three_names verb journal out rest file code words good =
+    let six = and_parts _ (differ out rest) good in
+    let five = and_parts _ (differ journal rest) six.0 in
+    let four = and_parts _ (differ journal out) five.0 in
+    let three = and_parts _ (is_free (file ∷ []) rest) four.0 in
+    let two = and_parts _ (is_free (file ∷ []) out) three.0 in
+    let one = and_parts (are_libraries (file ∷ [])) (is_free (file ∷ []) journal) two.0 in
+    record {
+      count = refl;
+      codes = codes_of (file ∷ []) one.0;
+      names = (
+        free_named (file ∷ []) journal one.1,
+        (apart journal out four.1, (apart journal rest five.1, tt)),
+        (free_named (file ∷ []) out two.1, (apart out rest six.1, tt), (free_named (file ∷ []) rest three.1, tt, tt)),
+      );
+      files = λ k d less. (free_apart (file ∷ []) journal one.1 k d less, (free_apart (file ∷ []) out two.1 k d less, (free_apart (file ∷ []) rest three.1 k d less, tt)));
+      bounded = tt;
+    }
+
+holdings_is : (verb : List ℕ) (words : List (List ℕ)) (c : Command) → holdings_of words ≡ Some c → IsCommand (verb ∷ words) c
+holdings_is verb [] c is = cc
+holdings_is verb (journal ∷ []) c is = cc
+holdings_is verb (journal ∷ out ∷ []) c is = cc
+holdings_is verb (journal ∷ out ∷ rest ∷ []) c is = cc
+holdings_is verb (journal ∷ out ∷ rest ∷ file ∷ []) c is =
+    let parts = if_some (are_three_names (file ∷ []) journal out rest) (Holdings journal out rest None) c is in
+    subst (IsCommand (verb ∷ journal ∷ out ∷ rest ∷ file ∷ [])) parts.1 (three_names verb journal out rest file None [] parts.0)
+holdings_is verb (journal ∷ out ∷ rest ∷ file ∷ code ∷ []) c is =
+    let parts = if_some _ (Holdings journal out rest (Some code)) c is in
+    subst (IsCommand (verb ∷ journal ∷ out ∷ rest ∷ file ∷ code ∷ [])) parts.1
+    (three_names verb journal out rest file (Some code) (code ∷ []) (and_parts (are_three_names (file ∷ []) journal out rest) _ parts.0).0)
+holdings_is verb (journal ∷ out ∷ rest ∷ file ∷ code ∷ other ∷ words) c is = cc
+
 migrate_is : (verb : List ℕ) (words : List (List ℕ)) (c : Command) → migrate_of words ≡ Some c → IsCommand (verb ∷ words) c
 migrate_is verb [] c is = cc
 migrate_is verb (old ∷ []) c is = cc
@@ -273,23 +309,24 @@ chosen true x y c f g is = f is
 chosen false x y c f g is = g is
 
 command_is : (words : List (List ℕ)) (c : Command) → command_of words ≡ Some c → IsCommand words c
-unfolding command_of
+unfolding command_of over_journal told_of
 command_is [] c is = cc
 command_is (verb ∷ words) c is =
     chosen (bytes_eq verb (codes "pass")) (pass_of words) _ c (pass_is verb words c) (
     chosen (bytes_eq verb (codes "run")) (run_of words) _ c (run_is verb words c) (
     chosen (bytes_eq verb (codes "load")) (load_of words) _ c (load_is verb words c) (
+    chosen (bytes_eq verb (codes "make")) (make_of words) _ c (make_is verb words c) (
     chosen (bytes_eq verb (codes "export")) (export_of words) _ c (export_is verb words c) (
     chosen (bytes_eq verb (codes "report")) (report_of words) _ c (report_is verb words c) (
-    chosen (bytes_eq verb (codes "make")) (make_of words) _ c (make_is verb words c) (
     chosen (bytes_eq verb (codes "verify")) (verify_of words) _ c (verify_is verb words c) (
     chosen (bytes_eq verb (codes "matches")) (matches_of words) _ c (matches_is verb words c) (
+    chosen (bytes_eq verb (codes "holdings")) (holdings_of words) _ c (holdings_is verb words c) (
     chosen (bytes_eq verb (codes "migrate")) (migrate_of words) _ c (migrate_is verb words c) (
     chosen (bytes_eq verb (codes "help")) (help_of words) _ c (help_is verb words c) (
     chosen (bytes_eq verb (codes "--help")) (alone (Help topic.All) words) _ c (alone_is verb words (Help topic.All) c helped) (
     chosen (bytes_eq verb (codes "-h")) (alone (Help topic.All) words) _ c (alone_is verb words (Help topic.All) c helped) (
     chosen (bytes_eq verb (codes "version")) (alone Version words) _ c (alone_is verb words Version c versioned) (
-    chosen (bytes_eq verb (codes "--version")) (alone Version words) None c (alone_is verb words Version c versioned) (λ none. cc)))))))))))))) is
+    chosen (bytes_eq verb (codes "--version")) (alone Version words) None c (alone_is verb words Version c versioned) (λ none. cc))))))))))))))) is
   where
     helped : IsCommand (verb ∷ words) (Help topic.All)
     helped = a_help (verb ∷ words) topic.All
@@ -323,3 +360,25 @@ files_are_apart words c is = subst (λ o. All (λ (l : Library). IsNoneOf l.file
 -- its numbers are within their bounds
 pub is_bounded : (words : List (List ℕ)) (c : Command) → command_of words ≡ Some c → IsBounded c
 is_bounded words c is = (command_is words c is).bounded
+
+-- a word that isn't this one
+isnt : (verb word : List ℕ) → verb ≢ word → bytes_eq verb word ≡ false
+isnt verb word differ = at (bytes_eq verb word) refl
+  where
+    at : (b : Bool) → bytes_eq verb word ≡ b → b ≡ false
+    at true same = absurd (differ ((bytes_eq-Decides verb word).0 same))
+    at false same = refl
+
+-- a command with another verb is one over a journal, or only tells something
+only_over_journal : (verb : List ℕ) (rest : List (List ℕ)) → verb ≢ codes "pass" → verb ≢ codes "run" → verb ≢ codes "load" → verb ≢ codes "make"
+    → command_of (verb ∷ rest) ≡ over_journal verb rest
+unfolding command_of
+only_over_journal verb rest pass run load make = rw (isnt verb _ pass, isnt verb _ run, isnt verb _ load, isnt verb _ make) refl
+
+pub over_journal_asked : (words : List (List ℕ)) (verb other : List ℕ) → 1 ≤ length words → verb ≡ get_or words 0 other
+    → verb ≢ codes "pass" → verb ≢ codes "run" → verb ≢ codes "load" → verb ≢ codes "make"
+    → command_of words ≡ over_journal verb (take (length words - 1) (drop 1 words))
+over_journal_asked [] verb other some is pass run load make = absurd (omega (arith, some))
+over_journal_asked (first ∷ rest) verb other some is pass run load make =
+    let all : take (length (first ∷ rest) - 1) rest ≡ rest = take_all (length (first ∷ rest) - 1) rest (omega arith) in
+    ap (λ w. command_of (w ∷ rest)) (sym is) ∙ only_over_journal verb rest pass run load make ∙ ap (over_journal verb) (sym all)

@@ -4,7 +4,7 @@ use Rattle.std.specs.Option.{option_copied}
 use Rattle.command_words.specs.Command.{Command}
 use Rattle.command_words.specs.Command as command
 use Rattle.command_words.specs.declared.asked.Request.{Request}
-use Rattle.command_words.specs.declared.asked.Request.TheVariants.{Pass, Run, Load, Export, Report, Make, Verify, Migrate, Matches, Help, Version}
+use Rattle.command_words.specs.declared.asked.Request.TheVariants.{Pass, Run, Load, Export, Report, Make, Verify, Migrate, Matches, Holdings, Help, Version}
 
 abbrev pub command_asked : Request → Command
 command_asked (Pass out) = command.Pass out.now
@@ -15,6 +15,7 @@ command_asked (Report journal out) = command.Report journal.now out.now
 command_asked (Make seed count out) = command.Make seed count out.now
 command_asked (Verify journal) = command.Verify journal.now
 command_asked (Matches journal out) = command.Matches journal.now out.now
+command_asked (Holdings journal out rest code) = command.Holdings journal.now out.now rest.now (option_copied code)
 command_asked (Migrate old new) = command.Migrate old.now new.now
 command_asked (Help topic) = command.Help topic
 command_asked Version = command.Version

@@ -1,5 +1,5 @@
 -- The words of the command line, without the program's name, and what they ask for. The rules are this project's own.
-use Rattle.std.specs.Prelude.{◌≢◌, ◌≤◌, ℕ, ◌^◌, ◌-◌, Bool, ◌&&◌, ◌==◌, not, nat_le, nat_lt, List, [], ◌∷◌, length, Option, Some, None, is_some, codes, drop, map, if◌then◌else◌, option_and_then, option_map}
+use Rattle.std.specs.Prelude.{◌≢◌, ◌≤◌, ℕ, ◌^◌, ◌-◌, Bool, ◌&&◌, ◌==◌, not, nat_le, nat_lt, List, [], ◌∷◌, length, Option, Some, None, is_some, codes, drop, take, map, if◌then◌else◌, option_and_then, option_map}
 use Rattle.std.specs.List.{before_first, after_first, position_or_len, list_all}
 use Rattle.std.specs.Str.{bytes_eq}
 use Rattle.std.specs.Str.Parse.{digits_value}
@@ -29,6 +29,9 @@ pub data Command : Type 0 where
   Verify : List ℕ → Command
   -- `matches JOURNAL OUT`: which records share a number, into the file OUT
   Matches : List ℕ → List ℕ → Command
+  -- `holdings JOURNAL OUT REST CODE=FILE`, or with a further CODE for the keys with that code: the records with the file's holdings
+  -- into OUT, and the holdings that wait for their record into REST
+  Holdings : List ℕ → List ℕ → List ℕ → Option (List ℕ) → Command
   -- `migrate OLD NEW`: the history of the journal OLD into the journal NEW
   Migrate : List ℕ → List ℕ → Command
   -- `help`, or `help COMMAND`: how the commands are used, or that one
@@ -129,6 +132,18 @@ abbrev pub matches_of : List (List ℕ) → Option Command
 matches_of (journal ∷ out ∷ []) = command_if (are_two_names journal out) (Matches journal out)
 matches_of words = None
 
+-- the names of a log and two outputs that come with files
+abbrev pub are_three_names : List (List ℕ) → List ℕ → List ℕ → List ℕ → Bool
+are_three_names files journal out rest =
+    are_libraries files && is_free files journal && is_free files out && is_free files rest
+    && differ journal out && differ journal rest && differ out rest
+
+abbrev pub holdings_of : List (List ℕ) → Option Command
+holdings_of (journal ∷ out ∷ rest ∷ file ∷ []) = command_if (are_three_names (file ∷ []) journal out rest) (Holdings journal out rest None)
+holdings_of (journal ∷ out ∷ rest ∷ file ∷ code ∷ []) =
+    command_if (are_three_names (file ∷ []) journal out rest && is_code code) (Holdings journal out rest (Some code))
+holdings_of words = None
+
 abbrev pub migrate_of : List (List ℕ) → Option Command
 migrate_of (old ∷ new ∷ []) = command_if (are_two_names old new) (Migrate old new)
 migrate_of words = None
@@ -143,6 +158,27 @@ abbrev pub alone : Command → List (List ℕ) → Option Command
 alone command [] = Some command
 alone command words = None
 
+-- the commands that only tell something
+unfoldable pub told_of : List ℕ → List (List ℕ) → Option Command
+told_of verb words =
+    if bytes_eq verb (codes "help") then help_of words
+    else if bytes_eq verb (codes "--help") then alone (Help All) words
+    else if bytes_eq verb (codes "-h") then alone (Help All) words
+    else if bytes_eq verb (codes "version") then alone Version words
+    else if bytes_eq verb (codes "--version") then alone Version words
+    else None
+
+-- the commands over a journal that load nothing
+unfoldable pub over_journal : List ℕ → List (List ℕ) → Option Command
+over_journal verb words =
+    if bytes_eq verb (codes "export") then export_of words
+    else if bytes_eq verb (codes "report") then report_of words
+    else if bytes_eq verb (codes "verify") then verify_of words
+    else if bytes_eq verb (codes "matches") then matches_of words
+    else if bytes_eq verb (codes "holdings") then holdings_of words
+    else if bytes_eq verb (codes "migrate") then migrate_of words
+    else told_of verb words
+
 -- the command of some words, if they are one
 unfoldable pub command_of : List (List ℕ) → Option Command
 command_of [] = None
@@ -150,20 +186,10 @@ command_of (verb ∷ words) =
     if bytes_eq verb (codes "pass") then pass_of words
     else if bytes_eq verb (codes "run") then run_of words
     else if bytes_eq verb (codes "load") then load_of words
-    else if bytes_eq verb (codes "export") then export_of words
-    else if bytes_eq verb (codes "report") then report_of words
     else if bytes_eq verb (codes "make") then make_of words
-    else if bytes_eq verb (codes "verify") then verify_of words
-    else if bytes_eq verb (codes "matches") then matches_of words
-    else if bytes_eq verb (codes "migrate") then migrate_of words
-    else if bytes_eq verb (codes "help") then help_of words
-    else if bytes_eq verb (codes "--help") then alone (Help All) words
-    else if bytes_eq verb (codes "-h") then alone (Help All) words
-    else if bytes_eq verb (codes "version") then alone Version words
-    else if bytes_eq verb (codes "--version") then alone Version words
-    else None
+    else over_journal verb words
 
--- the words `CODE=FILE` of a command, which stand behind its other words; none where there is no command
+-- the words `CODE=FILE` of a command, which stand behind its names; none where there is no command
 abbrev pub words_of_files : List (List ℕ) → Option Command → List (List ℕ)
 words_of_files words None = []
 words_of_files words (Some (Pass out)) = drop 2 words
@@ -174,6 +200,7 @@ words_of_files words (Some (Report journal out)) = []
 words_of_files words (Some (Make seed count out)) = []
 words_of_files words (Some (Verify journal)) = []
 words_of_files words (Some (Matches journal out)) = []
+words_of_files words (Some (Holdings journal out rest code)) = take 1 (drop 4 words)
 words_of_files words (Some (Migrate old new)) = []
 words_of_files words (Some (Help topic)) = []
 words_of_files words (Some Version) = []
@@ -192,6 +219,7 @@ file_count (Report journal out) = 0
 file_count (Make seed count out) = 0
 file_count (Verify journal) = 0
 file_count (Matches journal out) = 0
+file_count (Holdings journal out rest code) = 1
 file_count (Migrate old new) = 0
 file_count (Help topic) = 0
 file_count Version = 0
@@ -206,6 +234,7 @@ names_of (Report journal out) = journal ∷ out ∷ []
 names_of (Make seed count out) = out ∷ []
 names_of (Verify journal) = []
 names_of (Matches journal out) = journal ∷ out ∷ []
+names_of (Holdings journal out rest code) = journal ∷ out ∷ rest ∷ []
 names_of (Migrate old new) = old ∷ new ∷ []
 names_of (Help topic) = []
 names_of Version = []
@@ -225,6 +254,7 @@ IsBounded (Report journal out) = Unit {0}
 IsBounded (Make seed count out) = count ≤ most_entries
 IsBounded (Verify journal) = Unit {0}
 IsBounded (Matches journal out) = Unit {0}
+IsBounded (Holdings journal out rest code) = Unit {0}
 IsBounded (Migrate old new) = Unit {0}
 IsBounded (Help topic) = Unit {0}
 IsBounded Version = Unit {0}

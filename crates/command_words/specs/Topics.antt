@@ -2,7 +2,7 @@
 use Rattle.std.specs.Prelude.{ℕ, List, Option, Some, None, codes, if◌then◌else◌}
 use Rattle.std.specs.Str.{bytes_eq}
 use Rattle.command_words.specs.declared.topic.Topic.{Topic}
-use Rattle.command_words.specs.declared.topic.Topic.TheVariants.{Pass, Run, Load, Export, Report, Make, Verify, Migrate, Matches, Help, Version}
+use Rattle.command_words.specs.declared.topic.Topic.TheVariants.{Pass, Run, Load, Export, Report, Make, Verify, Migrate, Matches, Holdings, Help, Version}
 
 -- the command that a word names
 unfoldable pub topic_of : List ℕ → Option Topic
@@ -16,6 +16,7 @@ topic_of word =
     else if bytes_eq word (codes "verify") then Some Verify
     else if bytes_eq word (codes "migrate") then Some Migrate
     else if bytes_eq word (codes "matches") then Some Matches
+    else if bytes_eq word (codes "holdings") then Some Holdings
     else if bytes_eq word (codes "help") then Some Help
     else if bytes_eq word (codes "version") then Some Version
     else None

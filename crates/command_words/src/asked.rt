@@ -45,6 +45,14 @@ pub enum Request<'a> {
         journal: &'a str,
         out: &'a str,
     },
+    /// Write the journal's records with the holdings of a file behind them into the file `out`, those under keys with that code or
+    /// all, and the holdings whose record it doesn't have into the file `rest`.
+    Holdings {
+        journal: &'a str,
+        out: &'a str,
+        rest: &'a str,
+        code: Option<&'a str>,
+    },
     /// Bring the history of the journal `old` into the journal `new`.
     Migrate {
         old: &'a str,

@@ -12,7 +12,7 @@ fn words_of(alloc: Global, line: &str) -> Result<Words, NoMemory> {
 }
 
 #[test]
-fn lines_on_journals(rt: HostRuntime) -> Result<(), Fail> {
+fn lines_that_write_journals(rt: HostRuntime) -> Result<(), Fail> {
     let table = [
         (
             "run j o r ULIB=f0 ULIB=f1",
@@ -30,6 +30,18 @@ fn lines_on_journals(rt: HostRuntime) -> Result<(), Fail> {
                 files: 2,
             },
         ),
+        ("migrate a b", Request::Migrate { old: "a", new: "b" }),
+    ];
+    for (line, asked) in table {
+        let words = words_of(rt.alloc(), line)?;
+        assert_eq!(rt; request(&words), Some(asked), "{line}");
+    }
+    Ok(())
+}
+
+#[test]
+fn lines_that_read_journals(rt: HostRuntime) -> Result<(), Fail> {
+    let table = [
         (
             "export j o",
             Request::Export {
@@ -61,7 +73,24 @@ fn lines_on_journals(rt: HostRuntime) -> Result<(), Fail> {
                 out: "b",
             },
         ),
-        ("migrate a b", Request::Migrate { old: "a", new: "b" }),
+        (
+            "holdings j o r ULIB=h",
+            Request::Holdings {
+                journal: "j",
+                out: "o",
+                rest: "r",
+                code: None,
+            },
+        ),
+        (
+            "holdings j o r ULIB=h DLC",
+            Request::Holdings {
+                journal: "j",
+                out: "o",
+                rest: "r",
+                code: Some("DLC"),
+            },
+        ),
     ];
     for (line, asked) in table {
         let words = words_of(rt.alloc(), line)?;
@@ -130,6 +159,15 @@ fn faulty_lines_with_files(rt: HostRuntime) -> Result<(), Fail> {
         "run j o r A=f B=o",
         "load j",
         "load j A=f B=j",
+        "holdings j o r",
+        "holdings j o r D",
+        "holdings j o o A=f",
+        "holdings j j r A=f",
+        "holdings j o j A=f",
+        "holdings j o r A=r",
+        "holdings j o r A=f D(",
+        "holdings j o r A=f D D",
+        "holdings j o r A=f B=f C=f",
     ];
     for line in table {
         let words = words_of(rt.alloc(), line)?;
@@ -213,6 +251,9 @@ fn files(rt: HostRuntime) -> Result<(), Fail> {
     assert_eq!(rt; made[0].file.as_str(), "b=c");
     assert_eq!(rt; made[1].code.as_str(), "D");
     assert_eq!(rt; made[1].file.as_str(), "e");
+    let made = listed(rt.alloc(), "holdings j o r A=h D")?;
+    assert_eq!(rt; made.len(), 1);
+    assert_eq!(rt; made[0].file.as_str(), "h");
     assert_eq!(rt; listed(rt.alloc(), "export j o D")?.len(), 0);
     Ok(())
 }

@@ -15,6 +15,7 @@ pub enum Topic {
     Verify,
     Migrate,
     Matches,
+    Holdings,
     Help,
     Version,
 }
@@ -34,6 +35,7 @@ pub fn named_topic(word: &str) -> Option<Topic>
         "verify" => Some(Topic::Verify),
         "migrate" => Some(Topic::Migrate),
         "matches" => Some(Topic::Matches),
+        "holdings" => Some(Topic::Holdings),
         "help" => Some(Topic::Help),
         "version" => Some(Topic::Version),
         _ => None,

@@ -1,7 +1,7 @@
-ghost use Rattle.std.specs.Prelude.{◌≡◌, ℕ, true, false, length, List, Option, Some, None, IfSome, IfOk, MatchOption, drop, is_some};
+ghost use Rattle.std.specs.Prelude.{◌≡◌, ℕ, true, false, length, List, Option, Some, None, IfSome, IfOk, MatchOption, drop, take, is_some};
 ghost use Rattle.std.specs.List.{list_all};
 ghost use Rattle.marc_types.specs.Valid.{is_code, is_digit};
-ghost use Rattle.command_words.specs.Command.{library_of, are_libraries, is_free, differ, split_at_equals, number_upto, pass_of, run_of, load_of, export_of, report_of, make_of, verify_of, migrate_of, matches_of, help_of, alone, are_two_names, command_of, words_of_files, libraries_of};
+ghost use Rattle.command_words.specs.Command.{library_of, are_libraries, is_free, differ, split_at_equals, number_upto, pass_of, run_of, load_of, export_of, report_of, make_of, verify_of, migrate_of, matches_of, holdings_of, help_of, alone, told_of, over_journal, are_two_names, are_three_names, command_of, words_of_files, libraries_of};
 ghost use Rattle.command_words.specs.Asked.{command_asked, AsksFor};
 
 use crate::asked::Request;
@@ -219,6 +219,40 @@ fn matches(words: &[Text]) -> Option<Request<'_>>
     }
 }
 
+/// Whether a log and two outputs may have these names, where the command reads these files.
+fn are_three_names(files: &[Text], journal: &str, out: &str, rest: &str) -> bool
+    ensures { result ≡ are_three_names files.now journal.now out.now rest.now }
+{
+    library_count(files).is_some()
+        && is_free(journal, files)
+        && is_free(out, files)
+        && is_free(rest, files)
+        && journal != out
+        && journal != rest
+        && out != rest
+}
+
+fn holdings(words: &[Text]) -> Option<Request<'_>>
+    ensures { AsksFor result (holdings_of words.now) }
+{
+    let [journal, out, rest, words @ ..] = words else {
+        return None;
+    };
+    let code = match words {
+        [_] => None,
+        [_, code] if can_be_code(code.as_bytes()) => Some(code.as_str()),
+        _ => return None,
+    };
+    let file = &words[..1];
+    let (journal, out, rest) = (journal.as_str(), out.as_str(), rest.as_str());
+    are_three_names(file, journal, out, rest).then_some(Request::Holdings {
+        journal,
+        out,
+        rest,
+        code,
+    })
+}
+
 fn migrate(words: &[Text]) -> Option<Request<'_>>
     ensures { AsksFor result (migrate_of words.now) }
 {
@@ -250,6 +284,35 @@ fn alone<'a>(asked: Request<'a>, words: &[Text]) -> Option<Request<'a>>
     words.is_empty().then_some(asked)
 }
 
+/// What the words of a command that only tells something ask for.
+#[tactic(auto, unfolding(crate::specs::Command::told_of))]
+fn told<'a>(verb: &str, rest: &'a [Text]) -> Option<Request<'a>>
+    ensures { AsksFor result (told_of verb.now rest.now) }
+{
+    match verb {
+        "help" => help(rest),
+        "--help" | "-h" => alone(Request::Help { topic: Topic::All }, rest),
+        "version" | "--version" => alone(Request::Version, rest),
+        _ => None,
+    }
+}
+
+/// What the words of a command over a journal that loads nothing ask for.
+#[tactic(auto, unfolding(crate::specs::Command::over_journal))]
+fn over_journal<'a>(verb: &str, rest: &'a [Text]) -> Option<Request<'a>>
+    ensures { AsksFor result (over_journal verb.now rest.now) }
+{
+    match verb {
+        "export" => export(rest),
+        "report" => report(rest),
+        "verify" => verify(rest),
+        "matches" => matches(rest),
+        "holdings" => holdings(rest),
+        "migrate" => migrate(rest),
+        verb => told(verb, rest),
+    }
+}
+
 /// What the words ask for; `None` exactly where they are no command.
 #[tactic(auto, unfolding(crate::specs::Command::command_of))]
 pub fn request(words: &Words) -> Option<Request<'_>>
@@ -262,16 +325,8 @@ pub fn request(words: &Words) -> Option<Request<'_>>
         "pass" => pass(rest),
         "run" => run(rest),
         "load" => load(rest),
-        "export" => export(rest),
-        "report" => report(rest),
         "make" => make(rest),
-        "verify" => verify(rest),
-        "matches" => matches(rest),
-        "migrate" => migrate(rest),
-        "help" => help(rest),
-        "--help" | "-h" => alone(Request::Help { topic: Topic::All }, rest),
-        "version" | "--version" => alone(Request::Version, rest),
-        _ => None,
+        verb => over_journal(verb, rest),
     }
 }
 
@@ -284,6 +339,16 @@ fn behind(words: &[Text], first: usize) -> &[Text]
     &words[first..]
 }
 
+fn first_behind(words: &[Text], first: usize) -> &[Text]
+    ensures { result.now ≡ take 1 (drop first words.now) }
+{
+    let behind = behind(words, first);
+    if behind.is_empty() {
+        return behind;
+    }
+    &behind[..1]
+}
+
 /// The words `CODE=FILE` of the words' command.
 fn words_of_files(words: &Words) -> &[Text]
     ensures { result.now ≡ words_of_files words.now (command_of words.now) }
@@ -291,6 +356,7 @@ fn words_of_files(words: &Words) -> &[Text]
     match request(words) {
         Some(Request::Pass { .. } | Request::Load { .. }) => behind(words.as_slice(), 2),
         Some(Request::Run { .. }) => behind(words.as_slice(), 4),
+        Some(Request::Holdings { .. }) => first_behind(words.as_slice(), 4),
         _ => &[],
     }
 }

@@ -18,7 +18,7 @@ use std::alloc::Global;
 use std::sync::ledger::Ledger;
 
 /// Takes the store to the state behind one more entry: its record comes into its key's place, links that can't stay are ended, and
-/// every heading is settled. It visits as many records as the commit touches, at most. Want of memory leaves the state as it was.
+/// every heading is settled. The visits that it counts are at most what the commit touches. Want of memory leaves the state as it was.
 pub fn commit_entry<L: Ledger>(
     store: &mut LinkedStore,
     alloc: Global,

@@ -11,4 +11,5 @@ pub mod Readings
 pub mod Refused
 pub mod Replies
 pub mod Stages
+pub mod Standing
 pub mod Within

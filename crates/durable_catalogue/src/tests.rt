@@ -1,9 +1,12 @@
+ghost use Rattle.std.specs.Prelude.{◌≢◌, [], IfOk};
+
 use crate::{Durable, OpenFault};
 use entry_history::Batch;
 use marc_types::{Limits, Text, can_be_code};
 use outside_mem::MemDisk;
 use reading::prepare;
 use std::alloc::Global;
+use std::process::Abort;
 use std::test::Fail;
 
 /// Mark Twain's authority record.
@@ -31,14 +34,22 @@ fn history_len(alloc: Global, bytes: &[u8], limits: Limits) -> Result<u64, OpenF
     Ok(durable.core().history_len())
 }
 
+/// A batch of one record; what it needs of the batch is said before a catalogue is there.
+fn batch_of_one(rt: &impl Abort, alloc: Global, library: &Text) -> Result<Batch, Fail>
+    ensures { IfOk result (λ batch. batch ≢ []) }
+{
+    assert!(rt; can_be_code(library.as_bytes()));
+    let mut batch = Batch::new(alloc);
+    assert!(rt; batch.push(prepare(alloc, TWAIN, library, 0, 1)?).is_ok());
+    Ok(batch)
+}
+
 /// A commit into a blank log, whose header is the journal's; the log is opened again, and not within limits of no entry.
 #[test]
 fn a_commit_outlasts_its_catalogue(rt: HostRuntime) -> Result<(), Fail> {
     let alloc = rt.alloc();
     let library = Text::from_str(alloc, "ULIB")?;
-    assert!(rt; can_be_code(library.as_bytes()));
-    let mut batch = Batch::new(alloc);
-    assert!(rt; batch.push(prepare(alloc, TWAIN, &library, 0, 1)?).is_ok());
+    let batch = batch_of_one(&rt, alloc, &library)?;
     let mut durable = open(alloc, b"", LIMITS)?;
     let reply = durable.commit(alloc, batch);
     assert!(rt; reply.end.is_none());

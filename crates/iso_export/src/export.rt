@@ -1,68 +1,104 @@
-ghost use Rattle.std.specs.Prelude.{◌≡◌, [], OnOk};
+ghost use Rattle.std.specs.Prelude.{◌≡◌, [], OnOk, map};
 ghost use Rattle.std.specs.Io.KnownBytes.{Appends};
-ghost use Rattle.outside.specs.Fault.{HasCause};
+ghost use Rattle.outside.specs.Fault.{HasCause, HasWriteCause};
 ghost use Rattle.outside.specs.Sink.{WritesFront};
+ghost use Rattle.record_store.specs.Store.{shown_row};
 ghost use Rattle.catalogue_rules.specs.Settle.{state_of};
 ghost use Rattle.catalogue_rules.specs.Output.{export_of, export_of_rows};
 ghost use Rattle.catalogue_rules.specs.State.{rows_of};
 ghost use Rattle.selection.specs.Selections.{ForSelected, IsCallable};
+ghost use Rattle.iso_export.specs.Rows.{AreRowsOf};
 
+use crate::rows::{ExportRows, rows_in_order};
 use catalogue_core::{Catalogue, Engine};
 use iso2709_record::encode;
 use marc_types::{Class, Key};
-use outside::{Failed, Sink};
+use numbered_store::RowMap;
+use outside::{Failed, Sink, WriteFault};
 use selection::Selection;
+use std::alloc::Global;
 
 /// Writes the selected records of a catalogue: authorities first, each class in key order.
 pub fn write_catalogue<F: Fn(&Key) -> bool, K: Sink>(
+    alloc: Global,
     core: &Catalogue,
     selection: &Selection<F>,
     out: &mut K,
-) -> Result<(), Failed>
+) -> Result<(), WriteFault>
     requires settled { core.now.staged ≡ [] }
     requires callable { IsCallable F.Fn selection.now }
     ensures written { ForSelected F.Fn selection.now (λ kept.
         OnOk result (Appends (K.written out.old) (K.written out.new) (export_of kept (state_of core.now.history)))) }
     ensures front { ForSelected F.Fn selection.now (λ kept.
         WritesFront (K.written out.old) (K.written out.new) (export_of kept (state_of core.now.history))) }
-    ensures cause { HasCause (K.faults out.old) (K.faults out.new) result }
+    ensures cause { HasWriteCause (K.faults out.old) (K.faults out.new) result }
 {
-    write_state(core.engine(), selection, out)
+    write_state(alloc, core.engine(), selection, out)
 }
 
 /// Writes the selected records of a state: authorities first, each class in key order.
+#[tactic(auto, using(outside::proofs::Fronts::front_none))]
 pub fn write_state<F: Fn(&Key) -> bool, K: Sink>(
+    alloc: Global,
     engine: &Engine,
     selection: &Selection<F>,
     out: &mut K,
-) -> Result<(), Failed>
+) -> Result<(), WriteFault>
     requires { IsCallable F.Fn selection.now }
     ensures written { ForSelected F.Fn selection.now (λ kept.
-        OnOk result (Appends (K.written out.old) (K.written out.new) (export_of kept engine.now))) }
+        OnOk result (Appends (K.written out.old) (K.written out.new) (export_of kept engine.now.state))) }
     ensures front { ForSelected F.Fn selection.now (λ kept.
-        WritesFront (K.written out.old) (K.written out.new) (export_of kept engine.now)) }
+        WritesFront (K.written out.old) (K.written out.new) (export_of kept engine.now.state)) }
+    ensures cause { HasWriteCause (K.faults out.old) (K.faults out.new) result }
+{
+    let Ok(rows) = rows_in_order(alloc, engine) else {
+        return Err(WriteFault::NoMemory);
+    };
+    write_rows(engine, rows, selection, out)?;
+    Ok(())
+}
+
+/// Writes the selected records of a state whose rows are in order. It takes no memory.
+pub fn write_rows<F: Fn(&Key) -> bool, K: Sink>(
+    engine: &Engine,
+    rows: ExportRows<'_>,
+    selection: &Selection<F>,
+    out: &mut K,
+) -> Result<(), Failed>
+    requires rows { AreRowsOf engine.now.state rows }
+    requires callable { IsCallable F.Fn selection.now }
+    ensures written { ForSelected F.Fn selection.now (λ kept.
+        OnOk result (Appends (K.written out.old) (K.written out.new) (export_of kept engine.now.state))) }
+    ensures front { ForSelected F.Fn selection.now (λ kept.
+        WritesFront (K.written out.old) (K.written out.new) (export_of kept engine.now.state)) }
     ensures cause { HasCause (K.faults out.old) (K.faults out.new) result }
 {
-    write_class(engine, Class::Authority, selection, out)?;
-    write_class(engine, Class::Bibliographic, selection, out)
+    let ExportRows {
+        authorities,
+        bibliographic,
+    } = rows;
+    write_class(engine, Class::Authority, authorities, selection, out)?;
+    write_class(engine, Class::Bibliographic, bibliographic, selection, out)
 }
 
 /// Writes the selected records of a class, in key order.
 fn write_class<F: Fn(&Key) -> bool, K: Sink>(
     engine: &Engine,
     class: Class,
+    rows: RowMap<'_>,
     selection: &Selection<F>,
     out: &mut K,
 ) -> Result<(), Failed>
-    requires { IsCallable F.Fn selection.now }
+    requires rows { map shown_row rows.entries ≡ rows_of class engine.now.state }
+    requires callable { IsCallable F.Fn selection.now }
     ensures written { ForSelected F.Fn selection.now (λ kept.
-        OnOk result (Appends (K.written out.old) (K.written out.new) (export_of_rows kept (rows_of class engine.now)))) }
+        OnOk result (Appends (K.written out.old) (K.written out.new) (export_of_rows kept (rows_of class engine.now.state)))) }
     ensures front { ForSelected F.Fn selection.now (λ kept.
-        WritesFront (K.written out.old) (K.written out.new) (export_of_rows kept (rows_of class engine.now))) }
+        WritesFront (K.written out.old) (K.written out.new) (export_of_rows kept (rows_of class engine.now.state))) }
     ensures cause { HasCause (K.faults out.old) (K.faults out.new) result }
 {
     engine.stays_valid();
-    for (key, kept) in engine.rows(class) {
+    for (key, kept) in rows {
         if selection.keeps(key) {
             encode(&kept.rec, out)?;
         }

@@ -1,8 +1,10 @@
 //! The export: kept records in their written form.
 #![tactic(auto)]
 
-pub use export::{write_catalogue, write_state};
+pub use export::{write_catalogue, write_rows, write_state};
+pub use rows::{ExportRows, rows_in_order};
 
 mod export;
+mod rows;
 #[cfg(test)]
 mod tests;

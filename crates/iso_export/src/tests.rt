@@ -111,7 +111,7 @@ fn exported<F: Fn(&Key) -> bool>(
     requires callable { F.IsAlwaysCallable keep }
 {
     let mut out = MemSink::new(alloc, Vec::new(alloc));
-    write_catalogue(catalogue, &Selection::new(keep), &mut out)?;
+    write_catalogue(alloc, catalogue, &Selection::new(keep), &mut out)?;
     Ok(out.into_bytes())
 }
 

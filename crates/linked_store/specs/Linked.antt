@@ -60,7 +60,7 @@ pub record IsAhead (old new : Linked) : Type 0 where
   pub marked : new.marked ≡ old.marked
   pub before : new.before ≡ old.before
 
--- nothing is as it was but the numbers of keys, of which there may be more
+-- all is as it was, but that there may be more numbers of keys
 pub record IsUnchanged (old new : Linked) : Type 0 where
   pub ahead : IsAhead old new
   pub state : new.state ≡ old.state

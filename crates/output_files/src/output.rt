@@ -1,5 +1,5 @@
-ghost use Rattle.std.specs.Prelude.{◌≡◌, [], true, Some, None, OnOk, ◌∷◌};
-ghost use Rattle.outside.specs.Fault.{HasCause, HasWriteCause};
+ghost use Rattle.std.specs.Prelude.{◌≡◌, [], true, Some, None, OnOk, IsErrOf, ◌∷◌};
+ghost use Rattle.outside.specs.Fault.{HasWriteCause};
 ghost use Rattle.outside.specs.Room.{SameBut};
 ghost use Rattle.catalogue_rules.specs.Settle.{state_of};
 ghost use Rattle.catalogue_rules.specs.Output.{all_keys, export_of, report_of};
@@ -8,25 +8,27 @@ ghost use Rattle.output_files.specs.Outputs.{IsPartWritten};
 
 use ambiguity_report::write_report;
 use catalogue_core::Catalogue;
-use iso_export::write_catalogue;
+use iso_export::{rows_in_order, write_rows};
 use marc_types::Key;
-use outside::{Failed, Room, WriteFault};
+use outside::{Room, WriteFault};
 use selection::Selection;
 use std::alloc::Global;
 
-/// Writes the selected records of a catalogue into the file of that name.
+/// Writes the selected records of a catalogue into the file of that name. All memory is taken before the file is begun.
 pub fn write_export<R: Room, F: Fn(&Key) -> bool>(
+    alloc: Global,
     room: &mut R,
     name: &str,
     core: &Catalogue,
     selection: &Selection<F>,
-) -> Result<(), Failed>
+) -> Result<(), WriteFault>
     requires free { (R.seen room.old).open_as name.now ≡ None }
     requires staged { core.now.staged ≡ [] }
     requires callable { IsCallable F.Fn selection.now }
     ensures apart { SameBut (R.seen room.old) (R.seen room.new) (name.now ∷ []) }
     ensures closed { (R.seen room.new).open_as name.now ≡ None }
-    ensures cause { HasCause ((R.seen room.old).out_faults name.now) ((R.seen room.new).out_faults name.now) result }
+    ensures cause { HasWriteCause ((R.seen room.old).out_faults name.now) ((R.seen room.new).out_faults name.now) result }
+    ensures unbegun { IsErrOf result WriteFault.NoMemory → SameBut (R.seen room.old) (R.seen room.new) [] }
 
     // The file has all that is due, or as much as was written.
     ensures bytes { ForSelected F.Fn selection.now (λ kept. OnOk result ((R.seen room.old).tells ≡ true →
@@ -34,20 +36,31 @@ pub fn write_export<R: Room, F: Fn(&Key) -> bool>(
     ensures part { ForSelected F.Fn selection.now (λ kept. (R.seen room.old).tells ≡ true →
         IsPartWritten ((R.seen room.old).file name.now) ((R.seen room.new).file name.now) (export_of kept (state_of core.now.history))) }
 {
+    let engine = core.engine();
+    let Ok(rows) = rows_in_order(alloc, engine) else {
+        return Err(WriteFault::NoMemory);
+    };
     let mut out = room.open_out(name)?;
-    let written = write_catalogue(core, selection, &mut out);
+    let written = write_rows(engine, rows, selection, &mut out);
     let closed = room.close_out(name, out);
     written?;
-    closed
+    closed?;
+    Ok(())
 }
 
-/// Writes all records of a catalogue into the file of that name.
-pub fn write_all_records<R: Room>(room: &mut R, name: &str, core: &Catalogue) -> Result<(), Failed>
+/// Writes all records of a catalogue into the file of that name. All memory is taken before the file is begun.
+pub fn write_all_records<R: Room>(
+    alloc: Global,
+    room: &mut R,
+    name: &str,
+    core: &Catalogue,
+) -> Result<(), WriteFault>
     requires free { (R.seen room.old).open_as name.now ≡ None }
     requires staged { core.now.staged ≡ [] }
     ensures apart { SameBut (R.seen room.old) (R.seen room.new) (name.now ∷ []) }
     ensures closed { (R.seen room.new).open_as name.now ≡ None }
-    ensures cause { HasCause ((R.seen room.old).out_faults name.now) ((R.seen room.new).out_faults name.now) result }
+    ensures cause { HasWriteCause ((R.seen room.old).out_faults name.now) ((R.seen room.new).out_faults name.now) result }
+    ensures unbegun { IsErrOf result WriteFault.NoMemory → SameBut (R.seen room.old) (R.seen room.new) [] }
 
     // The file has all that is due, or as much as was written.
     ensures bytes { OnOk result ((R.seen room.old).tells ≡ true →
@@ -56,7 +69,7 @@ pub fn write_all_records<R: Room>(room: &mut R, name: &str, core: &Catalogue) ->
         IsPartWritten ((R.seen room.old).file name.now) ((R.seen room.new).file name.now) (export_of all_keys (state_of core.now.history)) }
 {
     let everything = Selection::new(|_key: &Key| true);
-    write_export(room, name, core, &everything)
+    write_export(alloc, room, name, core, &everything)
 }
 
 /// Writes the report of a catalogue into the file of that name.

@@ -2,6 +2,7 @@ ghost use Rattle.std.specs.Prelude.{◌≡◌, ℕ, List, [], Option, true, fals
 ghost use Rattle.outside.specs.Fault.{HasCause, count_sum};
 ghost use Rattle.outside.specs.Disk.{SameDisk};
 ghost use Rattle.outside.specs.Room.{RoomView, AsOutput, AsLog, bytes_or_none, SameBut};
+ghost use Rattle.outside.specs.Sink.{HasFront};
 
 use crate::{Disk, Failed, Sink, Source};
 
@@ -67,7 +68,10 @@ pub trait Room {
         requires { (seen self.old).open_as name.now ≡ Some AsOutput }
         ensures apart { SameBut (seen self.old) (seen self.new) (name.now ∷ []) }
         ensures closed { (seen self.new).open_as name.now ≡ None }
-        ensures bytes { (seen self.old).tells ≡ true → (seen self.new).file name.now ≡ Self.Out.written object }
+
+        // The file has all that was written, or, where the call fails, some front of it.
+        ensures bytes { OnOk result ((seen self.old).tells ≡ true → (seen self.new).file name.now ≡ Self.Out.written object) }
+        ensures front { OnErr result ((seen self.old).tells ≡ true → HasFront ((seen self.new).file name.now) (Self.Out.written object)) }
         ensures no_log { (seen self.new).has_log name.now ≡ false }
 
         // It fails only where the count rose above the sum, which is the count where it doesn't fail.

@@ -6,16 +6,17 @@ use Rattle.std.specs.Io.KnownBytes.{Appends}
 use Rattle.outside.specs.Fault.{Rose}
 use Rattle.outside.specs.Room.{RoomView, SameBut}
 use Rattle.outside.specs.Sink.{WritesFront}
+use Rattle.outside.proofs.Rooms.{same_but_then}
 use Rattle.marc_stream.specs.Pieces.{items}
 use Rattle.command_words.specs.declared.library.Library.{Library}
 use Rattle.catalogue_core.specs.Catalogues.{Catalogued}
-use Rattle.console_lines.specs.Ends.{Outcome, IsTold, IsAllDone, IsUntold, IsSilent, end_of, out_unwritten, report_unwritten, console_unwritten}
+use Rattle.console_lines.specs.Ends.{Outcome, IsTold, IsAllDone, IsSilent, end_of, out_unwritten, report_unwritten, console_unwritten}
 use Rattle.console_lines.specs.declared.end.End.{End}
 use Rattle.console_lines.specs.declared.end.End.TheVariants.{Done, Refused, Told}
 use Rattle.console_lines.specs.declared.end.Unwritten.TheVariants.{Out, Report, Console}
 use Rattle.console_lines.specs.declared.fault.Fault.{Fault}
-use Rattle.console_lines.specs.declared.fault.Fault.TheVariants.{Input, Full}
-use Rattle.console_lines.proofs.Ends.{told_once, told_not_unwritten, never_told, told_not_all}
+use Rattle.console_lines.specs.declared.fault.Fault.TheVariants.{Input, Full, Memory}
+use Rattle.console_lines.proofs.Ends.{told_once, told_not_unwritten, told_not_all}
 use Rattle.plain_commands.specs.Totals.{holding}
 use Rattle.output_files.specs.Outputs.{IsPartWritten}
 use Rattle.plain_commands.specs.Loading.{EndsLoading, IsFullAt}
@@ -92,7 +93,8 @@ module _ (library : Library) (out : List ℕ) (o : Outcome) where
   }
 
   -- what was made ready was delivered, into a room where the file had been read
-  pub passes_delivered : (mid : RoomView) (ready : Ready) → SameBut o.old mid [] → IsUntold o.end → o.end ≢ report_unwritten
+  pub passes_delivered : (mid : RoomView) (ready : Ready) → SameBut o.old mid []
+      → ((why : Fault) → o.end ≡ Told why → (why ≡ Memory) × SameBut mid o.new [] × IsTold why o) → o.end ≢ report_unwritten
       → (o.end ≡ out_unwritten → Rose (mid.out_faults out) (o.new.out_faults out)) → (o.end ≡ console_unwritten → Rose o.faults o.faults_now)
       → (o.end ≡ out_unwritten → IsSilent o)
       → (o.old.tells ≡ true → IsSomeAnd (o.old.file library.file) (λ bytes. IsReady library bytes ready))
@@ -103,13 +105,15 @@ module _ (library : Library) (out : List ℕ) (o : Outcome) where
       → ((l : Library) (bytes : List ℕ) → mid.tells ≡ true → IsReady l bytes ready → o.end ≡ console_unwritten
       → IsPassedUntold l bytes (o.new.file out) o.told o.now)
       → Passes library out o
-  passes_delivered mid ready stays no_fault no_report out_cause console_cause silent is whole part untold = record {
-    told = λ why also. absurd (never_told o.end why no_fault also);
-    input = λ also. absurd (never_told o.end Input no_fault also);
+  passes_delivered mid ready stays fault no_report out_cause console_cause silent is whole part untold = record {
+    told = λ why also.
+        let memory = fault why also in
+        (memory.2, subst EndsLoading (sym memory.0) tt, same_but_then o.old mid o.new [] stays memory.1);
+    input = λ also. let is : Input ≡ Memory = (fault Input also).0 in cc;
     out_cause = λ also. let earlier = stays.outs out in let rose = out_cause also in omega (arith, earlier, rose);
     console_cause = console_cause;
     no_report = no_report;
-    full = λ also. absurd (never_told o.end Full no_fault also);
+    full = λ also. let is : Full ≡ Memory = (fault Full also).0 in cc;
     whole = λ all tells. there_more (o.old.file library.file) (λ bytes ready_is. whole library bytes (stays.tells ∙ tells) ready_is all) (is tells);
     silent = silent;
     part = λ also tells. there_more (o.old.file library.file)

@@ -3,23 +3,32 @@ ghost use Rattle.marc_types.specs.Valid.{is_code};
 ghost use Rattle.outside.specs.Fault.{Rose};
 ghost use Rattle.outside.specs.Room.{SameBut};
 ghost use Rattle.command_words.specs.declared.library.Library.{Library};
-ghost use Rattle.console_lines.specs.Ends.{outcome, IsAllDone, IsUntold, out_unwritten, report_unwritten, console_unwritten};
+ghost use Rattle.console_lines.specs.Ends.{outcome, IsAllDone, IsTold, out_unwritten, report_unwritten, console_unwritten};
 ghost use Rattle.plain_commands.specs.Passing.{IsReady, IsPassed, IsPassedInPart, IsPassedUntold, Passes};
 
 use crate::ready::{Ready, prepare};
 use command_words::Library;
-use console_lines::{End, Unwritten, tell};
+use console_lines::{End, Fault, Unwritten, tell};
 use output_files::write_all_records;
-use outside::{Room, Sink};
+use outside::{Room, Sink, WriteFault};
 use std::alloc::Global;
 
 /// Writes the export into the file `out`, and then tells the console.
-fn deliver<R: Room>(room: &mut R, console: &mut R::Out, out: &str, ready: &Ready) -> End
+fn deliver<R: Room>(
+    alloc: Global,
+    room: &mut R,
+    console: &mut R::Out,
+    out: &str,
+    ready: &Ready,
+) -> End
     requires free { (R.seen room.old).open_as out.now ≡ None }
     ensures apart { SameBut (R.seen room.old) (R.seen room.new) (out.now ∷ []) }
     ensures closed { (R.seen room.new).open_as out.now ≡ None }
-    ensures untold { IsUntold result }
     ensures no_report { result ≢ report_unwritten }
+
+    // Want of memory alone is told, and then OUT isn't begun.
+    ensures fault { (why : Fault) → result ≡ End.Told why → (why ≡ Fault.Memory) × SameBut (R.seen room.old) (R.seen room.new) [] ×
+        IsTold why (outcome R.seen R.Out.written R.Out.faults room.old room.new console.old console.new result) }
 
     // Which of the two could not be written, and that the console isn't touched where OUT could not.
     ensures out_cause { result ≡ out_unwritten → Rose ((R.seen room.old).out_faults out.now) ((R.seen room.new).out_faults out.now) }
@@ -37,9 +46,10 @@ fn deliver<R: Room>(room: &mut R, console: &mut R::Out, out: &str, ready: &Ready
         result ≡ console_unwritten → IsPassedUntold library bytes ((R.seen room.new).file out.now)
         (R.Out.written console.old) (R.Out.written console.new) }
 {
-    match write_all_records(room, out, ready.loaded.core()) {
+    match write_all_records(alloc, room, out, ready.loaded.core()) {
         Ok(()) => {}
-        Err(_) => return End::Unwritten(Unwritten::Out),
+        Err(WriteFault::OutputFault) => return End::Unwritten(Unwritten::Out),
+        Err(WriteFault::NoMemory) => return tell(console, Fault::Memory),
     }
     match console.write_all(ready.text.as_bytes()) {
         Ok(()) => {}
@@ -70,7 +80,7 @@ pub fn pass<R: Room>(
         (outcome R.seen R.Out.written R.Out.faults room.old room.new console.old console.new result) }
 {
     match prepare(alloc, room, library) {
-        Ok(ready) => deliver(room, console, out, &ready),
+        Ok(ready) => deliver(alloc, room, console, out, &ready),
         Err(fault) => tell(console, fault),
     }
 }

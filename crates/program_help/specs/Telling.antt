@@ -9,7 +9,7 @@ use Rattle.console_lines.specs.declared.end.End.TheVariants.{Done, Refused, Unwr
 use Rattle.console_lines.specs.declared.end.Unwritten.TheVariants.{Out, Report, Console}
 use Rattle.command_words.specs.declared.topic.Topic.{Topic}
 use Rattle.command_words.specs.declared.topic.Topic.TheVariants as topic
-use Rattle.program_help.specs.declared.texts.TheConstants.{ALL, PASS, RUN, LOAD, EXPORT, REPORT, MAKE, VERIFY, MATCHES, MIGRATE, HELP, VERSION, THIS_VERSION}
+use Rattle.program_help.specs.declared.texts.TheConstants.{ALL, PASS, RUN, LOAD, EXPORT, REPORT, MAKE, VERIFY, MATCHES, HOLDINGS, MIGRATE, HELP, VERSION, THIS_VERSION}
 
 -- the text of a topic
 abbrev pub help_text : Topic → List ℕ
@@ -22,6 +22,7 @@ help_text topic.Report = REPORT.now
 help_text topic.Make = MAKE.now
 help_text topic.Verify = VERIFY.now
 help_text topic.Matches = MATCHES.now
+help_text topic.Holdings = HOLDINGS.now
 help_text topic.Migrate = MIGRATE.now
 help_text topic.Help = HELP.now
 help_text topic.Version = VERSION.now

@@ -20,6 +20,7 @@ fn text_of(topic: Topic) -> &'static str
         Topic::Make => texts::MAKE,
         Topic::Verify => texts::VERIFY,
         Topic::Matches => texts::MATCHES,
+        Topic::Holdings => texts::HOLDINGS,
         Topic::Migrate => texts::MIGRATE,
         Topic::Help => texts::HELP,
         Topic::Version => texts::VERSION,

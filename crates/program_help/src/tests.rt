@@ -29,7 +29,7 @@ impl Sink for Page {
     }
 }
 
-const TOPICS: [(Topic, &str); 12] = [
+const TOPICS: [(Topic, &str); 13] = [
     (Topic::All, "union_cat, a union catalogue"),
     (Topic::Pass, "union_cat pass OUT CODE=FILE\n"),
     (
@@ -42,6 +42,10 @@ const TOPICS: [(Topic, &str); 12] = [
     (Topic::Make, "union_cat make SEED COUNT OUT\n"),
     (Topic::Verify, "union_cat verify JOURNAL\n"),
     (Topic::Matches, "union_cat matches JOURNAL OUT\n"),
+    (
+        Topic::Holdings,
+        "union_cat holdings JOURNAL OUT REST CODE=FILE\n",
+    ),
     (Topic::Migrate, "union_cat migrate OLD NEW\n"),
     (Topic::Help, "union_cat help\n"),
     (Topic::Version, "union_cat version\n"),

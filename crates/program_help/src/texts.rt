@@ -11,6 +11,7 @@ report JOURNAL OUT                     write the report on the journal's heading
 make SEED COUNT OUT                    write made-up records into OUT, to try the program with
 verify JOURNAL                         tell what the journal has, and write nothing
 matches JOURNAL OUT                    write which records share a number into OUT
+holdings JOURNAL OUT REST CODE=FILE    write the records with the holdings of a file
 migrate OLD NEW                        bring a journal of version 1 into a new one
 help [COMMAND]                         tell this, or how that command is used
 version                                tell the program's version
@@ -92,6 +93,20 @@ Writes: OUT. JOURNAL is only put in order, and made if it isn't there.
 Status: 0 all was written; 2 wrong words; 4 OUT couldn't be written; 5 the journal's disk failed; 6 it is no journal; 7 it
 has more than a catalogue takes; 8 memory ran out.
 Example: union_cat matches union.jnl same.txt
+";
+
+pub const HOLDINGS: &str = "union_cat holdings JOURNAL OUT REST CODE=FILE
+union_cat holdings JOURNAL OUT REST CODE=FILE LIB
+
+Writes the journal's records into OUT, each bibliographic one with its holdings in FILE behind it: all, or those with LIB in
+their key. Holdings whose record isn't in the journal go to REST, which can be given as a FILE under the same CODE later. It is
+one FILE a command, and OUT and REST have only its holdings.
+CODE is the code of the library that sent FILE. It stands in the keys of the holdings that have no 003, and of their records.
+Writes: OUT; REST; on the console a line for each refused record, and one for FILE. JOURNAL is only put in order, and made if
+it isn't there.
+Status: 0 all was taken; 1 some records were refused; 2 wrong words; 3 FILE couldn't be read; 4 OUT, REST or the console
+couldn't be written; 5 the journal's disk failed; 6 it is no journal; 7 it has more than a catalogue takes; 8 memory ran out.
+Example: union_cat holdings union.jnl all.out late.mrc ALIB=a_holdings.mrc
 ";
 
 pub const MIGRATE: &str = "union_cat migrate OLD NEW

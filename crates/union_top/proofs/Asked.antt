@@ -5,7 +5,7 @@ use Rattle.marc_types.specs.Valid.{is_code}
 use Rattle.outside.specs.Room.{RoomView, SameBut, IsNoneOf}
 use Rattle.outside.proofs.Rooms.{same_but_none}
 use Rattle.command_words.specs.declared.library.Library.{Library}
-use Rattle.command_words.specs.Command.{Command, Pass, Run, Load, Export, Report, Make, Verify, Matches, Migrate, Help, Version, libraries_of, names_of, AreNames}
+use Rattle.command_words.specs.Command.{Command, Pass, Run, Load, Export, Report, Make, Verify, Matches, Holdings, Migrate, Help, Version, libraries_of, names_of, AreNames}
 use Rattle.console_lines.specs.Ends.{Outcome, IsTold}
 use Rattle.console_lines.specs.declared.end.End.TheVariants.{Told}
 use Rattle.console_lines.specs.declared.fault.Fault.TheVariants as fault
@@ -20,6 +20,7 @@ use Rattle.journal_loading.specs.Outcomes.{Fails, IsLoadingFault, NotBegun, Unop
 use Rattle.journal_loading.specs.Inputs.{AreLoadable}
 use Rattle.union_top.specs.Commands.{is_alone, Ends}
 use Rattle.union_top.specs.Runs as runs
+use Rattle.holdings_command.proofs.Endings.{attaches_unopened}
 use Rattle.union_top.proofs.Ended.{loads_failed, runs_failed, no_memory}
 
 -- the libraries of a command's files can be loaded into its journal, the first of its names
@@ -46,6 +47,7 @@ NamesFiles (Report journal out) = Unit {0}
 NamesFiles (Make seed count out) = Unit {0}
 NamesFiles (Verify journal) = ⊥
 NamesFiles (Matches journal out) = ⊥
+NamesFiles (Holdings journal out rest code) = Unit {0}
 NamesFiles (Migrate from into) = ⊥
 NamesFiles (Help topic) = ⊥
 NamesFiles Version = ⊥
@@ -60,6 +62,7 @@ names_files (Report journal out) loads = tt
 names_files (Make seed count out) loads = tt
 names_files (Verify journal) loads = absurd (true≢false loads)
 names_files (Matches journal out) loads = absurd (true≢false loads)
+names_files (Holdings journal out rest code) loads = tt
 names_files (Migrate from into) loads = absurd (true≢false loads)
 names_files (Help topic) loads = absurd (true≢false loads)
 names_files Version loads = absurd (true≢false loads)
@@ -91,6 +94,9 @@ module _ (o : Outcome) (told : o.end ≡ Told fault.Memory) (tells : IsTold faul
   unasked words (Make seed count out) takes names = makes_no_memory seed count out o told tells (λ room. files.AsItWas (stays.files out tt))
   unasked words (Verify journal) takes names = absurd takes
   unasked words (Matches journal out) takes names = absurd takes
+  unasked words (Holdings journal out rest code) takes names = λ library is.
+      attaches_unopened journal out rest library code o opening.NoMemory told tells (same_but_none o.old o.new (journal ∷ []) stays) (λ old. cc) (λ room. tt)
+      (λ room. unopened_keeps _ o.old o.new journal stays) (λ device. cc)
   unasked words (Migrate from into) takes names = absurd takes
   unasked words (Help topic) takes names = absurd takes
   unasked words Version takes names = absurd takes

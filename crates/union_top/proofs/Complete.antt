@@ -1,5 +1,5 @@
 -- A command that nothing hinders ends well, or memory ran out.
-use Rattle.std.proofs.Common.{◌≡◌, ◌≢◌, ◌⊎◌, inl, inr, ℕ, zero, suc, ◌+◌, ◌≤◌, true, false, ◌||◌, true≢false, List, [], ◌∷◌, ◌++◌, length, Some, refl, sym, ap, subst, ◌∙◌, arith, append-nil, append_assoc}
+use Rattle.std.proofs.Common.{◌≡◌, ◌≢◌, ◌⊎◌, inl, inr, ℕ, zero, suc, ◌+◌, ◌≤◌, true, false, ◌||◌, true≢false, List, [], ◌∷◌, ◌++◌, length, Option, Some, refl, sym, ap, subst, ◌∙◌, arith, append-nil, append_assoc}
 use Rattle.std.specs.Prelude.{nat_lt, IsSomeAnd, All, slice_get}
 use Rattle.std.proofs.lemmas.List.{length-append}
 use Rattle.std.proofs.lemmas.List.Elements.{All-head, All-tail}
@@ -9,7 +9,7 @@ use Rattle.marc_types.specs.declared.entry.Entry.{Entry}
 use Rattle.outside.specs.Room.{RoomView}
 use Rattle.marc_stream.specs.Pieces.{Item, items}
 use Rattle.command_words.specs.declared.library.Library.{Library}
-use Rattle.command_words.specs.Command.{Command, Pass, Run, Load, Export, Report, Make, Verify, Matches, Migrate, Help, Version, command_of, libraries_of}
+use Rattle.command_words.specs.Command.{Command, Pass, Run, Load, Export, Report, Make, Verify, Matches, Holdings, Migrate, Help, Version, command_of, libraries_of}
 use Rattle.entry_record.specs.History.{entry_size, entries_size}
 use Rattle.file_entries.specs.Files.{IsJudged, Accepts}
 use Rattle.file_entries.proofs.Every.{every_judged}
@@ -31,8 +31,9 @@ use Rattle.plain_commands.specs.Making.{Makes, EndsMake}
 use Rattle.plain_commands.specs.Totals.{IsWithinLimits, most_entries, most_bytes}
 use Rattle.journal_loading.specs.Inputs.{IsInputFault}
 use Rattle.match_command.specs.Telling.{TellsMatches}
+use Rattle.holdings_command.specs.Attaching.{EndsAttaching}
 use Rattle.union_top.specs.Commands.{Loads, Runs, Ends, EndsWith}
-use Rattle.union_top.specs.Complete.{Stayed, Around, InputsStayed, IsUnhinderedPass, IsUnhinderedMake, IsUnhinderedReading, IsUnhinderedLoad, IsUnhinderedRun, IsUnhindered}
+use Rattle.union_top.specs.Complete.{Stayed, Around, InputsStayed, IsUnhinderedPass, IsUnhinderedMake, IsUnhinderedReading, IsUnhinderedHoldings, IsUnhinderedLoad, IsUnhinderedRun, IsUnhindered}
 use Rattle.program_help.specs.Telling.{help_text, version_text}
 use Rattle.union_top.proofs.Untroubled.{verify_well, tells_well}
 use Rattle.union_top.proofs.Migrated.{migrates_well}
@@ -91,6 +92,14 @@ read_why log (opening.NotAJournal place) may ends device = absurd may
 read_why log opening.OldVersion may ends device = absurd ends
 read_why log opening.Full may ends device = absurd may
 read_why log opening.NoMemory may ends device = refl
+
+-- the same of the command that reads a file of holdings behind it
+attach_why : (log : List ℕ) (of : OpenFault) → MayBe log of → EndsAttaching (Told (fault_of_opening of)) → (fault_of_opening of ≡ fault.Device → ⊥) → fault_of_opening of ≡ fault.Memory
+attach_why log opening.DeviceFault may ends device = absurd (device refl)
+attach_why log (opening.NotAJournal place) may ends device = absurd may
+attach_why log opening.OldVersion may ends device = absurd ends
+attach_why log opening.Full may ends device = absurd may
+attach_why log opening.NoMemory may ends device = refl
 
 -- a file whose accepted entries are within the limits leaves no next one that passes them
 never_full_at : (library : List ℕ) (items : List Item) (accepted : List Entry) (refused : List RefusedItem) → IsJudged library 0 items accepted refused → IsWithinLimits accepted
@@ -151,6 +160,16 @@ module _ (o : Outcome) where
       w.is ∙ read_why (log_bytes o.old journal) w.reason (may_be (log_bytes o.old journal) w.reason u.fits (w.so u.tells))
       (subst EndsReading (is ∙ ap Told w.is) r.ends) (λ device. u.device (r.device (is ∙ ap Told (w.is ∙ device)))))
 
+  attaches_well : (words : List (List ℕ)) (journal out rest : List ℕ) (code : Option (List ℕ)) → Ends words (Holdings journal out rest code) o
+      → IsUnhinderedHoldings (libraries_of words) journal out rest seen → EndsWell o.end
+  attaches_well words journal out rest code ends u =
+      let a = ends u.library u.named in
+      by_end o.end (λ is. u.output (a.out_cause is)) (λ is. u.rest_output (a.rest_cause is)) (λ is. u.console (a.console_cause is))
+      (λ why is.
+      let w = a.because why is (λ same. u.input (a.input (is ∙ ap Told same))) in
+      w.is ∙ attach_why (log_bytes o.old journal) w.reason (may_be (log_bytes o.old journal) w.reason u.fits (w.so u.tells))
+      (subst EndsAttaching (is ∙ ap Told w.is) a.ends) (λ device. u.device (a.device (is ∙ ap Told (w.is ∙ device)))))
+
   input_stayed : (libraries : List Library) → InputsStayed libraries o.old o.new → IsInputFault libraries o.old o.new → ⊥
   input_stayed libraries stayed i = at_index (λ (l : Library). Stayed (o.old.in_faults l.file) (o.new.in_faults l.file)) libraries i.index i.library stayed i.named i.rose
 
@@ -179,6 +198,7 @@ module _ (o : Outcome) where
   ends_well words (Make seed count out) ends u = makes_well seed count out ends u
   ends_well words (Verify journal) ends u = verify_well o journal ends u
   ends_well words (Matches journal out) ends u = matches_well journal out ends u
+  ends_well words (Holdings journal out rest code) ends u = attaches_well words journal out rest code ends u
   ends_well words (Migrate from into) ends u = migrates_well o from into ends u
   ends_well words (Help topic) ends u = tells_well o (help_text topic) ends u
   ends_well words Version ends u = tells_well o version_text ends u

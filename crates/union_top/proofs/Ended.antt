@@ -7,7 +7,9 @@ use Rattle.marc_types.specs.declared.entry.Entry.{Entry}
 use Rattle.outside.specs.Fault.{Rose}
 use Rattle.outside.specs.Room.{RoomView, SameBut}
 use Rattle.outside.specs.Sink.{WritesFront}
+use Rattle.outside.proofs.Rooms.{same_but_first, same_but_more, same_but_then}
 use Rattle.command_words.specs.declared.library.Library.{Library}
+use Rattle.command_words.specs.Command.{AreNames}
 use Rattle.catalogue_rules.specs.Settle.{state_of}
 use Rattle.catalogue_rules.specs.Output.{export_of, all_keys}
 use Rattle.console_lines.specs.Ends.{Outcome, IsTold, IsAllDone, IsUntold, IsSilent, end_of, out_unwritten, report_unwritten, console_unwritten}
@@ -20,7 +22,7 @@ use Rattle.loader_workers.specs.declared.result.FileResult.{FileResult}
 use Rattle.output_files.specs.Outputs.{IsPartWritten}
 use Rattle.journal_loading.specs.Outcomes.{Fails}
 use Rattle.union_top.specs.Texts.{files_text, has_refused}
-use Rattle.union_top.specs.Runs.{EndsLoad, EndsRun, AreOutputs, AreOutAndPart, WhyNotLoad, WhyNotRun}
+use Rattle.union_top.specs.Runs.{EndsLoad, EndsRun, AreOutputs, AreOutAndPart, WhyNotLoad, WhyNotRun, NoMemory, NoMemoryInReport}
 use Rattle.union_top.specs.Commands.{Loads, Runs}
 use Rattle.union_top.proofs.OneHistory.{MergedBy}
 use Rattle.union_top.proofs.Missing.{told_of_loading, loading_untold, running_untold, unloaded_keeps, unrun_keeps}
@@ -32,7 +34,16 @@ decide_name {P} a b same other = decided (bytes_eq a b) refl
     decided true is = same ((bytes_eq-Decides a b).0 is)
     decided false is = other (λ eq. true≢false (sym ((bytes_eq-Decides a b).1 eq) ∙ is))
 
--- a journal was opened in a room, outputs were written and closed, and it was closed: no name is open
+-- a journal was opened in a room, outputs were written, and it was closed: nothing else changed
+pub apart_run : (old mid out_room new : RoomView) (journal out report : List ℕ) → SameBut old mid (journal ∷ [])
+    → SameBut mid out_room (out ∷ report ∷ []) → SameBut out_room new (journal ∷ []) → SameBut old new (journal ∷ out ∷ report ∷ [])
+apart_run old mid out_room new journal out report opened wrote closing =
+    let names = journal ∷ out ∷ report ∷ [] in
+    same_but_then old mid new names (same_but_first old mid journal (out ∷ report ∷ []) opened)
+    (same_but_then mid out_room new names (same_but_more mid out_room (out ∷ report ∷ []) names (λ n other. other.1) wrote)
+    (same_but_first out_room new journal (out ∷ report ∷ []) closing))
+
+-- and no name is open
 pub closed_run : (old mid out_room new : RoomView) (journal out report : List ℕ) → ((n : List ℕ) → old.open_as n ≡ None) → SameBut old mid (journal ∷ [])
     → SameBut mid out_room (out ∷ report ∷ []) → out_room.open_as out ≡ None → out_room.open_as report ≡ None → SameBut out_room new (journal ∷ []) → new.open_as journal ≡ None
     → (n : List ℕ) → new.open_as n ≡ None
@@ -207,6 +218,16 @@ module _ (libraries : List Library) (journal : List ℕ) (o : Outcome) where
                 record { merged = m.merged; outputs = subst (AreOutAndPart o.old o.new out report) m.entries_are (part tells) };
             untold = λ also. absurd (report_not_console o.end is also);
           }
+
+-- memory ran out behind loading: before OUT was begun, or over REPORT
+pub why_no_memory : (old new : RoomView) (journal out report : List ℕ) (libraries : List Library) (entries : List Entry) (results : List FileResult)
+    → AreNames (journal ∷ out ∷ report ∷ []) → MergedBy old new journal libraries entries results → old.tells ≡ true
+    → SameBut old new (journal ∷ []) ⊎ (old.tells ≡ true → AreOutAndPart old new out report entries)
+    → WhyNotRun old new journal out report libraries fault.Memory
+why_no_memory old new journal out report libraries entries results names m tells (inl apart) =
+    NoMemory refl m.merged (apart.files out ((λ same. names.1.0 (sym same)), tt)) (apart.files report ((λ same. names.1.1.0 (sym same)), tt))
+why_no_memory old new journal out report libraries entries results names m tells (inr part) =
+    NoMemoryInReport refl (record { merged = m.merged; outputs = subst (AreOutAndPart old new out report) m.entries_are (part tells) })
 
 -- memory ran out behind loading
 pub no_memory : (old new : RoomView) (journal : List ℕ) (libraries : List Library) (so : Type 0) → new.open_as journal ≡ None → (old.tells ≡ true → so)

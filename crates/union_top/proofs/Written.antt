@@ -1,9 +1,9 @@
 -- What a run's outputs are, from what was written one after the other.
-use Rattle.std.proofs.Common.{◌≡◌, ◌≢◌, ◌∙◌, ℕ, true, List, [], ◌∷◌, Some, refl, sym, subst, arith}
+use Rattle.std.proofs.Common.{◌≡◌, ◌≢◌, ◌⊎◌, inl, inr, ◌∙◌, ℕ, true, List, [], ◌∷◌, Some, sym, subst, arith}
 use Rattle.marc_types.specs.declared.entry.Entry.{Entry}
 use Rattle.outside.specs.Fault.{Rose}
 use Rattle.outside.specs.Room.{RoomView, SameBut}
-use Rattle.outside.proofs.Rooms.{same_but_then, same_but_more}
+use Rattle.outside.proofs.Rooms.{same_but_then, same_but_more, same_but_none}
 use Rattle.catalogue_rules.specs.Settle.{state_of}
 use Rattle.catalogue_rules.specs.Output.{export_of, all_keys, report_of}
 use Rattle.command_words.specs.Command.{AreNames}
@@ -13,54 +13,57 @@ use Rattle.union_top.specs.Runs.{AreOutputs, AreOutAndPart}
 use Rattle.union_top.specs.declared.outputs.OutputsFault.{OutputsFault}
 use Rattle.union_top.specs.declared.outputs.OutputsFault.TheVariants.{OutFault, ReportFault, NoMemory}
 
-pub report_no_out : (fault : OutputsFault) → fault ≡ ReportFault → fault ≢ OutFault
-report_no_out fault is also = let both : ReportFault ≡ OutFault = sym is ∙ also in cc
-
-pub memory_no_out : (fault : OutputsFault) → fault ≡ NoMemory → fault ≢ OutFault
-memory_no_out fault is also = let both : NoMemory ≡ OutFault = sym is ∙ also in cc
-
-memory_no_report : (fault : OutputsFault) → fault ≡ NoMemory → fault ≢ ReportFault
-memory_no_report fault is also = let both : NoMemory ≡ ReportFault = sym is ∙ also in cc
-
 module _ (old new : RoomView) (out report : List ℕ) (entries : List Entry) where
+  pub nothing_begun : SameBut old new [] → AreUnwritten old new out report entries NoMemory
+  nothing_begun apart = record {
+    out_cause = λ is. cc;
+    report_cause = λ is. cc;
+    no_report = λ is. cc;
+    in_out = λ is. cc;
+    in_report = λ is. cc;
+    memory = λ is. inl apart;
+  }
+
   pub out_failed : SameBut old new (out ∷ []) → Rose (old.out_faults out) (new.out_faults out)
       → (old.tells ≡ true → IsPartWritten (old.file out) (new.file out) (export_of all_keys (state_of entries)))
       → AreUnwritten old new out report entries OutFault
   out_failed apart rose part = record {
     out_cause = λ is. rose;
-    report_cause = λ is. absurd (report_no_out OutFault is refl);
+    report_cause = λ is. cc;
     no_report = λ is. apart;
     in_out = λ is. part;
-    in_report = λ other. absurd (other refl);
+    in_report = λ is. cc;
+    memory = λ is. cc;
   }
 
   module _ (mid : RoomView) (differ : report ≢ out) (first : SameBut old mid (out ∷ [])) (second : SameBut mid new (report ∷ []))
-      (whole : old.tells ≡ true → mid.file out ≡ Some (export_of all_keys (state_of entries))) where
-    export_is : old.tells ≡ true → new.file out ≡ Some (export_of all_keys (state_of entries))
-    export_is tells = second.files out ((λ same. differ (sym same)), tt) ∙ whole tells
-
-    report_failed : (fault : OutputsFault) → fault ≢ OutFault → (fault ≡ ReportFault → Rose (mid.out_faults report) (new.out_faults report))
-        → (mid.tells ≡ true → IsPartWritten (mid.file report) (new.file report) (report_of (state_of entries)))
-        → AreUnwritten old new out report entries fault
-    report_failed fault other rose part = record {
-      out_cause = λ is. absurd (other is);
-      report_cause = λ is. let earlier = first.outs report in let later = rose is in omega (arith, earlier, later);
-      no_report = λ is. absurd (other is);
-      in_out = λ is. absurd (other is);
-      in_report = λ _ tells. record {
-        export = export_is tells;
-        report_is = subst (λ f. IsPartWritten f (new.file report) (report_of (state_of entries))) (first.files report (differ, tt)) (part (first.tells ∙ tells));
-      };
+      (whole : old.tells ≡ true → mid.file out ≡ Some (export_of all_keys (state_of entries)))
+      (part : mid.tells ≡ true → IsPartWritten (mid.file report) (new.file report) (report_of (state_of entries))) where
+    out_and_part : old.tells ≡ true → AreOutAndPart old new out report entries
+    out_and_part tells = record {
+      export = second.files out ((λ same. differ (sym same)), tt) ∙ whole tells;
+      report_is = subst (λ f. IsPartWritten f (new.file report) (report_of (state_of entries))) (first.files report (differ, tt)) (part (first.tells ∙ tells));
     }
 
-    pub report_rose : Rose (mid.out_faults report) (new.out_faults report)
-        → (mid.tells ≡ true → IsPartWritten (mid.file report) (new.file report) (report_of (state_of entries)))
-        → AreUnwritten old new out report entries ReportFault
-    report_rose rose part = report_failed ReportFault (report_no_out ReportFault refl) (λ is. rose) part
+    pub report_rose : Rose (mid.out_faults report) (new.out_faults report) → AreUnwritten old new out report entries ReportFault
+    report_rose rose = record {
+      out_cause = λ is. cc;
+      report_cause = λ is. let earlier = first.outs report in omega (arith, earlier, rose);
+      no_report = λ is. cc;
+      in_out = λ is. cc;
+      in_report = λ is. out_and_part;
+      memory = λ is. cc;
+    }
 
-    pub report_no_memory : (mid.tells ≡ true → IsPartWritten (mid.file report) (new.file report) (report_of (state_of entries)))
-        → AreUnwritten old new out report entries NoMemory
-    report_no_memory part = report_failed NoMemory (memory_no_out NoMemory refl) (λ is. absurd (memory_no_report NoMemory refl is)) part
+    pub report_no_memory : AreUnwritten old new out report entries NoMemory
+    report_no_memory = record {
+      out_cause = λ is. cc;
+      report_cause = λ is. cc;
+      no_report = λ is. cc;
+      in_out = λ is. cc;
+      in_report = λ is. cc;
+      memory = λ is. inr out_and_part;
+    }
 
 -- the same where a journal was opened before that and closed behind it
 module _ (old mid wrote new : RoomView) (journal out report : List ℕ) (entries : List Entry) (names : AreNames (journal ∷ out ∷ report ∷ []))
@@ -99,9 +102,23 @@ module _ (old mid wrote new : RoomView) (journal out report : List ℕ) (entries
     pub in_out : fault ≡ OutFault → old.tells ≡ true → IsPartWritten (old.file out) (new.file out) (export_of all_keys (state_of entries))
     in_out is tells = part_between out (export_of all_keys (state_of entries)) (λ same. names.1.0 (sym same)) (are.in_out is (opened.tells ∙ tells))
 
-    pub in_report : fault ≢ OutFault → old.tells ≡ true → AreOutAndPart old new out report entries
-    in_report other tells =
-        let is = are.in_report other (opened.tells ∙ tells) in record {
+    are_out_and_part : (mid.tells ≡ true → AreOutAndPart mid wrote out report entries) → old.tells ≡ true → AreOutAndPart old new out report entries
+    are_out_and_part so tells =
+        let is = so (opened.tells ∙ tells) in record {
           export = out_is ∙ is.export;
           report_is = part_between report (report_of (state_of entries)) (λ same. names.1.1.0 (sym same)) is.report_is;
         }
+
+    pub in_report : fault ≡ ReportFault → old.tells ≡ true → AreOutAndPart old new out report entries
+    in_report is = are_out_and_part (are.in_report is)
+
+    pub ran_out : fault ≡ NoMemory → SameBut old new (journal ∷ []) ⊎ (old.tells ≡ true → AreOutAndPart old new out report entries)
+    ran_out is = by_case (are.memory is)
+      where
+        names_too : List (List ℕ)
+        names_too = journal ∷ []
+
+        by_case : SameBut mid wrote [] ⊎ (mid.tells ≡ true → AreOutAndPart mid wrote out report entries)
+            → SameBut old new names_too ⊎ (old.tells ≡ true → AreOutAndPart old new out report entries)
+        by_case (inl apart) = inl (same_but_then old mid new names_too opened (same_but_then mid wrote new names_too (same_but_none mid wrote names_too apart) closing))
+        by_case (inr part) = inr (are_out_and_part part)

@@ -2,7 +2,7 @@
 use Rattle.std.specs.Prelude.{◌≡◌, ◌≢◌, ◌⊎◌, ℕ, Bool, true, false, List, [], ◌∷◌}
 use Rattle.outside.specs.Fault.{Rose}
 use Rattle.command_words.specs.declared.library.Library.{Library}
-use Rattle.command_words.specs.Command.{Command, Pass, Run, Load, Export, Report, Make, Verify, Matches, Migrate, Help, Version, libraries_of}
+use Rattle.command_words.specs.Command.{Command, Pass, Run, Load, Export, Report, Make, Verify, Matches, Holdings, Migrate, Help, Version, libraries_of}
 use Rattle.console_lines.specs.Ends.{Outcome, IsTold, IsAllDone, IsSilent, end_status, out_unwritten, report_unwritten, console_unwritten}
 use Rattle.console_lines.specs.declared.end.End.{End}
 use Rattle.console_lines.specs.declared.end.End.TheVariants.{Told}
@@ -15,6 +15,7 @@ use Rattle.plain_commands.specs.Passing.{Passes}
 use Rattle.plain_commands.specs.Making.{Makes}
 use Rattle.journal_verification.specs.Verifying.{Verifies}
 use Rattle.match_command.specs.Telling.{TellsMatches}
+use Rattle.holdings_command.specs.Attaching.{AttachesHoldings}
 use Rattle.migrate_command.specs.Migrates.{Migrates}
 use Rattle.program_help.specs.Telling.{help_text, version_text, Tells}
 use Rattle.journal_loading.specs.Inputs.{IsInputFault}
@@ -73,6 +74,7 @@ is_alone (Report journal out) = true
 is_alone (Make seed count out) = true
 is_alone (Verify journal) = true
 is_alone (Matches journal out) = true
+is_alone (Holdings journal out rest code) = true
 is_alone (Migrate from into) = true
 is_alone (Help topic) = true
 is_alone Version = true
@@ -87,6 +89,7 @@ Ends words (Report journal out) o = Reads journal out reads.Report o
 Ends words (Make seed count out) o = Makes seed count out o
 Ends words (Verify journal) o = Verifies journal o
 Ends words (Matches journal out) o = TellsMatches journal out o
+Ends words (Holdings journal out rest code) o = (library : Library) → libraries_of words ≡ library ∷ [] → AttachesHoldings journal out rest library code o
 Ends words (Migrate from into) o = Migrates from into o
 Ends words (Help topic) o = Tells (help_text topic) o
 Ends words Version o = Tells version_text o

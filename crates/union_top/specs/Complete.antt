@@ -8,7 +8,7 @@ use Rattle.outside.specs.Room.{RoomView}
 use Rattle.marc_stream.specs.Pieces.{items}
 use Rattle.commit_journal.specs.Log.{version_of}
 use Rattle.command_words.specs.declared.library.Library.{Library}
-use Rattle.command_words.specs.Command.{Command, Pass, Run, Load, Export, Report, Make, Verify, Matches, Migrate, Help, Version, libraries_of}
+use Rattle.command_words.specs.Command.{Command, Pass, Run, Load, Export, Report, Make, Verify, Matches, Holdings, Migrate, Help, Version, libraries_of}
 use Rattle.file_entries.specs.Files.{IsJudged}
 use Rattle.file_entries.specs.declared.refused.RefusedItem.{RefusedItem}
 use Rattle.entry_record.specs.History.{entries_size}
@@ -92,6 +92,18 @@ pub record IsUnhinderedVerify (journal : List ℕ) (a : Around) : Type 0 where
   pub there : a.old.file journal ≡ Some bytes
   pub was : HasHistory entries bytes
 
+-- nothing hinders the writing of a journal's records with the holdings of a file in a room that tells its files
+pub record IsUnhinderedHoldings (libraries : List Library) (journal out rest : List ℕ) (a : Around) : Type 0 where
+  pub tells : a.old.tells ≡ true
+  pub library : Library
+  pub named : libraries ≡ library ∷ []
+  pub device : Stayed (a.old.log_faults journal) (a.new.log_faults journal)
+  pub input : Stayed (a.old.in_faults library.file) (a.new.in_faults library.file)
+  pub output : Stayed (a.old.out_faults out) (a.new.out_faults out)
+  pub rest_output : Stayed (a.old.out_faults rest) (a.new.out_faults rest)
+  pub console : Stayed a.faults a.faults_now
+  pub fits : HasFittingHistory (log_bytes a.old journal)
+
 -- nothing hinders the bringing of a journal's history into another one in a room that tells its files: the old one is of version 1, and
 -- the new one, which may be blank or none, is fit for its history
 pub record IsUnhinderedMigrate (from into : List ℕ) (a : Around) : Type 0 where
@@ -133,6 +145,7 @@ IsUnhindered words (Report journal out) a = IsUnhinderedReading journal out a
 IsUnhindered words (Make seed count out) a = IsUnhinderedMake out a
 IsUnhindered words (Verify journal) a = IsUnhinderedVerify journal a
 IsUnhindered words (Matches journal out) a = IsUnhinderedReading journal out a
+IsUnhindered words (Holdings journal out rest code) a = IsUnhinderedHoldings (libraries_of words) journal out rest a
 IsUnhindered words (Migrate from into) a = IsUnhinderedMigrate from into a
 IsUnhindered words (Help topic) a = IsUnhinderedTelling a
 IsUnhindered words Version a = IsUnhinderedTelling a

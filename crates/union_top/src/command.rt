@@ -7,6 +7,7 @@ ghost use Rattle.console_lines.specs.Faults.{IsFaultTold, fault_line};
 ghost use Rattle.union_top.specs.Commands.{is_alone, Ends, EndsWith};
 ghost use Rattle.union_top.specs.Complete.{around, IsUnhindered};
 
+use crate::holding::attach;
 use crate::loading::{load, run_files};
 use archive_commands::{Due, read};
 use command_words::laws::{files_are_named, names_are_apart, numbers_are_bounded};
@@ -35,6 +36,7 @@ pub fn is_alone(asked: Request<'_>) -> bool
         | Request::Make { .. }
         | Request::Verify { .. }
         | Request::Matches { .. }
+        | Request::Holdings { .. }
         | Request::Migrate { .. }
         | Request::Help { .. }
         | Request::Version => true,
@@ -74,6 +76,12 @@ pub fn run_alone<R: Room>(
         }
         Request::Make { seed, count, out } => make(alloc, room, console, seed, count, out),
         Request::Matches { journal, out } => write_matches(alloc, room, console, journal, out),
+        Request::Holdings {
+            journal,
+            out,
+            rest,
+            code,
+        } => attach(alloc, words, room, console, journal, out, rest, code),
         Request::Migrate { old, new } => migrate_journal(alloc, room, console, old, new),
         Request::Verify { journal } => verify(alloc, room, console, journal),
         Request::Help { topic } => help(console, topic),
@@ -123,6 +131,7 @@ fn run_loading<H: Threads + Wait + Sync, R: Room, G: Gate + Sync>(
         | Request::Make { .. }
         | Request::Verify { .. }
         | Request::Matches { .. }
+        | Request::Holdings { .. }
         | Request::Migrate { .. }
         | Request::Help { .. }
         | Request::Version => unreachable!(),

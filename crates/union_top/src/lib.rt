@@ -4,6 +4,7 @@
 pub use command::{is_alone, run, run_alone};
 
 mod command;
+mod holding;
 mod loading;
 mod outputs;
 mod texts;

@@ -16,7 +16,7 @@ pub enum OutputsFault {
     OutFault,
     /// REPORT could not be written.
     ReportFault,
-    /// Memory ran out over REPORT.
+    /// Memory ran out before OUT is begun, or over REPORT.
     NoMemory,
 }
 
@@ -38,9 +38,10 @@ pub fn write_outputs<R: Room>(
     ensures whole { OnOk result ((R.seen room.old).tells ≡ true → AreOutputs (R.seen room.new) out.now report.now core.now.history) }
     ensures unwritten { IfErr result (AreUnwritten (R.seen room.old) (R.seen room.new) out.now report.now core.now.history) }
 {
-    match write_all_records(room, out, core) {
+    match write_all_records(alloc, room, out, core) {
         Ok(()) => {}
-        Err(_) => return Err(OutputsFault::OutFault),
+        Err(WriteFault::OutputFault) => return Err(OutputsFault::OutFault),
+        Err(WriteFault::NoMemory) => return Err(OutputsFault::NoMemory),
     }
     match write_report_file(alloc, room, report, core) {
         Ok(()) => Ok(()),

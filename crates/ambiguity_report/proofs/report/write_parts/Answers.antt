@@ -7,15 +7,15 @@ pub returns-in_err-write_shared-clause-front : goal.returns-in_err-write_shared-
 unfolding report_of
 returns-in_err-write_shared-clause-front g c =
     front_more _ _ _ _ (front_more _ _ _ _ (front_more _ _ _ _
-    (front_then _ _ _ _ _ c.in_ok-write_all_ambiguous.ensures.bytes (rw c.requires at c.write_shared.ensures.front))))
+    (front_then _ _ _ _ _ c.in_ok-totals.ensures.bytes c.write_shared.ensures.front)))
 
 pub returns-in_err-write_cross-clause-front : goal.returns-in_err-write_cross-clause-front
 unfolding report_of
 returns-in_err-write_cross-clause-front g c =
     front_more _ _ _ _ (front_more _ _ _ _
     (front_then _ _ _ _ _
-    (appends_then _ _ _ _ _ c.in_ok-write_all_ambiguous.ensures.bytes (rw c.requires at c.in_ok-write_shared.ensures.bytes))
-    (rw c.requires at c.write_cross.ensures.front)))
+    (appends_then _ _ _ _ _ c.in_ok-totals.ensures.bytes c.in_ok-write_shared.ensures.bytes)
+    c.write_cross.ensures.front))
 
 pub returns-in_err-write_all_awaits-clause-front : goal.returns-in_err-write_all_awaits-clause-front
 unfolding report_of
@@ -23,9 +23,9 @@ returns-in_err-write_all_awaits-clause-front g c =
     front_more _ _ _ _
     (front_then _ _ _ _ _
     (appends_then _ _ _ _ _
-    (appends_then _ _ _ _ _ c.in_ok-write_all_ambiguous.ensures.bytes (rw c.requires at c.in_ok-write_shared.ensures.bytes))
-    (rw c.requires at c.in_ok-write_cross.ensures.bytes))
-    c.write_all_awaits.ensures.front)
+    (appends_then _ _ _ _ _ c.in_ok-totals.ensures.bytes c.in_ok-write_shared.ensures.bytes)
+    c.in_ok-write_cross.ensures.bytes)
+    (c.write_all_awaits.ensures.front c.args.engine.now.state c.requires))
 
 pub returns-clause-bytes : goal.returns-clause-bytes
 unfolding report_of
@@ -34,9 +34,9 @@ returns-clause-bytes g c =
     (appends_then _ _ _ _ _
     (appends_then _ _ _ _ _
     (appends_then _ _ _ _ _
-    (appends_then _ _ _ _ _ c.in_ok-write_all_ambiguous.ensures.bytes (rw c.requires at c.in_ok-write_shared.ensures.bytes))
-    (rw c.requires at c.in_ok-write_cross.ensures.bytes))
-    c.in_ok-write_all_awaits.ensures.bytes))
+    (appends_then _ _ _ _ _ c.in_ok-totals.ensures.bytes c.in_ok-write_shared.ensures.bytes)
+    c.in_ok-write_cross.ensures.bytes)
+    (c.in_ok-write_all_awaits.ensures.bytes c.args.engine.now.state c.requires)))
     c.write_totals.ensures.bytes
 
 pub returns-clause-front : goal.returns-clause-front
@@ -45,12 +45,12 @@ returns-clause-front g c =
     front_then _ _ _ _ _
     (appends_then _ _ _ _ _
     (appends_then _ _ _ _ _
-    (appends_then _ _ _ _ _ c.in_ok-write_all_ambiguous.ensures.bytes (rw c.requires at c.in_ok-write_shared.ensures.bytes))
-    (rw c.requires at c.in_ok-write_cross.ensures.bytes))
-    c.in_ok-write_all_awaits.ensures.bytes)
+    (appends_then _ _ _ _ _ c.in_ok-totals.ensures.bytes c.in_ok-write_shared.ensures.bytes)
+    c.in_ok-write_cross.ensures.bytes)
+    (c.in_ok-write_all_awaits.ensures.bytes c.args.engine.now.state c.requires))
     c.write_totals.ensures.front
 
-pub returns-in_err-write_all_ambiguous-clause-front : goal.returns-in_err-write_all_ambiguous-clause-front
+pub returns-in_err-totals-clause-front : goal.returns-in_err-totals-clause-front
 unfolding report_of
-returns-in_err-write_all_ambiguous-clause-front g c =
+returns-in_err-totals-clause-front g c =
     front_more _ _ _ _ (front_more _ _ _ _ (front_more _ _ _ _ (front_more _ _ _ _ c.write_all_ambiguous.ensures.front)))

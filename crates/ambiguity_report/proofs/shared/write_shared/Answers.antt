@@ -1,27 +1,40 @@
-use Rattle.std.proofs.Common.{◌≡◌, ap, ◌∙◌, arith}
-use Rattle.std.specs.Prelude.{filter}
-use Rattle.catalogue_rules.specs.Choice.{is_established}
-use Rattle.catalogue_core.specs.Views.{linkables}
-use Rattle.outside.proofs.Fronts.{writing_more, writing_failed}
-use Rattle.ambiguity_report.proofs.Scans.{authority_next, shared_line_at}
+use Rattle.std.proofs.Common.{◌≡◌, refl, ap, map, subst, sym, ◌∙◌, arith}
+use Rattle.std.specs.List.{flat_map}
+use Rattle.catalogue_rules.specs.Output.{shared_lines}
+use Rattle.catalogue_rules.specs.State.{linkable_authorities}
+use Rattle.record_store.specs.Store.{shown_row}
+use Rattle.catalogue_tables.specs.Sharing.{keys_sharing, shown_keys}
+use Rattle.outside.proofs.Fronts.{IsWriting, writing_begun, writing_more, writing_failed}
+use Rattle.ambiguity_report.proofs.Scans.{shared_at, shared_by_rows, row_next}
 use Rattle.ambiguity_report.proofs.shared.write_shared.Goals as goal
+
+pub loop-key-init : goal.loop-key-init
+loop-key-init g c =
+    let all = linkable_authorities c.args.engine.now.state in
+    let begins = ap (map shown_row) c.into_iter-key-iterator.ensures.into_iter_gives.0 ∙ c.requires in
+    record {
+      writing = subst (IsWriting (g.K.Sink.written c.args.out.now) (g.K.Sink.written c.args.out.now) (shared_lines all))
+          (shared_by_rows c.args.engine.now.state c.stays_valid.ensures.authorities_ascend ∙ ap (flat_map (shared_at all)) (sym begins)) (writing_begun _ _);
+      tells = refl;
+      later = omega arith;
+    }
 
 pub returns-in_err-write_group-clause-front : goal.returns-in_err-write_group-clause-front
 returns-in_err-write_group-clause-front g c =
-    let group : linkables c.deref.result.now ≡ filter (is_established c.authority-item.result.now.established) (linkables c.args.authorities.now)
-    = ap linkables c.deref.ensures.value ∙ c.in_ok-group.ensures in
-    writing_failed _ _ _ _ _ _ _ c.loop-authority.invariant.writing
-    (authority_next (shared_line_at (linkables c.args.authorities.now)) c.args.authorities.now c.loop-authority.authority-index c.authority-item.result (omega arith) c.authority-item.is)
-    (rw group at c.write_group.ensures.front)
+    let all = linkable_authorities c.args.engine.now.state in
+    let others : shown_keys c.deref.result.now ≡ keys_sharing c.in-Some.key.now.now all = ap shown_keys c.deref.ensures.value ∙ c.in-Ok.ensures in
+    writing_failed _ _ _ _ _ _ _ c.loop-key.invariant.writing
+    (row_next (shared_at all) c.loop-key.key-iterator c.next.new.self c.in-Some.key.now c.in-Some._kept.now c.in-Some.ensures.steps)
+    (rw others at c.write_group.ensures.front)
 
-pub loop-authority-preserved : goal.loop-authority-preserved
-loop-authority-preserved g c =
-    let group : linkables c.deref.result.now ≡ filter (is_established c.authority-item.result.now.established) (linkables c.args.authorities.now)
-    = ap linkables c.deref.ensures.value ∙ c.in_ok-group.ensures in
+pub loop-key-preserved : goal.loop-key-preserved
+loop-key-preserved g c =
+    let all = linkable_authorities c.args.engine.now.state in
+    let others : shown_keys c.deref.result.now ≡ keys_sharing c.in-Some.key.now.now all = ap shown_keys c.deref.ensures.value ∙ c.in-Ok.ensures in
     record {
-      writing = writing_more _ _ _ _ _ _ _ c.loop-authority.invariant.writing
-          (authority_next (shared_line_at (linkables c.args.authorities.now)) c.args.authorities.now c.loop-authority.authority-index c.authority-item.result (omega arith) c.authority-item.is)
-          (rw group at c.in_ok-write_group.ensures.bytes);
-      tells = c.in_ok-write_group.ensures.tells ∙ c.loop-authority.invariant.tells;
+      writing = writing_more _ _ _ _ _ _ _ c.loop-key.invariant.writing
+          (row_next (shared_at all) c.loop-key.key-iterator c.next.new.self c.in-Some.key.now c.in-Some._kept.now c.in-Some.ensures.steps)
+          (rw others at c.in_ok-write_group.ensures.bytes);
+      tells = c.in_ok-write_group.ensures.tells ∙ c.loop-key.invariant.tells;
       later = omega (arith, c.in_ok-write_group.ensures.cause.later);
     }

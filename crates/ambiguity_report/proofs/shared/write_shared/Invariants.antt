@@ -1,16 +1,17 @@
-use Rattle.std.proofs.Common.{◌≡◌, ◌≤◌, drop}
+use Rattle.std.proofs.Common.{◌≡◌, ◌≤◌, map}
 use Rattle.std.specs.Prelude.{is_some}
 use Rattle.std.specs.List.{flat_map}
 use Rattle.outside.proofs.Fronts.{IsWriting}
+use Rattle.record_store.specs.Store.{shown_row}
 use Rattle.catalogue_rules.specs.Output.{shared_lines}
-use Rattle.catalogue_core.specs.Views.{linkables}
-use Rattle.ambiguity_report.proofs.Scans.{shared_line_at}
+use Rattle.catalogue_rules.specs.State.{linkable_authorities}
+use Rattle.ambiguity_report.proofs.Scans.{shared_at}
 use Rattle.ambiguity_report.proofs.shared.write_shared.Given as goal
 
-abbrev pub invariant-loop-authority : goal.invariant-loop-authority
-invariant-loop-authority g l = record {
-  writing : IsWriting (g.K.Sink.written l.initial.out) (g.K.Sink.written l.out) (shared_lines (linkables l.fn.authorities))
-      (flat_map (shared_line_at (linkables l.fn.authorities)) (linkables (drop l.authority-index l.authorities)));
+abbrev pub invariant-loop-key : goal.invariant-loop-key
+invariant-loop-key g l = record {
+  writing : IsWriting (g.K.Sink.written l.initial.out) (g.K.Sink.written l.out) (shared_lines (linkable_authorities l.engine.state))
+      (flat_map (shared_at (linkable_authorities l.engine.state)) (map shown_row l.key-iterator));
   tells : is_some (g.K.Sink.written l.out) ≡ is_some (g.K.Sink.written l.initial.out);
   later : g.K.Sink.faults l.initial.out ≤ g.K.Sink.faults l.out;
 }

@@ -1,7 +1,7 @@
 use Rattle.std.proofs.Common.{◌∙◌, Err, refl, ap, subst, arith}
 use Rattle.console_lines.specs.Faults.{IsFaultTold, fault_line}
 use Rattle.console_lines.specs.declared.end.End.TheVariants.{Told}
-use Rattle.archive_commands.proofs.Rooms.{closed_opened}
+use Rattle.archive_commands.proofs.Rooms.{apart_opened, closed_opened, unbegun_opened}
 use Rattle.archive_commands.proofs.Endings.{reads_unopened, was_read, reads_whole, reads_failed, reads_no_memory}
 use Rattle.archive_commands.proofs.command.read.Goals as goal
 
@@ -15,6 +15,9 @@ returns-in-Err-clause-ends g c =
     reads_unopened _ _ _ _ c.in-Err.fault c.requires.differ (c.tell.ensures.end ∙ ap Told c.fault_of_opening.ensures)
     (subst (λ f. IsFaultTold (written console) (written now) (faults console) (faults now) (fault_line f)) c.fault_of_opening.ensures c.tell.ensures.told) c.open_archive.ensures.apart because.current because.fault because.keeps because.cause
 
+pub returns-in-Ok-write_archive-clause-apart : goal.returns-in-Ok-write_archive-clause-apart
+returns-in-Ok-write_archive-clause-apart g c = apart_opened _ _ _ _ _ c.open_archive.ensures.apart c.write_archive.ensures.apart
+
 pub returns-in-Ok-write_archive-clause-closed : goal.returns-in-Ok-write_archive-clause-closed
 returns-in-Ok-write_archive-clause-closed g c =
     let w = c.write_archive.ensures in
@@ -27,6 +30,9 @@ returns-in-Ok-write_archive-clause-ends g c =
     reads_whole _ _ _ _ _ (was_read _ _ _ _ (g.R.Room.seen c.open_archive.new.room) (g.R.Log.Disk.seen c.in-Ok.archive.journal.disk) _
     c.requires.differ c.open_archive.ensures.apart w.file w.log a.history a.within a.kept w.part)
     refl (refl, refl) (λ tells. c.in-Ok-write_archive.ensures.bytes (c.open_archive.ensures.apart.tells ∙ tells))
+
+pub returns-in-Err-OutputFault-clause-apart : goal.returns-in-Err-OutputFault-clause-apart
+returns-in-Err-OutputFault-clause-apart g c = apart_opened _ _ _ _ _ c.open_archive.ensures.apart c.write_archive.ensures.apart
 
 pub returns-in-Err-OutputFault-clause-closed : goal.returns-in-Err-OutputFault-clause-closed
 returns-in-Err-OutputFault-clause-closed g c =
@@ -43,6 +49,9 @@ returns-in-Err-OutputFault-clause-ends g c =
     c.requires.differ c.open_archive.ensures.apart w.file w.log a.history a.within a.kept w.part)
     refl (refl, refl) (omega (arith, earlier, rose))
 
+pub returns-in-Err-NoMemory-clause-apart : goal.returns-in-Err-NoMemory-clause-apart
+returns-in-Err-NoMemory-clause-apart g c = apart_opened _ _ _ _ _ c.open_archive.ensures.apart c.write_archive.ensures.apart
+
 pub returns-in-Err-NoMemory-clause-closed : goal.returns-in-Err-NoMemory-clause-closed
 returns-in-Err-NoMemory-clause-closed g c =
     let w = c.write_archive.ensures in
@@ -54,4 +63,5 @@ returns-in-Err-NoMemory-clause-ends g c =
     let a = c.in-Ok.ensures in
     reads_no_memory _ _ _ _ _ (was_read _ _ _ _ (g.R.Room.seen c.open_archive.new.room) (g.R.Log.Disk.seen c.in-Ok.archive.journal.disk) _
     c.requires.differ c.open_archive.ensures.apart w.file w.log a.history a.within a.kept w.part)
-    c.tell-in-Err-NoMemory.ensures.end c.tell-in-Err-NoMemory.ensures.told (c.in-Err-NoMemory.ensures.memory c.in-Err-NoMemory.field-0-is)
+    c.tell-in-Err-NoMemory.ensures.end c.tell-in-Err-NoMemory.ensures.told
+    (unbegun_opened _ _ _ _ c.open_archive.ensures.apart (w.memory (c.in-Err-NoMemory.is ∙ ap Err c.in-Err-NoMemory.field-0-is)))

@@ -4,15 +4,15 @@ use Rattle.plain_commands.proofs.making.write_workload.Goals as goal
 
 pub returns-in_err-written-clause-part : goal.returns-in_err-written-clause-part
 returns-in_err-written-clause-part g c = λ tells.
-    part_of_closed _ _ _ _ _ (c.in_ok-out.ensures.empty tells) c.make-written.ensures.front
-    (c.close_out-closed.ensures.bytes (c.in_ok-out.ensures.apart.tells ∙ tells))
+    part_of_closed _ _ _ _ _ _ _ (c.in_ok-out.ensures.empty tells) c.make-written.ensures.front
+    c.close_out-closed.ensures.bytes c.close_out-closed.ensures.front (c.in_ok-out.ensures.apart.tells ∙ tells)
 
 pub returns-in_err-closed-clause-part : goal.returns-in_err-closed-clause-part
 returns-in_err-closed-clause-part g c = λ tells.
-    part_of_closed _ _ _ _ _ (c.in_ok-out.ensures.empty tells) c.make-written.ensures.front
-    (c.close_out-closed.ensures.bytes (c.in_ok-out.ensures.apart.tells ∙ tells))
+    part_of_closed _ _ _ _ _ _ _ (c.in_ok-out.ensures.empty tells) c.make-written.ensures.front
+    c.close_out-closed.ensures.bytes c.close_out-closed.ensures.front (c.in_ok-out.ensures.apart.tells ∙ tells)
 
 pub returns-clause-part : goal.returns-clause-part
 returns-clause-part g c = λ tells.
-    part_of_closed _ _ _ _ _ (c.in_ok-out.ensures.empty tells) c.make-written.ensures.front
-    (c.close_out-closed.ensures.bytes (c.in_ok-out.ensures.apart.tells ∙ tells))
+    part_of_closed _ _ _ _ _ _ _ (c.in_ok-out.ensures.empty tells) c.make-written.ensures.front
+    c.close_out-closed.ensures.bytes c.close_out-closed.ensures.front (c.in_ok-out.ensures.apart.tells ∙ tells)

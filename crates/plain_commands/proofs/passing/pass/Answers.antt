@@ -1,4 +1,5 @@
 use Rattle.std.proofs.Common.{◌∙◌}
+use Rattle.outside.proofs.Rooms.{same_but_none, same_but_then}
 use Rattle.plain_commands.proofs.Ends.{closed_everywhere}
 use Rattle.plain_commands.proofs.Passes.{passes_told, passes_delivered}
 use Rattle.plain_commands.proofs.passing.pass.Goals as goal
@@ -8,11 +9,14 @@ returns-in-Ok-clause-closed g c =
     closed_everywhere _ _ _ c.deliver.ensures.apart c.deliver.ensures.closed
     (λ name. c.prepare.ensures.stays.open_names name tt ∙ c.requires.closed name)
 
+pub returns-in-Ok-clause-apart : goal.returns-in-Ok-clause-apart
+returns-in-Ok-clause-apart g c = same_but_then _ _ _ _ (same_but_none _ _ _ c.prepare.ensures.stays) c.deliver.ensures.apart
+
 pub returns-in-Ok-clause-ends : goal.returns-in-Ok-clause-ends
 returns-in-Ok-clause-ends g c =
     let mid = g.R.Room.seen c.prepare.new.room in
     let d = c.deliver.ensures in
-    passes_delivered _ _ _ mid c.in-Ok.ready c.prepare.ensures.stays d.untold d.no_report d.out_cause d.console_cause d.silent c.in-Ok.ensures.ready
+    passes_delivered _ _ _ mid c.in-Ok.ready c.prepare.ensures.stays d.fault d.no_report d.out_cause d.console_cause d.silent c.in-Ok.ensures.ready
     d.whole d.part d.told
 
 pub returns-in-Err-clause-ends : goal.returns-in-Err-clause-ends

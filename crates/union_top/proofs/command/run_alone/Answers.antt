@@ -142,3 +142,14 @@ returns-in-Migrate-clause-ends g c =
 
 pub returns-in-Migrate-clause-command : goal.returns-in-Migrate-clause-command
 returns-in-Migrate-clause-command g c usage = subst EndsMigrating usage c.migrate_journal.ensures.ends.ends
+
+pub attach-requires-clause-asks : goal.attach-requires-clause-asks
+attach-requires-clause-asks g c κs within = c.requires.asks ∙ ap (λ r. Some (command_asked r)) c.in-Holdings.is
+
+pub returns-in-Holdings-clause-ends : goal.returns-in-Holdings-clause-ends
+returns-in-Holdings-clause-ends g c =
+    let o : Outcome = outcome g.R.Room.seen g.R.Out.Sink.written g.R.Out.Sink.faults c.args.room.now c.attach.new.room c.args.console.now c.attach.new.console c.attach.result in
+    subst (λ r. Ends c.args.words.now (command_asked r) o) (sym c.in-Holdings.is) c.attach.ensures.ends
+
+pub returns-in-Holdings-clause-command : goal.returns-in-Holdings-clause-command
+returns-in-Holdings-clause-command g c usage = c.attach.ensures.command usage

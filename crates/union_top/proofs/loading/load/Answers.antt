@@ -25,6 +25,9 @@ files_text-text-requires g c = sym c.in-Ok.ensures.loaded.count ∙ ap length (s
 pub close_journal-requires-after_bounds : goal.close_journal-requires-after_bounds
 close_journal-requires-after_bounds g c κs within = c.in-Ok.ensures.loaded.is_open
 
+pub returns-in-Ok-text-clause-apart : goal.returns-in-Ok-text-clause-apart
+returns-in-Ok-text-clause-apart g c = same_but_then _ _ _ _ c.load_journal.ensures.apart c.close_journal.ensures.apart
+
 pub returns-in-Ok-text-clause-closed : goal.returns-in-Ok-text-clause-closed
 returns-in-Ok-text-clause-closed g c = closed_load _ _ _ _ c.requires.free c.load_journal.ensures.apart c.close_journal.ensures.apart c.close_journal.ensures.closed
 
@@ -47,6 +50,9 @@ returns-in-Ok-text-clause-ends g c =
           merged_by (seen c.args.room.now) (seen c.close_journal.new.room) c.args.journal.now c.args.libraries.now (durable_view c.in-Ok.loaded.durable) c.in-Ok.loaded.results
           c.is_within_limits.ensures (l.whole tells) (λ told. c.close_journal.ensures.log (c.load_journal.ensures.apart.tells ∙ tells) told) tells;
     }) t.cause
+
+pub returns-clause-apart : goal.returns-clause-apart
+returns-clause-apart g c = same_but_then _ _ _ _ c.load_journal.ensures.apart c.close_journal.ensures.apart
 
 pub returns-clause-closed : goal.returns-clause-closed
 returns-clause-closed g c = closed_load _ _ _ _ c.requires.free c.load_journal.ensures.apart c.close_journal.ensures.apart c.close_journal.ensures.closed

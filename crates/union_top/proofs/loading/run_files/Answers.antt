@@ -1,15 +1,15 @@
 use Rattle.std.proofs.Common.{rules, IfErr, Err, ◌≡◌, List, length, refl, sym, ap, subst, ◌∙◌}
 use Rattle.marc_types.specs.declared.entry.Entry.{Entry}
-use Rattle.outside.proofs.Rooms.{same_but_then}
+use Rattle.outside.proofs.Rooms.{same_but_first, same_but_then}
 use Rattle.durable_catalogue.specs.Views.{durable_view}
 use Rattle.union_top.specs.Outputs.{AreUnwritten}
 use Rattle.union_top.specs.declared.outputs.OutputsFault.{OutputsFault}
 use Rattle.union_top.specs.declared.outputs.OutputsFault.TheVariants as outputs
 use Rattle.union_top.specs.Texts.{files_text, has_refused}
-use Rattle.union_top.specs.Runs.{AreOutputs, AreOutAndPart, NotLoaded, NoMemory, NoMemoryInReport}
+use Rattle.union_top.specs.Runs.{AreOutputs, NotLoaded, NoMemory}
 use Rattle.union_top.proofs.OneHistory.{merged_by}
-use Rattle.union_top.proofs.Ended.{closed_load, closed_run, runs_failed, runs_told, runs_in_out, runs_in_report, no_memory}
-use Rattle.union_top.proofs.Written.{outputs_are, out_rose, report_rose_too, no_report, in_out, in_report, memory_no_out, report_no_out}
+use Rattle.union_top.proofs.Ended.{apart_run, closed_load, closed_run, runs_failed, runs_told, runs_in_out, runs_in_report, why_no_memory, no_memory}
+use Rattle.union_top.proofs.Written.{outputs_are, out_rose, report_rose_too, no_report, in_out, in_report, ran_out}
 use Rattle.union_top.proofs.loading.run_files.Goals as goal
 
 pub returns-in-Err-clause-ends : goal.returns-in-Err-clause-ends
@@ -32,6 +32,10 @@ files_text-requires g c = sym c.in-Ok.ensures.loaded.count ∙ ap length (sym c.
 pub close_journal-requires-after_bounds : goal.close_journal-requires-after_bounds
 close_journal-requires-after_bounds g c κs within = c.in-Ok.ensures.loaded.is_open
 
+pub returns-in-Err-files_text-clause-apart : goal.returns-in-Err-files_text-clause-apart
+returns-in-Err-files_text-clause-apart g c =
+    same_but_first _ _ _ _ (same_but_then _ _ _ _ c.load_journal.ensures.apart c.close_journal.ensures.apart)
+
 pub returns-in-Err-files_text-clause-closed : goal.returns-in-Err-files_text-clause-closed
 returns-in-Err-files_text-clause-closed g c = closed_load _ _ _ _ c.requires.free c.load_journal.ensures.apart c.close_journal.ensures.apart c.close_journal.ensures.closed
 
@@ -46,6 +50,10 @@ returns-in-Err-files_text-clause-ends g c =
     merged_by (seen c.args.room.now) (seen c.close_journal.new.room) c.args.journal.now c.args.libraries.now (durable_view c.in-Ok.loaded.durable) c.in-Ok.loaded.results
     c.is_within_limits.ensures (l.whole tells) (λ told. c.close_journal.ensures.log (c.load_journal.ensures.apart.tells ∙ tells) told) tells).merged
     (apart.files c.args.out.now ((λ same. names.1.0 (sym same)), tt)) (apart.files c.args.report.now ((λ same. names.1.1.0 (sym same)), tt))))
+
+pub returns-in-Ok-written-clause-apart : goal.returns-in-Ok-written-clause-apart
+returns-in-Ok-written-clause-apart g c =
+    apart_run _ _ _ _ _ _ _ c.load_journal.ensures.apart c.write_outputs-written.ensures.apart c.close_journal-2.ensures.apart
 
 pub returns-in-Ok-written-clause-closed : goal.returns-in-Ok-written-clause-closed
 returns-in-Ok-written-clause-closed g c =
@@ -81,6 +89,10 @@ returns-in-Ok-written-clause-ends g c =
     }) t.cause
     (outputs_are old mid wrote new c.args.journal.now c.args.out.now c.args.report.now d.core.history c.requires.names opened closing (λ tells. subst (AreOutputs wrote c.args.out.now c.args.report.now) history (c.in-Ok-written.ensures.whole tells)))
 
+pub returns-in-Err-OutFault-clause-apart : goal.returns-in-Err-OutFault-clause-apart
+returns-in-Err-OutFault-clause-apart g c =
+    apart_run _ _ _ _ _ _ _ c.load_journal.ensures.apart c.write_outputs-written.ensures.apart c.close_journal-2.ensures.apart
+
 pub returns-in-Err-OutFault-clause-closed : goal.returns-in-Err-OutFault-clause-closed
 returns-in-Err-OutFault-clause-closed g c =
     closed_run _ _ _ _ _ _ _ c.requires.free c.load_journal.ensures.apart c.write_outputs-written.ensures.apart c.write_outputs-written.ensures.closed c.write_outputs-written.ensures.report_closed
@@ -107,6 +119,10 @@ returns-in-Err-OutFault-clause-ends g c =
     refl (out_rose old mid wrote new c.args.journal.now c.args.out.now c.args.report.now d.core.history c.requires.names opened closing outputs.OutFault are refl) (no_report old mid wrote new c.args.journal.now c.args.out.now c.args.report.now d.core.history c.requires.names opened closing outputs.OutFault are refl)
     (in_out old mid wrote new c.args.journal.now c.args.out.now c.args.report.now d.core.history c.requires.names opened closing outputs.OutFault are refl)
 
+pub returns-in-Err-ReportFault-clause-apart : goal.returns-in-Err-ReportFault-clause-apart
+returns-in-Err-ReportFault-clause-apart g c =
+    apart_run _ _ _ _ _ _ _ c.load_journal.ensures.apart c.write_outputs-written.ensures.apart c.close_journal-2.ensures.apart
+
 pub returns-in-Err-ReportFault-clause-closed : goal.returns-in-Err-ReportFault-clause-closed
 returns-in-Err-ReportFault-clause-closed g c =
     closed_run _ _ _ _ _ _ _ c.requires.free c.load_journal.ensures.apart c.write_outputs-written.ensures.apart c.write_outputs-written.ensures.closed c.write_outputs-written.ensures.report_closed
@@ -131,7 +147,11 @@ returns-in-Err-ReportFault-clause-ends g c =
     runs_in_report _ _ _ _ _ d.core.history c.in-Ok.loaded.results (refl, refl) (λ tells. merged_by old new c.args.journal.now c.args.libraries.now (durable_view d) c.in-Ok.loaded.results
     c.is_within_limits.ensures (l.whole tells) (λ told. c.close_journal-2.ensures.log (w.apart.tells ∙ (opened.tells ∙ tells)) told) tells)
     refl (report_rose_too old mid wrote new c.args.journal.now c.args.out.now c.args.report.now d.core.history c.requires.names opened closing outputs.ReportFault are refl)
-    (in_report old mid wrote new c.args.journal.now c.args.out.now c.args.report.now d.core.history c.requires.names opened closing outputs.ReportFault are (report_no_out outputs.ReportFault refl))
+    (in_report old mid wrote new c.args.journal.now c.args.out.now c.args.report.now d.core.history c.requires.names opened closing outputs.ReportFault are refl)
+
+pub returns-clause-apart : goal.returns-clause-apart
+returns-clause-apart g c =
+    apart_run _ _ _ _ _ _ _ c.load_journal.ensures.apart c.write_outputs-written.ensures.apart c.close_journal-2.ensures.apart
 
 pub returns-clause-closed : goal.returns-clause-closed
 returns-clause-closed g c =
@@ -158,8 +178,5 @@ returns-clause-ends g c =
     (no_memory _ _ _ _ _ c.close_journal-2.ensures.closed (λ tells.
     let m = merged_by old new c.args.journal.now c.args.libraries.now (durable_view d) c.in-Ok.loaded.results
     c.is_within_limits.ensures (l.whole tells) (λ told. c.close_journal-2.ensures.log (w.apart.tells ∙ (opened.tells ∙ tells)) told) tells in
-    NoMemoryInReport refl (record {
-      merged = m.merged;
-      outputs = subst (AreOutAndPart old new c.args.out.now c.args.report.now) m.entries_are
-          (in_report old mid wrote new c.args.journal.now c.args.out.now c.args.report.now d.core.history c.requires.names opened closing outputs.NoMemory are (memory_no_out outputs.NoMemory refl) tells);
-    })))
+    why_no_memory old new c.args.journal.now c.args.out.now c.args.report.now c.args.libraries.now d.core.history c.in-Ok.loaded.results c.requires.names m tells
+    (ran_out old mid wrote new c.args.journal.now c.args.out.now c.args.report.now d.core.history c.requires.names opened closing outputs.NoMemory are refl)))

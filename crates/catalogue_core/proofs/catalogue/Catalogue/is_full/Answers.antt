@@ -15,7 +15,7 @@ returns-then-len-self c =
     let len = c.len.ensures in
     let many : k.limits.entries ≤ length k.entries.items = omega (arith, size, len, c.if-len-self.true) in
     le-leb k.limits.entries c.len.result c.if-len-self.true
-    ∙ full_count k.before k.entries.items k.limits c.args.item.now many
+    ∙ full_count k.kept k.entries.items k.limits c.args.item.now many
     ∙ ap (λ (all : Catalogued). is_full all c.args.item.now) c.self.view_is
 
 pub returns-else-len-self : goal.returns-else-len-self
@@ -25,5 +25,5 @@ returns-else-len-self c =
     let len = c.len.ensures in
     let few : length k.entries.items < k.limits.entries = omega (arith, size, len, c.if-len-self.false) in
     ap (λ (n : ℕ). nat_lt (k.limits.bytes - k.bytes) n) c.size.ensures
-    ∙ full_size k.engine k.before k.entries.items k.bytes k.limits c.args.item.now c.self.invariant few
+    ∙ full_size k.engine k.kept k.kept_bytes k.entries.items k.bytes k.limits c.args.item.now c.self.invariant few
     ∙ ap (λ (all : Catalogued). is_full all c.args.item.now) c.self.view_is

@@ -1,13 +1,12 @@
-use Rattle.std.proofs.Common.{Option, sym, subst}
-use Rattle.catalogue_core.specs.Catalogues.{IsCatalogue}
-use Rattle.catalogue_core.specs.declared.catalogue.Before.{Before}
-use Rattle.catalogue_core.proofs.Catalogues.{undone_catalogue}
+use Rattle.std.proofs.Common.{◌∙◌, ap}
+use Rattle.catalogue_core.specs.Catalogues.{without_staged}
+use Rattle.catalogue_core.proofs.Catalogues.{undone_catalogue, undone_is}
 use Rattle.catalogue_core.proofs.catalogue.Catalogue.undo.Goals as goal
 
-pub invariant_of-self-2 : goal.invariant_of-self-2
-invariant_of-self-2 c =
-    let b = c.in-Some.before in
+pub invariant_of-self : goal.invariant_of-self
+invariant_of-self c =
     let k = c.self.inside in
-    subst (λ (o : Option Before). IsCatalogue b.engine o c.truncate.new.self.items b.bytes k.limits) (sym c.in-Some.ensures.after)
-    (undone_catalogue k.engine b k.entries.items c.truncate.new.self.items k.bytes k.limits
-    (subst (λ (o : Option Before). IsCatalogue k.engine o k.entries.items k.bytes k.limits) (sym c.in-Some.ensures.value) c.self.invariant) c.truncate.ensures.items)
+    undone_catalogue k.engine c.undo.new.self k.kept k.kept_bytes k.entries.items c.truncate.new.self.items k.bytes k.limits c.self.invariant c.undo.ensures c.truncate.ensures.items
+
+pub returns : goal.returns
+returns c = let k = c.self.inside in undone_is k.kept k.entries.items c.truncate.new.self.items k.limits c.truncate.ensures.items ∙ ap without_staged c.self.view_is

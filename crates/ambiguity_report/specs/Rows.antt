@@ -1,0 +1,10 @@
+-- The rows of a report. The rules are this project's own.
+use Rattle.std.specs.Prelude.{◌≡◌, map}
+use Rattle.record_store.specs.Store.{shown_row}
+use Rattle.catalogue_rules.specs.State.{State}
+use Rattle.ambiguity_report.specs.declared.rows.ReportRows.{ReportRows}
+
+-- these are the rows of the state
+pub record AreRows (s : State) (rows : ReportRows) : Type 0 where
+  pub authorities : map shown_row rows.authorities.entries ≡ s.authorities
+  pub bibliographic : map shown_row rows.bibliographic.entries ≡ s.bibliographic

@@ -1,0 +1,4 @@
+pub mod Making
+pub mod Files
+pub mod Items
+pub mod Judgement

@@ -1,0 +1,294 @@
+-- How the command ends, from what its steps say.
+use Rattle.std.proofs.Common.{◌≡◌, ◌≢◌, ◌∙◌, ◌⊎◌, inl, inr, ℕ, Bool, true, false, List, [], ◌∷◌, Option, refl, sym, ap, subst}
+use Rattle.std.specs.Prelude.{IsSomeAnd, string_bytes, nat_lt, length}
+use Rattle.std.specs.Io.KnownBytes.{Appends}
+use Rattle.marc_types.specs.declared.entry.Entry.{Entry}
+use Rattle.outside.specs.Disk.{DiskView}
+use Rattle.outside.specs.Fault.{Rose}
+use Rattle.outside.specs.Room.{RoomView, SameBut}
+use Rattle.outside.specs.Sink.{WritesFront}
+use Rattle.command_words.specs.declared.library.Library.{Library}
+use Rattle.catalogue_rules.specs.State.{State}
+use Rattle.catalogue_rules.specs.Settle.{state_of}
+use Rattle.durable_catalogue.specs.Logs.{HasHistory}
+use Rattle.entry_record.specs.History.{IsWithin}
+use Rattle.durable_catalogue.specs.Openings.{IsUnopened}
+use Rattle.durable_catalogue.specs.declared.fault.OpenFault.{OpenFault}
+use Rattle.durable_catalogue.specs.declared.fault.OpenFault.TheVariants as opening
+use Rattle.console_lines.specs.Ends.{Outcome, IsTold, IsUntold, IsSilent, end_of, out_unwritten, console_unwritten}
+use Rattle.console_lines.specs.declared.end.End.{End}
+use Rattle.console_lines.specs.declared.end.End.TheVariants.{Done, Refused, Unwritten as NotWritten, Told}
+use Rattle.console_lines.specs.declared.end.Unwritten.{Unwritten}
+use Rattle.console_lines.specs.declared.end.Unwritten.TheVariants.{Out, Report, Console}
+use Rattle.console_lines.specs.declared.fault.Fault.{Fault}
+use Rattle.console_lines.specs.declared.fault.Fault.TheVariants.{Usage, Input, Device, NotAJournal, Full, Memory, OldVersion, OtherHistory}
+use Rattle.console_lines.proofs.Ends.{told_once, told_not_unwritten, never_told, unwritten_once, all_not_unwritten, all_of}
+use Rattle.room_files.specs.Journals.{journal_limits, log_bytes, IsClosedDisk, KeepsHistory, KeepsLog, IsDurable}
+use Rattle.room_files.specs.Faults.{fault_of_opening}
+use Rattle.room_files.proofs.Journals.{closed_keeps, closed_durable, keeps_where}
+use Rattle.archive_commands.specs.Archives.{WhyUnopened, kept_keys}
+use Rattle.archive_commands.proofs.Histories.{due_once, fitting_history}
+use Rattle.holdings.specs.declared.holding.Holding.{Holding}
+use Rattle.holdings.specs.Shelves.{shelf_of}
+use Rattle.file_holdings.specs.declared.refused.RefusedHolding.{RefusedHolding}
+use Rattle.holdings_export.specs.Output.{holdings_export, holdings_rest}
+use Rattle.holdings_command.specs.Lines.{holdings_results}
+use Rattle.holdings_command.specs.Shelving.{EndsShelving}
+use Rattle.holdings_command.specs.Ready.{IsReady}
+use Rattle.holdings_command.specs.Outputs.{AreWritten, AreStopped, AtFirst, AtSecond}
+use Rattle.holdings_command.specs.Attaching.{rest_unwritten, EndsAttaching, Due, due_of, IsDelivered, OutFailed, RestFailed, ConsoleFailed, Whole, IsAttached, AttachesHoldings}
+use Rattle.holdings_command.specs.declared.ready.Ready.{Ready}
+use Rattle.holdings_command.proofs.OnShelves.{there_more}
+
+-- an opening's fault is one of this command, and none of an input
+ends_unopened : (reason : OpenFault) → reason ≢ opening.OldVersion → EndsAttaching (Told (fault_of_opening reason))
+ends_unopened opening.DeviceFault current = tt
+ends_unopened (opening.NotAJournal place) current = tt
+ends_unopened opening.OldVersion current = absurd (current refl)
+ends_unopened opening.Full current = tt
+ends_unopened opening.NoMemory current = tt
+
+is_device : (reason : OpenFault) → fault_of_opening reason ≡ Device → reason ≡ opening.DeviceFault
+is_device opening.DeviceFault is = refl
+is_device (opening.NotAJournal place) is = cc
+is_device opening.OldVersion is = cc
+is_device opening.Full is = cc
+is_device opening.NoMemory is = cc
+
+no_input : (reason : OpenFault) → fault_of_opening reason ≡ Input → ⊥
+no_input opening.DeviceFault is = cc
+no_input (opening.NotAJournal place) is = cc
+no_input opening.OldVersion is = cc
+no_input opening.Full is = cc
+no_input opening.NoMemory is = cc
+
+-- a fault of reading the file is one of this command, and none of a device
+ends_unread : (why : Fault) → EndsShelving why → EndsAttaching (Told why)
+ends_unread Input is = tt
+ends_unread Memory is = tt
+ends_unread Usage is = absurd is
+ends_unread Device is = absurd is
+ends_unread (NotAJournal place) is = absurd is
+ends_unread Full is = absurd is
+ends_unread OldVersion is = absurd is
+ends_unread OtherHistory is = absurd is
+
+because_unread : (room : RoomView) (journal : List ℕ) (why : Fault) → EndsShelving why → why ≢ Input → WhyUnopened room journal why
+because_unread room journal Input is other = absurd (other refl)
+because_unread room journal Memory is other = record { reason = opening.NoMemory; is = refl; so = λ tells. tt }
+because_unread room journal Usage is other = absurd is
+because_unread room journal Device is other = absurd is
+because_unread room journal (NotAJournal place) is other = absurd is
+because_unread room journal Full is other = absurd is
+because_unread room journal OldVersion is other = absurd is
+because_unread room journal OtherHistory is other = absurd is
+
+ends_delivered : (end : End) → IsUntold end → EndsAttaching end
+ends_delivered Done untold = tt
+ends_delivered Refused untold = tt
+ends_delivered (NotWritten which) untold = tt
+ends_delivered (Told why) untold = absurd untold
+
+-- what is due of one history of a log is due of any other
+module _ (library : Library) (code : Option (List ℕ)) (bytes : List ℕ) (out rest : List ℕ) (o : Outcome) (entries others : List Entry) (log : List ℕ)
+    (has : HasHistory entries log) (also : HasHistory others log) where
+  same_due : (accepted : List Holding) (refused : List RefusedHolding)
+      → due_of library.file code (state_of others) accepted refused ≡ due_of library.file code (state_of entries) accepted refused
+  same_due accepted refused =
+      let p = due_once (λ es. holdings_export (kept_keys code) (state_of es) (shelf_of accepted)) others entries log also has in
+      let q = due_once (λ es. holdings_rest (state_of es) (shelf_of accepted)) others entries log also has in
+      let t = due_once (λ es. holdings_results library.file (state_of es) accepted refused) others entries log also has in
+      λ i. record { out = p i; rest = q i; text = t i; refused = nat_lt 0 (length refused) }
+
+  attached_of_any : IsAttached library code bytes (state_of others) out rest o → IsAttached library code bytes (state_of entries) out rest o
+  attached_of_any is = record {
+    accepted = is.accepted;
+    refused = is.refused;
+    judged = is.judged;
+    delivered = subst (λ due. IsDelivered due out rest o) (same_due is.accepted is.refused) is.delivered;
+  }
+
+-- what is due of a file that is ready
+module _ (library : Library) (code : Option (List ℕ)) (bytes : List ℕ) (s : State) (ready : Ready) (out rest : List ℕ) (o : Outcome) where
+  abbrev pub ready_due : Due
+  ready_due = record {
+    out = holdings_export (kept_keys code) s ready.shelf;
+    rest = holdings_rest s ready.shelf;
+    text = string_bytes ready.text;
+    refused = ready.refused;
+  }
+
+  attached_ready : IsDelivered ready_due out rest o → IsReady library bytes s ready → IsAttached library code bytes s out rest o
+  attached_ready delivered is =
+      let same : ready_due ≡ due_of library.file code s is.accepted is.refused = λ i. record {
+        out = holdings_export (kept_keys code) s (is.shelf_is i);
+        rest = holdings_rest s (is.shelf_is i);
+        text = is.text_is i;
+        refused = is.refused_is i;
+      } in
+      record {
+        accepted = is.accepted;
+        refused = is.refused;
+        judged = is.judged;
+        delivered = subst (λ due. IsDelivered due out rest o) same delivered;
+      }
+
+module _ (journal out rest : List ℕ) (library : Library) (code : Option (List ℕ)) (o : Outcome) where
+  -- the journal was not opened
+  pub attaches_unopened : (reason : OpenFault) → o.end ≡ Told (fault_of_opening reason) → IsTold (fault_of_opening reason) o
+      → SameBut o.old o.new (journal ∷ []) → reason ≢ opening.OldVersion
+      → (o.old.tells ≡ true → IsUnopened journal_limits (log_bytes o.old journal) reason)
+      → (o.old.tells ≡ true → KeepsHistory (reason ≡ opening.DeviceFault) o.old o.new journal)
+      → (reason ≡ opening.DeviceFault → Rose (o.old.log_faults journal) (o.new.log_faults journal))
+      → AttachesHoldings journal out rest library code o
+  attaches_unopened reason is told apart current so keeps cause =
+      let fault = fault_of_opening reason in
+      record {
+        ends = subst EndsAttaching (sym is) (ends_unopened reason current);
+        keeps = λ tells.
+            keeps_where (reason ≡ opening.DeviceFault) (o.end ≡ Told Device) o.old o.new journal (λ device. is ∙ ap (λ r. Told (fault_of_opening r)) device) (keeps tells);
+        told = λ why also. subst (λ w. IsTold w o × SameBut o.old o.new (journal ∷ [])) (told_once o.end fault why is also) (told, apart);
+        because = λ why also other. subst (λ w. WhyUnopened o.old journal w) (told_once o.end fault why is also) (record { reason = reason; is = refl; so = so });
+        no_rest = λ also. absurd (told_not_unwritten o.end fault Out is also);
+        silent = λ either. absurd (told_not_stopped fault is either);
+        device = λ also. cause (is_device reason (told_once o.end fault Device is also));
+        input = λ also. absurd (no_input reason (told_once o.end fault Input is also));
+        out_cause = λ also. absurd (told_not_unwritten o.end fault Out is also);
+        rest_cause = λ also. absurd (told_not_unwritten o.end fault Report is also);
+        console_cause = λ also. absurd (told_not_unwritten o.end fault Console is also);
+        history = λ behind. absurd (not_behind behind);
+        durable = λ behind. absurd (not_behind behind);
+        delivers = λ entries untold. absurd (never_told o.end fault untold is);
+      }
+    where
+      told_not_stopped : (why : Fault) → o.end ≡ Told why → (o.end ≡ out_unwritten) ⊎ (o.end ≡ rest_unwritten) → ⊥
+      told_not_stopped why is (inl also) = told_not_unwritten o.end why Out is also
+      told_not_stopped why is (inr also) = told_not_unwritten o.end why Report is also
+
+      not_behind : IsUntold o.end ⊎ (o.end ≡ Told Input) → ⊥
+      not_behind (inl untold) = never_told o.end (fault_of_opening reason) untold is
+      not_behind (inr also) = no_input reason (told_once o.end (fault_of_opening reason) Input is also)
+
+  -- the journal was opened, and closed again
+  pub record WasOpened (history : List Entry) : Type 1 where
+    pub keeps : (failed : Type 0) → o.old.tells ≡ true → KeepsHistory failed o.old o.new journal
+    pub durable : o.old.tells ≡ true → IsDurable o.new journal
+    pub has : o.old.tells ≡ true → HasHistory history (log_bytes o.old journal)
+    pub within : IsWithin journal_limits history
+
+  pub was_opened : (before : RoomView) (disk : DiskView) (history : List Entry) → (o.old.tells ≡ true → before.tells ≡ true)
+      → (before.tells ≡ true → o.new.file journal ≡ disk.content) → (before.tells ≡ true → IsClosedDisk disk o.new journal)
+      → (o.old.tells ≡ true → HasHistory history (log_bytes o.old journal)) → IsWithin journal_limits history
+      → (o.old.tells ≡ true → KeepsLog (log_bytes o.old journal) disk) → WasOpened history
+  was_opened before disk history tells_then file log has within kept = record {
+    keeps = λ failed tells. let then = tells_then tells in closed_keeps o.old o.new journal disk (file then) (log then) failed (kept tells);
+    durable = λ tells. let then = tells_then tells in closed_durable o.old o.new journal disk (file then) (log then) (log_bytes o.old journal) (kept tells);
+    has = has;
+    within = within;
+  }
+
+  module _ (history : List Entry) (r : WasOpened history) where
+    -- the file was not read, or memory ran out over it
+    pub attaches_unread : (why : Fault) → EndsShelving why → o.end ≡ Told why → IsTold why o → SameBut o.old o.new (journal ∷ [])
+        → (why ≡ Input → Rose (o.old.in_faults library.file) (o.new.in_faults library.file)) → AttachesHoldings journal out rest library code o
+    attaches_unread why kind is told apart cause = record {
+      ends = subst EndsAttaching (sym is) (ends_unread why kind);
+      keeps = r.keeps (o.end ≡ Told Device);
+      told = λ other also. subst (λ w. IsTold w o × SameBut o.old o.new (journal ∷ [])) (told_once o.end why other is also) (told, apart);
+      because = λ other also no. subst (λ w. WhyUnopened o.old journal w) (told_once o.end why other is also)
+          (because_unread o.old journal why kind (λ input. no (sym (told_once o.end why other is also) ∙ input)));
+      no_rest = λ also. absurd (told_not_unwritten o.end why Out is also);
+      silent = λ either. absurd (told_not_stopped either);
+      device = λ also. absurd (subst EndsShelving (told_once o.end why Device is also) kind);
+      input = λ also. cause (told_once o.end why Input is also);
+      out_cause = λ also. absurd (told_not_unwritten o.end why Out is also);
+      rest_cause = λ also. absurd (told_not_unwritten o.end why Report is also);
+      console_cause = λ also. absurd (told_not_unwritten o.end why Console is also);
+      history = λ behind tells. fitting_history history (log_bytes o.old journal) (r.has tells) r.within;
+      durable = λ behind tells. r.durable tells;
+      delivers = λ entries untold. absurd (never_told o.end why untold is);
+    }
+      where
+        told_not_stopped : (o.end ≡ out_unwritten) ⊎ (o.end ≡ rest_unwritten) → ⊥
+        told_not_stopped (inl also) = told_not_unwritten o.end why Out is also
+        told_not_stopped (inr also) = told_not_unwritten o.end why Report is also
+
+    -- what is due was delivered, as far as it could be
+    pub attaches : IsUntold o.end → (o.end ≡ out_unwritten → SameBut o.old o.new (journal ∷ out ∷ [])) → ((o.end ≡ out_unwritten) ⊎ (o.end ≡ rest_unwritten) → IsSilent o)
+        → (o.end ≡ out_unwritten → Rose (o.old.out_faults out) (o.new.out_faults out))
+        → (o.end ≡ rest_unwritten → Rose (o.old.out_faults rest) (o.new.out_faults rest))
+        → (o.end ≡ console_unwritten → Rose o.faults o.faults_now) → (ready : Ready)
+        → (o.old.tells ≡ true → IsSomeAnd (o.old.file library.file) (λ bytes. IsReady library bytes (state_of history) ready))
+        → ((bytes : List ℕ) → o.old.tells ≡ true → IsDelivered (ready_due library code bytes (state_of history) ready out rest o) out rest o)
+        → AttachesHoldings journal out rest library code o
+    attaches untold no_rest silent out_cause rest_cause console_cause ready is delivered = record {
+      ends = ends_delivered o.end untold;
+      keeps = r.keeps (o.end ≡ Told Device);
+      told = λ why also. absurd (never_told o.end why untold also);
+      because = λ why also. absurd (never_told o.end why untold also);
+      no_rest = no_rest;
+      silent = silent;
+      device = λ also. absurd (never_told o.end Device untold also);
+      input = λ also. absurd (never_told o.end Input untold also);
+      out_cause = out_cause;
+      rest_cause = rest_cause;
+      console_cause = console_cause;
+      history = λ behind tells. fitting_history history (log_bytes o.old journal) (r.has tells) r.within;
+      durable = λ behind tells. r.durable tells;
+      delivers = λ entries still tells has. there_more (o.old.file library.file)
+          (λ bytes ready_is. attached_of_any library code bytes out rest o entries history (log_bytes o.old journal) has (r.has tells)
+          (attached_ready library code bytes (state_of history) ready out rest o (delivered bytes tells) ready_is)) (is tells);
+    }
+
+    module _ (ready : Ready)
+        (is : o.old.tells ≡ true → IsSomeAnd (o.old.file library.file) (λ bytes. IsReady library bytes (state_of history) ready)) where
+      -- an output could not be written
+      pub attaches_stopped : (which : Unwritten) → journal ≢ rest → out ≢ rest → o.end ≡ NotWritten which → IsSilent o
+          → AreStopped (journal ∷ out ∷ []) out rest (holdings_export (kept_keys code) (state_of history) ready.shelf) (holdings_rest (state_of history) ready.shelf) o.old o.new which
+          → AttachesHoldings journal out rest library code o
+      attaches_stopped which no_journal no_out end silent (AtFirst first up part alone) =
+          let here : o.end ≡ out_unwritten = end ∙ ap NotWritten first in
+          let untouched : o.new.file rest ≡ o.old.file rest = alone.files rest ((λ e. no_journal (sym e)), ((λ e. no_out (sym e)), tt)) in
+          attaches (subst IsUntold (sym end) tt) (λ also. alone) (λ either. silent) (λ also. up)
+          (λ also. let no : Out ≡ Report = unwritten_once o.end Out Report here also in cc)
+          (λ also. let no : Out ≡ Console = unwritten_once o.end Out Console here also in cc) ready is
+          (λ bytes tells. OutFailed here (part tells) untouched silent)
+      attaches_stopped which no_journal no_out end silent (AtSecond second up whole part) =
+          let here : o.end ≡ rest_unwritten = end ∙ ap NotWritten second in
+          attaches (subst IsUntold (sym end) tt) (λ also. let no : Report ≡ Out = unwritten_once o.end Report Out here also in cc) (λ either. silent)
+          (λ also. let no : Report ≡ Out = unwritten_once o.end Report Out here also in cc) (λ also. up)
+          (λ also. let no : Report ≡ Console = unwritten_once o.end Report Console here also in cc) ready is
+          (λ bytes tells. RestFailed here (whole tells) (part tells) silent)
+
+      module _ (written : o.old.tells ≡ true
+          → AreWritten out rest (holdings_export (kept_keys code) (state_of history) ready.shelf) (holdings_rest (state_of history) ready.shelf) o.new) where
+        -- the console could not be written
+        pub attaches_untold : o.end ≡ console_unwritten → Rose o.faults o.faults_now → WritesFront o.told o.now (string_bytes ready.text)
+            → AttachesHoldings journal out rest library code o
+        attaches_untold here up front =
+            attaches (subst IsUntold (sym here) tt) (λ also. let no : Console ≡ Out = unwritten_once o.end Console Out here also in cc)
+            (λ either. absurd (no_other either)) (λ also. let no : Console ≡ Out = unwritten_once o.end Console Out here also in cc)
+            (λ also. let no : Console ≡ Report = unwritten_once o.end Console Report here also in cc) (λ also. up) ready is
+            (λ bytes tells. ConsoleFailed here (written tells).whole (written tells).rest_whole front)
+          where
+            no_other : (o.end ≡ out_unwritten) ⊎ (o.end ≡ rest_unwritten) → ⊥
+            no_other (inl also) = let no : Console ≡ Out = unwritten_once o.end Console Out here also in cc
+            no_other (inr also) = let no : Console ≡ Report = unwritten_once o.end Console Report here also in cc
+
+        -- all was done
+        pub attaches_whole : o.end ≡ end_of ready.refused → Appends o.told o.now (string_bytes ready.text) → AttachesHoldings journal out rest library code o
+        attaches_whole here line =
+            attaches (untold_end ready.refused here) (λ also. not_unwritten Out also) (λ either. absurd (no_other either))
+            (λ also. not_unwritten Out also) (λ also. not_unwritten Report also) (λ also. not_unwritten Console also) ready is
+            (λ bytes tells. Whole here (written tells).whole (written tells).rest_whole line)
+          where
+            untold_end : (b : Bool) → o.end ≡ end_of b → IsUntold o.end
+            untold_end true e = subst IsUntold (sym e) tt
+            untold_end false e = subst IsUntold (sym e) tt
+
+            not_unwritten : {P : Type 0} (which : Unwritten) → o.end ≡ NotWritten which → P
+            not_unwritten which also = absurd (all_not_unwritten (end_of ready.refused) which (all_of ready.refused) (sym here ∙ also))
+
+            no_other : (o.end ≡ out_unwritten) ⊎ (o.end ≡ rest_unwritten) → ⊥
+            no_other (inl also) = not_unwritten Out also
+            no_other (inr also) = not_unwritten Report also

@@ -1,0 +1,4 @@
+pub mod Rooms
+pub mod OnShelves
+pub mod Counting
+pub mod Endings

@@ -1,0 +1,154 @@
+-- What the steps of the command leave of the room.
+use Rattle.std.proofs.Common.{◌≡◌, ◌≢◌, ◌∙◌, ◌⊎◌, inl, inr, ℕ, Bool, true, false, true≢false, List, ◌∷◌, [], refl, sym, subst, Some, None, arith}
+use Rattle.std.specs.Str.{bytes_eq}
+use Rattle.std.specs.Prelude.{IsSomeAnd}
+use Rattle.marc_types.specs.Order.{text_Decides}
+use Rattle.outside.specs.Fault.{Rose}
+use Rattle.outside.specs.Room.{RoomView, SameBut}
+use Rattle.outside.proofs.Rooms.{same_but_first, same_but_more, same_but_none, same_but_then}
+use Rattle.output_files.specs.Outputs.{IsPartWritten}
+use Rattle.console_lines.specs.declared.end.Unwritten.{Unwritten}
+use Rattle.console_lines.specs.declared.end.Unwritten.TheVariants.{Out, Report}
+use Rattle.holdings_command.specs.Outputs.{AreWritten, AreStopped, AtFirst, AtSecond}
+
+same_or_not : (a b : List ℕ) → (a ≡ b) ⊎ (a ≢ b)
+same_or_not a b = let same = text_Decides a b in decided (bytes_eq a b) same.0 same.1
+  where
+    decided : (is_same : Bool) → (is_same ≡ true → a ≡ b) → (a ≡ b → is_same ≡ true) → (a ≡ b) ⊎ (a ≢ b)
+    decided true is back = inl (is refl)
+    decided false is back = inr (λ e. absurd (true≢false (sym (back e))))
+
+-- where no name was open, and three names alone were used and closed again, no name is open
+pub closed_three : (old new : RoomView) (a b c : List ℕ) → SameBut old new (a ∷ b ∷ c ∷ []) → new.open_as a ≡ None → new.open_as b ≡ None
+    → new.open_as c ≡ None → ((name : List ℕ) → old.open_as name ≡ None) → (name : List ℕ) → new.open_as name ≡ None
+closed_three old new a b c apart at_a at_b at_c free name = decided (same_or_not name a) (same_or_not name b) (same_or_not name c)
+  where
+    decided : (name ≡ a) ⊎ (name ≢ a) → (name ≡ b) ⊎ (name ≢ b) → (name ≡ c) ⊎ (name ≢ c) → new.open_as name ≡ None
+    decided (inl is) second third = subst (λ n. new.open_as n ≡ None) (sym is) at_a
+    decided (inr no_a) (inl is) third = subst (λ n. new.open_as n ≡ None) (sym is) at_b
+    decided (inr no_a) (inr no_b) (inl is) = subst (λ n. new.open_as n ≡ None) (sym is) at_c
+    decided (inr no_a) (inr no_b) (inr no_c) = apart.open_names name (no_a, (no_b, (no_c, tt))) ∙ free name
+
+-- the same where one alone was
+pub closed_one : (old new : RoomView) (a : List ℕ) → SameBut old new (a ∷ []) → new.open_as a ≡ None
+    → ((name : List ℕ) → old.open_as name ≡ None) → (name : List ℕ) → new.open_as name ≡ None
+closed_one old new a apart at_a free name = decided (same_or_not name a)
+  where
+    decided : (name ≡ a) ⊎ (name ≢ a) → new.open_as name ≡ None
+    decided (inl is) = subst (λ n. new.open_as n ≡ None) (sym is) at_a
+    decided (inr other) = apart.open_names name (other, tt) ∙ free name
+
+-- two outputs, one written after the other
+pub first_apart : (old new : RoomView) (out rest : List ℕ) → SameBut old new (out ∷ []) → SameBut old new (out ∷ rest ∷ [])
+first_apart old new out rest first = same_but_first old new out (rest ∷ []) first
+
+pub both_apart : (old mid new : RoomView) (out rest : List ℕ) → SameBut old mid (out ∷ []) → SameBut mid new (rest ∷ []) → SameBut old new (out ∷ rest ∷ [])
+both_apart old mid new out rest first second =
+    let names : List (List ℕ) = out ∷ rest ∷ [] in
+    same_but_then old mid new names (first_apart old mid out rest first) (same_but_more mid new (rest ∷ []) names (λ n other. other.1) second)
+
+-- the second output, where the first was written
+pub second_is_free : (old mid : RoomView) (out rest : List ℕ) → out ≢ rest → SameBut old mid (out ∷ []) → old.open_as rest ≡ None → mid.open_as rest ≡ None
+second_is_free old mid out rest differ first free = first.open_names rest ((λ e. differ (sym e)), tt) ∙ free
+
+-- the journal was opened and closed again, and nothing else changed
+pub opened_alone : (old opened read new : RoomView) (journal : List ℕ) → SameBut old opened (journal ∷ []) → SameBut opened read []
+    → SameBut read new (journal ∷ []) → SameBut old new (journal ∷ [])
+opened_alone old opened read new journal first second third =
+    let names : List (List ℕ) = journal ∷ [] in
+    same_but_then old opened new names first (same_but_then opened read new names (same_but_none opened read names second) third)
+
+-- The journal was opened, the file read, the outputs written, and the journal closed.
+module _ (old opened read written new : RoomView) (journal out rest : List ℕ) (first : SameBut old opened (journal ∷ [])) (second : SameBut opened read [])
+    (third : SameBut read written (out ∷ rest ∷ [])) (fourth : SameBut written new (journal ∷ [])) where
+  pub all_apart : SameBut old new (journal ∷ out ∷ rest ∷ [])
+  all_apart =
+      let names : List (List ℕ) = journal ∷ out ∷ rest ∷ [] in
+      let outs : List (List ℕ) = out ∷ rest ∷ [] in
+      same_but_then old opened new names (same_but_first old opened journal outs first)
+      (same_but_then opened read new names (same_but_none opened read names second)
+      (same_but_then read written new names (same_but_more read written outs names (λ n other. other.1) third)
+      (same_but_first written new journal outs fourth)))
+
+  pub read_tells : old.tells ≡ true → read.tells ≡ true
+  read_tells tells = second.tells ∙ first.tells ∙ tells
+
+  module _ (name : List ℕ) (differ : journal ≢ name) where
+    before : read.file name ≡ old.file name
+    before = second.files name tt ∙ first.files name ((λ e. differ (sym e)), tt)
+
+    behind : new.file name ≡ written.file name
+    behind = fourth.files name ((λ e. differ (sym e)), tt)
+
+    pub closed_behind : written.open_as name ≡ None → new.open_as name ≡ None
+    closed_behind closed = fourth.open_names name ((λ e. differ (sym e)), tt) ∙ closed
+
+    rose : Rose (read.out_faults name) (written.out_faults name) → Rose (old.out_faults name) (new.out_faults name)
+    rose up = omega (arith, first.outs name, second.outs name, fourth.outs name, up)
+
+    part : (due : List ℕ) → IsPartWritten (read.file name) (written.file name) due → IsPartWritten (old.file name) (new.file name) due
+    part due is = subst (λ f. IsPartWritten f (new.file name) due) before (subst (λ f. IsPartWritten (read.file name) f due) (sym behind) is)
+
+    whole : (due : List ℕ) → written.file name ≡ Some due → new.file name ≡ Some due
+    whole due is = behind ∙ is
+
+  -- where the second output wasn't begun
+  without_second : SameBut read written (out ∷ []) → SameBut old new (journal ∷ out ∷ [])
+  without_second alone =
+      let names : List (List ℕ) = journal ∷ out ∷ [] in
+      let outs : List (List ℕ) = out ∷ [] in
+      same_but_then old opened new names (same_but_first old opened journal outs first)
+      (same_but_then opened read new names (same_but_none opened read names second)
+      (same_but_then read written new names (same_but_more read written outs names (λ n other. other.1) alone)
+      (same_but_first written new journal outs fourth)))
+
+  module _ (no_out : journal ≢ out) (no_rest : journal ≢ rest) (due due_rest : List ℕ) where
+    pub all_written : (read.tells ≡ true → AreWritten out rest due due_rest written) → old.tells ≡ true → AreWritten out rest due due_rest new
+    all_written are tells = record {
+      whole = whole out no_out due (are (read_tells tells)).whole;
+      rest_whole = whole rest no_rest due_rest (are (read_tells tells)).rest_whole;
+    }
+
+    pub all_stopped : (which : Unwritten) → AreStopped (out ∷ []) out rest due due_rest read written which
+        → AreStopped (journal ∷ out ∷ []) out rest due due_rest old new which
+    all_stopped which (AtFirst is up first_part alone) =
+        AtFirst is (rose out no_out up) (λ tells. part out no_out due (first_part (read_tells tells))) (without_second alone)
+    all_stopped which (AtSecond is up first_whole second_part) =
+        AtSecond is (rose rest no_rest up) (λ tells. whole out no_out due (first_whole (read_tells tells)))
+        (λ tells. part rest no_rest due_rest (second_part (read_tells tells)))
+
+-- the file is read in the room where the journal was opened
+pub read_there : (P : List ℕ → Type 0) (old opened : RoomView) (journal file : List ℕ) → file ≢ journal → SameBut old opened (journal ∷ [])
+    → (opened.tells ≡ true → IsSomeAnd (opened.file file) P) → old.tells ≡ true → IsSomeAnd (old.file file) P
+read_there P old opened journal file differ apart there tells =
+    subst (λ f. IsSomeAnd f P) (apart.files file (differ, tt)) (there (apart.tells ∙ tells))
+
+-- two outputs, of which the first was written
+module _ (old mid new : RoomView) (out rest : List ℕ) (differ : out ≢ rest) (first : SameBut old mid (out ∷ [])) (second : SameBut mid new (rest ∷ [])) where
+  pub first_stays : new.file out ≡ mid.file out
+  first_stays = second.files out (differ, tt)
+
+  pub first_closed : mid.open_as out ≡ None → new.open_as out ≡ None
+  first_closed closed = second.open_names out (differ, tt) ∙ closed
+
+  second_began : mid.file rest ≡ old.file rest
+  second_began = first.files rest ((λ e. differ (sym e)), tt)
+
+  pub both_written : (due due_rest : List ℕ) → (old.tells ≡ true → mid.file out ≡ Some due) → (mid.tells ≡ true → new.file rest ≡ Some due_rest)
+      → old.tells ≡ true → AreWritten out rest due due_rest new
+  both_written due due_rest whole rest_whole tells = record {
+    whole = first_stays ∙ whole tells;
+    rest_whole = rest_whole (first.tells ∙ tells);
+  }
+
+  pub second_failed : (due due_rest : List ℕ) → (old.tells ≡ true → mid.file out ≡ Some due) → Rose (mid.out_faults rest) (new.out_faults rest)
+      → (mid.tells ≡ true → IsPartWritten (mid.file rest) (new.file rest) due_rest) → AreStopped (out ∷ []) out rest due due_rest old new Report
+  second_failed due due_rest whole up part =
+      AtSecond refl (omega (arith, first.outs rest, up)) (λ tells. first_stays ∙ whole tells)
+      (λ tells. subst (λ f. IsPartWritten f (new.file rest) due_rest) second_began (part (first.tells ∙ tells)))
+
+-- the first could not be written
+pub first_failed : (old new : RoomView) (out rest : List ℕ) (due due_rest : List ℕ) → SameBut old new (out ∷ [])
+    → Rose (old.out_faults out) (new.out_faults out) → (old.tells ≡ true → IsPartWritten (old.file out) (new.file out) due)
+    → AreStopped (out ∷ []) out rest due due_rest old new Out
+first_failed old new out rest due due_rest apart up part = AtFirst refl up part apart

@@ -1,0 +1,5 @@
+pub mod Shelving
+pub mod Lines
+pub mod Ready
+pub mod Outputs
+pub mod Attaching

@@ -1,0 +1,27 @@
+-- What a file's items make of an empty shelf.
+use Rattle.std.specs.Prelude.{◌≡◌, ℕ, List, length}
+use Rattle.marc_stream.specs.Pieces.{Item}
+use Rattle.holdings.specs.declared.holding.Holding.{Holding}
+use Rattle.holdings.specs.Shelves.{shelf_of}
+use Rattle.file_holdings.specs.Files.{AreHoldings}
+use Rattle.console_lines.specs.declared.fault.Fault.{Fault}
+use Rattle.console_lines.specs.declared.fault.Fault.TheVariants.{Usage, Input, Device, NotAJournal, Full, Memory, OldVersion, OtherHistory}
+use Rattle.holdings_command.specs.declared.shelving.Shelved.{Shelved}
+
+-- the items were judged, and the accepted holdings are on the shelf
+pub record IsShelved (library : List ℕ) (items : List Item) (s : Shelved) : Type 0 where
+  pub accepted : List Holding
+  pub judged : AreHoldings library items accepted s.refused.items
+  pub shelf_is : s.shelf ≡ shelf_of accepted
+  pub count_is : s.accepted ≡ length accepted
+
+-- the faults that end the reading of a file
+abbrev pub EndsShelving : Fault → Type 0
+EndsShelving Input = Unit {0}
+EndsShelving Memory = Unit {0}
+EndsShelving Usage = ⊥
+EndsShelving Device = ⊥
+EndsShelving (NotAJournal place) = ⊥
+EndsShelving Full = ⊥
+EndsShelving OldVersion = ⊥
+EndsShelving OtherHistory = ⊥

@@ -1,0 +1,193 @@
+//! The outputs: the records with their holdings, and the holdings that wait.
+ghost use Rattle.std.specs.Prelude.{◌≡◌, ◌≢◌, ◌∷◌, [], true, Some, None, OnOk, IfErr, IsErrOf};
+ghost use Rattle.std.specs.Option.{option_copied};
+ghost use Rattle.outside.specs.Fault.{HasCause, HasWriteCause};
+ghost use Rattle.outside.specs.Room.{SameBut};
+ghost use Rattle.catalogue_rules.specs.Settle.{state_of};
+ghost use Rattle.catalogue_rules.specs.Output.{all_keys};
+ghost use Rattle.selection.specs.Selections.{ForSelected, IsCallable};
+ghost use Rattle.output_files.specs.Outputs.{IsPartWritten};
+ghost use Rattle.console_lines.specs.declared.end.Unwritten.{Unwritten};
+ghost use Rattle.archive_commands.specs.Archives.{kept_keys};
+ghost use Rattle.holdings_export.specs.Output.{holdings_export, holdings_rest};
+ghost use Rattle.holdings_command.specs.Outputs.{AreWritten, AreStopped};
+
+use catalogue_core::Catalogue;
+use console_lines::Unwritten;
+use holdings::HoldingShelf;
+use holdings_export::{Listing, write_holdings, write_rest};
+use marc_types::Key;
+use outside::{Failed, Room, WriteFault};
+use selection::Selection;
+use std::alloc::Global;
+
+/// Writes the selected records of a listing with their holdings into the file of that name.
+fn write_selected<R: Room, F: Fn(&Key) -> bool>(
+    room: &mut R,
+    name: &str,
+    rows: Listing<'_>,
+    shelf: &HoldingShelf,
+    selection: &Selection<F>,
+) -> Result<(), Failed>
+    requires free { (R.seen room.old).open_as name.now ≡ None }
+    requires callable { IsCallable F.Fn selection.now }
+    ensures apart { SameBut (R.seen room.old) (R.seen room.new) (name.now ∷ []) }
+    ensures closed { (R.seen room.new).open_as name.now ≡ None }
+    ensures cause { HasCause ((R.seen room.old).out_faults name.now) ((R.seen room.new).out_faults name.now) result }
+
+    // The file has all that is due, or as much as was written.
+    ensures bytes { ForSelected F.Fn selection.now (λ kept. OnOk result ((R.seen room.old).tells ≡ true →
+        (R.seen room.new).file name.now ≡ Some (holdings_export kept rows.entry shelf.now))) }
+    ensures part { ForSelected F.Fn selection.now (λ kept. (R.seen room.old).tells ≡ true →
+        IsPartWritten ((R.seen room.old).file name.now) ((R.seen room.new).file name.now) (holdings_export kept rows.entry shelf.now)) }
+{
+    let mut out = room.open_out(name)?;
+    let written = write_holdings(rows, shelf, selection, &mut out);
+    let closed = room.close_out(name, out);
+    written?;
+    closed?;
+    Ok(())
+}
+
+/// Writes all records of a listing with their holdings into the file of that name.
+fn write_all<R: Room>(
+    room: &mut R,
+    name: &str,
+    rows: Listing<'_>,
+    shelf: &HoldingShelf,
+) -> Result<(), Failed>
+    requires free { (R.seen room.old).open_as name.now ≡ None }
+    ensures apart { SameBut (R.seen room.old) (R.seen room.new) (name.now ∷ []) }
+    ensures closed { (R.seen room.new).open_as name.now ≡ None }
+    ensures cause { HasCause ((R.seen room.old).out_faults name.now) ((R.seen room.new).out_faults name.now) result }
+    ensures bytes { OnOk result ((R.seen room.old).tells ≡ true →
+        (R.seen room.new).file name.now ≡ Some (holdings_export all_keys rows.entry shelf.now)) }
+    ensures part { (R.seen room.old).tells ≡ true →
+        IsPartWritten ((R.seen room.old).file name.now) ((R.seen room.new).file name.now) (holdings_export all_keys rows.entry shelf.now) }
+{
+    let everything = Selection::new(|_key: &Key| true);
+    write_selected(room, name, rows, shelf, &everything)
+}
+
+/// Writes the records of a listing with their holdings into the file of that name: all, or those under keys with that code.
+fn write_out<R: Room>(
+    room: &mut R,
+    name: &str,
+    rows: Listing<'_>,
+    shelf: &HoldingShelf,
+    code: Option<&str>,
+) -> Result<(), Failed>
+    requires free { (R.seen room.old).open_as name.now ≡ None }
+    ensures apart { SameBut (R.seen room.old) (R.seen room.new) (name.now ∷ []) }
+    ensures closed { (R.seen room.new).open_as name.now ≡ None }
+    ensures cause { HasCause ((R.seen room.old).out_faults name.now) ((R.seen room.new).out_faults name.now) result }
+    ensures bytes { OnOk result ((R.seen room.old).tells ≡ true →
+        (R.seen room.new).file name.now ≡ Some (holdings_export (kept_keys (option_copied code.entry)) rows.entry shelf.now)) }
+    ensures part { (R.seen room.old).tells ≡ true → IsPartWritten ((R.seen room.old).file name.now) ((R.seen room.new).file name.now)
+        (holdings_export (kept_keys (option_copied code.entry)) rows.entry shelf.now) }
+{
+    match code {
+        None => write_all(room, name, rows, shelf),
+        Some(code) => {
+            let coded = Selection::new(|key: &Key| key.code.as_str() == code);
+            write_selected(room, name, rows, shelf, &coded)
+        }
+    }
+}
+
+/// Writes the holdings whose record isn't kept into the file of that name.
+fn write_rest_file<R: Room>(
+    room: &mut R,
+    name: &str,
+    core: &Catalogue,
+    shelf: &HoldingShelf,
+) -> Result<(), Failed>
+    requires free { (R.seen room.old).open_as name.now ≡ None }
+    requires staged { core.now.staged ≡ [] }
+    ensures apart { SameBut (R.seen room.old) (R.seen room.new) (name.now ∷ []) }
+    ensures closed { (R.seen room.new).open_as name.now ≡ None }
+    ensures cause { HasCause ((R.seen room.old).out_faults name.now) ((R.seen room.new).out_faults name.now) result }
+    ensures bytes { OnOk result ((R.seen room.old).tells ≡ true →
+        (R.seen room.new).file name.now ≡ Some (holdings_rest (state_of core.now.history) shelf.now)) }
+    ensures part { (R.seen room.old).tells ≡ true →
+        IsPartWritten ((R.seen room.old).file name.now) ((R.seen room.new).file name.now) (holdings_rest (state_of core.now.history) shelf.now) }
+{
+    let mut out = room.open_out(name)?;
+    let written = write_rest(core, shelf, &mut out);
+    let closed = room.close_out(name, out);
+    written?;
+    closed?;
+    Ok(())
+}
+
+/// Writes the records of a catalogue with their holdings into the file of that name: all, or those under keys with that code. All
+/// memory is taken before the file is begun.
+fn write_records<R: Room>(
+    alloc: Global,
+    room: &mut R,
+    name: &str,
+    core: &Catalogue,
+    shelf: &HoldingShelf,
+    code: Option<&str>,
+) -> Result<(), WriteFault>
+    requires free { (R.seen room.old).open_as name.now ≡ None }
+    requires staged { core.now.staged ≡ [] }
+    ensures apart { SameBut (R.seen room.old) (R.seen room.new) (name.now ∷ []) }
+    ensures closed { (R.seen room.new).open_as name.now ≡ None }
+    ensures cause { HasWriteCause ((R.seen room.old).out_faults name.now) ((R.seen room.new).out_faults name.now) result }
+    ensures unbegun { IsErrOf result WriteFault.NoMemory → SameBut (R.seen room.old) (R.seen room.new) [] }
+    ensures bytes { OnOk result ((R.seen room.old).tells ≡ true → (R.seen room.new).file name.now
+        ≡ Some (holdings_export (kept_keys (option_copied code.entry)) (state_of core.now.history) shelf.now)) }
+    ensures part { (R.seen room.old).tells ≡ true → IsPartWritten ((R.seen room.old).file name.now) ((R.seen room.new).file name.now)
+        (holdings_export (kept_keys (option_copied code.entry)) (state_of core.now.history) shelf.now) }
+{
+    let Ok(rows) = Listing::of(alloc, core) else {
+        return Err(WriteFault::NoMemory);
+    };
+    write_out(room, name, rows, shelf, code)?;
+    Ok(())
+}
+
+/// What kept an output from being written: want of memory before the first was begun, or which one could not be written.
+pub enum Hindrance {
+    NoMemory,
+    Unwritten(Unwritten),
+}
+
+/// Writes the records of a catalogue with their holdings into the file `out`, and then the holdings that wait for a record into the
+/// file `rest`, whichever code is asked for.
+#[tactic(auto, using(crate::proofs::Rooms::both_apart, crate::proofs::Rooms::first_apart))]
+pub fn write_both<R: Room>(
+    alloc: Global,
+    room: &mut R,
+    out: &str,
+    rest: &str,
+    core: &Catalogue,
+    shelf: &HoldingShelf,
+    code: Option<&str>,
+) -> Result<(), Hindrance>
+    requires free { (R.seen room.old).open_as out.now ≡ None }
+    requires rest_free { (R.seen room.old).open_as rest.now ≡ None }
+    requires differ { out.now ≢ rest.now }
+    requires staged { core.now.staged ≡ [] }
+    ensures apart { SameBut (R.seen room.old) (R.seen room.new) (out.now ∷ rest.now ∷ []) }
+    ensures closed { (R.seen room.new).open_as out.now ≡ None }
+    ensures rest_closed { (R.seen room.new).open_as rest.now ≡ None }
+    ensures written { OnOk result ((R.seen room.old).tells ≡ true → AreWritten out.now rest.now
+        (holdings_export (kept_keys (option_copied code.entry)) (state_of core.now.history) shelf.now)
+        (holdings_rest (state_of core.now.history) shelf.now) (R.seen room.new)) }
+    ensures memory { IfErr result (λ why. why ≡ Hindrance.NoMemory → SameBut (R.seen room.old) (R.seen room.new) []) }
+    ensures stopped { IfErr result (λ why. (which : Unwritten) → why ≡ Hindrance.Unwritten which → AreStopped (out.now ∷ []) out.now rest.now
+        (holdings_export (kept_keys (option_copied code.entry)) (state_of core.now.history) shelf.now)
+        (holdings_rest (state_of core.now.history) shelf.now) (R.seen room.old) (R.seen room.new) which) }
+{
+    match write_records(alloc, room, out, core, shelf, code) {
+        Ok(()) => {}
+        Err(WriteFault::OutputFault) => return Err(Hindrance::Unwritten(Unwritten::Out)),
+        Err(WriteFault::NoMemory) => return Err(Hindrance::NoMemory),
+    }
+    match write_rest_file(room, rest, core, shelf) {
+        Ok(()) => Ok(()),
+        Err(_) => Err(Hindrance::Unwritten(Unwritten::Report)),
+    }
+}

@@ -1,0 +1,12 @@
+pub mod Behind
+pub mod Catalogues
+pub mod Changes
+pub mod Commits
+pub mod Counted
+pub mod Drafts
+pub mod Engines
+pub mod KeptRecords
+pub mod Sought
+pub mod Stands
+pub mod Told
+pub mod Views
