@@ -73,6 +73,17 @@ fn lines_that_read_journals(rt: HostRuntime) -> Result<(), Fail> {
                 out: "b",
             },
         ),
+    ];
+    for (line, asked) in table {
+        let words = words_of(rt.alloc(), line)?;
+        assert_eq!(rt; request(&words), Some(asked), "{line}");
+    }
+    Ok(())
+}
+
+#[test]
+fn lines_of_holdings(rt: HostRuntime) -> Result<(), Fail> {
+    let table = [
         (
             "holdings j o r ULIB=h",
             Request::Holdings {
