@@ -35,6 +35,14 @@ pub fn emptied(file: &File) -> Result<(), Failed> {
     Ok(())
 }
 
+/// Has the system keep what a file was given. A file that isn't regular keeps nothing.
+pub fn synced(file: &File) -> Result<(), Failed> {
+    if is_regular(file)? && file.sync_all().is_err() {
+        return Err(Failed);
+    }
+    Ok(())
+}
+
 // No opening cuts a file, since another may hold it, and an input is neither made nor written.
 fn options(sort: OpenedAs) -> OpenOptions
     ensures uncut { asks_truncate result ≡ false }

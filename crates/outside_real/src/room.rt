@@ -188,10 +188,10 @@ impl<R: Files<File = File> + Print + Clone + Drop> Room for FileRoom<R> {
             (count_sum self.old.outs (counted result (⟦<FileSink<Target<R>> as Sink>⟧.faults object))) self.old.logs }
         ensures held { self.new.held ≡ self.old.held }
     {
-        let flushed = object.flush();
+        let finished = object.finish();
         self.outs = added(self.outs, object.faults());
         self.forget(name);
-        flushed
+        finished
     }
 
     fn close_log(&mut self, name: &str, object: FileDisk)

@@ -1,8 +1,9 @@
-ghost use Rattle.std.specs.Prelude.{◌≡◌, ◌≤◌, [], None, is_ok, OnOk};
+ghost use Rattle.std.specs.Prelude.{◌≡◌, ◌≤◌, ◌<◌, [], None, is_ok, IsErr, OnOk};
 ghost use Rattle.std.specs.Io.KnownBytes.{append_known, Appends, Keeps};
 ghost use Rattle.outside.specs.Fault.{HasCause, counted};
 
 use crate::count::raised;
+use crate::target::Target;
 use outside::{Failed, Sink};
 use std::alloc::Global;
 use std::io;
@@ -55,16 +56,21 @@ impl<W: Write + Drop> FileSink<W> {
         self.faults
     }
 
-    /// Writes what was gathered.
+    /// Writes what was gathered. Where a call failed before, some of that may be lost: then this fails too, and writes nothing.
     pub fn flush(&mut self) -> Result<(), Failed>
         // The writer has all that was gathered, and nothing is left to be written.
         ensures written { OnOk result (Appends (W.contents self.old.to) (W.contents self.new.to) self.old.gathered.items) }
         ensures none { self.new.gathered.items ≡ [] }
 
-        // A fault counts once.
+        // A fault counts once, and behind one all calls fail.
         ensures counts { self.new.faults ≡ counted result self.old.faults }
         ensures cause { HasCause (⟦<FileSink<W> as Sink>⟧.faults self.old) (⟦<FileSink<W> as Sink>⟧.faults self.new) result }
+        ensures behind { 0 < self.old.faults → IsErr result }
     {
+        if self.faults > 0 {
+            self.gathered.clear();
+            return self.counted(false);
+        }
         let written = pass_on(&mut self.to, self.gathered.as_slice());
         self.gathered.clear();
         self.counted(written.is_ok())
@@ -85,6 +91,20 @@ impl<W: Write + Drop> FileSink<W> {
     }
 }
 
+impl<R: Print + Drop> FileSink<Target<R>> {
+    /// Writes what was gathered, and has the system keep what a file was given.
+    pub fn finish(&mut self) -> Result<(), Failed>
+        // A fault counts once, and behind one this fails.
+        ensures counts { self.new.faults ≡ counted result self.old.faults }
+        ensures cause { HasCause (⟦<FileSink<Target<R>> as Sink>⟧.faults self.old) (⟦<FileSink<Target<R>> as Sink>⟧.faults self.new) result }
+        ensures behind { 0 < self.old.faults → IsErr result }
+    {
+        self.flush()?;
+        let kept = self.to.keep();
+        self.counted(kept.is_ok())
+    }
+}
+
 /// Writes the bytes, and lets the writer write what it gathered itself.
 fn pass_on<W: Write>(to: &mut W, bytes: &[u8]) -> io::Result<()>
     ensures { OnOk result (Appends (W.contents to.old) (W.contents to.new) bytes.now) }
@@ -101,12 +121,18 @@ impl<W: Write + Drop> Sink for FileSink<W> {
     ghost faults = { λ s. s.faults };
 
     fn write_all(&mut self, piece: &[u8]) -> Result<(), Failed>
-        // The writer has, or will have at the next flush, what it had and then the piece. A fault counts once.
+        // The writer has, or will have at the next flush, what it had and then the piece. A fault counts once, and behind one all
+        // calls fail.
         ensures bytes { OnOk result (Appends (append_known (W.contents self.old.to) self.old.gathered.items)
             (append_known (W.contents self.new.to) self.new.gathered.items) piece.now) }
         ensures counts { self.new.faults ≡ counted result self.old.faults }
         ensures cause { HasCause self.old.faults self.new.faults result }
+        ensures behind { 0 < self.old.faults → IsErr result }
     {
+        // What was gathered may be lost, so nothing may come behind it.
+        if self.faults != 0 {
+            return self.counted(false);
+        }
         if piece.len() > self.gathered.capacity() - self.gathered.len() {
             self.flush()?;
         }

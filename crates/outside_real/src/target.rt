@@ -1,5 +1,7 @@
 ghost use Rattle.std.specs.Prelude.{◌≤◌, length, IfOk};
 
+use crate::opening::synced;
+use outside::Failed;
 use std::fs::File;
 use std::io;
 use std::io::Write;
@@ -9,6 +11,16 @@ use std::io::Write;
 pub enum Target<R> {
     File(File),
     Console(R),
+}
+
+impl<R> Target<R> {
+    /// Has the system keep what a file was given. Some systems tell only then that they couldn't.
+    pub fn keep(&self) -> Result<(), Failed> {
+        match self {
+            Target::File(file) => synced(file),
+            Target::Console(_) => Ok(()),
+        }
+    }
 }
 
 impl<R: Print> Write for Target<R> {

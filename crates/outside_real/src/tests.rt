@@ -60,6 +60,7 @@ fn a_sink_fails_where_the_device_is_full(rt: HostRuntime) -> Result<(), Fail> {
     assert_eq!(rt; sink.write_all(b"gathered"), Ok(()));
     assert_eq!(rt; sink.flush(), Err(Failed));
     assert_eq!(rt; sink.faults(), 1);
+    assert_eq!(rt; sink.write_all(b"more"), Err(Failed));
     Ok(())
 }
 

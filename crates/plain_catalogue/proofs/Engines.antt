@@ -26,7 +26,7 @@ use Rattle.catalogue_rules.specs.Receipt.{Standing, count_standing, kept_under, 
 use Rattle.catalogue_rules.specs.Valid.{IsAscending, IsValid}
 use Rattle.catalogue_rules.proofs.Elements.{Each}
 use Rattle.catalogue_rules.proofs.States.{fit_entry, new_ready, every_state_valid}
-use Rattle.plain_catalogue.specs.Commits.{placed_in, placed, linkable_behind, ended_by, record_behind, row_behind, rows_behind, state_behind}
+use Rattle.linking_laws.specs.Behind.{placed_in, placed, linkable_behind, ended_by, record_behind, row_behind, rows_behind, state_behind}
 use Rattle.plain_catalogue.specs.KeptRecords.{CanStand, HasSize}
 use Rattle.plain_catalogue.specs.Behind.{authority_row, linkable_rows, standings_rows, incoming, authorities_in, authorities_behind, count_incoming, StandsIn, CanFollow, IsStateAfter, is_other_changed}
 use Rattle.plain_catalogue.specs.Engines.{IsEngine, AreNumbersOf}
@@ -35,7 +35,8 @@ use Rattle.plain_catalogue.specs.declared.engine.Changes.{Changes}
 use Rattle.plain_catalogue.specs.declared.standing.Standing as here
 use Rattle.record_store.specs.Store.{stored}
 use Rattle.plain_catalogue.proofs.Building.{order_over}
-use Rattle.plain_catalogue.proofs.Commits.{valid_ready, step_valid, step_linkables, step_behind, fit_rows, placed_fit, done_in, done_fits}
+use Rattle.linking_laws.proofs.Commits.{valid_ready, step_valid, step_linkables, step_behind, placed_fit}
+use Rattle.plain_catalogue.proofs.Commits.{fit_rows, done_in, done_fits}
 use Rattle.plain_catalogue.proofs.Placed.{fresh_record, placed_rows, authorities_placed, linkable_is, step_stays, size_of_fitting, sizes_of, new_stands}
 use Rattle.plain_catalogue.proofs.Receipts.{changed_behind, found_committed}
 

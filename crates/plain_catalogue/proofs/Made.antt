@@ -8,7 +8,7 @@ use Rattle.entry_record.specs.Authority.{Linkable}
 use Rattle.catalogue_rules.specs.State.{Row, State}
 use Rattle.catalogue_rules.specs.Settle.{Arrival, place}
 use Rattle.plain_catalogue.specs.Stands.{standings_of}
-use Rattle.plain_catalogue.specs.Commits.{placed_in, ended_by, rows_behind, state_behind}
+use Rattle.linking_laws.specs.Behind.{placed_in, ended_by, rows_behind, state_behind}
 use Rattle.plain_catalogue.specs.Behind.{standings_rows, committed, incoming, AreCounts, IsRowsAfter, IsStateAfter}
 use Rattle.plain_catalogue.specs.declared.counts.Counts.{Counts}
 use Rattle.plain_catalogue.specs.declared.standing.Standing.{Standing}

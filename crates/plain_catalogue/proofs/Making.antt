@@ -24,7 +24,8 @@ use Rattle.plain_catalogue.specs.declared.settling.FieldAfter.{FieldAfter}
 use Rattle.plain_catalogue.specs.Drafts.{IsDraft, IsBegun, IsDraftOf, IsBegunAt, GoesOn, IsAdded}
 use Rattle.plain_catalogue.specs.declared.records.Draft.{Draft}
 use Rattle.plain_catalogue.specs.declared.settling.Held.{Held}
-use Rattle.plain_catalogue.proofs.Sames.{changed, unchanged, kept_Decides}
+use Rattle.linking_laws.proofs.Sames.{kept_Decides}
+use Rattle.plain_catalogue.proofs.Sames.{changed, unchanged}
 use Rattle.plain_catalogue.proofs.Ties.{take_one, tied_new}
 
 map_one : (f : KeptField → KeptField) (hs : List KeptField) (h : KeptField) → map f (hs ++ h ∷ []) ≡ map f hs ++ f h ∷ []

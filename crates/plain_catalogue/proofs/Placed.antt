@@ -36,11 +36,12 @@ use Rattle.catalogue_rules.proofs.States.{IsReadyRow, IsReady, IsFitArrival, IsL
 use Rattle.catalogue_rules.proofs.Steady.{IsSteady, linkable_stays}
 use Rattle.entry_record.proofs.Written.{fitting_length}
 use Rattle.plain_catalogue.specs.Stands.{standings_of}
-use Rattle.plain_catalogue.specs.Commits.{placed_in, placed, ended_in, loosened_by, record_behind, rows_behind}
+use Rattle.linking_laws.specs.Behind.{placed_in, placed, ended_in, loosened_by, record_behind, rows_behind}
 use Rattle.plain_catalogue.specs.KeptRecords.{CanStand, new_record_after}
 use Rattle.plain_catalogue.specs.Behind.{ended_if, authority_row, linkable_rows, standings_rows, committed, incoming, authorities_in, authorities_behind, HasSizeBehind}
 use Rattle.plain_catalogue.proofs.Building.{over, insert_over, remove_over}
-use Rattle.plain_catalogue.proofs.Commits.{placed_loose, put_is, valid_ready, Fits}
+use Rattle.linking_laws.proofs.Commits.{placed_loose, put_is, valid_ready}
+use Rattle.plain_catalogue.proofs.Commits.{Fits}
 
 -- ---- the committed record
 

@@ -20,7 +20,7 @@ use Rattle.catalogue_rules.specs.Settle.{Arrival, place}
 use Rattle.catalogue_rules.specs.Receipt.{same_class, is_committed, differs, is_changed_row}
 use Rattle.catalogue_rules.specs.Valid.{IsAscending}
 use Rattle.catalogue_rules.proofs.Elements.{Each, each_weaker}
-use Rattle.plain_catalogue.specs.Commits.{placed_in, record_behind, row_behind, rows_behind}
+use Rattle.linking_laws.specs.Behind.{placed_in, record_behind, row_behind, rows_behind}
 use Rattle.plain_catalogue.specs.Behind.{committed, is_other_changed}
 use Rattle.plain_catalogue.proofs.Placed.{place_is}
 

@@ -17,7 +17,7 @@ use Rattle.catalogue_rules.specs.Settle.{Arrival}
 use Rattle.catalogue_rules.specs.Receipt as definition
 use Rattle.catalogue_rules.specs.Receipt.{is_linked, is_ambiguous, is_unlinked, count_standing, differs, is_committed}
 use Rattle.plain_catalogue.specs.Stands.{standings_of}
-use Rattle.plain_catalogue.specs.Commits.{placed, ended_by, record_behind, rows_behind, state_behind}
+use Rattle.linking_laws.specs.Behind.{placed, ended_by, record_behind, rows_behind, state_behind}
 use Rattle.plain_catalogue.specs.KeptRecords.{kept_record, new_record_after, CanStand, HasSize}
 use Rattle.plain_catalogue.specs.declared.standing.Standing.{Standing}
 use Rattle.plain_catalogue.specs.declared.settling.Loosening.{Loosening}

@@ -1,7 +1,6 @@
 pub mod Behind
 pub mod Catalogues
 pub mod Changes
-pub mod Commits
 pub mod Counted
 pub mod Drafts
 pub mod Engines

@@ -10,7 +10,7 @@ ghost use Rattle.catalogue_rules.specs.Receipt.{is_committed};
 ghost use Rattle.plain_catalogue.specs.Views.{linkables};
 ghost use Rattle.plain_catalogue.specs.KeptRecords.{kept_record, record_after, CanStand, HasSize};
 ghost use Rattle.plain_catalogue.specs.Behind.{ended_if, ended, linkable_rows, committed, incoming, authorities_behind, CanFollow, HasSizeBehind, AreCounts, IsRowAfter, IsRowsAfter, IsStateAfter};
-ghost use Rattle.plain_catalogue.specs.Commits.{ended_by};
+ghost use Rattle.linking_laws.specs.Behind.{ended_by};
 ghost use Rattle.plain_catalogue.specs.Counted.{IsCountOf};
 ghost use Rattle.plain_catalogue.specs.Stands.{standings_of};
 ghost use Rattle.record_store.specs.Store.{kept_rows};

@@ -5,7 +5,7 @@ use Rattle.marc_types.specs.declared.key.Key.{Key}
 use Rattle.marc_types.specs.declared.entry.Entry.{Entry}
 use Rattle.catalogue_rules.specs.Settle.{arrival_of}
 use Rattle.plain_catalogue.specs.Views.{linkables}
-use Rattle.plain_catalogue.specs.Commits.{ended_by}
+use Rattle.linking_laws.specs.Behind.{ended_by}
 use Rattle.plain_catalogue.specs.Behind.{ended, HasSizeBehind}
 use Rattle.plain_catalogue.proofs.Made.{rows_as, made_authority, made_bibliographic}
 use Rattle.plain_catalogue.proofs.behind.state_over.Goals as goal
