@@ -131,5 +131,7 @@ pub fn numbers(alloc: Global, rec: &Record) -> Result<Numbers, NoMemory>
     for field in rec.fields.as_slice() {
         add_lccns(alloc, field, &mut found)?;
     }
+    // a table keeps them long, so no spare room stays
+    found.shrink_to_fit();
     Ok(Numbers::from_vec(found))
 }
