@@ -3,17 +3,17 @@ use catalogue_lock::Object;
 use durable_catalogue::{Durable, Seen};
 use marc_types::{Class, Key, Limits, Place, Text};
 use outside_mem::MemDisk;
+use std::alloc::Global;
+use std::process::Abort;
 use std::test::Fail;
 
 /// The entries stand in the order of the turns: a book, the authority, the other book, the deletion.
 const LOG: &[u8] =
     b"UNIONCAT JNL 02\nO\0\0\0\xa4\0\0\0\0\0\0\0\x01\0\0\0\0\x04ULIB\x01\0\0\0\0\0\0\0\x01\0\0\0\x8600134nam a2200061 a 4500001000300000100005200003245001700055\x1eb1\x1e1 \x1faClemens, Samuel Langhorne,\x1fd1835-1910,\x1feauthor.\x1e10\x1faRoughing it.\x1e\x1dO\0\0\0\xbc\0\0\0\0\0\0\0\x01\0\0\0\x01\x04ULIB\x01\0\0\0\0\0\0\0\x01\0\0\0\x9e00158nz  a2200073n  4500001001000000003000400010100002800014400004200042\x1en79021164\x1eDLC\x1e1 \x1faTwain, Mark,\x1fd1835-1910\x1e1 \x1faClemens, Samuel Langhorne,\x1fd1835-1910\x1e\x1dO\0\0\0o\0\0\0\0\0\0\0\x01\0\0\0\0\x04ULIB\x01\0\0\0\0\0\0\0\x02\0\0\0Q00081nam a2200049 a 4500001000300000100002800003\x1eb2\x1e1 \x1faTwain, Mark,\x1fd1835-1910\x1e\x1dO\0\0\0^\0\0\0\0\0\0\0\x01\0\0\0\x01\x04ULIB\x01\0\0\0\0\0\0\0\x02\0\0\0@00064dz  a2200049n  4500001001000000003000400010\x1en79021164\x1eDLC\x1e\x1dC";
 
-/// How a heading field of the first book stands after the turns.
-#[test]
-fn a_field_is_unlinked_in_the_end(rt: HostRuntime) -> Result<(), Fail> {
-    let alloc = rt.alloc();
-    let log = Vec::from_slice(alloc, &LOG[..LOG.len().min(4096)])?;
+/// A catalogue over a log with these bytes.
+fn opened(rt: &impl Abort, alloc: Global, bytes: &[u8]) -> Result<Durable<MemDisk>, Fail> {
+    let log = Vec::from_slice(alloc, &bytes[..bytes.len().min(4096)])?;
     let limits = Limits {
         entries: 4,
         bytes: 4096,
@@ -21,6 +21,17 @@ fn a_field_is_unlinked_in_the_end(rt: HostRuntime) -> Result<(), Fail> {
     let Ok(durable) = Durable::open(alloc, MemDisk::new(alloc, log, Vec::new(alloc)), limits) else {
         panic!(rt; "no journal")
     };
+    Ok(durable)
+}
+
+fn is_unlinked(durable: &Durable<MemDisk>, place: &Place) -> bool {
+    matches!(durable.look(place), Ok(Seen::Unlinked))
+}
+
+/// How a heading field of the first book stands after the turns.
+#[test]
+fn a_field_is_unlinked_in_the_end(rt: HostRuntime) -> Result<(), Fail> {
+    let alloc = rt.alloc();
     let place = Place {
         class: Class::Bibliographic,
         key: Key {
@@ -29,6 +40,8 @@ fn a_field_is_unlinked_in_the_end(rt: HostRuntime) -> Result<(), Fail> {
         },
         field: 1,
     };
-    assert!(rt; matches!(durable.look(&place), Ok(Seen::Unlinked)));
+    let durable = opened(&rt, alloc, LOG)?;
+    assert!(rt; is_unlinked(&durable, &place));
+    durable.close();
     Ok(())
 }

@@ -55,6 +55,41 @@ fn commit_each(
     Ok(())
 }
 
+/// A catalogue over a disk, which is closed and not dropped: what drops it would take long to prove.
+fn opened(rt: &impl Abort, alloc: Global, disk: MemDisk) -> Durable<MemDisk> {
+    match Durable::open(alloc, disk, LIMITS) {
+        Ok(durable) => durable,
+        Err(_) => panic!(rt; "no journal"),
+    }
+}
+
+/// The disk whose log doesn't open within some limits, and why.
+fn refused(rt: &impl Abort, alloc: Global, disk: MemDisk, limits: Limits) -> (MemDisk, OpenFault) {
+    match Durable::open(alloc, disk, limits) {
+        Ok(durable) => {
+            durable.close();
+            panic!(rt; "opened")
+        }
+        Err(refused) => refused,
+    }
+}
+
+/// A disk after some commits, behind which there are so many entries.
+fn committed(
+    rt: &impl Abort,
+    alloc: Global,
+    disk: MemDisk,
+    commits: &[Commit],
+    entries: u64,
+) -> Result<MemDisk, RecordFault> {
+    let mut durable = opened(rt, alloc, disk);
+    let done = commit_each(rt, alloc, &mut durable, commits);
+    assert_eq!(rt; durable.core().history_len(), entries);
+    let disk = durable.close();
+    done?;
+    Ok(disk)
+}
+
 /// Three entries are within the limits, one by one and as the front of a batch; a log of them opens within these limits alone.
 #[test]
 fn a_full_catalogue(rt: HostRuntime) -> Result<(), Fail> {
@@ -70,19 +105,10 @@ fn a_full_catalogue(rt: HostRuntime) -> Result<(), Fail> {
     };
     for commits in table {
         let disk = MemDisk::new(alloc, Vec::new(alloc), Vec::new(alloc));
-        let Ok(mut durable) = Durable::open(alloc, disk, LIMITS) else {
-            panic!(rt; "no journal")
-        };
-        commit_each(&rt, alloc, &mut durable, commits)?;
-        assert_eq!(rt; durable.core().history_len(), 3);
-        let Err((disk, fault)) = Durable::open(alloc, durable.close(), two) else {
-            panic!(rt; "within two")
-        };
+        let disk = committed(&rt, alloc, disk, commits, 3)?;
+        let (disk, fault) = refused(&rt, alloc, disk, two);
         assert_eq!(rt; fault, OpenFault::Full);
-        let Ok(durable) = Durable::open(alloc, disk, LIMITS) else {
-            panic!(rt; "not opened again")
-        };
-        assert_eq!(rt; durable.core().history_len(), 3);
+        committed(&rt, alloc, disk, &[], 3)?;
     }
     Ok(())
 }
@@ -98,22 +124,14 @@ fn a_broken_catalogue(rt: HostRuntime) -> Result<(), Fail> {
     for call in 4..8 {
         let fails = Vec::from_slice(alloc, &[call, call + 1])?;
         let disk = MemDisk::new(alloc, Vec::new(alloc), fails);
-        let Ok(mut durable) = Durable::open(alloc, disk, LIMITS) else {
-            panic!(rt; "no journal")
-        };
-        commit_each(&rt, alloc, &mut durable, &commits)?;
-        assert_eq!(rt; durable.core().history_len(), 0);
-        let disk = durable.close();
+        let disk = committed(&rt, alloc, disk, &commits, 0)?;
         assert_eq!(rt; disk.faults(), 1);
 
         // The entry is read again where its gate was written: then only the sync behind it failed.
         let bytes = disk.bytes();
         let bytes = Vec::from_slice(alloc, &bytes[..bytes.len().min(4096)])?;
         let disk = MemDisk::new(alloc, bytes, Vec::new(alloc));
-        let Ok(durable) = Durable::open(alloc, disk, LIMITS) else {
-            panic!(rt; "not opened again")
-        };
-        assert_eq!(rt; durable.core().history_len(), if call == 7 { 1 } else { 0 });
+        committed(&rt, alloc, disk, &[], if call == 7 { 1 } else { 0 })?;
     }
     Ok(())
 }
