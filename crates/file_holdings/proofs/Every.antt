@@ -21,20 +21,33 @@ use Rattle.file_holdings.specs.Making.{MakesHolding, IsNoHolding, Unread, NotTak
 use Rattle.file_holdings.specs.Files.{NoPiece, NoHolding, AreHoldings, NoItem, Accepts, Refuses, listed}
 use Rattle.file_holdings.specs.Judgement.{HaveHoldings}
 
--- a record that is taken fits its written form
-taken_fits : (library : List ℕ) (l : Leader) (fields : List Field) → holding_refusal library l fields ≡ None → fits fields ≡ true
+-- a record that is taken has a proper code and a proper target, and fits its written form
+taken_parts : (library : List ℕ) (l : Leader) (fields : List Field) → holding_refusal library l fields ≡ None
+    → (is_code (code_of library fields) ≡ true) × ((is_number (target_number_of fields) ≡ true) × (fits fields ≡ true))
 unfolding holding_refusal
-taken_fits library l fields taken =
+taken_parts library l fields taken =
     at (is_holdings_type l.rtype) (is_number (control_number_of fields)) (is_code (code_of library fields)) (is_number (target_number_of fields)) (fits fields) taken
   where
     at : (a b c d e : Bool) → (if not a then Some (OfRecord OtherType) else if not b then Some (OfRecord NoNumber) else if not c then Some (OfRecord BadCode)
-        else if not d then Some NoTarget else if not e then Some (OfRecord NoRoom) else None) ≡ None → e ≡ true
+        else if not d then Some NoTarget else if not e then Some (OfRecord NoRoom) else None) ≡ None → (c ≡ true) × ((d ≡ true) × (e ≡ true))
     at false b c d e is = cc
     at true false c d e is = cc
     at true true false d e is = cc
     at true true true false e is = cc
     at true true true true false is = cc
-    at true true true true true is = refl
+    at true true true true true is = (refl, (refl, refl))
+
+-- the holding of a record that is taken
+holding_of : (library : List ℕ) (rec : Record) → holding_refusal library rec.leader rec.fields ≡ None → Holding
+unfolding key_of target_of
+holding_of library rec taken =
+    let parts = taken_parts library rec.leader rec.fields taken in
+    record {
+      key = key_of library rec.fields;
+      content = record { target = target_of library rec.fields; rec = rec; fits = parts.1.1; named = parts.1.0 };
+      coded = parts.0;
+      own_code = refl;
+    }
 
 -- the holding that a piece makes, or its refusal
 data HoldingOr (library bytes : List ℕ) : Type 0 where
@@ -43,12 +56,9 @@ data HoldingOr (library bytes : List ℕ) : Type 0 where
 
 admitted_or : (library bytes : List ℕ) (rec : Record) (why : Option HoldingRefusal) → IsReadAs bytes rec.leader rec.fields
     → holding_refusal library rec.leader rec.fields ≡ why → HoldingOr library bytes
+unfolding holding_of
 admitted_or library bytes rec None read is =
-    let h : Holding = record {
-      key = key_of library rec.fields;
-      content = record { target = target_of library rec.fields; rec = rec; fits = taken_fits library rec.leader rec.fields is };
-    } in
-    AHolding h (record { read = read; taken = is; held = record { key_is = refl; target_is = refl; record_is = refl } })
+    AHolding (holding_of library rec is) (record { read = read; taken = is; held = record { key_is = refl; target_is = refl; record_is = refl } })
 admitted_or library bytes rec (Some refusal) read is = NoneMade refusal (NotTaken rec read is)
 
 -- a piece that makes an entry or not is a record or none

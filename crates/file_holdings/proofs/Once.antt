@@ -1,7 +1,7 @@
 -- The items of a file are judged in one way.
 use Rattle.std.proofs.Common.{◌≡◌, ◌∙◌, ℕ, List, [], ◌∷◌, ◌++◌, Some, None, refl, sym, ap, subst}
 use Rattle.std.specs.Prelude.{IsTrue}
-use Rattle.marc_types.specs.Valid.{is_record}
+use Rattle.marc_types.specs.Valid.{is_code, is_number, is_record}
 use Rattle.marc_types.specs.declared.record.Record.{Record}
 use Rattle.marc_types.specs.declared.refusal.Refusal.{Refusal as RecordRefusal}
 use Rattle.iso2709_record.specs.Written.{fits}
@@ -38,10 +38,16 @@ same_content one other t r = λ i. record {
   target = t i;
   rec = r i;
   fits = is_prop→PathP (λ j. IsTrue (fits (r j).fields)) (λ j. hlevel props) one.fits other.fits i;
+  named = is_prop→PathP (λ j. IsTrue (is_number (t j).number)) (λ j. hlevel props) one.named other.named i;
 }
 
 same_holding : (one other : Holding) → one.key ≡ other.key → one.content ≡ other.content → one ≡ other
-same_holding one other k c = λ i. record { key = k i; content = c i }
+same_holding one other k c = λ i. record {
+  key = k i;
+  content = c i;
+  coded = is_prop→PathP (λ j. IsTrue (is_code (k j).code)) (λ j. hlevel props) one.coded other.coded i;
+  own_code = is_prop→PathP (λ j. (c j).target.code ≡ (k j).code) (λ j. hlevel props) one.own_code other.own_code i;
+}
 
 one_holding : (library bytes : List ℕ) (one other : Holding) → MakesHolding library bytes one → MakesHolding library bytes other → one ≡ other
 one_holding library bytes one other p q =

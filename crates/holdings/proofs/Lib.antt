@@ -1,5 +1,1 @@
-pub mod Ascending
-pub mod Found
-pub mod Groups
-pub mod Keys
-pub mod Regrouped
+pub mod ByTarget

@@ -1,4 +1,4 @@
 pub mod Admission
+pub mod ByTarget
 pub mod Refusals
 pub mod Shelves
-pub mod Targets

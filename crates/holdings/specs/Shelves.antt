@@ -10,9 +10,17 @@ use Rattle.iso2709_record.specs.Written.{record_bytes}
 use Rattle.holdings.specs.declared.holding.HoldingContent.{HoldingContent}
 use Rattle.holdings.specs.declared.holding.Holding.{Holding}
 
--- the key of a holding, its target and its record
+-- what is kept of a holding beside its key: the number in its target, and its record's written form
+pub record ShelvedHolding : Type 0 where
+  pub target_number : List ℕ
+  pub written : List ℕ
+
+-- the key of a holding, and what is kept of it
 abbrev pub ShelfRow : Type 0
-ShelfRow = Key × HoldingContent
+ShelfRow = Key × ShelvedHolding
+
+abbrev pub shelved : HoldingContent → ShelvedHolding
+shelved content = record { target_number = content.target.number; written = record_bytes content.rec.leader content.rec.fields }
 
 -- leader 05 `d`
 abbrev pub is_withdrawn : Leader → Bool
@@ -22,17 +30,21 @@ is_withdrawn l = l.status == 100
 abbrev pub take_holding : List ShelfRow → Holding → List ShelfRow
 take_holding shelf h =
     if is_withdrawn h.content.rec.leader then remove_entry (same_key h.key) shelf
-    else insert_entry key_cmp shelf h.key h.content
+    else insert_entry key_cmp shelf h.key (shelved h.content)
 
 -- the shelf of a list of holdings, in key order
 unfoldable pub shelf_of : List Holding → List ShelfRow
 shelf_of holdings = fold take_holding [] holdings
 
 abbrev pub written_holding : ShelfRow → List ℕ
-written_holding row = record_bytes row.1.rec.leader row.1.rec.fields
+written_holding row = row.1.written
+
+-- the target of a holding on a shelf: a target has the holding's own code
+abbrev pub target_of_row : ShelfRow → Key
+target_of_row row = record { code = row.0.code; number = row.1.target_number }
 
 abbrev pub belongs_to : Key → ShelfRow → Bool
-belongs_to key row = same_key row.1.target key
+belongs_to key row = same_key (target_of_row row) key
 
 -- the holdings of the record under a key, in the order of their own keys
 abbrev pub holdings_of : Key → List ShelfRow → List ShelfRow

@@ -1,7 +1,6 @@
 //! Which records are holdings.
 ghost use Rattle.std.specs.Prelude.{◌≡◌, None, IfOk, OnOk, IfErr, IsTrue};
 ghost use Rattle.std.specs.Option.{option_copied};
-ghost use Rattle.marc_types.specs.Valid.{is_number};
 ghost use Rattle.heading_fields.specs.Numbers.{without_blanks};
 ghost use Rattle.entry_record.specs.Identity.{first_control, has_tag};
 ghost use Rattle.holdings.specs.Admission.{is_holdings_type, target_number_of, holding_refusal, IsHoldingOf};
@@ -9,6 +8,7 @@ ghost use Rattle.holdings.specs.Refusals.{IsRefusalOf};
 
 use crate::holding::{Holding, HoldingContent};
 use crate::refusal::{HoldingFault, HoldingRefusal};
+use crate::texts::number_text;
 use entry_record::key_of;
 use iso2709_record::fits;
 use marc_types::{Field, Key, NoMemory, Record, Refusal, Tag, Text, TryCopy, can_be_number};
@@ -63,18 +63,6 @@ fn target_number(alloc: Global, fields: &[Field]) -> Result<Vec<u8>, NoMemory>
     match first_target(fields) {
         Some(text) => filled_bytes(alloc, text.as_bytes()),
         None => Ok(Vec::new(alloc)),
-    }
-}
-
-/// A number of graphic characters as a text.
-#[tactic(auto, unfolding(marc_types::specs::Valid::is_number), using(entry_record::proofs::Graphic::text_of_graphic))]
-fn number_text(number: Vec<u8>) -> Text
-    requires { IsTrue (is_number number.items) }
-    ensures { result ≡ number.items }
-{
-    match String::from_utf8(number) {
-        Ok(text) => Text::from_string(text),
-        Err(_) => unreachable!(),
     }
 }
 

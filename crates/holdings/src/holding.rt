@@ -1,4 +1,5 @@
 ghost use Rattle.std.specs.Prelude.{◌≡◌, IsTrue};
+ghost use Rattle.marc_types.specs.Valid.{is_code, is_number};
 ghost use Rattle.iso2709_record.specs.Written.{fits};
 
 use marc_types::{Key, Record};
@@ -9,6 +10,7 @@ pub struct HoldingContent {
     pub target: Key,
     pub rec: Record,
     ghost fits: { IsTrue (fits rec.fields) },
+    ghost named: { IsTrue (is_number target.number) },
 }
 
 /// What a library holds of a bibliographic record: a holdings record, its own key, and the key of the record that it belongs
@@ -17,6 +19,8 @@ pub struct HoldingContent {
 pub struct Holding {
     pub(crate) key: Key,
     pub(crate) content: HoldingContent,
+    ghost coded: { IsTrue (is_code key.code) },
+    ghost own_code: { content.target.code ≡ key.code },
 }
 
 impl Holding {
@@ -27,7 +31,8 @@ impl Holding {
     }
 
     pub fn target(&self) -> &Key
-        ensures { result.now ≡ self.now.content.target }
+        ensures value { result.now ≡ self.now.content.target }
+        ensures own_code { result.now.code ≡ self.now.key.code }
     {
         &self.content.target
     }

@@ -2,14 +2,20 @@
 #![tactic(auto)]
 
 pub use admission::admit_holding;
+pub use groups::HoldingGroups;
 pub use holding::{Holding, HoldingContent};
+pub use packed::PackedHolding;
+pub use packed_key::PackedKey;
 pub use refusal::{HoldingFault, HoldingRefusal};
 pub use shelf::HoldingShelf;
 
 mod admission;
+mod groups;
 mod holding;
+mod packed;
+mod packed_key;
 mod refusal;
 mod shelf;
-mod targets;
 #[cfg(test)]
 mod tests;
+mod texts;

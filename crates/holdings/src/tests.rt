@@ -102,6 +102,9 @@ const SHELVED: [Row; 5] = [
     (b'd', b'x', "h1", &["b1"]),
 ];
 
+/// Of 56 bytes, with leader 05 `c` and 06 `v`.
+const CHANGED_LEADER: &[u8] = b"00056cv  a22000491n 4500";
+
 #[test]
 fn a_replaced_and_a_deleted_holding(rt: HostRuntime) -> Result<(), Fail> {
     let alloc = rt.alloc();
@@ -118,11 +121,11 @@ fn a_replaced_and_a_deleted_holding(rt: HostRuntime) -> Result<(), Fail> {
     let mut rows = shelf.rows();
     match (rows.next(), rows.next()) {
         (Some((first, replaced)), Some((second, other))) => {
-            assert_eq!(rt; first.number.as_str(), "h2");
-            assert_eq!(rt; replaced.target.number.as_str(), "b2");
-            assert_eq!(rt; replaced.rec.leader.rtype, b'v');
-            assert_eq!(rt; second.number.as_str(), "h3");
-            assert_eq!(rt; other.target.number.as_str(), "b1");
+            assert!(rt; first.number() == b"h2".as_slice());
+            assert!(rt; replaced.target_number() == b"b2".as_slice());
+            assert!(rt; replaced.written().starts_with(CHANGED_LEADER));
+            assert!(rt; second.number() == b"h3".as_slice());
+            assert!(rt; other.target_number() == b"b1".as_slice());
         }
         _ => assert!(rt; false),
     }

@@ -42,7 +42,7 @@ fn ready_of(
         accepted,
         refused,
     } = shelved;
-    let counts = count(core, &shelf);
+    let counts = count(alloc, core, &shelf)?;
     let file = library.file.as_str();
     let text = holdings_text(alloc, file, accepted, refused.as_slice(), counts)?;
     let refused = !refused.is_empty();

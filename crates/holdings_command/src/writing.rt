@@ -14,8 +14,8 @@ ghost use Rattle.holdings_command.specs.Outputs.{AreWritten, AreStopped};
 
 use catalogue_core::Catalogue;
 use console_lines::Unwritten;
-use holdings::HoldingShelf;
-use holdings_export::{Listing, write_holdings, write_rest};
+use holdings::{HoldingGroups, HoldingShelf};
+use holdings_export::{Listing, WaitingHoldings, write_holdings};
 use marc_types::Key;
 use outside::{Failed, Room, WriteFault};
 use selection::Selection;
@@ -26,7 +26,7 @@ fn write_selected<R: Room, F: Fn(&Key) -> bool>(
     room: &mut R,
     name: &str,
     rows: Listing<'_>,
-    shelf: &HoldingShelf,
+    groups: &HoldingGroups<'_>,
     selection: &Selection<F>,
 ) -> Result<(), Failed>
     requires free { (R.seen room.old).open_as name.now ≡ None }
@@ -37,12 +37,12 @@ fn write_selected<R: Room, F: Fn(&Key) -> bool>(
 
     // The file has all that is due, or as much as was written.
     ensures bytes { ForSelected F.Fn selection.now (λ kept. OnOk result ((R.seen room.old).tells ≡ true →
-        (R.seen room.new).file name.now ≡ Some (holdings_export kept rows.entry shelf.now))) }
+        (R.seen room.new).file name.now ≡ Some (holdings_export kept rows.entry groups.now))) }
     ensures part { ForSelected F.Fn selection.now (λ kept. (R.seen room.old).tells ≡ true →
-        IsPartWritten ((R.seen room.old).file name.now) ((R.seen room.new).file name.now) (holdings_export kept rows.entry shelf.now)) }
+        IsPartWritten ((R.seen room.old).file name.now) ((R.seen room.new).file name.now) (holdings_export kept rows.entry groups.now)) }
 {
     let mut out = room.open_out(name)?;
-    let written = write_holdings(rows, shelf, selection, &mut out);
+    let written = write_holdings(rows, groups, selection, &mut out);
     let closed = room.close_out(name, out);
     written?;
     closed?;
@@ -54,19 +54,19 @@ fn write_all<R: Room>(
     room: &mut R,
     name: &str,
     rows: Listing<'_>,
-    shelf: &HoldingShelf,
+    groups: &HoldingGroups<'_>,
 ) -> Result<(), Failed>
     requires free { (R.seen room.old).open_as name.now ≡ None }
     ensures apart { SameBut (R.seen room.old) (R.seen room.new) (name.now ∷ []) }
     ensures closed { (R.seen room.new).open_as name.now ≡ None }
     ensures cause { HasCause ((R.seen room.old).out_faults name.now) ((R.seen room.new).out_faults name.now) result }
     ensures bytes { OnOk result ((R.seen room.old).tells ≡ true →
-        (R.seen room.new).file name.now ≡ Some (holdings_export all_keys rows.entry shelf.now)) }
+        (R.seen room.new).file name.now ≡ Some (holdings_export all_keys rows.entry groups.now)) }
     ensures part { (R.seen room.old).tells ≡ true →
-        IsPartWritten ((R.seen room.old).file name.now) ((R.seen room.new).file name.now) (holdings_export all_keys rows.entry shelf.now) }
+        IsPartWritten ((R.seen room.old).file name.now) ((R.seen room.new).file name.now) (holdings_export all_keys rows.entry groups.now) }
 {
     let everything = Selection::new(|_key: &Key| true);
-    write_selected(room, name, rows, shelf, &everything)
+    write_selected(room, name, rows, groups, &everything)
 }
 
 /// Writes the records of a listing with their holdings into the file of that name: all, or those under keys with that code.
@@ -74,7 +74,7 @@ fn write_out<R: Room>(
     room: &mut R,
     name: &str,
     rows: Listing<'_>,
-    shelf: &HoldingShelf,
+    groups: &HoldingGroups<'_>,
     code: Option<&str>,
 ) -> Result<(), Failed>
     requires free { (R.seen room.old).open_as name.now ≡ None }
@@ -82,38 +82,35 @@ fn write_out<R: Room>(
     ensures closed { (R.seen room.new).open_as name.now ≡ None }
     ensures cause { HasCause ((R.seen room.old).out_faults name.now) ((R.seen room.new).out_faults name.now) result }
     ensures bytes { OnOk result ((R.seen room.old).tells ≡ true →
-        (R.seen room.new).file name.now ≡ Some (holdings_export (kept_keys (option_copied code.entry)) rows.entry shelf.now)) }
+        (R.seen room.new).file name.now ≡ Some (holdings_export (kept_keys (option_copied code.entry)) rows.entry groups.now)) }
     ensures part { (R.seen room.old).tells ≡ true → IsPartWritten ((R.seen room.old).file name.now) ((R.seen room.new).file name.now)
-        (holdings_export (kept_keys (option_copied code.entry)) rows.entry shelf.now) }
+        (holdings_export (kept_keys (option_copied code.entry)) rows.entry groups.now) }
 {
     match code {
-        None => write_all(room, name, rows, shelf),
+        None => write_all(room, name, rows, groups),
         Some(code) => {
             let coded = Selection::new(|key: &Key| key.code.as_str() == code);
-            write_selected(room, name, rows, shelf, &coded)
+            write_selected(room, name, rows, groups, &coded)
         }
     }
 }
 
-/// Writes the holdings whose record isn't kept into the file of that name.
+/// Writes holdings whose record isn't kept into the file of that name.
 fn write_rest_file<R: Room>(
     room: &mut R,
     name: &str,
-    core: &Catalogue,
-    shelf: &HoldingShelf,
+    waiting: &WaitingHoldings<'_>,
 ) -> Result<(), Failed>
-    requires free { (R.seen room.old).open_as name.now ≡ None }
-    requires staged { core.now.staged ≡ [] }
+    requires { (R.seen room.old).open_as name.now ≡ None }
     ensures apart { SameBut (R.seen room.old) (R.seen room.new) (name.now ∷ []) }
     ensures closed { (R.seen room.new).open_as name.now ≡ None }
     ensures cause { HasCause ((R.seen room.old).out_faults name.now) ((R.seen room.new).out_faults name.now) result }
-    ensures bytes { OnOk result ((R.seen room.old).tells ≡ true →
-        (R.seen room.new).file name.now ≡ Some (holdings_rest (state_of core.now.history) shelf.now)) }
+    ensures bytes { OnOk result ((R.seen room.old).tells ≡ true → (R.seen room.new).file name.now ≡ Some waiting.now) }
     ensures part { (R.seen room.old).tells ≡ true →
-        IsPartWritten ((R.seen room.old).file name.now) ((R.seen room.new).file name.now) (holdings_rest (state_of core.now.history) shelf.now) }
+        IsPartWritten ((R.seen room.old).file name.now) ((R.seen room.new).file name.now) waiting.now }
 {
     let mut out = room.open_out(name)?;
-    let written = write_rest(core, shelf, &mut out);
+    let written = waiting.write(&mut out);
     let closed = room.close_out(name, out);
     written?;
     closed?;
@@ -144,7 +141,10 @@ fn write_records<R: Room>(
     let Ok(rows) = Listing::of(alloc, core) else {
         return Err(WriteFault::NoMemory);
     };
-    write_out(room, name, rows, shelf, code)?;
+    let Ok(groups) = HoldingGroups::of(alloc, shelf) else {
+        return Err(WriteFault::NoMemory);
+    };
+    write_out(room, name, rows, &groups, code)?;
     Ok(())
 }
 
@@ -154,9 +154,46 @@ pub enum Hindrance {
     Unwritten(Unwritten),
 }
 
-/// Writes the records of a catalogue with their holdings into the file `out`, and then the holdings that wait for a record into the
-/// file `rest`, whichever code is asked for.
+/// Writes the records of a catalogue with their holdings into the file `out`, and then holdings that wait for a record into the file
+/// `rest`.
 #[tactic(auto, using(crate::proofs::Rooms::both_apart, crate::proofs::Rooms::first_apart))]
+fn write_in_turn<R: Room>(
+    alloc: Global,
+    room: &mut R,
+    out: &str,
+    rest: &str,
+    core: &Catalogue,
+    shelf: &HoldingShelf,
+    waiting: &WaitingHoldings<'_>,
+    code: Option<&str>,
+) -> Result<(), Hindrance>
+    requires free { (R.seen room.old).open_as out.now ≡ None }
+    requires rest_free { (R.seen room.old).open_as rest.now ≡ None }
+    requires differ { out.now ≢ rest.now }
+    requires staged { core.now.staged ≡ [] }
+    ensures apart { SameBut (R.seen room.old) (R.seen room.new) (out.now ∷ rest.now ∷ []) }
+    ensures closed { (R.seen room.new).open_as out.now ≡ None }
+    ensures rest_closed { (R.seen room.new).open_as rest.now ≡ None }
+    ensures written { OnOk result ((R.seen room.old).tells ≡ true → AreWritten out.now rest.now
+        (holdings_export (kept_keys (option_copied code.entry)) (state_of core.now.history) shelf.now) waiting.now (R.seen room.new)) }
+    ensures memory { IfErr result (λ why. why ≡ Hindrance.NoMemory → SameBut (R.seen room.old) (R.seen room.new) []) }
+    ensures stopped { IfErr result (λ why. (which : Unwritten) → why ≡ Hindrance.Unwritten which → AreStopped (out.now ∷ []) out.now rest.now
+        (holdings_export (kept_keys (option_copied code.entry)) (state_of core.now.history) shelf.now) waiting.now
+        (R.seen room.old) (R.seen room.new) which) }
+{
+    match write_records(alloc, room, out, core, shelf, code) {
+        Ok(()) => {}
+        Err(WriteFault::OutputFault) => return Err(Hindrance::Unwritten(Unwritten::Out)),
+        Err(WriteFault::NoMemory) => return Err(Hindrance::NoMemory),
+    }
+    match write_rest_file(room, rest, waiting) {
+        Ok(()) => Ok(()),
+        Err(_) => Err(Hindrance::Unwritten(Unwritten::Report)),
+    }
+}
+
+/// Writes the records of a catalogue with their holdings into the file `out`, and then the holdings that wait for a record into the
+/// file `rest`, whichever code is asked for. Those are found before either is begun.
 pub fn write_both<R: Room>(
     alloc: Global,
     room: &mut R,
@@ -181,13 +218,8 @@ pub fn write_both<R: Room>(
         (holdings_export (kept_keys (option_copied code.entry)) (state_of core.now.history) shelf.now)
         (holdings_rest (state_of core.now.history) shelf.now) (R.seen room.old) (R.seen room.new) which) }
 {
-    match write_records(alloc, room, out, core, shelf, code) {
-        Ok(()) => {}
-        Err(WriteFault::OutputFault) => return Err(Hindrance::Unwritten(Unwritten::Out)),
-        Err(WriteFault::NoMemory) => return Err(Hindrance::NoMemory),
-    }
-    match write_rest_file(room, rest, core, shelf) {
-        Ok(()) => Ok(()),
-        Err(_) => Err(Hindrance::Unwritten(Unwritten::Report)),
-    }
+    let Ok(waiting) = WaitingHoldings::of(alloc, core, shelf) else {
+        return Err(Hindrance::NoMemory);
+    };
+    write_in_turn(alloc, room, out, rest, core, shelf, &waiting, code)
 }

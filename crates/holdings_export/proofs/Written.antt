@@ -14,7 +14,7 @@ use Rattle.catalogue_rules.proofs.Elements.{Each}
 use Rattle.catalogue_rules.proofs.Fitting.{valid_fits}
 use Rattle.record_store.proofs.Joined.{joined_fields}
 use Rattle.holdings.specs.Shelves.{ShelfRow, written_holding, holdings_of}
-use Rattle.holdings_export.specs.Output.{AreFit, IsListed, with_holdings, rows_with_holdings, is_attached, is_waiting, attached_holdings, waiting_holdings, written_waiting}
+use Rattle.holdings_export.specs.Output.{AreFit, IsListed, with_holdings, rows_with_holdings, is_attached, is_waiting, attached_holdings, waiting_holdings}
 
 -- a row's record fits its written form
 abbrev pub RowFits : Row → Type 0
@@ -90,7 +90,7 @@ one_if b = if b then 1 else 0
 
 -- the next holding of a loop over a shelf
 module _ (s : State) (row : ShelfRow) (left rows : List ShelfRow) (next : left ≡ row ∷ rows) where
-  pub next_waiting : waiting_bytes s left ≡ written_waiting s row.1 ++ waiting_bytes s rows
+  pub next_waiting : waiting_bytes s left ≡ (if is_attached s row then [] else written_holding row) ++ waiting_bytes s rows
   next_waiting = ap (waiting_bytes s) next ∙ at (is_attached s row)
     where
       at : (b : Bool) → flat_map written_holding (cond (not b) (row ∷ waiting_holdings s rows) (waiting_holdings s rows))

@@ -1,15 +1,14 @@
 -- What is written of a catalogue's records and a shelf of holdings. Source of the written form: ISO 2709, as the MARC 21
 -- Specifications for Record Structure use it. Which records are written, and in which order, is this project's own rule.
-use Rattle.std.specs.Prelude.{◌≡◌, ℕ, Bool, true, not, List, [], ◌++◌, filter, All, Option, is_some, unwrap_or, if◌then◌else◌}
+use Rattle.std.specs.Prelude.{◌≡◌, ℕ, Bool, true, not, List, [], ◌++◌, filter, All, Option, is_some, unwrap_or}
 use Rattle.std.specs.List.{flat_map}
 use Rattle.marc_types.specs.declared.key.Class.TheVariants.{Bibliographic}
 use Rattle.marc_types.specs.declared.key.Key.{Key}
 use Rattle.catalogue_rules.specs.State.{Row, State, fields_of}
 use Rattle.catalogue_rules.specs.Receipt.{kept_under}
 use Rattle.catalogue_rules.specs.Output.{written_row, export_of_rows}
-use Rattle.iso2709_record.specs.Written.{fits, record_bytes}
-use Rattle.holdings.specs.declared.holding.HoldingContent.{HoldingContent}
-use Rattle.holdings.specs.Shelves.{ShelfRow, written_holding, holdings_of}
+use Rattle.iso2709_record.specs.Written.{fits}
+use Rattle.holdings.specs.Shelves.{ShelfRow, written_holding, target_of_row, holdings_of}
 
 -- each record fits its written form
 abbrev pub AreFit : List Row → Type 0
@@ -38,7 +37,7 @@ holdings_export keep s shelf = export_of_rows keep s.authorities ++ rows_with_ho
 
 -- the record that a holding belongs to is kept
 abbrev pub is_attached : State → ShelfRow → Bool
-is_attached s row = is_some (kept_under Bibliographic row.1.target s)
+is_attached s row = is_some (kept_under Bibliographic (target_of_row row) s)
 
 abbrev pub is_waiting : State → ShelfRow → Bool
 is_waiting s row = not (is_attached s row)
@@ -52,11 +51,6 @@ waiting_holdings s shelf = filter (is_waiting s) shelf
 -- the holdings whose record isn't kept, in key order, whatever is selected
 unfoldable pub holdings_rest : State → List ShelfRow → List ℕ
 holdings_rest s shelf = flat_map written_holding (waiting_holdings s shelf)
-
--- what is written of a holding for the rest
-abbrev pub written_waiting : State → HoldingContent → List ℕ
-written_waiting s content =
-    if is_some (kept_under Bibliographic content.target s) then [] else record_bytes content.rec.leader content.rec.fields
 
 -- the holdings on a shelf that may be there
 abbrev pub shelf_or_none : Option (List ShelfRow) → List ShelfRow

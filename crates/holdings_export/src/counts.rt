@@ -1,13 +1,12 @@
 //! How many holdings have their record, and how many wait for it.
-ghost use Rattle.std.specs.Prelude.{◌≡◌, [], length, is_some};
-ghost use Rattle.marc_types.specs.declared.key.Class.TheVariants.{Bibliographic};
-ghost use Rattle.catalogue_rules.specs.Receipt.{kept_under};
+ghost use Rattle.std.specs.Prelude.{◌≡◌, [], length, IfOk};
 ghost use Rattle.catalogue_rules.specs.Settle.{state_of};
-ghost use Rattle.holdings_export.specs.Output.{attached_holdings, waiting_holdings};
+ghost use Rattle.holdings_export.specs.Output.{is_attached, attached_holdings, waiting_holdings};
 
 use catalogue_core::Catalogue;
-use holdings::{HoldingContent, HoldingShelf};
-use marc_types::Class;
+use holdings::{HoldingShelf, PackedHolding, PackedKey};
+use marc_types::{Class, NoMemory};
+use std::alloc::Global;
 
 /// How many holdings of a shelf belong to a record that is kept, and how many wait for theirs.
 #[derive(Clone, Copy, Debug, PartialEq, Eq)]
@@ -17,18 +16,24 @@ pub struct ShelfCounts {
 }
 
 /// Whether the record that a holding belongs to is kept.
-pub(crate) fn is_attached(core: &Catalogue, content: &HoldingContent) -> bool
+pub(crate) fn is_attached(
+    alloc: Global,
+    core: &Catalogue,
+    key: &PackedKey,
+    held: &PackedHolding,
+) -> Result<bool, NoMemory>
     requires { core.now.staged ≡ [] }
-    ensures { result ≡ is_some (kept_under Bibliographic content.now.target (state_of core.now.history)) }
+    ensures { IfOk result (λ attached. attached ≡ is_attached (state_of core.now.history) (key.now, held.now)) }
 {
-    core.look(Class::Bibliographic, &content.target).is_some()
+    let target = held.target(alloc, key)?;
+    Ok(core.look(Class::Bibliographic, &target).is_some())
 }
 
 /// How many holdings of a shelf belong to a record that is kept, and how many wait for theirs.
-pub fn count(core: &Catalogue, shelf: &HoldingShelf) -> ShelfCounts
+pub fn count(alloc: Global, core: &Catalogue, shelf: &HoldingShelf) -> Result<ShelfCounts, NoMemory>
     requires { core.now.staged ≡ [] }
-    ensures attached { result.attached ≡ length (attached_holdings (state_of core.now.history) shelf.now) }
-    ensures waiting { result.waiting ≡ length (waiting_holdings (state_of core.now.history) shelf.now) }
+    ensures attached { IfOk result (λ counts. counts.attached ≡ length (attached_holdings (state_of core.now.history) shelf.now)) }
+    ensures waiting { IfOk result (λ counts. counts.waiting ≡ length (waiting_holdings (state_of core.now.history) shelf.now)) }
 {
     // so many can be counted
     let _holdings = shelf.len();
@@ -36,10 +41,10 @@ pub fn count(core: &Catalogue, shelf: &HoldingShelf) -> ShelfCounts
         attached: 0,
         waiting: 0,
     };
-    for (_, content) in shelf.rows() {
-        let attached = is_attached(core, content);
+    for (key, held) in shelf.rows() {
+        let attached = is_attached(alloc, core, key, held)?;
         counts.attached += u64::from(attached);
         counts.waiting += u64::from(!attached);
     }
-    counts
+    Ok(counts)
 }

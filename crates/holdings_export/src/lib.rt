@@ -2,11 +2,13 @@
 #![tactic(auto)]
 
 pub use counts::{ShelfCounts, count};
-pub use export::{write_holdings, write_rest};
+pub use export::write_holdings;
 pub use listing::Listing;
+pub use waiting::WaitingHoldings;
 
 mod counts;
 mod export;
 mod listing;
 #[cfg(test)]
 mod tests;
+mod waiting;

@@ -1,8 +1,8 @@
 ghost use Rattle.std.specs.Prelude.{◌≡◌, ◌<◌, []};
 
-use crate::{Listing, ShelfCounts, count, write_holdings, write_rest};
+use crate::{Listing, ShelfCounts, WaitingHoldings, count, write_holdings};
 use catalogue_core::Catalogue;
-use holdings::{HoldingShelf, admit_holding};
+use holdings::{HoldingGroups, HoldingShelf, admit_holding};
 use marc_types::{Key, Limits, Text, can_be_code};
 use outside_mem::MemSink;
 use reading::{prepare, read_record};
@@ -86,7 +86,8 @@ fn written<F: Fn(&Key) -> bool>(
 {
     let mut out = MemSink::new(alloc, Vec::new(alloc));
     let rows = Listing::of(alloc, core)?;
-    write_holdings(rows, shelf, &Selection::new(keep), &mut out)?;
+    let groups = HoldingGroups::of(alloc, shelf)?;
+    write_holdings(rows, &groups, &Selection::new(keep), &mut out)?;
     Ok(out.into_bytes())
 }
 
@@ -94,7 +95,7 @@ fn rest(alloc: Global, core: &Catalogue, shelf: &HoldingShelf) -> Result<Vec<u8>
     requires { core.now.staged ≡ [] }
 {
     let mut out = MemSink::new(alloc, Vec::new(alloc));
-    write_rest(core, shelf, &mut out)?;
+    WaitingHoldings::of(alloc, core, shelf)?.write(&mut out)?;
     Ok(out.into_bytes())
 }
 
@@ -116,7 +117,7 @@ fn one_holding_waits(rt: &impl Abort, alloc: Global, core: &Catalogue) -> Result
         attached: 1,
         waiting: 1,
     };
-    assert_eq!(rt; count(core, &shelf), counts);
+    assert_eq!(rt; count(alloc, core, &shelf)?, counts);
     Ok(waiting)
 }
 

@@ -7,10 +7,10 @@ pub overflow_add-counts : goal.overflow_add-counts
 overflow_add-counts c =
     let few = attached_few (state_of c.args.core.now.history) c.args.shelf.now in
     let one = bool_few _ _ c.from.ensures in
-    omega (arith, few, one, c.loop-content.invariant.attached, c.len-holdings.ensures.count, c.len-holdings.ensures.fits)
+    omega (arith, few, one, c.loop-key.invariant.attached, c.len-holdings.ensures.count, c.len-holdings.ensures.fits)
 
-pub overflow_add-counts-in-loop-content : goal.overflow_add-counts-in-loop-content
-overflow_add-counts-in-loop-content c =
+pub overflow_add-counts-in-loop-key : goal.overflow_add-counts-in-loop-key
+overflow_add-counts-in-loop-key c =
     let few = waiting_few (state_of c.args.core.now.history) c.args.shelf.now in
-    let one = bool_few _ _ c.from-in-loop-content.ensures in
-    omega (arith, few, one, c.loop-content.invariant.waiting, c.len-holdings.ensures.count, c.len-holdings.ensures.fits)
+    let one = bool_few _ _ c.from-in-loop-key.ensures in
+    omega (arith, few, one, c.loop-key.invariant.waiting, c.len-holdings.ensures.count, c.len-holdings.ensures.fits)

@@ -16,29 +16,29 @@ loop-key-init g c =
     }
 
 pub write_record-requires : goal.write_record-requires
-write_record-requires g c = first_fits (shelf_or_none (option_copied c.args.shelf)) _ _ _ _ (ap (map shown_row) c.in-Some.ensures.steps) c.loop-key.invariant.fit
+write_record-requires g c = first_fits (shelf_or_none (option_copied c.args.groups)) _ _ _ _ (ap (map shown_row) c.in-Some.ensures.steps) c.loop-key.invariant.fit
 
 pub loop-key-preserved-in-Continue-1 : goal.loop-key-preserved-in-Continue-1
 loop-key-preserved-in-Continue-1 g c = record {
   writing = λ kept selects.
       writing_more _ _ _ _ _ _ _ (c.loop-key.invariant.writing kept selects)
-      (next_with_holdings (shelf_or_none (option_copied c.args.shelf)) _ _ _ _ (ap (map shown_row) c.in-Some.ensures.steps) kept (sym (c.keeps.ensures kept selects) ∙ c.if-keeps.true))
+      (next_with_holdings (shelf_or_none (option_copied c.args.groups)) _ _ _ _ (ap (map shown_row) c.in-Some.ensures.steps) kept (sym (c.keeps.ensures kept selects) ∙ c.if-keeps.true))
       c.in_ok-write_record.ensures.bytes;
-  fit = rest_fits (shelf_or_none (option_copied c.args.shelf)) _ _ _ _ (ap (map shown_row) c.in-Some.ensures.steps) c.loop-key.invariant.fit;
+  fit = rest_fits (shelf_or_none (option_copied c.args.groups)) _ _ _ _ (ap (map shown_row) c.in-Some.ensures.steps) c.loop-key.invariant.fit;
   later = omega arith;
 }
 
 pub returns-in_err-write_record-clause-front : goal.returns-in_err-write_record-clause-front
 returns-in_err-write_record-clause-front g c = λ kept selects.
     writing_failed _ _ _ _ _ _ _ (c.loop-key.invariant.writing kept selects)
-    (next_with_holdings (shelf_or_none (option_copied c.args.shelf)) _ _ _ _ (ap (map shown_row) c.in-Some.ensures.steps) kept (sym (c.keeps.ensures kept selects) ∙ c.if-keeps.true))
+    (next_with_holdings (shelf_or_none (option_copied c.args.groups)) _ _ _ _ (ap (map shown_row) c.in-Some.ensures.steps) kept (sym (c.keeps.ensures kept selects) ∙ c.if-keeps.true))
     c.write_record.ensures.front
 
 pub loop-key-preserved : goal.loop-key-preserved
 loop-key-preserved g c = record {
   writing = λ kept selects.
-      rw (← (next_without (shelf_or_none (option_copied c.args.shelf)) _ _ _ _ (ap (map shown_row) c.in-Some.ensures.steps) kept (sym (c.keeps.ensures kept selects) ∙ c.if-keeps.false)))
+      rw (← (next_without (shelf_or_none (option_copied c.args.groups)) _ _ _ _ (ap (map shown_row) c.in-Some.ensures.steps) kept (sym (c.keeps.ensures kept selects) ∙ c.if-keeps.false)))
       (c.loop-key.invariant.writing kept selects);
-  fit = rest_fits (shelf_or_none (option_copied c.args.shelf)) _ _ _ _ (ap (map shown_row) c.in-Some.ensures.steps) c.loop-key.invariant.fit;
+  fit = rest_fits (shelf_or_none (option_copied c.args.groups)) _ _ _ _ (ap (map shown_row) c.in-Some.ensures.steps) c.loop-key.invariant.fit;
   later = omega arith;
 }

@@ -10,7 +10,7 @@ use Rattle.holdings_export.proofs.export.write_rows.Given as goal
 
 abbrev pub invariant-loop-key : goal.invariant-loop-key
 invariant-loop-key g l = record {
-  writing : ForSelected g.F.Fn l.selection (λ kept. IsWriting (g.K.Sink.written l.initial.out) (g.K.Sink.written l.out) (rows_with_holdings kept (shelf_or_none (option_copied l.shelf)) (map shown_row l.fn.rows.entries)) (rows_with_holdings kept (shelf_or_none (option_copied l.shelf)) (map shown_row l.key-iterator)));
+  writing : ForSelected g.F.Fn l.selection (λ kept. IsWriting (g.K.Sink.written l.initial.out) (g.K.Sink.written l.out) (rows_with_holdings kept (shelf_or_none (option_copied l.groups)) (map shown_row l.fn.rows.entries)) (rows_with_holdings kept (shelf_or_none (option_copied l.groups)) (map shown_row l.key-iterator)));
   fit : Each RowFits (map shown_row l.key-iterator);
   later : g.K.Sink.faults l.initial.out ≤ g.K.Sink.faults l.out;
 }

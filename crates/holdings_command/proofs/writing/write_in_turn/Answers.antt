@@ -2,7 +2,7 @@ use Rattle.std.proofs.Common.{◌≡◌, Err, ap, subst}
 use Rattle.console_lines.specs.declared.end.Unwritten.TheVariants.{Out, Report}
 use Rattle.holdings_command.specs.Outputs.{AreStopped}
 use Rattle.holdings_command.proofs.Rooms.{first_failed, second_failed}
-use Rattle.holdings_command.proofs.writing.write_both.Goals as goal
+use Rattle.holdings_command.proofs.writing.write_in_turn.Goals as goal
 
 pub returns-in-Err-OutputFault-clause-stopped : goal.returns-in-Err-OutputFault-clause-stopped
 returns-in-Err-OutputFault-clause-stopped g c which is =

@@ -1,0 +1,194 @@
+//! The holdings of each record.
+ghost use Rattle.std.specs.Prelude.{◌≡◌, ◌≤◌, length, IfOk, OnOk};
+ghost use Rattle.std.specs.List.{flat_map};
+ghost use Rattle.std.specs.List.Sorted.{IsSorted};
+ghost use Rattle.std.specs.Io.KnownBytes.{Appends};
+ghost use Rattle.marc_types.specs.Order.{key_cmp};
+ghost use Rattle.outside.specs.Fault.{HasCause};
+ghost use Rattle.outside.specs.Sink.{WritesFront};
+ghost use Rattle.holdings.specs.Shelves.{written_holding, target_of_row, holdings_of};
+ghost use Rattle.holdings.specs.ByTarget.{target_cmp, is_below_key, is_upto_key, IsPlace};
+
+use crate::packed::PackedHolding;
+use crate::packed_key::PackedKey;
+use crate::shelf::HoldingShelf;
+use marc_types::{Key, NoMemory};
+use outside::{Failed, Sink};
+use std::alloc::Global;
+use std::cmp::Ordering;
+use std::marker::Model;
+
+/// A holding that a shelf lends. They are ordered by their targets.
+#[derive(Drop)]
+pub(crate) struct LentHolding<'a> {
+    key: &'a PackedKey,
+    held: &'a PackedHolding,
+}
+
+impl<'a> Model for LentHolding<'a> {
+    ghost use Rattle.holdings.specs.Shelves.{ShelfRow};
+
+    ghost Value = { ShelfRow };
+
+    ghost view = { λ h. (h.key.now, h.held.now) };
+}
+
+impl LentHolding<'_> {
+    /// How the target compares with a key.
+    #[tactic(auto, unfolding(marc_types::specs::Order::key_cmp))]
+    fn cmp_target(&self, key: &Key) -> Ordering
+        ensures { result ≡ key_cmp (target_of_row self.now) key.now }
+    {
+        self.key
+            .code()
+            .cmp(key.code.as_bytes())
+            .then_with(|| self.held.target_number().cmp(key.number.as_bytes()))
+    }
+}
+
+impl PartialEq for LentHolding<'_> {
+    ghost use Rattle.holdings.specs.ByTarget.{target_cmp, target_cmp_total};
+    ghost use Rattle.std.specs.Ordering.{eq_by_cmp};
+    ghost use Rattle.std.specs.Cmp.{eq_by_cmp_equiv, partial_equiv_from_equiv};
+
+    ghost eq = { eq_by_cmp target_cmp };
+
+    ghost laws = { partial_equiv_from_equiv (eq_by_cmp_equiv target_cmp_total) };
+
+    fn eq(&self, other: &Self) -> bool {
+        self.cmp(other).is_eq()
+    }
+}
+
+impl Eq for LentHolding<'_> {
+    ghost use Rattle.holdings.specs.ByTarget.{target_cmp_total};
+    ghost use Rattle.std.specs.Cmp.{eq_by_cmp_equiv};
+
+    ghost laws = { eq_by_cmp_equiv target_cmp_total };
+}
+
+impl PartialOrd for LentHolding<'_> {
+    ghost use Rattle.holdings.specs.ByTarget.{target_cmp, target_cmp_total};
+    ghost use Rattle.std.specs.Ordering.{as_partial_cmp};
+    ghost use Rattle.std.specs.Cmp.{partial_order_from_total};
+
+    ghost partial_cmp = { as_partial_cmp target_cmp };
+
+    ghost laws = { partial_order_from_total target_cmp_total };
+
+    fn partial_cmp(&self, other: &Self) -> Option<Ordering> {
+        Some(self.cmp(other))
+    }
+}
+
+impl Ord for LentHolding<'_> {
+    ghost use Rattle.holdings.specs.ByTarget.{target_cmp, target_cmp_total};
+    ghost use Rattle.std.proofs.Common.{refl};
+
+    ghost cmp = { target_cmp };
+
+    ghost total = { target_cmp_total };
+
+    ghost matches_partial_cmp = { λ x y. refl };
+
+    ghost matches_eq = { λ x y. refl };
+
+    #[tactic(auto, unfolding(crate::specs::ByTarget::target_cmp, marc_types::specs::Order::key_cmp))]
+    fn cmp(&self, other: &Self) -> Ordering {
+        self.key.code().cmp(other.key.code()).then_with(|| self
+            .held
+            .target_number()
+            .cmp(other.held.target_number()))
+    }
+}
+
+/// The holdings on a shelf in the order of their keys, as they are lent.
+fn lent<'a>(alloc: Global, shelf: &'a HoldingShelf) -> Result<Vec<LentHolding<'a>>, NoMemory>
+    ensures { IfOk result (λ rows. rows.items ≡ shelf.now) }
+{
+    let mut rows = Vec::with_capacity(alloc, shelf.len() as usize)?;
+    for (key, held) in shelf.rows() {
+        rows.push(LentHolding { key, held })?;
+    }
+    Ok(rows)
+}
+
+/// How many targets are before a key.
+fn count_below(rows: &[LentHolding<'_>], key: &Key) -> usize
+    requires { IsSorted target_cmp rows.now }
+    ensures bound { result ≤ length rows.now }
+    ensures place { IsPlace (is_below_key key.now) rows.now result }
+{
+    rows.partition_point(|row| row.cmp_target(key).is_lt())
+}
+
+/// How many targets are before a key, or the same.
+fn count_upto(rows: &[LentHolding<'_>], key: &Key) -> usize
+    requires { IsSorted target_cmp rows.now }
+    ensures bound { result ≤ length rows.now }
+    ensures place { IsPlace (is_upto_key key.now) rows.now result }
+{
+    rows.partition_point(|row| row.cmp_target(key).is_le())
+}
+
+/// The holdings of the record under a key among some in the order of their targets.
+fn group_in<'r, 'a>(rows: &'r [LentHolding<'a>], key: &Key) -> &'r [LentHolding<'a>]
+    requires { IsSorted target_cmp rows.now }
+    ensures { result.now ≡ holdings_of key.now rows.now }
+{
+    let first = count_below(rows, key);
+    let end = count_upto(rows, key);
+    &rows[first..end]
+}
+
+/// The holdings on a shelf by the records that they belong to. Contracts see them as the shelf.
+#[derive(Drop)]
+pub struct HoldingGroups<'a> {
+    shelf: &'a HoldingShelf,
+    rows: Vec<LentHolding<'a>>,
+}
+
+impl<'a> Model for HoldingGroups<'a> {
+    ghost use Rattle.std.specs.Prelude.{List};
+    ghost use Rattle.holdings.specs.Shelves.{ShelfRow};
+    ghost use Rattle.holdings.specs.ByTarget.{IsByTarget};
+
+    ghost Value = { List ShelfRow };
+
+    ghost view = { λ g. g.shelf.now };
+
+    ghost invariant = { λ g. IsByTarget g.shelf.now g.rows.items };
+}
+
+impl<'a> HoldingGroups<'a> {
+    /// The groups of a shelf. All their memory is taken here.
+    pub fn of(alloc: Global, shelf: &'a HoldingShelf) -> Result<HoldingGroups<'a>, NoMemory>
+        ensures { IfOk result (λ groups. groups ≡ shelf.now) }
+    {
+        let mut rows = lent(alloc, shelf)?;
+        // the sort is stable, so a record's holdings stay in the order of their own keys
+        rows.sort()?;
+        Ok(HoldingGroups { shelf, rows })
+    }
+
+    /// The holdings of the record under a key, in the order of their own keys.
+    fn group(&self, key: &Key) -> &[LentHolding<'a>]
+        ensures { result.now ≡ holdings_of key.now self.now }
+    {
+        group_in(self.rows.as_slice(), key)
+    }
+
+    #[tactic(auto, using(outside::proofs::Fronts::writing_begun, outside::proofs::Fronts::writing_done))]
+    /// Writes the holdings of the record under a key, in the order of their own keys. After `Failed` some front of that was
+    /// written.
+    pub fn write_group<K: Sink>(&self, key: &Key, out: &mut K) -> Result<(), Failed>
+        ensures bytes { OnOk result (Appends (K.written out.old) (K.written out.new) (flat_map written_holding (holdings_of key.now self.now))) }
+        ensures front { WritesFront (K.written out.old) (K.written out.new) (flat_map written_holding (holdings_of key.now self.now)) }
+        ensures cause { HasCause (K.faults out.old) (K.faults out.new) result }
+    {
+        for row in self.group(key) {
+            out.write_all(row.held.written())?;
+        }
+        Ok(())
+    }
+}
