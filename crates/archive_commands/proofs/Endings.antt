@@ -1,5 +1,5 @@
 -- How a command ends that reads a journal, from what its steps say.
-use Rattle.std.proofs.Common.{◌≡◌, ◌≢◌, ◌∙◌, ◌⊎◌, inl, inr, ℕ, true, List, [], ◌∷◌, Some, refl, sym, ap, subst}
+use Rattle.std.proofs.Common.{◌≡◌, ◌≢◌, ◌∙◌, ℕ, true, List, [], ◌∷◌, Some, refl, sym, ap, subst}
 use Rattle.marc_types.specs.declared.entry.Entry.{Entry}
 use Rattle.outside.specs.Disk.{DiskView}
 use Rattle.outside.specs.Fault.{Rose}
@@ -17,11 +17,11 @@ use Rattle.console_lines.specs.declared.fault.Fault.{Fault}
 use Rattle.console_lines.specs.declared.fault.Fault.TheVariants.{Device, Memory}
 use Rattle.console_lines.proofs.Ends.{told_once, told_not_unwritten, told_not_done, done_not_unwritten, never_told}
 use Rattle.room_files.specs.Journals.{journal_limits, log_bytes, IsClosedDisk, KeepsHistory, KeepsLog, IsDurable}
-use Rattle.output_files.specs.Outputs.{IsPartWritten, AsItWas}
+use Rattle.output_files.specs.Outputs.{IsPartWritten}
 use Rattle.room_files.proofs.Journals.{closed_keeps, closed_durable, keeps_where}
 use Rattle.room_files.specs.Faults.{fault_of_opening}
 use Rattle.archive_commands.specs.Archives.{WhyUnopened}
-use Rattle.archive_commands.specs.Reads.{DueView, due_of, IsReport, EndsReading, Reads}
+use Rattle.archive_commands.specs.Reads.{DueView, due_of, EndsReading, Reads}
 use Rattle.archive_commands.proofs.Rooms.{part_opened}
 use Rattle.archive_commands.proofs.Histories.{whole_of_any, part_of_any, fitting_history}
 
@@ -41,32 +41,31 @@ is_device opening.Full is = cc
 is_device opening.NoMemory is = cc
 
 module _ (journal out : List ℕ) (due : DueView) (o : Outcome) where
-  -- the journal was not opened
-  pub reads_unopened : (reason : OpenFault) → journal ≢ out → o.end ≡ Told (fault_of_opening reason) → IsTold (fault_of_opening reason) o
+  -- a fault was told, of a journal that was not opened or where memory ran out behind that
+  pub reads_fault : (reason : OpenFault) → o.end ≡ Told (fault_of_opening reason) → IsTold (fault_of_opening reason) o
       → SameBut o.old o.new (journal ∷ []) → reason ≢ opening.OldVersion
       → (o.old.tells ≡ true → IsUnopened journal_limits (log_bytes o.old journal) reason)
       → (o.old.tells ≡ true → KeepsHistory (reason ≡ opening.DeviceFault) o.old o.new journal)
       → (reason ≡ opening.DeviceFault → Rose (o.old.log_faults journal) (o.new.log_faults journal)) → Reads journal out due o
-  reads_unopened reason differ is told apart current so keeps cause = record {
+  reads_fault reason is told apart current so keeps cause = record {
     ends = subst EndsReading (sym is) (ends_unopened reason current);
     keeps = λ tells.
         keeps_where (reason ≡ opening.DeviceFault) (o.end ≡ Told Device) o.old o.new journal (λ device. is ∙ ap (λ r. Told (fault_of_opening r)) device) (keeps tells);
     told = λ why also. subst (λ w. IsTold w o × WhyUnopened o.old journal w) (told_once o.end (fault_of_opening reason) why is also)
         (told, record { reason = reason; is = refl; so = so });
-    untouched = λ why also some. apart;
-    unread = λ also tells. inl apart;
+    untouched = λ why also. apart;
     silent = λ untold. absurd (never_told o.end (fault_of_opening reason) untold is);
     device = λ also. cause (is_device reason (told_once o.end (fault_of_opening reason) Device is also));
     out_cause = λ also. absurd (told_not_unwritten o.end (fault_of_opening reason) Out is also);
     history = λ untold. absurd (never_told o.end (fault_of_opening reason) untold is);
     durable = λ untold. absurd (never_told o.end (fault_of_opening reason) untold is);
     whole = λ entries also. absurd (told_not_done o.end (fault_of_opening reason) is also);
-    part = λ entries either tells has. AsItWas (apart.files out ((λ same. differ (sym same)), tt));
+    part = λ entries also. absurd (told_not_unwritten o.end (fault_of_opening reason) Out is also);
   }
 
   -- what is due of the history of a journal that was opened, written so far as it could be
-  pub record WasRead (history : List Entry) : Type 0 where
-    pub keeps : o.old.tells ≡ true → KeepsHistory (o.end ≡ Told Device) o.old o.new journal
+  pub record WasRead (history : List Entry) : Type 1 where
+    pub keeps : (failed : Type 0) → o.old.tells ≡ true → KeepsHistory failed o.old o.new journal
     pub durable : o.old.tells ≡ true → IsDurable o.new journal
     pub has : o.old.tells ≡ true → HasHistory history (log_bytes o.old journal)
     pub within : IsWithin journal_limits history
@@ -78,7 +77,7 @@ module _ (journal out : List ℕ) (due : DueView) (o : Outcome) where
       → (o.old.tells ≡ true → KeepsLog (log_bytes o.old journal) disk)
       → (mid.tells ≡ true → IsPartWritten (mid.file out) (o.new.file out) (due_of due history)) → WasRead history
   was_read mid disk history differ opened file log has within kept part = record {
-    keeps = λ tells. let then = opened.tells ∙ tells in closed_keeps o.old o.new journal disk (file then) (log then) (o.end ≡ Told Device) (kept tells);
+    keeps = λ failed tells. let then = opened.tells ∙ tells in closed_keeps o.old o.new journal disk (file then) (log then) failed (kept tells);
     durable = λ tells. let then = opened.tells ∙ tells in closed_durable o.old o.new journal disk (file then) (log then) (log_bytes o.old journal) (kept tells);
     has = has;
     within = within;
@@ -95,10 +94,9 @@ module _ (journal out : List ℕ) (due : DueView) (o : Outcome) where
         → (o.old.tells ≡ true → o.new.file out ≡ Some (due_of due history)) → Reads journal out due o
     reads_whole is silent bytes = record {
       ends = subst EndsReading (sym is) tt;
-      keeps = r.keeps;
+      keeps = r.keeps (o.end ≡ Told Device);
       told = λ why also. absurd (told_not_done o.end why also is);
       untouched = λ why also. absurd (told_not_done o.end why also is);
-      unread = λ also. absurd (told_not_done o.end Memory also is);
       silent = λ untold. silent;
       device = λ also. absurd (told_not_done o.end Device also is);
       out_cause = λ also. absurd (done_not_unwritten o.end Out is also);
@@ -106,44 +104,26 @@ module _ (journal out : List ℕ) (due : DueView) (o : Outcome) where
       history = λ untold tells. fitting_history history (log_bytes o.old journal) (r.has tells) r.within;
       whole = λ entries also tells has.
           whole_of_any (due_of due) entries history (log_bytes o.old journal) (o.new.file out) has (r.has tells) (bytes tells);
-      part = λ entries either. part_is entries;
+      part = λ entries also. part_is entries;
     }
 
     pub reads_failed : o.end ≡ out_unwritten → IsSilent o
         → Rose (o.old.out_faults out) (o.new.out_faults out) → Reads journal out due o
     reads_failed is silent rose = record {
       ends = subst EndsReading (sym is) tt;
-      keeps = r.keeps;
+      keeps = r.keeps (o.end ≡ Told Device);
       told = λ why also. absurd (told_not_unwritten o.end why Out also is);
       untouched = λ why also. absurd (told_not_unwritten o.end why Out also is);
-      unread = λ also. absurd (told_not_unwritten o.end Memory Out also is);
       silent = λ untold. silent;
       device = λ also. absurd (told_not_unwritten o.end Device Out also is);
       out_cause = λ also. rose;
       durable = λ untold. r.durable;
       history = λ untold tells. fitting_history history (log_bytes o.old journal) (r.has tells) r.within;
       whole = λ entries also. absurd (done_not_unwritten o.end Out also is);
-      part = λ entries either. part_is entries;
+      part = λ entries also. part_is entries;
     }
 
-    unbegun : IsReport due ⊎ SameBut o.old o.new (journal ∷ []) → (IsReport due → ⊥) → SameBut o.old o.new (journal ∷ [])
-    unbegun (inl report) other = absurd (other report)
-    unbegun (inr apart) other = apart
-
-    -- memory ran out over the report, or before the output was begun
-    pub reads_no_memory : o.end ≡ Told Memory → IsTold Memory o → IsReport due ⊎ SameBut o.old o.new (journal ∷ []) → Reads journal out due o
-    reads_no_memory is told either = record {
-      ends = subst EndsReading (sym is) tt;
-      keeps = r.keeps;
-      told = λ why also. subst (λ w. IsTold w o × WhyUnopened o.old journal w) (told_once o.end Memory why is also)
-          (told, record { reason = opening.NoMemory; is = refl; so = λ tells. tt });
-      untouched = λ why also some. unbegun either (λ report. some (told_once o.end why Memory also is, report));
-      unread = λ also tells. inr (fitting_history history (log_bytes o.old journal) (r.has tells) r.within);
-      silent = λ untold. absurd (never_told o.end Memory untold is);
-      device = λ also. let no : Memory ≡ Device = told_once o.end Memory Device is also in cc;
-      out_cause = λ also. absurd (told_not_unwritten o.end Memory Out is also);
-      history = λ untold. absurd (never_told o.end Memory untold is);
-      durable = λ untold. absurd (never_told o.end Memory untold is);
-      whole = λ entries also. absurd (told_not_done o.end Memory is also);
-      part = λ entries so. part_is entries;
-    }
+    -- memory ran out before the output was begun
+    pub reads_no_memory : o.end ≡ Told Memory → IsTold Memory o → SameBut o.old o.new (journal ∷ []) → Reads journal out due o
+    reads_no_memory is told apart =
+        reads_fault opening.NoMemory is told apart (λ e. cc) (λ tells. tt) (r.keeps (opening.NoMemory ≡ opening.DeviceFault)) (λ e. cc)

@@ -4,7 +4,7 @@ use Rattle.std.specs.Str.{bytes_eq}
 use Rattle.marc_types.specs.Order.{text_Decides}
 use Rattle.outside.specs.Room.{RoomView, AsLog, SameBut}
 use Rattle.output_files.specs.Outputs.{IsPartWritten}
-use Rattle.outside.proofs.Rooms.{same_but_first, same_but_more, same_but_none, same_but_then}
+use Rattle.outside.proofs.Rooms.{same_but_first, same_but_more, same_but_then}
 
 same_or_not : (a b : List ℕ) → (a ≡ b) ⊎ (a ≢ b)
 same_or_not a b = let same = text_Decides a b in decided (bytes_eq a b) same.0 same.1
@@ -57,16 +57,3 @@ pub part_opened : (old opened new : RoomView) (journal out due : List ℕ) → j
     → IsPartWritten (opened.file out) (new.file out) due → IsPartWritten (old.file out) (new.file out) due
 part_opened old opened new journal out due differ apart part =
     subst (λ file. IsPartWritten file (new.file out) due) (apart.files out ((λ e. differ (sym e)), tt)) part
-
--- where memory ran out before the output was begun, the log's closing is all that changes
-pub unbegun_closed : {due : Type 0} (old written new : RoomView) (journal : List ℕ) → SameBut written new (journal ∷ [])
-    → due ⊎ SameBut old written [] → due ⊎ SameBut old new (journal ∷ [])
-unbegun_closed old written new journal closing (inl is) = inl is
-unbegun_closed old written new journal closing (inr first) =
-    inr (same_but_then old written new (journal ∷ []) (same_but_none old written (journal ∷ []) first) closing)
-
--- and its opening before that
-pub unbegun_opened : {due : Type 0} (old opened new : RoomView) (journal : List ℕ) → SameBut old opened (journal ∷ [])
-    → due ⊎ SameBut opened new (journal ∷ []) → due ⊎ SameBut old new (journal ∷ [])
-unbegun_opened old opened new journal opening (inl is) = inl is
-unbegun_opened old opened new journal opening (inr then) = inr (same_but_then old opened new (journal ∷ []) opening then)

@@ -1,5 +1,5 @@
 -- How a command ends that reads a journal.
-use Rattle.std.specs.Prelude.{◌≡◌, ◌⊎◌, ℕ, true, List, [], ◌∷◌, Option, Some}
+use Rattle.std.specs.Prelude.{◌≡◌, ℕ, true, List, [], ◌∷◌, Option, Some}
 use Rattle.std.specs.Option.{option_copied}
 use Rattle.marc_types.specs.declared.entry.Entry.{Entry}
 use Rattle.outside.specs.Fault.{Rose}
@@ -32,10 +32,6 @@ abbrev pub due_of : DueView → List Entry → List ℕ
 due_of (Export code) entries = export_of (kept_keys code) (state_of entries)
 due_of Report entries = report_of (state_of entries)
 
-abbrev pub IsReport : DueView → Type 0
-IsReport (Export code) = ⊥
-IsReport Report = Unit {0}
-
 -- how it ends: nothing is refused, and no input is read; a log of an older version is read too
 abbrev pub EndsReading : End → Type 0
 EndsReading Done = Unit {0}
@@ -56,11 +52,9 @@ EndsReading (Told OtherHistory) = ⊥
 pub record Reads (journal out : List ℕ) (due : DueView) (o : Outcome) : Type 0 where
   pub ends : EndsReading o.end
   pub keeps : o.old.tells ≡ true → KeepsHistory (o.end ≡ Told Device) o.old o.new journal
-  -- a fault is told for its reason, and the output is untouched, unless the report ran out of memory
+  -- a fault is told for its reason, and the output is untouched
   pub told : (why : Fault) → o.end ≡ Told why → IsTold why o × WhyUnopened o.old journal why
-  pub untouched : (why : Fault) → o.end ≡ Told why → ((why ≡ Memory) × IsReport due → ⊥) → SameBut o.old o.new (journal ∷ [])
-  pub unread : o.end ≡ Told Memory → o.old.tells ≡ true
-      → SameBut o.old o.new (journal ∷ []) ⊎ HasFittingHistory (log_bytes o.old journal)
+  pub untouched : (why : Fault) → o.end ≡ Told why → SameBut o.old o.new (journal ∷ [])
   -- without one the console is as it was
   pub silent : IsUntold o.end → IsSilent o
   -- the outside's faults have their cause
@@ -71,5 +65,5 @@ pub record Reads (journal out : List ℕ) (due : DueView) (o : Outcome) : Type 0
   pub durable : IsUntold o.end → o.old.tells ≡ true → IsDurable o.new journal
   pub whole : (entries : List Entry) → o.end ≡ Done → o.old.tells ≡ true → HasHistory entries (log_bytes o.old journal)
       → o.new.file out ≡ Some (due_of due entries)
-  pub part : (entries : List Entry) → (o.end ≡ out_unwritten) ⊎ (o.end ≡ Told Memory) → o.old.tells ≡ true
-      → HasHistory entries (log_bytes o.old journal) → IsPartWritten (o.old.file out) (o.new.file out) (due_of due entries)
+  pub part : (entries : List Entry) → o.end ≡ out_unwritten → o.old.tells ≡ true → HasHistory entries (log_bytes o.old journal)
+      → IsPartWritten (o.old.file out) (o.new.file out) (due_of due entries)

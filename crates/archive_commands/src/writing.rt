@@ -1,5 +1,5 @@
 //! What is due of a catalogue, as a file.
-ghost use Rattle.std.specs.Prelude.{◌≡◌, ◌⊎◌, ◌∷◌, [], true, Some, None, OnOk, IsErrOf};
+ghost use Rattle.std.specs.Prelude.{◌≡◌, ◌∷◌, [], true, Some, None, OnOk, IsErrOf};
 ghost use Rattle.std.specs.Option.{option_copied};
 ghost use Rattle.outside.specs.Fault.{HasWriteCause};
 ghost use Rattle.outside.specs.Room.{AsLog, SameBut};
@@ -8,7 +8,7 @@ ghost use Rattle.catalogue_rules.specs.Output.{export_of};
 ghost use Rattle.output_files.specs.Outputs.{IsPartWritten};
 ghost use Rattle.room_files.specs.Journals.{IsClosedDisk};
 ghost use Rattle.archive_commands.specs.Archives.{kept_keys};
-ghost use Rattle.archive_commands.specs.Reads.{due_view, due_of, IsReport};
+ghost use Rattle.archive_commands.specs.Reads.{due_view, due_of};
 
 use crate::due::Due;
 use catalogue_core::Catalogue;
@@ -48,7 +48,7 @@ fn write_kept<R: Room>(
     }
 }
 
-/// Writes what is due of a catalogue into the file `out`. An export takes all its memory before that is begun.
+/// Writes what is due of a catalogue into the file `out`. All memory is taken before that is begun.
 fn write_due<R: Room>(
     alloc: Global,
     room: &mut R,
@@ -61,7 +61,7 @@ fn write_due<R: Room>(
     ensures apart { SameBut (R.seen room.old) (R.seen room.new) (out.now ∷ []) }
     ensures closed { (R.seen room.new).open_as out.now ≡ None }
     ensures cause { HasWriteCause ((R.seen room.old).out_faults out.now) ((R.seen room.new).out_faults out.now) result }
-    ensures memory { IsErrOf result WriteFault.NoMemory → IsReport (due_view due.entry) ⊎ SameBut (R.seen room.old) (R.seen room.new) [] }
+    ensures unbegun { IsErrOf result WriteFault.NoMemory → SameBut (R.seen room.old) (R.seen room.new) [] }
     ensures bytes { OnOk result ((R.seen room.old).tells ≡ true →
         (R.seen room.new).file out.now ≡ Some (due_of (due_view due.entry) core.now.history)) }
     ensures part { (R.seen room.old).tells ≡ true →
@@ -92,8 +92,7 @@ pub fn write_archive<R: Room>(
 
     // The output, as `write_due` leaves it.
     ensures cause { HasWriteCause ((R.seen room.old).out_faults out.now) ((R.seen room.new).out_faults out.now) result }
-    ensures memory { IsErrOf result WriteFault.NoMemory →
-        IsReport (due_view due.entry) ⊎ SameBut (R.seen room.old) (R.seen room.new) (journal.now ∷ []) }
+    ensures memory { IsErrOf result WriteFault.NoMemory → SameBut (R.seen room.old) (R.seen room.new) (journal.now ∷ []) }
     ensures bytes { OnOk result ((R.seen room.old).tells ≡ true →
         (R.seen room.new).file out.now ≡ Some (due_of (due_view due.entry) archive.core.history)) }
     ensures part { (R.seen room.old).tells ≡ true →

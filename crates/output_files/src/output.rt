@@ -1,5 +1,5 @@
-ghost use Rattle.std.specs.Prelude.{◌≡◌, [], true, Some, None, OnOk, IsErrOf, ◌∷◌};
-ghost use Rattle.outside.specs.Fault.{HasWriteCause};
+ghost use Rattle.std.specs.Prelude.{◌≡◌, [], true, Some, None, IfOk, OnOk, IsErrOf, ◌∷◌};
+ghost use Rattle.outside.specs.Fault.{HasCause, HasWriteCause};
 ghost use Rattle.outside.specs.Room.{SameBut};
 ghost use Rattle.catalogue_rules.specs.Settle.{state_of};
 ghost use Rattle.catalogue_rules.specs.Output.{all_keys, export_of, report_of};
@@ -9,8 +9,9 @@ ghost use Rattle.output_files.specs.Outputs.{IsPartWritten};
 use ambiguity_report::write_report;
 use catalogue_core::Catalogue;
 use iso_export::{rows_in_order, write_rows};
-use marc_types::Key;
-use outside::{Room, WriteFault};
+use marc_types::{Key, NoMemory};
+use outside::{Failed, Room, Sink, WriteFault};
+use outside_mem::MemSink;
 use selection::Selection;
 use std::alloc::Global;
 
@@ -72,7 +73,41 @@ pub fn write_all_records<R: Room>(
     write_export(alloc, room, name, core, &everything)
 }
 
-/// Writes the report of a catalogue into the file of that name.
+/// The report of a catalogue, made in memory.
+fn report_bytes(alloc: Global, core: &Catalogue) -> Result<Vec<u8>, NoMemory>
+    requires { core.now.staged ≡ [] }
+    ensures { IfOk result (λ bytes. bytes.items ≡ report_of (state_of core.now.history)) }
+{
+    let mut made = MemSink::new(alloc, Vec::new(alloc));
+    match write_report(alloc, core, &mut made) {
+        Ok(()) => Ok(made.into_bytes()),
+        // No call on this sink is listed to fail, so one that fails finds no memory.
+        Err(_) => Err(NoMemory),
+    }
+}
+
+/// Writes bytes that are in memory into the file of that name.
+fn write_bytes<R: Room>(room: &mut R, name: &str, bytes: &[u8]) -> Result<(), Failed>
+    requires { (R.seen room.old).open_as name.now ≡ None }
+    ensures apart { SameBut (R.seen room.old) (R.seen room.new) (name.now ∷ []) }
+    ensures closed { (R.seen room.new).open_as name.now ≡ None }
+    ensures cause { HasCause ((R.seen room.old).out_faults name.now) ((R.seen room.new).out_faults name.now) result }
+
+    // The file has all of them, or as much as was written.
+    ensures bytes { OnOk result ((R.seen room.old).tells ≡ true → (R.seen room.new).file name.now ≡ Some bytes.now) }
+    ensures part { (R.seen room.old).tells ≡ true →
+        IsPartWritten ((R.seen room.old).file name.now) ((R.seen room.new).file name.now) bytes.now }
+{
+    let mut out = room.open_out(name)?;
+    let written = out.write_all(bytes);
+    let closed = room.close_out(name, out);
+    written?;
+    closed?;
+    Ok(())
+}
+
+/// Writes the report of a catalogue into the file of that name. It is made in memory first, and so all memory is taken before the
+/// file is begun.
 pub fn write_report_file<R: Room>(
     alloc: Global,
     room: &mut R,
@@ -84,6 +119,7 @@ pub fn write_report_file<R: Room>(
     ensures apart { SameBut (R.seen room.old) (R.seen room.new) (name.now ∷ []) }
     ensures closed { (R.seen room.new).open_as name.now ≡ None }
     ensures cause { HasWriteCause ((R.seen room.old).out_faults name.now) ((R.seen room.new).out_faults name.now) result }
+    ensures unbegun { IsErrOf result WriteFault.NoMemory → SameBut (R.seen room.old) (R.seen room.new) [] }
 
     // The file has all that is due, or as much as was written.
     ensures bytes { OnOk result ((R.seen room.old).tells ≡ true →
@@ -91,10 +127,10 @@ pub fn write_report_file<R: Room>(
     ensures part { (R.seen room.old).tells ≡ true →
         IsPartWritten ((R.seen room.old).file name.now) ((R.seen room.new).file name.now) (report_of (state_of core.now.history)) }
 {
-    let mut out = room.open_out(name)?;
-    let written = write_report(alloc, core, &mut out);
-    let closed = room.close_out(name, out);
-    written?;
-    closed?;
+    let report = match report_bytes(alloc, core) {
+        Ok(report) => report,
+        Err(NoMemory) => return Err(WriteFault::NoMemory),
+    };
+    write_bytes(room, name, report.as_slice())?;
     Ok(())
 }

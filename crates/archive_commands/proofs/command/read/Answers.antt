@@ -1,8 +1,9 @@
 use Rattle.std.proofs.Common.{◌∙◌, Err, refl, ap, subst, arith}
 use Rattle.console_lines.specs.Faults.{IsFaultTold, fault_line}
 use Rattle.console_lines.specs.declared.end.End.TheVariants.{Told}
-use Rattle.archive_commands.proofs.Rooms.{apart_opened, closed_opened, unbegun_opened}
-use Rattle.archive_commands.proofs.Endings.{reads_unopened, was_read, reads_whole, reads_failed, reads_no_memory}
+use Rattle.outside.proofs.Rooms.{same_but_then}
+use Rattle.archive_commands.proofs.Rooms.{apart_opened, closed_opened}
+use Rattle.archive_commands.proofs.Endings.{reads_fault, was_read, reads_whole, reads_failed, reads_no_memory}
 use Rattle.archive_commands.proofs.command.read.Goals as goal
 
 pub returns-in-Err-clause-ends : goal.returns-in-Err-clause-ends
@@ -12,7 +13,7 @@ returns-in-Err-clause-ends g c =
     let faults = g.R.Out.Sink.faults in
     let console = c.args.console.now in
     let now = c.tell.new.console in
-    reads_unopened _ _ _ _ c.in-Err.fault c.requires.differ (c.tell.ensures.end ∙ ap Told c.fault_of_opening.ensures)
+    reads_fault _ _ _ _ c.in-Err.fault (c.tell.ensures.end ∙ ap Told c.fault_of_opening.ensures)
     (subst (λ f. IsFaultTold (written console) (written now) (faults console) (faults now) (fault_line f)) c.fault_of_opening.ensures c.tell.ensures.told) c.open_archive.ensures.apart because.current because.fault because.keeps because.cause
 
 pub returns-in-Ok-write_archive-clause-apart : goal.returns-in-Ok-write_archive-clause-apart
@@ -64,4 +65,4 @@ returns-in-Err-NoMemory-clause-ends g c =
     reads_no_memory _ _ _ _ _ (was_read _ _ _ _ (g.R.Room.seen c.open_archive.new.room) (g.R.Log.Disk.seen c.in-Ok.archive.journal.disk) _
     c.requires.differ c.open_archive.ensures.apart w.file w.log a.history a.within a.kept w.part)
     c.tell-in-Err-NoMemory.ensures.end c.tell-in-Err-NoMemory.ensures.told
-    (unbegun_opened _ _ _ _ c.open_archive.ensures.apart (w.memory (c.in-Err-NoMemory.is ∙ ap Err c.in-Err-NoMemory.field-0-is)))
+    (same_but_then _ _ _ _ c.open_archive.ensures.apart (w.memory (c.in-Err-NoMemory.is ∙ ap Err c.in-Err-NoMemory.field-0-is)))

@@ -1,14 +1,16 @@
 use Rattle.std.proofs.Common.{subst}
+use Rattle.outside.proofs.Rooms.{same_but_none, same_but_then}
 use Rattle.output_files.specs.Outputs.{IsPartWritten}
 use Rattle.archive_commands.specs.Reads.{due_view, due_of}
-use Rattle.archive_commands.proofs.Rooms.{apart_closed, part_closed, unbegun_closed}
+use Rattle.archive_commands.proofs.Rooms.{apart_closed, part_closed}
 use Rattle.archive_commands.proofs.writing.write_archive.Goals as goal
 
 pub returns-clause-apart : goal.returns-clause-apart
 returns-clause-apart g c = apart_closed _ _ _ _ _ c.write_due-written.ensures.apart c.close_archive.ensures.apart
 
 pub returns-clause-memory : goal.returns-clause-memory
-returns-clause-memory g c ran_out = unbegun_closed _ _ _ _ c.close_archive.ensures.apart (c.write_due-written.ensures.memory ran_out)
+returns-clause-memory g c ran_out =
+    same_but_then _ _ _ _ (same_but_none _ _ _ (c.write_due-written.ensures.unbegun ran_out)) c.close_archive.ensures.apart
 
 pub returns-clause-part : goal.returns-clause-part
 returns-clause-part g c told =

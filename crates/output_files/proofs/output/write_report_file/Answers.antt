@@ -1,18 +1,17 @@
-use Rattle.std.proofs.Common.{◌∙◌}
-use Rattle.output_files.proofs.Parts.{part_of_closed}
+use Rattle.std.proofs.Common.{◌∙◌, subst}
+use Rattle.output_files.specs.Outputs.{IsPartWritten}
 use Rattle.output_files.proofs.output.write_report_file.Goals as goal
 
-pub returns-in_err-written-clause-part : goal.returns-in_err-written-clause-part
-returns-in_err-written-clause-part g c told =
-    part_of_closed _ _ _ _ _ _ _ (c.in_ok-out.ensures.empty told) c.write_report-written.ensures.front
-    c.close_out-closed.ensures.bytes c.close_out-closed.ensures.front (c.open_out.ensures.apart.tells ∙ told)
-
-pub returns-in_err-closed-clause-part : goal.returns-in_err-closed-clause-part
-returns-in_err-closed-clause-part g c told =
-    part_of_closed _ _ _ _ _ _ _ (c.in_ok-out.ensures.empty told) c.write_report-written.ensures.front
-    c.close_out-closed.ensures.bytes c.close_out-closed.ensures.front (c.open_out.ensures.apart.tells ∙ told)
+pub returns-in_err-write_bytes-clause-part : goal.returns-in_err-write_bytes-clause-part
+returns-in_err-write_bytes-clause-part g c told =
+    let seen = g.R.Room.seen in
+    let name = c.args.name.now in
+    subst (IsPartWritten ((seen c.args.room.now).file name) ((seen c.write_bytes.new.room).file name))
+    (c.as_slice.ensures.value ∙ c.in-Ok.ensures) (c.write_bytes.ensures.part told)
 
 pub returns-clause-part : goal.returns-clause-part
 returns-clause-part g c told =
-    part_of_closed _ _ _ _ _ _ _ (c.in_ok-out.ensures.empty told) c.write_report-written.ensures.front
-    c.close_out-closed.ensures.bytes c.close_out-closed.ensures.front (c.open_out.ensures.apart.tells ∙ told)
+    let seen = g.R.Room.seen in
+    let name = c.args.name.now in
+    subst (IsPartWritten ((seen c.args.room.now).file name) ((seen c.write_bytes.new.room).file name))
+    (c.as_slice.ensures.value ∙ c.in-Ok.ensures) (c.write_bytes.ensures.part told)
