@@ -1,7 +1,7 @@
 -- A journal that gains the rest of a history.
-use Rattle.std.proofs.Common.{◌≡◌, ◌⊎◌, inl, inr, ℕ, ◌+◌, ◌<◌, ◌≤◌, List, [], ◌∷◌, ◌++◌, length, take, drop, slice_get, Some, is_some, refl, sym, ap, subst, ◌∙◌, arith, Bool, false}
+use Rattle.std.proofs.Common.{◌≡◌, ◌⊎◌, inl, inr, ℕ, ◌+◌, ◌≤◌, List, [], ◌∷◌, length, take, drop, slice_get, Some, is_some, refl, sym, ap, subst, ◌∙◌, arith, Bool, false}
 use Rattle.std.proofs.lemmas.List.{take_all}
-use Rattle.std.proofs.Math.Logic.{∥∥₁_map, ∥∥₁_elim, ∥∥₁_prop}
+use Rattle.std.proofs.Math.Logic.{∥∥₁_map}
 use Rattle.marc_types.specs.declared.entry.Entry.{Entry}
 use Rattle.outside.specs.Disk.{DiskView, OnlyContent, LeavesOnly}
 use Rattle.commit_journal.specs.declared.frame.Frame.{Frame}
@@ -13,11 +13,11 @@ use Rattle.commit_journal.proofs.Steps.{continues_then}
 use Rattle.entry_record.specs.Payload.{payload_of}
 use Rattle.entry_history.specs.Payloads.{IsEntry, CanFollow, Holds}
 use Rattle.entry_payload.proofs.Payloads.{held_alone}
-use Rattle.durable_catalogue.specs.Logs.{IsLogOf, HasHistory}
+use Rattle.durable_catalogue.specs.Logs.{HasHistory}
 use Rattle.durable_catalogue.proofs.Keeping.{some_of}
 use Rattle.durable_catalogue.proofs.Readings.{either_reading, longer_reading}
 use Rattle.journal_migration.specs.Migrations.{IsAmid, Before}
-use Rattle.journal_migration.specs.Fronts.{EachFollows, Extends, Brings, BringsRest, HasBrought, HasOneMoreOrNot, TriesEntry, AddsEntry}
+use Rattle.journal_migration.specs.Fronts.{EachFollows, Brings, BringsRest, HasBrought, HasOneMoreOrNot, TriesEntry, AddsEntry}
 use Rattle.journal_migration.proofs.Amid.{entry_within, one_more, split_at, amid_either, amid_where}
 use Rattle.journal_migration.proofs.Following.{follows_at}
 

@@ -1,23 +1,23 @@
 -- What a migration leaves, from the opening of the journal and what was brought into it.
-use Rattle.std.proofs.Common.{◌≡◌, ◌⊎◌, inl, inr, ℕ, ◌+◌, ◌<◌, ◌≤◌, true, List, [], ◌∷◌, ◌++◌, length, take, Some, None, is_some, Ok, refl, sym, ap, subst, ◌∙◌, arith, drop, Bool, false, take-append-drop}
+use Rattle.std.proofs.Common.{◌≡◌, ◌⊎◌, inl, inr, ℕ, ◌<◌, ◌≤◌, true, List, [], ◌++◌, length, Some, None, is_some, refl, sym, ap, subst, ◌∙◌, arith, drop, Bool, false, take-append-drop}
 use Rattle.std.specs.Prelude.{◌≢◌}
 use Rattle.std.proofs.lemmas.Option.{none-some}
 use Rattle.std.proofs.Math.Logic.{∥∥₁_map, ∥∥₁_elim, ∥∥₁_prop}
 use Rattle.marc_types.specs.declared.entry.Entry.{Entry}
 use Rattle.marc_types.specs.declared.entry.Limits.{Limits}
-use Rattle.outside.specs.Disk.{DiskView, OnlyContent}
+use Rattle.outside.specs.Disk.{DiskView}
 use Rattle.outside.specs.Fault.{Rose}
 use Rattle.commit_journal.specs.declared.frame.Frame.{Frame}
 use Rattle.commit_journal.specs.declared.fault.JournalFault.{JournalFault}
 use Rattle.commit_journal.specs.declared.fault.JournalFault.TheVariants as journal
 use Rattle.commit_journal.specs.declared.format.TheConstants.{BLANK_LENGTH}
-use Rattle.commit_journal.specs.Log.{frames_of, walk_of, version_of}
+use Rattle.commit_journal.specs.Log.{version_of}
 use Rattle.commit_journal.specs.Journal.{Continues, IsRecovered, IsSettled, EndsAt, SameLog, Opens, HasOpenCause, LeavesContent}
 use Rattle.commit_journal.proofs.Logs.{version_two, version_blank, short_or_long}
 use Rattle.entry_history.specs.Readers.{IsVersion}
 use Rattle.entry_history.specs.Payloads.{IsHistory}
 use Rattle.durable_catalogue.specs.Logs.{payloads_of, IsLogOf, HasHistory}
-use Rattle.durable_catalogue.specs.Openings.{IsBadFrame, NoGate, NoPayload, IsOpening, KeepsContent}
+use Rattle.durable_catalogue.specs.Openings.{IsBadFrame, NoGate, NoPayload, IsOpening}
 use Rattle.durable_catalogue.proofs.Keeping.{some_of}
 use Rattle.durable_catalogue.proofs.Opened.{reading, opening_of, either_version}
 use Rattle.durable_catalogue.proofs.Readings.{same_log}
@@ -27,7 +27,7 @@ use Rattle.durable_catalogue.specs.Faults.{open_fault}
 use Rattle.durable_catalogue.specs.declared.fault.OpenFault.TheVariants as opening
 use Rattle.journal_migration.specs.Faults.{migrate_fault}
 use Rattle.journal_migration.specs.Migrations.{IsFit, IsUnfit, IsUnmigrated, IsBrought, IsMigration, IsAmid, Before}
-use Rattle.journal_migration.specs.Fronts.{EachFollows, HoldsFront, HoldNoFront, MayGain, MayNotGain, Extends, Brings, HasBrought}
+use Rattle.journal_migration.specs.Fronts.{HoldsFront, HoldNoFront, MayGain, MayNotGain, Extends, Brings, HasBrought}
 use Rattle.journal_migration.proofs.Amid.{amid_where}
 use Rattle.journal_migration.proofs.Following.{log_follows}
 

@@ -1,7 +1,7 @@
 use Rattle.std.proofs.Common.{◌≡◌, ◌∙◌, Some, sym, ap, subst}
 use Rattle.durable_catalogue.proofs.Refused.{recovered_alone, unwritten_alone}
 use Rattle.journal_migration.specs.declared.fault.MigrateFault.TheVariants.{DeviceFault}
-use Rattle.journal_migration.specs.Migrations.{LeavesUnfitAlone, IsUnmigrated, IsBrought, IsMigration}
+use Rattle.journal_migration.specs.Migrations.{IsUnmigrated, IsMigration}
 use Rattle.journal_migration.proofs.Opened.{opened_alone, is_version, fit, unfit, brought_all, images_all, migrated, unmigrated, unopened, device_words}
 use Rattle.journal_migration.proofs.migration.migrate.Goals as goal
 
