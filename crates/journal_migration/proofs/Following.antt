@@ -1,12 +1,12 @@
 -- The runs of a log's entries are in order.
-use Rattle.std.proofs.Common.{◌≡◌, ℕ, zero, suc, ◌+◌, ◌≤◌, List, [], ◌∷◌, ◌++◌, length, refl, sym, ap, subst, arith, append_assoc}
+use Rattle.std.proofs.Common.{◌≡◌, ℕ, List, [], ◌∷◌, ◌++◌, refl, sym, subst, arith, append_assoc}
 use Rattle.std.proofs.lemmas.List.{append-nil}
 use Rattle.std.proofs.lemmas.List.Elements.{All-nil, All-cons, All-head, All-tail}
 use Rattle.std.specs.List.{All}
 use Rattle.marc_types.specs.declared.entry.Entry.{Entry}
 use Rattle.commit_journal.specs.Log.{version_of}
 use Rattle.entry_record.specs.History.{last_run}
-use Rattle.entry_history.specs.Payloads.{IsOf, IsOld, CanFollow, Holds, Newer, Older, IsHistory, NoMore, OneMore}
+use Rattle.entry_history.specs.Payloads.{IsOf, IsOld, CanFollow, Newer, Older, IsHistory, NoMore, OneMore}
 use Rattle.durable_catalogue.specs.Logs.{IsLogOf}
 use Rattle.durable_catalogue.proofs.Histories.{run_behind, follows_more}
 use Rattle.journal_migration.specs.Fronts.{EachFollows}

@@ -1,7 +1,7 @@
 -- A journal that gains the rest of a history.
-use Rattle.std.proofs.Common.{◌≡◌, ◌⊎◌, inl, inr, ℕ, ◌+◌, ◌<◌, ◌≤◌, List, [], ◌∷◌, ◌++◌, length, take, drop, slice_get, Some, is_some, refl, sym, ap, subst, ◌∙◌, arith, Bool, false}
+use Rattle.std.proofs.Common.{◌≡◌, ◌⊎◌, inl, inr, ℕ, ◌+◌, ◌≤◌, List, [], ◌∷◌, length, take, drop, slice_get, Some, is_some, refl, sym, ap, subst, ◌∙◌, arith, Bool, false}
 use Rattle.std.proofs.lemmas.List.{take_all}
-use Rattle.std.proofs.Math.Logic.{∥∥₁_map, ∥∥₁_elim, ∥∥₁_prop}
+use Rattle.std.proofs.Math.Logic.{∥∥₁_map}
 use Rattle.marc_types.specs.declared.entry.Entry.{Entry}
 use Rattle.outside.specs.Disk.{DiskView, OnlyContent, LeavesOnly}
 use Rattle.commit_journal.specs.declared.frame.Frame.{Frame}
@@ -13,11 +13,11 @@ use Rattle.commit_journal.proofs.Steps.{continues_then}
 use Rattle.entry_record.specs.Payload.{payload_of}
 use Rattle.entry_history.specs.Payloads.{IsEntry, CanFollow, Holds}
 use Rattle.entry_payload.proofs.Payloads.{held_alone}
-use Rattle.durable_catalogue.specs.Logs.{IsLogOf, HasHistory}
+use Rattle.durable_catalogue.specs.Logs.{HasHistory}
 use Rattle.durable_catalogue.proofs.Keeping.{some_of}
 use Rattle.durable_catalogue.proofs.Readings.{either_reading, longer_reading}
 use Rattle.journal_migration.specs.Migrations.{IsAmid, Before}
-use Rattle.journal_migration.specs.Fronts.{EachFollows, Extends, Brings, BringsRest, HasBrought, HasOneMoreOrNot, TriesEntry, AddsEntry}
+use Rattle.journal_migration.specs.Fronts.{EachFollows, Brings, BringsRest, HasBrought, HasOneMoreOrNot, TriesEntry, AddsEntry}
 use Rattle.journal_migration.proofs.Amid.{entry_within, one_more, split_at, amid_either, amid_where}
 use Rattle.journal_migration.proofs.Following.{follows_at}
 
@@ -31,21 +31,33 @@ continues_self disk = record {
   tells = refl;
 }
 
+-- the log of a journal of the newest version is of that
+abbrev pub IsNewest : DiskView → Type 0
+IsNewest disk = (log : List ℕ) → disk.content ≡ Some log → version_of log ≡ 2
+
+pub settled_newest : (place version : ℕ) (disk : DiskView) → IsSettled place version disk → version ≡ 2 → IsNewest disk
+settled_newest place version disk settled two log told = version_two log (settled.header log told ∙ two)
+
 module _ (disk : DiskView) (only : OnlyContent disk) (last : (c : List ℕ) → disk.left disk.moment c → disk.image c) where
-  pub tries_none : (e : Entry) → TriesEntry e disk disk
-  tries_none e log before told has follows = record {
+  pub tries_none : IsNewest disk → (e : Entry) → TriesEntry e disk disk
+  tries_none newest e log before told has follows = record {
     now = λ c image. still c (only log c told image);
     each = λ c left. still c (only log c told (last c left));
     since = λ t c earlier left. inl left;
   }
     where
       still : (c : List ℕ) → c ≡ log → HasOneMoreOrNot before e c
-      still c is = ∥∥₁_map (subst (HasHistory before) (sym is) has) (λ reading. inl reading)
+      still c is = record {
+        has = ∥∥₁_map (subst (HasHistory before) (sym is) has) (λ reading. inl reading);
+        newest = ap version_of is ∙ newest log told;
+      }
 
-  pub brings_none : (may : Type 0) (history entries : List Entry) → Brings may history entries disk disk
-  brings_none may history entries log told has follows = record {
+  pub brings_none : (may : Type 0) → (may → IsNewest disk) → (history entries : List Entry) → Brings may history entries disk disk
+  brings_none may newest history entries log told has follows = record {
     since = λ t c earlier left. inl left;
-    now = λ c image. ∥∥₁_map (subst (HasHistory entries) (sym (only log c told image)) has) (λ reading. Before reading);
+    now = λ c image.
+        let is : c ≡ log = only log c told image in
+        ∥∥₁_map (subst (HasHistory entries) (sym is) has) (λ reading. Before reading (λ so. ap version_of is ∙ newest so log told));
   }
 
 -- an entry is appended in a frame
@@ -63,7 +75,10 @@ module _ (e : Entry) (entry : IsEntry e) (place : ℕ) (old new : DiskView) (set
   }
     where
       either : (c : List ℕ) → journal.HasFrameOrNot log frame c → HasOneMoreOrNot before e c
-      either c left = ∥∥₁_map has (λ reading. either_reading before (e ∷ []) log c frame (held log before told follows) left reading)
+      either c left = record {
+        has = ∥∥₁_map has (λ reading. either_reading before (e ∷ []) log c frame (held log before told follows) left reading);
+        newest = left.version ∙ version_two log (settled.header log told);
+      }
 
       or_either : (c : List ℕ) {P : Type 0} → P ⊎ journal.HasFrameOrNot log frame c → P ⊎ HasOneMoreOrNot before e c
       or_either c (inl was) = inl was
@@ -95,7 +110,7 @@ module _ (history : List Entry) (count at : ℕ) (e : Entry) (least : count ≤ 
       }
     where
       either : (c : List ℕ) → HasOneMoreOrNot (take at history) e c → ∥ IsAmid (Unit {0}) history (take count history) c ∥₁
-      either c has = ∥∥₁_map has (λ one. amid_either history count at e c least there one)
+      either c one = ∥∥₁_map one.has (λ has. amid_either history count at e c least there one.newest has)
 
       since_left : (c : List ℕ) {P Q : Type 0} → (Q → P ⊎ ∥ IsAmid (Unit {0}) history (take count history) c ∥₁) → Q ⊎ HasOneMoreOrNot (take at history) e c
           → P ⊎ ∥ IsAmid (Unit {0}) history (take count history) c ∥₁
@@ -123,15 +138,15 @@ pub record IsBringing (history : List Entry) (count at : ℕ) (old now : DiskVie
   pub later : old.faults ≤ now.faults
 
 pub bringing_first : (history : List Entry) (count : ℕ) (disk : DiskView) (broken : Bool) (version : ℕ) → OnlyContent disk
-    → ((c : List ℕ) → disk.left disk.moment c → disk.image c) → count ≤ length history → broken ≡ false → version ≡ 2
+    → ((c : List ℕ) → disk.left disk.moment c → disk.image c) → IsNewest disk → count ≤ length history → broken ≡ false → version ≡ 2
     → IsBringing history count count disk disk broken version
-bringing_first history count disk broken version only last within whole newest = record {
+bringing_first history count disk broken version only last two within whole newest = record {
   least = omega arith;
   most = within;
   whole = whole;
   newest = newest;
   continues = continues_self disk;
-  brings = brings_none disk only last (Unit {0}) history (take count history);
+  brings = brings_none disk only last (Unit {0}) (λ free. two) history (take count history);
   has = has_first history count disk;
   later = omega arith;
 }
@@ -165,7 +180,7 @@ brings_where may history entries old new so brings log told has each =
     }
   where
     gained : (c : List ℕ) → ∥ IsAmid (Unit {0}) history entries c ∥₁ → ∥ IsAmid may history entries c ∥₁
-    gained c is = ∥∥₁_map is (λ one. amid_where (Unit {0}) may history entries c (λ free. so) one)
+    gained c is = ∥∥₁_map is (λ one. amid_where (Unit {0}) may history entries c (λ free. so) (λ may. tt) one)
 
     since_left : (c : List ℕ) {P : Type 0} → P ⊎ ∥ IsAmid (Unit {0}) history entries c ∥₁ → P ⊎ ∥ IsAmid may history entries c ∥₁
     since_left c (inl was) = inl was

@@ -1,21 +1,23 @@
 -- What a migration leaves, from the opening of the journal and what was brought into it.
-use Rattle.std.proofs.Common.{◌≡◌, ◌⊎◌, inl, inr, ℕ, ◌+◌, ◌<◌, ◌≤◌, true, List, [], ◌∷◌, ◌++◌, length, take, Some, None, is_some, Ok, refl, sym, ap, subst, ◌∙◌, arith, drop, Bool, false, take-append-drop}
+use Rattle.std.proofs.Common.{◌≡◌, ◌⊎◌, inl, inr, ℕ, ◌<◌, ◌≤◌, true, List, [], ◌++◌, length, Some, None, is_some, refl, sym, ap, subst, ◌∙◌, arith, drop, Bool, false, take-append-drop}
 use Rattle.std.specs.Prelude.{◌≢◌}
 use Rattle.std.proofs.lemmas.Option.{none-some}
 use Rattle.std.proofs.Math.Logic.{∥∥₁_map, ∥∥₁_elim, ∥∥₁_prop}
 use Rattle.marc_types.specs.declared.entry.Entry.{Entry}
 use Rattle.marc_types.specs.declared.entry.Limits.{Limits}
-use Rattle.outside.specs.Disk.{DiskView, OnlyContent}
+use Rattle.outside.specs.Disk.{DiskView}
 use Rattle.outside.specs.Fault.{Rose}
 use Rattle.commit_journal.specs.declared.frame.Frame.{Frame}
 use Rattle.commit_journal.specs.declared.fault.JournalFault.{JournalFault}
 use Rattle.commit_journal.specs.declared.fault.JournalFault.TheVariants as journal
-use Rattle.commit_journal.specs.Log.{frames_of, version_of}
-use Rattle.commit_journal.specs.Journal.{Continues, IsRecovered, Opens, HasOpenCause, LeavesContent}
+use Rattle.commit_journal.specs.declared.format.TheConstants.{BLANK_LENGTH}
+use Rattle.commit_journal.specs.Log.{version_of}
+use Rattle.commit_journal.specs.Journal.{Continues, IsRecovered, IsSettled, EndsAt, SameLog, Opens, HasOpenCause, LeavesContent}
+use Rattle.commit_journal.proofs.Logs.{version_two, version_blank, short_or_long}
 use Rattle.entry_history.specs.Readers.{IsVersion}
 use Rattle.entry_history.specs.Payloads.{IsHistory}
 use Rattle.durable_catalogue.specs.Logs.{payloads_of, IsLogOf, HasHistory}
-use Rattle.durable_catalogue.specs.Openings.{IsBadFrame, NoGate, NoPayload, IsOpening, KeepsContent}
+use Rattle.durable_catalogue.specs.Openings.{IsBadFrame, NoGate, NoPayload, IsOpening}
 use Rattle.durable_catalogue.proofs.Keeping.{some_of}
 use Rattle.durable_catalogue.proofs.Opened.{reading, opening_of, either_version}
 use Rattle.durable_catalogue.proofs.Readings.{same_log}
@@ -24,18 +26,38 @@ use Rattle.journal_migration.specs.declared.fault.MigrateFault.TheVariants.{Devi
 use Rattle.durable_catalogue.specs.Faults.{open_fault}
 use Rattle.durable_catalogue.specs.declared.fault.OpenFault.TheVariants as opening
 use Rattle.journal_migration.specs.Faults.{migrate_fault}
-use Rattle.journal_migration.specs.Migrations.{IsFit, IsUnmigrated, IsMigration, IsAmid, Before}
-use Rattle.journal_migration.specs.Fronts.{EachFollows, HoldsFront, HoldNoFront, MayGain, Extends, Brings, HasBrought}
+use Rattle.journal_migration.specs.Migrations.{IsFit, IsUnfit, IsUnmigrated, IsBrought, IsMigration, IsAmid, Before}
+use Rattle.journal_migration.specs.Fronts.{HoldsFront, HoldNoFront, MayGain, MayNotGain, Extends, Brings, HasBrought}
 use Rattle.journal_migration.proofs.Amid.{amid_where}
 use Rattle.journal_migration.proofs.Following.{log_follows}
+
+-- the same log as one of the newest version is of that, since a blank one is
+same_newest : (log c : List ℕ) → SameLog log c → version_of log ≡ 2 → version_of c ≡ 2
+same_newest log c same two = decided (short_or_long (length c) BLANK_LENGTH)
+  where
+    decided : (length c ≤ BLANK_LENGTH) ⊎ (BLANK_LENGTH < length c) → version_of c ≡ 2
+    decided (inl short) = version_blank c short
+    decided (inr long) = same.version long ∙ two
+
+-- it has what that had, where nothing was brought
+pub same_before : (limits : Limits) (history entries : List Entry) (log c : List ℕ) → SameLog log c → IsLogOf entries log
+    → IsAmid (IsFit limits history entries log) history entries c
+same_before limits history entries log c same is = Before (same_log entries log c same is) (λ fits. same_newest log c same fits.version)
+
+-- a journal of the newest version to which a history was brought
+pub brought_settled : (history : List Entry) (place version : ℕ) (disk : DiskView) → IsSettled place version disk → version ≡ 2
+    → (now : List ℕ) → disk.content ≡ Some now → HasHistory history now → IsBrought history now
+brought_settled history place version disk settled two now is_now has =
+    let ends = settled.ends now is_now in
+    record { has = has; newest = version_two now (settled.header now is_now ∙ two); ended = subst (λ p. EndsAt p now) (sym ends.gate) ends }
 
 -- nothing was brought
 pub opened_alone : (limits : Limits) (history : List Entry) (old new : DiskView) → Opens old new → LeavesContent old new → IsMigration limits history old new
 opened_alone limits history old new opens leaves =
     let opening : IsOpening old new = opening_of old new opens in
     record {
-      images = λ s log c entries synced told left has. ∥∥₁_map (opening.history s log c entries synced told left has) (λ is. Before is);
-      content = λ log c entries told is_now has. ∥∥₁_map has (λ is. Before (same_log entries log c (leaves log c told is_now).same is));
+      images = λ s log c entries synced told left has. ∥∥₁_map has (same_before limits history entries log c (opens.crash s log c synced told left));
+      content = λ log c entries told is_now has. ∥∥₁_map has (same_before limits history entries log c (leaves log c told is_now).same);
       unsynced = opening.unsynced;
       dated = opening.dated;
       tells = opening.tells;
@@ -76,6 +98,10 @@ module _ (history : List Entry) (frames : List Frame) (place version : ℕ) (old
         },
       )
 
+  -- into a log that is not fit for a history, the frames may not gain it
+  pub unfit : (limits : Limits) (log : List ℕ) → old.content ≡ Some log → IsUnfit limits history log → MayNotGain version frames limits history
+  unfit limits log told none count two holds = let front = fit limits two (λ is. (count, holds)) log told in none front.0 front.1
+
   module _ (leaves : LeavesContent old mid) (new : DiskView) (continues : Continues mid new) (was : List ℕ) (is_history : HasHistory history was)
       (images : (c : List ℕ) → new.content ≡ Some c → new.image c) where
     tells_now : is_some new.content ≡ is_some old.content
@@ -84,20 +110,21 @@ module _ (history : List Entry) (frames : List Frame) (place version : ℕ) (old
     -- after all was brought
     pub brought_all : (limits : Limits) → version ≡ 2 → (IsVersion version → (count : ℕ) × HoldsFront version frames limits history count)
         → ((entries : List Entry) → IsVersion version → IsHistory version [] (payloads_of frames) entries → HasBrought history entries history mid new)
-        → (now : List ℕ) → new.content ≡ Some now → HasHistory history now
-    brought_all limits two holds brought now is_now =
+        → (at number : ℕ) → IsSettled at number new → number ≡ 2 → (now : List ℕ) → new.content ≡ Some now → IsBrought history now
+    brought_all limits two holds brought at number settled newest now is_now =
         let log = some_of old.content (sym tells_now ∙ ap is_some is_now) in
         let front = fit limits two holds log.0 log.1 in
         let ordered = told_mid leaves log.0 front.0 log.1 front.1.has in
-        ∥∥₁_elim is_history ∥∥₁_prop (λ (reads : IsLogOf history was).
-        brought front.0 (is_version log.0 log.1) (of_frames log.0 front.0 log.1 front.1.has) ordered.0 now ordered.1 ordered.2 (log_follows history was reads) is_now)
+        brought_settled history at number new settled newest now is_now
+        (∥∥₁_elim is_history ∥∥₁_prop (λ (reads : IsLogOf history was).
+        brought front.0 (is_version log.0 log.1) (of_frames log.0 front.0 log.1 front.1.has) ordered.0 now ordered.1 ordered.2 (log_follows history was reads) is_now))
 
     pub images_all : (limits : Limits) → version ≡ 2 → (IsVersion version → (count : ℕ) × HoldsFront version frames limits history count)
         → ((entries : List Entry) → IsVersion version → IsHistory version [] (payloads_of frames) entries → HasBrought history entries history mid new)
-        → OnlyContent new → (c : List ℕ) → is_some old.content ≡ true → new.image c → HasHistory history c
-    images_all limits two holds brought only c told image =
+        → (at number : ℕ) → IsSettled at number new → number ≡ 2 → (c : List ℕ) → is_some old.content ≡ true → new.image c → IsBrought history c
+    images_all limits two holds brought at number settled newest c told image =
         let now = some_of new.content (tells_now ∙ told) in
-        subst (λ bytes. HasHistory history bytes) (sym (only now.0 c now.1 image)) (brought_all limits two holds brought now.0 now.1)
+        subst (IsBrought history) (sym (settled.only now.0 c now.1 image)) (brought_all limits two holds brought at number settled newest now.0 now.1)
 
     module _ (limits : Limits)
         (brings : (entries : List Entry) → IsVersion version → IsHistory version [] (payloads_of frames) entries
@@ -119,7 +146,7 @@ module _ (history : List Entry) (frames : List Frame) (place version : ℕ) (old
             has = is;
             within = may.within;
             begins = may.begins;
-          }) one)
+          }) (λ fits. record { newest = sym (recovered.named log told) ∙ fits.version; within = fits.within; begins = fits.begins }) one)
 
       module _ (bounded : (s : ℕ) → mid.synced old.moment ≡ Some s → s ≤ mid.moment) (synced : old.dated ≡ true → is_some (mid.synced old.moment) ≡ true)
           (undated : new.dated ≡ false → new.synced old.moment ≡ None) where
@@ -139,7 +166,7 @@ module _ (history : List Entry) (frames : List Frame) (place version : ℕ) (old
           images = λ s log c entries at told left has.
               let first = synced_mid old.dated refl s at in
               ∥∥₁_elim has ∥∥₁_prop (λ (is : IsLogOf entries log). ∥∥₁_elim is_history ∥∥₁_prop (λ (reads : IsLogOf history was).
-              since_opened log entries c told is (λ earlier. ∣ Before (same_log entries log c (opens.crash s log c first told earlier) is) ∣₁)
+              since_opened log entries c told is (λ earlier. ∣ same_before limits history entries log c (opens.crash s log c first told earlier) is ∣₁)
               ((extended log entries told is reads).since s c (bounded s first) left)));
           content = λ log c entries told is_now has.
               ∥∥₁_elim has ∥∥₁_prop (λ (is : IsLogOf entries log). ∥∥₁_elim is_history ∥∥₁_prop (λ (reads : IsLogOf history was).

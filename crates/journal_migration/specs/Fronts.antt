@@ -1,10 +1,11 @@
 -- What a journal has of a history already, and how it gains the rest.
-use Rattle.std.specs.Prelude.{◌≡◌, ◌≢◌, ◌⊎◌, ℕ, ◌+◌, ◌≤◌, List, [], ◌∷◌, ◌++◌, length, take, Some}
+use Rattle.std.specs.Prelude.{◌≡◌, ◌≢◌, ◌⊎◌, ℕ, ◌≤◌, List, [], ◌∷◌, ◌++◌, length, take, Some}
 use Rattle.marc_types.specs.declared.entry.Entry.{Entry}
 use Rattle.marc_types.specs.declared.entry.Limits.{Limits}
 use Rattle.outside.specs.Disk.{DiskView, LeavesOnly}
 use Rattle.outside.specs.Fault.{Rose}
 use Rattle.commit_journal.specs.declared.frame.Frame.{Frame}
+use Rattle.commit_journal.specs.Log.{version_of}
 use Rattle.entry_history.specs.Payloads.{CanFollow, IsHistory}
 use Rattle.durable_catalogue.specs.Logs.{payloads_of, IsLogOf, HasHistory}
 use Rattle.durable_catalogue.specs.Openings.{IsBadFrame}
@@ -45,6 +46,10 @@ HoldNoFront version frames limits history NotPrefix =
 HoldNoFront version frames limits history NoMemory = Unit {0}
 HoldNoFront version frames limits history DeviceFault = Unit {0}
 
+-- the frames of a journal may not gain the rest of a history: it is of another version, or they hold no front of that
+abbrev pub MayNotGain : ℕ → List Frame → Limits → List Entry → Type 0
+MayNotGain version frames limits history = (count : ℕ) → version ≡ 2 → HoldsFront version frames limits history count → ⊥
+
 -- a journal of these entries may gain what the history has behind them
 pub record MayGain (version : ℕ) (limits : Limits) (history entries : List Entry) : Type 0 where
   pub newest : version ≡ 2
@@ -69,9 +74,10 @@ abbrev pub HasBrought : List Entry → List Entry → List Entry → DiskView �
 HasBrought history entries these old new = (log now : List ℕ) → old.content ≡ Some log → HasHistory entries log → EachFollows [] history
     → new.content ≡ Some now → HasHistory these now
 
--- an image has these entries, or these and one more
-abbrev pub HasOneMoreOrNot : List Entry → Entry → List ℕ → Type 0
-HasOneMoreOrNot before e c = ∥ IsLogOf before c ⊎ IsLogOf (before ++ e ∷ []) c ∥₁
+-- an image has these entries, or these and one more, and is of the newest version
+pub record HasOneMoreOrNot (before : List Entry) (e : Entry) (image : List ℕ) : Type 0 where
+  pub has : ∥ IsLogOf before image ⊎ IsLogOf (before ++ e ∷ []) image ∥₁
+  pub newest : version_of image ≡ 2
 
 -- an entry is tried behind those of a log: a crash leaves these, or these and the entry
 abbrev pub TriesEntry : Entry → DiskView → DiskView → Type 0

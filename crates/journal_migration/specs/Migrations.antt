@@ -1,12 +1,14 @@
 -- A journal's history that is brought into another journal. The rules are this project's own.
-use Rattle.std.specs.Prelude.{◌≡◌, ◌⊎◌, ℕ, ◌≤◌, true, List, [], ◌++◌, length, take, Some, None, is_some}
+use Rattle.std.specs.Prelude.{◌≡◌, ℕ, true, List, ◌++◌, Some, None, is_some}
 use Rattle.marc_types.specs.declared.entry.Entry.{Entry}
 use Rattle.marc_types.specs.declared.entry.Limits.{Limits}
 use Rattle.outside.specs.Disk.{DiskView}
-use Rattle.commit_journal.specs.Log.{version_of}
+use Rattle.commit_journal.specs.Log.{walk_of, version_of}
+use Rattle.commit_journal.specs.Journal.{EndsAt}
 use Rattle.entry_record.specs.History.{IsWithin}
 use Rattle.durable_catalogue.specs.Logs.{IsLogOf, HasHistory}
 use Rattle.durable_catalogue.specs.Openings.{IsNoJournal}
+use Rattle.durable_catalogue.specs.Refused.{LeavesAlone}
 use Rattle.journal_migration.specs.declared.fault.MigrateFault.{MigrateFault}
 use Rattle.journal_migration.specs.declared.fault.MigrateFault.TheVariants.{DeviceFault, NotAJournal, OldVersion, Full, NotPrefix, NoMemory}
 
@@ -26,6 +28,15 @@ pub record IsFit (limits : Limits) (history entries : List Entry) (log : List �
   pub within : AreWithin limits history entries
   pub begins : Begins history entries
 
+-- the log is not fit for the history, whatever entries it has
+abbrev pub IsUnfit : Limits → List Entry → List ℕ → Type 0
+IsUnfit limits history log = (entries : List Entry) → IsFit limits history entries log → ⊥
+
+-- a log that is not fit for the history is left alone, where the disk tells its content
+abbrev pub LeavesUnfitAlone : Limits → List Entry → Type 0 → DiskView → DiskView → Type 0
+LeavesUnfitAlone limits history failed old new = (log now : List ℕ) → old.content ≡ Some log → new.content ≡ Some now
+    → IsUnfit limits history log → LeavesAlone failed log now
+
 -- why a history is not brought into a log
 abbrev pub IsUnmigrated : Limits → List Entry → List ℕ → MigrateFault → Type 0
 IsUnmigrated limits history log DeviceFault = Unit {0}
@@ -36,23 +47,22 @@ IsUnmigrated limits history log NotPrefix =
     (version_of log ≡ 2) × ((entries : List Entry) × IsLogOf entries log × AreWithin limits history entries × (Begins history entries → ⊥))
 IsUnmigrated limits history log NoMemory = Unit {0}
 
--- the log is refused for what it is
-abbrev pub IsRefusal : MigrateFault → Type 0
-IsRefusal DeviceFault = ⊥
-IsRefusal (NotAJournal place) = Unit {0}
-IsRefusal OldVersion = Unit {0}
-IsRefusal Full = Unit {0}
-IsRefusal NotPrefix = Unit {0}
-IsRefusal NoMemory = ⊥
+-- a log of the newest version that has this history, and ends with its first closed gate
+pub record IsBrought (history : List Entry) (log : List ℕ) : Type 0 where
+  pub has : HasHistory history log
+  pub newest : version_of log ≡ 2
+  pub ended : EndsAt (walk_of log).place log
 
 -- An image has these entries; or, where it may have more and a history begins with them, these and a front of what that has behind
--- them.
+-- them. Where it may have more it is of the newest version.
 pub data IsAmid (may : Type 0) (history entries : List Entry) (image : List ℕ) : Type 0 where
-  Before : IsLogOf entries image → IsAmid may history entries image
-  Behind : may → (more rest : List Entry) → (entries ++ more) ++ rest ≡ history → IsLogOf (entries ++ more) image → IsAmid may history entries image
+  Before : IsLogOf entries image → (may → version_of image ≡ 2) → IsAmid may history entries image
+  Behind : may → (more rest : List Entry) → (entries ++ more) ++ rest ≡ history → IsLogOf (entries ++ more) image → version_of image ≡ 2
+      → IsAmid may history entries image
 
 -- A history is brought into a disk's log: each image since the first sync that succeeded has the entries that the log had, or, where
--- the log is fit for the history, these and a front of the rest; where no sync succeeded, the content is as it was. So has the content.
+-- the log is fit for the history, these and a front of the rest, and is of the newest version; where no sync succeeded, the content is
+-- as it was. So has the content.
 pub record IsMigration (limits : Limits) (history : List Entry) (old new : DiskView) : Type 0 where
   pub images : (s : ℕ) (log c : List ℕ) (entries : List Entry) → new.synced old.moment ≡ Some s → old.content ≡ Some log → new.left s c
       → HasHistory entries log → ∥ IsAmid (IsFit limits history entries log) history entries c ∥₁

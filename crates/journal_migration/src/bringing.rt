@@ -6,10 +6,9 @@ ghost use Rattle.outside.specs.Fault.{Rose};
 ghost use Rattle.entry_history.specs.Payloads.{IsHistory};
 ghost use Rattle.entry_history.specs.Readers.{IsVersion};
 ghost use Rattle.durable_catalogue.specs.Logs.{payloads_of};
-ghost use Rattle.journal_migration.specs.Migrations.{IsRefusal};
 ghost use Rattle.journal_migration.specs.declared.fault.MigrateFault.TheVariants.{DeviceFault};
 ghost use Rattle.entry_record.specs.History.{IsAdmitted};
-ghost use Rattle.journal_migration.specs.Fronts.{Brings, BringsRest, MayGain, HasBrought, AddsEntry, TriesEntry, IsUnappended, HoldsFront, HoldNoFront};
+ghost use Rattle.journal_migration.specs.Fronts.{Brings, BringsRest, MayGain, MayNotGain, HasBrought, AddsEntry, TriesEntry, IsUnappended, HoldsFront, HoldNoFront};
 
 use crate::MigrateFault;
 use crate::front::front_of;
@@ -58,6 +57,7 @@ fn bring_rest<D: Disk>(
     ensures continues { Continues (D.seen journal.old.disk) (D.seen journal.new.disk) }
     ensures brings { BringsRest core.now.history count (D.seen journal.old.disk) (D.seen journal.new.disk) }
     ensures whole { OnOk result (journal.new.broken ≡ false) }
+    ensures newest { OnOk result (journal.new.version ≡ 2) }
     ensures brought { OnOk result (HasBrought core.now.history (take count core.now.history) core.now.history (D.seen journal.old.disk) (D.seen journal.new.disk)) }
     ensures fault { IfErr result (IsUnappended (D.seen journal.old.disk).faults (D.seen journal.new.disk).faults) }
     ensures later { (D.seen journal.old.disk).faults ≤ (D.seen journal.new.disk).faults }
@@ -90,13 +90,14 @@ pub fn bring<D: Disk>(
     ensures brought { OnOk result ((entries : List Entry) → IsVersion journal.old.version → IsHistory journal.old.version [] (payloads_of frames.now) entries →
         HasBrought core.now.history entries core.now.history (D.seen journal.old.disk) (D.seen journal.new.disk)) }
     ensures whole { OnOk result (journal.new.broken ≡ false) }
+    ensures newest { OnOk result (journal.new.version ≡ 2) }
 
-    // The history began with the entries of the frames, or there is a reason against it.
+    // The history began with the entries of the frames, or there is a reason against it. A journal that may not gain it is as it was.
     ensures version { OnOk result (journal.old.version ≡ 2) }
     ensures front { IsVersion journal.old.version → OnOk result ((count : ℕ) × HoldsFront journal.old.version frames.now limits.now core.now.history count) }
     ensures fault { IsVersion journal.old.version → IfErr result (HoldNoFront journal.old.version frames.now limits.now core.now.history) }
     ensures failed { IfErr result (λ fault. fault ≡ DeviceFault → Rose (D.seen journal.old.disk).faults (D.seen journal.new.disk).faults) }
-    ensures refused { IfErr result (λ fault. IsRefusal fault → journal.new ≡ journal.old) }
+    ensures alone { IsVersion journal.old.version → MayNotGain journal.old.version frames.now limits.now core.now.history → journal.new ≡ journal.old }
     ensures later { (D.seen journal.old.disk).faults ≤ (D.seen journal.new.disk).faults }
 {
     let count = front_of(alloc, journal.version(), frames, core, limits)?;

@@ -3,8 +3,7 @@ ghost use Rattle.std.specs.Prelude.{◌≡◌, ◌≤◌, ℕ, List, Some, true,
 ghost use Rattle.marc_types.specs.declared.entry.Entry.{Entry};
 ghost use Rattle.outside.specs.Fault.{Rose};
 ghost use Rattle.durable_catalogue.specs.Logs.{HasHistory};
-ghost use Rattle.durable_catalogue.specs.Refused.{LeavesDiskAlone};
-ghost use Rattle.journal_migration.specs.Migrations.{IsFit, IsUnmigrated, IsRefusal, IsMigration};
+ghost use Rattle.journal_migration.specs.Migrations.{IsFit, LeavesUnfitAlone, IsUnmigrated, IsBrought, IsMigration};
 ghost use Rattle.journal_migration.specs.declared.fault.MigrateFault.TheVariants.{DeviceFault};
 
 use crate::MigrateFault;
@@ -26,23 +25,25 @@ pub fn migrate<D: Disk>(
     limits: Limits,
 ) -> Result<D, (D, MigrateFault)>
     // The new log was of version 2 and had a front of the old history, within the limits; now all that a crash may leave has that
-    // history. It is one that a log was read as.
+    // history, is of version 2, and ends with its closed gate. The history is one that a log was read as.
     ensures fit { IfOk result (λ disk. (log : List ℕ) → (D.seen new).content ≡ Some log →
         (entries : List Entry) × IsFit limits old.now.core.history entries log) }
     ensures all { IfOk result (λ disk. (was c : List ℕ) → HasHistory old.now.core.history was → is_some (D.seen new).content ≡ true →
-        (D.seen disk).image c → HasHistory old.now.core.history c) }
+        (D.seen disk).image c → IsBrought old.now.core.history c) }
     ensures content { IfOk result (λ disk. (was c : List ℕ) → HasHistory old.now.core.history was → (D.seen disk).content ≡ Some c →
-        HasHistory old.now.core.history c) }
+        IsBrought old.now.core.history c) }
 
-    // Each image since the first sync of the new disk has the history that it had, or, where its log was fit, more of the old one.
+    // Each image since the first sync of the new disk has the history that it had, or, where its log was fit, more of the old one, and
+    // is then of version 2.
     ensures crash { (was : List ℕ) → HasHistory old.now.core.history was →
         MatchResult result (λ disk. IsMigration limits old.now.core.history (D.seen new) (D.seen disk))
         (λ e. IsMigration limits old.now.core.history (D.seen new) (D.seen e.0)) }
 
-    // Each fault comes only where the new log is so; a device fault only where the count of faults rose. A refused log is left alone.
+    // Each fault comes only where the new log is so; a device fault only where the count of faults rose. A log that isn't fit is left
+    // alone, whatever the fault is; one that isn't gets a fault, by `fit`.
     ensures fault { IfErr result (λ e. (log : List ℕ) → (D.seen new).content ≡ Some log → IsUnmigrated limits old.now.core.history log e.1) }
     ensures failed { IfErr result (λ e. e.1 ≡ DeviceFault → Rose (D.seen new).faults (D.seen e.0).faults) }
-    ensures left_alone { IfErr result (λ e. IsRefusal e.1 → LeavesDiskAlone (e.1 ≡ DeviceFault) (D.seen new) (D.seen e.0)) }
+    ensures left_alone { IfErr result (λ e. LeavesUnfitAlone limits old.now.core.history (e.1 ≡ DeviceFault) (D.seen new) (D.seen e.0)) }
     ensures later { MatchResult result (λ disk. (D.seen new).faults ≤ (D.seen disk).faults) (λ e. (D.seen new).faults ≤ (D.seen e.0).faults) }
 {
     match Journal::open(alloc, new) {

@@ -1,25 +1,30 @@
 -- How the command ends, from what was brought over.
-use Rattle.std.proofs.Common.{◌≡◌, ◌∙◌, ◌⊎◌, inl, inr, ℕ, true, List, [], ◌∷◌, length, Result, Ok, Err, refl, sym, ap, subst}
+use Rattle.std.proofs.Common.{◌≡◌, ◌∙◌, ◌⊎◌, inl, inr, ℕ, true, List, [], ◌∷◌, Result, Ok, Err, refl, sym, ap, subst}
 use Rattle.std.specs.Io.KnownBytes.{Appends}
+use Rattle.marc_types.specs.declared.entry.Entry.{Entry}
 use Rattle.outside.specs.Fault.{Rose}
 use Rattle.outside.specs.Room.{SameBut}
 use Rattle.outside.specs.Sink.{WritesFront}
+use Rattle.durable_catalogue.specs.Logs.{HasHistory}
+use Rattle.durable_catalogue.specs.Refused.{LeavesAlone}
 use Rattle.durable_catalogue.specs.declared.fault.OpenFault.{OpenFault}
 use Rattle.durable_catalogue.specs.declared.fault.OpenFault.TheVariants as opening
 use Rattle.console_lines.specs.Ends.{Outcome, IsTold, console_unwritten}
-use Rattle.console_lines.specs.declared.end.End.{End}
-use Rattle.console_lines.specs.declared.end.End.TheVariants.{Done, Unwritten, Told}
+use Rattle.console_lines.specs.declared.end.End.TheVariants.{Done, Told}
 use Rattle.console_lines.specs.declared.end.Unwritten.TheVariants.{Console}
 use Rattle.console_lines.specs.declared.fault.Fault.{Fault}
-use Rattle.console_lines.specs.declared.fault.Fault.TheVariants.{Device, OldVersion}
+use Rattle.console_lines.specs.declared.fault.Fault.TheVariants.{Device}
 use Rattle.console_lines.proofs.Ends.{told_once, told_not_done, told_not_unwritten, done_not_unwritten, never_told}
 use Rattle.room_files.specs.Faults.{fault_of_opening}
+use Rattle.room_files.specs.Journals.{journal_limits, log_bytes}
 use Rattle.room_files.proofs.Journals.{keeps_where}
+use Rattle.journal_migration.specs.Migrations.{IsUnfit}
 use Rattle.journal_migration.specs.declared.fault.MigrateFault.{MigrateFault}
 use Rattle.journal_migration.specs.declared.fault.MigrateFault.TheVariants as migrating
 use Rattle.migrate_command.specs.Faults.{fault_of_migrating}
 use Rattle.migrate_command.specs.Bringing.{IsDeviceFaultOf, IsBroughtOver}
 use Rattle.migrate_command.specs.Migrates.{EndsMigrating, WhyNotFrom, NotOpened, Newest, WhyNotInto, IsDeviceOf, migrated_line, Migrates}
+use Rattle.migrate_command.proofs.Rooms.{alone_where}
 
 opening_ends : (reason : OpenFault) → EndsMigrating (Told (fault_of_opening reason))
 opening_ends opening.DeviceFault = tt
@@ -51,7 +56,7 @@ pub err_once : (result : Result ℕ Fault) (one other : Fault) → result ≡ Er
 err_once result one other is also = let both : Err one ≡ Err other = sym is ∙ also in cc
 
 module _ (from into : List ℕ) (o : Outcome) (result : Result ℕ Fault) (over : IsBroughtOver from into o.old o.new result) where
-  ends_told : (why : Fault) → (WhyNotFrom o.old from why × SameBut o.old o.new (from ∷ [])) ⊎ WhyNotInto o.old o.new from into why → EndsMigrating (Told why)
+  ends_told : (why : Fault) → (WhyNotFrom o.old from why × SameBut o.old o.new (from ∷ [])) ⊎ WhyNotInto o.old from into why → EndsMigrating (Told why)
   ends_told why (inl from_it) = of_old from_it.0
     where
       of_old : WhyNotFrom o.old from why → EndsMigrating (Told why)
@@ -65,7 +70,10 @@ module _ (from into : List ℕ) (o : Outcome) (result : Result ℕ Fault) (over 
     keeps = λ tells. keeps_where (IsDeviceFaultOf o.old o.new from result) (IsDeviceOf o from) o.old o.new from
         (λ device. (is ∙ ap Told (err_once result why Device err device.0), device.1)) (over.keeps tells);
     brings = over.brings;
-    told = λ other also. subst (λ w. IsTold w o × ((WhyNotFrom o.old from w × SameBut o.old o.new (from ∷ [])) ⊎ WhyNotInto o.old o.new from into w))
+    alone = λ entries tells has none.
+        alone_where (IsDeviceFaultOf o.old o.new into result) (IsDeviceOf o into) (log_bytes o.old into) (log_bytes o.new into)
+        (λ device. (is ∙ ap Told (err_once result why Device err device.0), device.1)) (over.alone entries tells has none);
+    told = λ other also. subst (λ w. IsTold w o × ((WhyNotFrom o.old from w × SameBut o.old o.new (from ∷ [])) ⊎ WhyNotInto o.old from into w))
         (told_once o.end why other is also) (told, over.refused why err);
     device = λ also. over.device (err ∙ ap Err (told_once o.end why Device is also));
     history = λ untold. absurd (never_told o.end why untold is);
@@ -80,14 +88,21 @@ module _ (from into : List ℕ) (o : Outcome) (result : Result ℕ Fault) (over 
 
   module _ (count : ℕ) (ok : result ≡ Ok count) where
     -- no device's fault is told
-    no_device : IsDeviceFaultOf o.old o.new from result → IsDeviceOf o from
-    no_device device = absurd (ok_not_err result count Device ok device.0)
+    no_device : (name : List ℕ) → IsDeviceFaultOf o.old o.new name result → IsDeviceOf o name
+    no_device name device = absurd (ok_not_err result count Device ok device.0)
+
+    left_alone : (entries : List Entry) → o.old.tells ≡ true → HasHistory entries (log_bytes o.old from) → IsUnfit journal_limits entries (log_bytes o.old into)
+        → LeavesAlone (IsDeviceOf o into) (log_bytes o.old into) (log_bytes o.new into)
+    left_alone entries tells has none =
+        alone_where (IsDeviceFaultOf o.old o.new into result) (IsDeviceOf o into) (log_bytes o.old into) (log_bytes o.new into) (no_device into)
+        (over.alone entries tells has none)
 
     pub migrates_done : o.end ≡ Done → Appends o.told o.now (migrated_line count) → Migrates from into o
     migrates_done is line = record {
       ends = subst EndsMigrating (sym is) tt;
-      keeps = λ tells. keeps_where (IsDeviceFaultOf o.old o.new from result) (IsDeviceOf o from) o.old o.new from no_device (over.keeps tells);
+      keeps = λ tells. keeps_where (IsDeviceFaultOf o.old o.new from result) (IsDeviceOf o from) o.old o.new from (no_device from) (over.keeps tells);
       brings = over.brings;
+      alone = left_alone;
       told = λ why also. absurd (told_not_done o.end why also is);
       device = λ also. absurd (told_not_done o.end Device also is);
       history = λ untold. over.history count ok;
@@ -103,8 +118,9 @@ module _ (from into : List ℕ) (o : Outcome) (result : Result ℕ Fault) (over 
     pub migrates_unwritten : o.end ≡ console_unwritten → WritesFront o.told o.now (migrated_line count) → Rose o.faults o.faults_now → Migrates from into o
     migrates_unwritten is front rose = record {
       ends = subst EndsMigrating (sym is) tt;
-      keeps = λ tells. keeps_where (IsDeviceFaultOf o.old o.new from result) (IsDeviceOf o from) o.old o.new from no_device (over.keeps tells);
+      keeps = λ tells. keeps_where (IsDeviceFaultOf o.old o.new from result) (IsDeviceOf o from) o.old o.new from (no_device from) (over.keeps tells);
       brings = over.brings;
+      alone = left_alone;
       told = λ why also. absurd (told_not_unwritten o.end why Console also is);
       device = λ also. absurd (told_not_unwritten o.end Device Console also is);
       history = λ untold. over.history count ok;

@@ -6,7 +6,7 @@ use Rattle.std.specs.Coded.{Coded-set, coded_ℕ}
 use Rattle.marc_types.specs.declared.entry.Entry.{Entry}
 use Rattle.outside.specs.Disk.{DiskView}
 use Rattle.outside.specs.Fault.{Rose}
-use Rattle.outside.specs.Room.{RoomView, SameBut}
+use Rattle.outside.specs.Room.{RoomView, SameBut, bytes_or_none}
 use Rattle.outside.proofs.Rooms.{same_but_none, same_but_then}
 use Rattle.commit_journal.specs.Log.{version_of}
 use Rattle.entry_record.specs.History.{IsWithin}
@@ -15,7 +15,6 @@ use Rattle.entry_history.proofs.Histories.{history_once}
 use Rattle.catalogue_core.specs.Catalogues.{Catalogued, all_entries}
 use Rattle.durable_catalogue.specs.Logs.{payloads_of, IsLogOf, HasHistory}
 use Rattle.durable_catalogue.specs.Openings.{IsUnopened}
-use Rattle.durable_catalogue.specs.Refused.{LeavesAlone}
 use Rattle.durable_catalogue.specs.declared.fault.OpenFault.{OpenFault}
 use Rattle.durable_catalogue.specs.declared.fault.OpenFault.TheVariants as opening
 use Rattle.durable_catalogue.proofs.Opened.{either_version}
@@ -26,12 +25,13 @@ use Rattle.room_files.specs.Journals.{journal_limits, log_bytes, IsClosedDisk, K
 use Rattle.room_files.proofs.Journals.{closed_keeps, keeps_where}
 use Rattle.archive_commands.specs.Archives.{HasFittingHistory}
 use Rattle.archive_commands.proofs.Histories.{fitting_history}
-use Rattle.journal_migration.specs.Migrations.{IsFit, IsUnmigrated}
+use Rattle.journal_migration.specs.Migrations.{IsFit, IsUnfit, IsUnmigrated, IsBrought}
 use Rattle.migrate_command.specs.Bringing as bringing
 use Rattle.migrate_command.specs.Bringing.{IsBroughtInto, IsUnbrought, Refused, IsDeviceFaultOf, IsBroughtOver}
 use Rattle.migrate_command.specs.Migrates.{BringsInto, Unopened, HasInEachImage, NotOpened, Newest}
 use Rattle.migrate_command.proofs.Endings.{ok_not_err, err_once}
-use Rattle.migrate_command.proofs.Rooms.{bytes_first, bytes_last, brings_across, images_across, alone_across}
+use Rattle.migrate_command.proofs.Rooms.{alone_same, alone_where, bytes_first, bytes_last, brings_across, images_across, alone_across}
+use mathlib.Core.HLevel.{⊥_prop}
 
 opening_device : (reason : OpenFault) → fault_of_opening reason ≡ Device → reason ≡ opening.DeviceFault
 opening_device opening.DeviceFault is = refl
@@ -72,6 +72,8 @@ module _ (from into : List ℕ) (differ : into ≢ from) (old opened : RoomView)
         keeps = λ tells. keeps_where (reason ≡ opening.DeviceFault) (IsDeviceFaultOf old opened from result) old opened from
             (λ device. (is ∙ ap (λ r. Err (fault_of_opening r)) device, rose device)) (keeps tells);
         brings = λ entries tells has. ∣ Unopened other_untouched ∣₁;
+        alone = λ entries tells has unfit.
+            alone_same (IsDeviceFaultOf old opened into result) (log_bytes old into) (log_bytes opened into) (ap bytes_or_none other_untouched.file);
         refused = λ why also. inl (NotOpened reason current (err_once result why fault also is) so, apart);
         device = λ also. inl (rose (opening_device reason (err_once result fault Device is also)));
         history = λ count ok. absurd (ok_not_err result count fault ok is);
@@ -97,10 +99,20 @@ module _ (from into : List ℕ) (differ : into ≢ from) (old opened brought clo
       ∥∥₁_elim also ∥∥₁_prop (λ (is : IsLogOf entries (log_bytes old from)). ∥∥₁_elim (has tells) ∥∥₁_prop (λ (too : IsLogOf history (log_bytes old from)).
       ∣ subst P (reading_once history entries (log_bytes old from) too is) so ∣₁))
 
+  -- what isn't fit for any history of the old log isn't for the archive's
+  unfit_any : (entries : List Entry) (log : List ℕ) → old.tells ≡ true → HasHistory entries (log_bytes old from) → IsUnfit journal_limits entries log
+      → IsUnfit journal_limits history log
+  unfit_any entries log tells also none front fit =
+      ∥∥₁_elim (of_any entries (λ es. IsFit journal_limits es front log) tells also fit) ⊥_prop (λ (it : IsFit journal_limits entries front log). none front it)
+
   -- what has the archive's history has any that the old log has
   has_any : (entries : List Entry) (bytes : List ℕ) → old.tells ≡ true → HasHistory entries (log_bytes old from) → HasHistory history bytes → HasHistory entries bytes
   has_any entries bytes tells also so =
       ∥∥₁_elim (of_any entries (λ es. HasHistory es bytes) tells also so) ∥∥₁_prop (λ (it : HasHistory entries bytes). it)
+
+  brought_any : (entries : List Entry) (bytes : List ℕ) → old.tells ≡ true → HasHistory entries (log_bytes old from) → IsBrought history bytes
+      → IsBrought entries bytes
+  brought_any entries bytes tells also so = record { has = has_any entries bytes tells also so.has; newest = so.newest; ended = so.ended }
 
   -- and that is one that fits
   fits : old.tells ≡ true → HasFittingHistory (log_bytes old from)
@@ -121,6 +133,9 @@ module _ (from into : List ℕ) (differ : into ≢ from) (old opened brought clo
   over_brought count result is number b = record {
     keeps = keeps_opened (IsDeviceFaultOf old closed from result);
     brings = brings_opened;
+    alone = λ entries tells also none.
+        let f = b.fit (first.tells ∙ tells) in
+        absurd (unfit_any entries (log_bytes old into) tells also none f.0 (subst (λ l. IsFit journal_limits history f.0 l) first_bytes f.1));
     refused = λ why err. absurd (ok_not_err result count why is err);
     device = λ err. absurd (ok_not_err result count Device is err);
     history = λ n ok. fits;
@@ -133,7 +148,7 @@ module _ (from into : List ℕ) (differ : into ≢ from) (old opened brought clo
     durable = λ n entries ok tells also.
         let left = images_brought tells in record {
           is_log = left.is_log;
-          images = λ c image. has_any entries c tells also (left.images c image);
+          images = λ c image. brought_any entries c tells also (left.images c image);
         };
   }
     where
@@ -146,11 +161,11 @@ module _ (from into : List ℕ) (differ : into ≢ from) (old opened brought clo
           (λ (too : IsLogOf history (log_bytes old from)). ap length (reading_once history entries (log_bytes old from) too it))) in
           same ∙ number ∙ sized
 
-      all_brought : (entries : List Entry) → old.tells ≡ true → HasHistory entries (log_bytes old from) → HasHistory entries (log_bytes closed into)
+      all_brought : (entries : List Entry) → old.tells ≡ true → HasHistory entries (log_bytes old from) → IsBrought entries (log_bytes closed into)
       all_brought entries tells also =
           let now = b.all (log_bytes old from) (first.tells ∙ tells) (has tells) in
-          has_any entries (log_bytes closed into) tells also
-          (subst (λ bytes. HasHistory history bytes) (sym (bytes_last history old opened brought closed from into differ first last)) now)
+          brought_any entries (log_bytes closed into) tells also
+          (subst (λ bytes. IsBrought history bytes) (sym (bytes_last history old opened brought closed from into differ first last)) now)
 
       images_brought : old.tells ≡ true → HasInEachImage history closed into
       images_brought tells =
@@ -161,6 +176,9 @@ module _ (from into : List ℕ) (differ : into ≢ from) (old opened brought clo
   over_unbrought why result is (bringing.Newest newest other stays) = record {
     keeps = keeps_opened (IsDeviceFaultOf old closed from result);
     brings = brings_opened;
+    alone = λ entries tells also none.
+        alone_same (IsDeviceFaultOf old closed into result) (log_bytes old into) (log_bytes closed into)
+        (bytes_last history old opened brought closed from into differ first last ∙ ap bytes_or_none (stays.files into tt) ∙ first_bytes);
     refused = λ w err. inl (Newest (err_once result w why err is ∙ newest) (λ tells. (two tells, fits tells)), apart);
     device = λ err. let device : why ≡ Device = err_once result why Device is err in let never : OldVersion ≡ Device = sym newest ∙ device in cc;
     history = λ count ok. absurd (ok_not_err result count why ok is);
@@ -181,24 +199,29 @@ module _ (from into : List ℕ) (differ : into ≢ from) (old opened brought clo
   over_unbrought why result is (Refused reason oldest told so alone rose) = record {
     keeps = keeps_opened (IsDeviceFaultOf old closed from result);
     brings = brings_opened;
+    alone = λ entries tells also none.
+        alone_where (why ≡ Device) (IsDeviceFaultOf old closed into result) (log_bytes old into) (log_bytes closed into)
+        (λ device. (is ∙ ap Err device, risen device))
+        (alone_across history old opened brought closed from into differ first last (why ≡ Device)
+        (alone (log_bytes old from) (first.tells ∙ tells) (has tells)
+        (subst (IsUnfit journal_limits history) (sym first_bytes) (unfit_any entries (log_bytes old into) tells also none))));
     refused = λ w err. inr (record {
       reason = reason;
       is = err_once result w why err is ∙ told;
       oldest = λ tells. named tells ∙ oldest;
       so = λ tells. (history, has tells, subst (λ l. IsUnmigrated journal_limits history l reason) first_bytes (so (first.tells ∙ tells)));
-      alone = λ tells refusal.
-          alone_across history old opened brought closed from into differ first last (w ≡ Device)
-          (subst (λ f. LeavesAlone (f ≡ Device) (log_bytes opened into) (log_bytes brought into)) (sym (err_once result w why err is))
-          (alone (log_bytes old from) (first.tells ∙ tells) (has tells) refusal));
     });
-    device = λ err.
-        let risen = rose (err_once result why Device is err) in
-        let before = first.log_counts into in
-        let behind = last.log_counts into in
-        inr (omega (arith, risen, before, behind));
+    device = λ err. inr (risen (err_once result why Device is err));
     history = λ count ok. absurd (ok_not_err result count why ok is);
     version = λ count ok. absurd (ok_not_err result count why ok is);
     fit = λ count entries ok. absurd (ok_not_err result count why ok is);
     all = λ count entries ok. absurd (ok_not_err result count why ok is);
     durable = λ count entries ok. absurd (ok_not_err result count why ok is);
   }
+    where
+      risen : why ≡ Device → Rose (old.log_faults into) (closed.log_faults into)
+      risen device =
+          let rises = rose device in
+          let before = first.log_counts into in
+          let behind = last.log_counts into in
+          omega (arith, rises, before, behind)

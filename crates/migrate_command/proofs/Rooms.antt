@@ -1,5 +1,5 @@
 -- What a room keeps of a log into which a history was brought.
-use Rattle.std.proofs.Common.{◌≡◌, ◌≢◌, ◌∙◌, ℕ, ◌≤◌, true, List, [], ◌∷◌, Some, None, is_some, sym, ap, subst}
+use Rattle.std.proofs.Common.{◌≡◌, ◌≢◌, ◌∙◌, inl, ℕ, ◌≤◌, true, List, [], ◌∷◌, Some, None, is_some, sym, ap, subst}
 use Rattle.marc_types.specs.declared.entry.Entry.{Entry}
 use Rattle.outside.specs.Disk.{DiskView, SameDisk}
 use Rattle.outside.specs.Fault.{Rose, count_sum}
@@ -7,13 +7,26 @@ use Rattle.outside.specs.Room.{RoomView, SameBut, bytes_or_none}
 use Rattle.outside.proofs.Counts.{rose_closed}
 use Rattle.outside.proofs.Disks.{same_disk_then}
 use Rattle.outside.proofs.Rooms.{same_but_then, same_but_first, same_but_more}
+use Rattle.commit_journal.specs.Journal.{SameLog}
+use Rattle.commit_journal.proofs.Logs.{same_self}
 use Rattle.durable_catalogue.specs.Logs.{HasHistory}
-use Rattle.durable_catalogue.specs.Refused.{LeavesAlone, LeavesDiskAlone}
+use Rattle.durable_catalogue.specs.Refused.{LeavesAlone}
 use Rattle.durable_catalogue.proofs.Keeping.{some_of}
 use Rattle.room_files.specs.Journals.{journal_limits, log_bytes}
 use Rattle.archive_commands.proofs.Rooms.{closed_opened}
-use Rattle.journal_migration.specs.Migrations.{IsMigration, IsAmid, IsFit}
+use Rattle.journal_migration.specs.Migrations.{IsFit, IsUnfit, LeavesUnfitAlone, IsBrought, IsMigration, IsAmid}
 use Rattle.migrate_command.specs.Migrates.{BringsInto, Unopened, Opened, IsAmidInto, HasInEachImage}
+
+-- a log that is as it was is left alone
+pub alone_same : (failed : Type 0) (log now : List ℕ) → now ≡ log → LeavesAlone failed log now
+alone_same failed log now is = record {
+  leaves = record { same = subst (SameLog log) (sym is) (same_self log); lost = λ place lost. is };
+  bytes = λ other. inl is;
+}
+
+-- what fails so fails otherwise
+pub alone_where : (failed also : Type 0) (log now : List ℕ) → (failed → also) → LeavesAlone failed log now → LeavesAlone also log now
+alone_where failed also log now is alone = record { leaves = alone.leaves; bytes = λ other. alone.bytes (λ f. other (is f)) }
 
 -- a log was opened as a disk, into which a history was brought, and the disk was closed as the log
 module _ (history : List Entry) (old new : RoomView) (name : List ℕ) (before disk : DiskView) (told : before.content ≡ Some (log_bytes old name))
@@ -34,18 +47,18 @@ module _ (history : List Entry) (old new : RoomView) (name : List ℕ) (before d
       ap bytes_or_none file
       ∙ ap bytes_or_none (m.unsynced (sym m.dated ∙ sym unchanged.dated ∙ dated) (ap disk.synced begins ∙ sym (unchanged.syncs 0) ∙ none) ∙ told))
 
-  pub all_into : ((c : List ℕ) → disk.content ≡ Some c → HasHistory history c) → HasHistory history (log_bytes new name)
-  all_into all = subst (λ o. HasHistory history (bytes_or_none o)) (sym (file ∙ told_now.1)) (all told_now.0 told_now.1)
+  pub all_into : ((c : List ℕ) → disk.content ≡ Some c → IsBrought history c) → IsBrought history (log_bytes new name)
+  all_into all = subst (λ o. IsBrought history (bytes_or_none o)) (sym (file ∙ told_now.1)) (all told_now.0 told_now.1)
 
-  -- a log that is refused is left alone
-  pub alone_into : (failed also : Type 0) → (failed → also) → LeavesDiskAlone failed before disk → LeavesAlone also (log_bytes old name) (log_bytes new name)
-  alone_into failed also is alone =
-      let left = alone (log_bytes old name) told_now.0 told told_now.1 in
+  -- a log that isn't fit is left alone
+  pub alone_into : (failed also : Type 0) → (failed → also) → LeavesUnfitAlone journal_limits history failed before disk
+      → IsUnfit journal_limits history (log_bytes old name) → LeavesAlone also (log_bytes old name) (log_bytes new name)
+  alone_into failed also is alone unfit =
       subst (λ o. LeavesAlone also (log_bytes old name) (bytes_or_none o)) (sym (file ∙ told_now.1))
-      (record { leaves = left.leaves; bytes = λ other. left.bytes (λ f. other (is f)) })
+      (alone_where failed also (log_bytes old name) told_now.0 is (alone (log_bytes old name) told_now.0 told told_now.1 unfit))
 
 pub images_into : (history : List Entry) (room : RoomView) (name : List ℕ) (disk : DiskView) → room.has_log name ≡ true → SameDisk disk (room.log name)
-    → ((c : List ℕ) → disk.image c → HasHistory history c) → HasInEachImage history room name
+    → ((c : List ℕ) → disk.image c → IsBrought history c) → HasInEachImage history room name
 images_into history room name disk is_log same all = record { is_log = is_log; images = λ c image. all c ((same.unchanged.images c).0 image) }
 
 pub untouched_into : (history : List Entry) (old new : RoomView) (name : List ℕ) → SameBut old new [] → BringsInto history old new name

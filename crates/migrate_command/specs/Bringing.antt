@@ -11,7 +11,7 @@ use Rattle.console_lines.specs.declared.fault.Fault.TheVariants.{Device, OldVers
 use Rattle.room_files.specs.Journals.{journal_limits, log_bytes, KeepsHistory}
 use Rattle.archive_commands.specs.Archives.{HasFittingHistory}
 use Rattle.journal_migration.specs.declared.fault.MigrateFault.{MigrateFault}
-use Rattle.journal_migration.specs.Migrations.{IsFit, IsUnmigrated, IsRefusal}
+use Rattle.journal_migration.specs.Migrations.{IsFit, IsUnfit, IsUnmigrated, IsBrought}
 use Rattle.migrate_command.specs.Faults.{fault_of_migrating}
 use Rattle.migrate_command.specs.Migrates.{BringsInto, HasInEachImage, WhyNotFrom, WhyNotInto}
 
@@ -19,15 +19,16 @@ use Rattle.migrate_command.specs.Migrates.{BringsInto, HasInEachImage, WhyNotFro
 pub record IsBroughtInto (history : List Entry) (version : ℕ) (old new : RoomView) (into : List ℕ) : Type 0 where
   pub oldest : version ≡ 1
   pub fit : old.tells ≡ true → (entries : List Entry) × IsFit journal_limits history entries (log_bytes old into)
-  pub all : (was : List ℕ) → old.tells ≡ true → HasHistory history was → HasHistory history (log_bytes new into)
+  pub all : (was : List ℕ) → old.tells ≡ true → HasHistory history was → IsBrought history (log_bytes new into)
   pub durable : (was : List ℕ) → old.tells ≡ true → HasHistory history was → HasInEachImage history new into
 
--- it wasn't: the archive is of the newest version, and nothing was opened; or the new log doesn't take it
+-- it wasn't: the archive is of the newest version, and nothing was opened; or the new log doesn't take it, and is left alone where it is
+-- not fit for that
 pub data IsUnbrought (history : List Entry) (version : ℕ) (old new : RoomView) (into : List ℕ) (fault : Fault) : Type 0 where
   Newest : fault ≡ OldVersion → (version ≡ 1 → ⊥) → SameBut old new [] → IsUnbrought history version old new into fault
   Refused : (reason : MigrateFault) → version ≡ 1 → fault ≡ fault_of_migrating reason
       → (old.tells ≡ true → IsUnmigrated journal_limits history (log_bytes old into) reason)
-      → ((was : List ℕ) → old.tells ≡ true → HasHistory history was → IsRefusal reason
+      → ((was : List ℕ) → old.tells ≡ true → HasHistory history was → IsUnfit journal_limits history (log_bytes old into)
       → LeavesAlone (fault ≡ Device) (log_bytes old into) (log_bytes new into))
       → (fault ≡ Device → Rose (old.log_faults into) (new.log_faults into)) → IsUnbrought history version old new into fault
 
@@ -39,13 +40,15 @@ IsDeviceFaultOf old new name result = (result ≡ Err Device) × Rose (old.log_f
 pub record IsBroughtOver (from into : List ℕ) (old new : RoomView) (result : Result ℕ Fault) : Type 0 where
   pub keeps : old.tells ≡ true → KeepsHistory (IsDeviceFaultOf old new from result) old new from
   pub brings : (entries : List Entry) → old.tells ≡ true → HasHistory entries (log_bytes old from) → ∥ BringsInto entries old new into ∥₁
-  pub refused : (why : Fault) → result ≡ Err why → (WhyNotFrom old from why × SameBut old new (from ∷ [])) ⊎ WhyNotInto old new from into why
+  pub alone : (entries : List Entry) → old.tells ≡ true → HasHistory entries (log_bytes old from) → IsUnfit journal_limits entries (log_bytes old into)
+      → LeavesAlone (IsDeviceFaultOf old new into result) (log_bytes old into) (log_bytes new into)
+  pub refused : (why : Fault) → result ≡ Err why → (WhyNotFrom old from why × SameBut old new (from ∷ [])) ⊎ WhyNotInto old from into why
   pub device : result ≡ Err Device → Rose (old.log_faults from) (new.log_faults from) ⊎ Rose (old.log_faults into) (new.log_faults into)
   pub history : (count : ℕ) → result ≡ Ok count → old.tells ≡ true → HasFittingHistory (log_bytes old from)
   pub version : (count : ℕ) → result ≡ Ok count → old.tells ≡ true → version_of (log_bytes old from) ≡ 1
   pub fit : (count : ℕ) (entries : List Entry) → result ≡ Ok count → old.tells ≡ true → HasHistory entries (log_bytes old from)
       → ∥ ((before : List Entry) × IsFit journal_limits entries before (log_bytes old into)) ∥₁
   pub all : (count : ℕ) (entries : List Entry) → result ≡ Ok count → old.tells ≡ true → HasHistory entries (log_bytes old from)
-      → (count ≡ length entries) × HasHistory entries (log_bytes new into)
+      → (count ≡ length entries) × IsBrought entries (log_bytes new into)
   pub durable : (count : ℕ) (entries : List Entry) → result ≡ Ok count → old.tells ≡ true → HasHistory entries (log_bytes old from)
       → HasInEachImage entries new into

@@ -22,7 +22,7 @@ use Rattle.room_files.specs.Faults.{fault_of_opening}
 use Rattle.room_files.specs.Journals.{journal_limits, log_bytes, KeepsHistory, IsUntouched}
 use Rattle.archive_commands.specs.Archives.{HasFittingHistory}
 use Rattle.journal_migration.specs.declared.fault.MigrateFault.{MigrateFault}
-use Rattle.journal_migration.specs.Migrations.{IsFit, IsUnmigrated, IsRefusal, IsAmid}
+use Rattle.journal_migration.specs.Migrations.{IsFit, IsUnfit, IsUnmigrated, IsBrought, IsAmid}
 use Rattle.migrate_command.specs.Faults.{fault_of_migrating}
 
 -- how it ends: nothing is refused, no input is read, and no output is written
@@ -49,17 +49,16 @@ pub data WhyNotFrom (room : RoomView) (name : List ℕ) (fault : Fault) : Type 0
   Newest : fault ≡ OldVersion → (room.tells ≡ true → (version_of (log_bytes room name) ≡ 2) × HasFittingHistory (log_bytes room name))
       → WhyNotFrom room name fault
 
--- Why it is not brought into the new one's log, where the old log is of version 1 and has these entries. A log that is refused for what it
--- is is left alone.
-pub record WhyNotInto (old new : RoomView) (from into : List ℕ) (fault : Fault) : Type 0 where
+-- why it is not brought into the new one's log, where the old log is of version 1 and has these entries
+pub record WhyNotInto (room : RoomView) (from into : List ℕ) (fault : Fault) : Type 0 where
   pub reason : MigrateFault
   pub is : fault ≡ fault_of_migrating reason
-  pub oldest : old.tells ≡ true → version_of (log_bytes old from) ≡ 1
-  pub so : old.tells ≡ true → (entries : List Entry) × HasHistory entries (log_bytes old from)
-      × IsUnmigrated journal_limits entries (log_bytes old into) reason
-  pub alone : old.tells ≡ true → IsRefusal reason → LeavesAlone (fault ≡ Device) (log_bytes old into) (log_bytes new into)
+  pub oldest : room.tells ≡ true → version_of (log_bytes room from) ≡ 1
+  pub so : room.tells ≡ true → (entries : List Entry) × HasHistory entries (log_bytes room from)
+      × IsUnmigrated journal_limits entries (log_bytes room into) reason
 
--- an image has the entries that the log of that name had, or, where that is fit for the history, more of the history
+-- an image has the entries that the log of that name had, or, where that is fit for the history, more of the history; where it is fit
+-- the image is of version 2
 abbrev pub IsAmidInto : List Entry → List Entry → RoomView → List ℕ → List ℕ → Type 0
 IsAmidInto history entries room name c = ∥ IsAmid (IsFit journal_limits history entries (log_bytes room name)) history entries c ∥₁
 
@@ -74,10 +73,11 @@ pub data BringsInto (history : List Entry) (old new : RoomView) (name : List ℕ
       → ((new.log name).dated ≡ true → (new.log name).synced 0 ≡ None → log_bytes new name ≡ log_bytes old name)
       → BringsInto history old new name
 
--- the file of that name is a closed log, and all that a crash may leave of it has this history
+-- the file of that name is a closed log, and all that a crash may leave of it has this history, in version 2, and ends with its closed
+-- gate
 pub record HasInEachImage (history : List Entry) (room : RoomView) (name : List ℕ) : Type 0 where
   pub is_log : room.has_log name ≡ true
-  pub images : (c : List ℕ) → (room.log name).image c → HasHistory history c
+  pub images : (c : List ℕ) → (room.log name).image c → IsBrought history c
 
 -- a device's fault was told, and the count of faults of that name's logs rose
 abbrev pub IsDeviceOf : Outcome → List ℕ → Type 0
@@ -91,18 +91,21 @@ pub record Migrates (from into : List ℕ) (o : Outcome) : Type 0 where
   pub ends : EndsMigrating o.end
   pub keeps : o.old.tells ≡ true → KeepsHistory (IsDeviceOf o from) o.old o.new from
   pub brings : (entries : List Entry) → o.old.tells ≡ true → HasHistory entries (log_bytes o.old from) → ∥ BringsInto entries o.old o.new into ∥₁
+  -- a new one that is not fit for the history is left alone, whatever the end is
+  pub alone : (entries : List Entry) → o.old.tells ≡ true → HasHistory entries (log_bytes o.old from)
+      → IsUnfit journal_limits entries (log_bytes o.old into) → LeavesAlone (IsDeviceOf o into) (log_bytes o.old into) (log_bytes o.new into)
   -- a fault is told for its reason; one of the old journal comes before the new one is opened
   pub told : (why : Fault) → o.end ≡ Told why
-      → IsTold why o × ((WhyNotFrom o.old from why × SameBut o.old o.new (from ∷ [])) ⊎ WhyNotInto o.old o.new from into why)
+      → IsTold why o × ((WhyNotFrom o.old from why × SameBut o.old o.new (from ∷ [])) ⊎ WhyNotInto o.old from into why)
   pub device : o.end ≡ Told Device → Rose (o.old.log_faults from) (o.new.log_faults from) ⊎ Rose (o.old.log_faults into) (o.new.log_faults into)
   -- without one the old journal has a history, within the limits, and is of version 1, and the new one was fit for that
   pub history : IsUntold o.end → o.old.tells ≡ true → HasFittingHistory (log_bytes o.old from)
   pub version : IsUntold o.end → o.old.tells ≡ true → version_of (log_bytes o.old from) ≡ 1
   pub fit : (entries : List Entry) → IsUntold o.end → o.old.tells ≡ true → HasHistory entries (log_bytes o.old from)
       → ∥ ((before : List Entry) × IsFit journal_limits entries before (log_bytes o.old into)) ∥₁
-  -- the new one has it, in its file and in each image
+  -- the new one has it, in its file and in each image, and is of version 2
   pub all : (entries : List Entry) → IsUntold o.end → o.old.tells ≡ true → HasHistory entries (log_bytes o.old from)
-      → HasHistory entries (log_bytes o.new into)
+      → IsBrought entries (log_bytes o.new into)
   pub durable : (entries : List Entry) → IsUntold o.end → o.old.tells ≡ true → HasHistory entries (log_bytes o.old from)
       → HasInEachImage entries o.new into
   -- the console is told how many entries it has, or a front of that, where it failed

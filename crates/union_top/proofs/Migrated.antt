@@ -95,7 +95,7 @@ module _ (o : Outcome) where
         let newest : version_of (log_bytes o.old from) ≡ 2 = (so u.tells).0 in
         absurd (omega (arith, oldest, newest))
 
-    of_new : (why : Fault) → o.end ≡ Told why → WhyNotInto o.old o.new from into why → why ≡ fault.Memory
+    of_new : (why : Fault) → o.end ≡ Told why → WhyNotInto o.old from into why → why ≡ fault.Memory
     of_new why is w =
         let so = w.so u.tells in
         w.is ∙ migrating_well (log_bytes o.old from) (log_bytes o.old into) u.history u.entries u.was u.fits w.reason so.0 so.1 so.2
@@ -104,7 +104,7 @@ module _ (o : Outcome) where
     remains : (why : Fault) → o.end ≡ Told why → why ≡ fault.Memory
     remains why is = either (m.told why is).1
       where
-        either : (WhyNotFrom o.old from why × SameBut o.old o.new (from ∷ [])) ⊎ WhyNotInto o.old o.new from into why → why ≡ fault.Memory
+        either : (WhyNotFrom o.old from why × SameBut o.old o.new (from ∷ [])) ⊎ WhyNotInto o.old from into why → why ≡ fault.Memory
         either (inl of_from) = of_old why is of_from.0
         either (inr of_into) = of_new why is of_into
 

@@ -1,13 +1,16 @@
 use Rattle.std.proofs.Common.{subst, ◌∙◌}
 use Rattle.commit_journal.specs.declared.frame.Frame.{Frame}
 use Rattle.commit_journal.specs.Journal.{IsSettled}
-use Rattle.journal_migration.proofs.Gaining.{tries_none, tries_frame, adds_frame}
+use Rattle.journal_migration.proofs.Gaining.{settled_newest, tries_none, tries_frame, adds_frame}
 use Rattle.journal_migration.proofs.bringing.append_entry.Goals as goal
 
 pub returns-in_err-payload-clause-tried : goal.returns-in_err-payload-clause-tried
 returns-in_err-payload-clause-tried g c =
     let journal = c.args.journal.now in
-    tries_none (g.D.Disk.seen journal.disk) (journal.settled c.requires.whole).only (g.met.D.Disk.only_now journal.disk) c.args.entry.now
+    let seen = g.D.Disk.seen in
+    let settled = journal.settled c.requires.whole in
+    tries_none (seen journal.disk) settled.only (g.met.D.Disk.only_now journal.disk)
+    (settled_newest journal.place journal.version (seen journal.disk) settled c.requires.newest) c.args.entry.now
 
 pub returns-in_err-append-clause-tried : goal.returns-in_err-append-clause-tried
 returns-in_err-append-clause-tried g c =

@@ -2,20 +2,28 @@ use Rattle.std.proofs.Common.{◌≡◌, ◌∙◌, sym, subst}
 use Rattle.std.proofs.lemmas.Result.{err_from_is_err_and, on_ok_weaker}
 use Rattle.journal_migration.specs.Fronts.{Brings, MayGain, HasBrought}
 use Rattle.journal_migration.proofs.Fronts.{front_is, may_gain}
-use Rattle.journal_migration.proofs.Gaining.{brings_none, brings_where}
+use Rattle.journal_migration.proofs.Gaining.{settled_newest, brings_none, brings_where}
 use Rattle.journal_migration.proofs.bringing.bring.Goals as goal
 
 pub returns-in_err-count-clause-brings : goal.returns-in_err-count-clause-brings
 returns-in_err-count-clause-brings g c entries version held =
+    let seen = g.D.Disk.seen in
     let journal = c.args.journal.now in
-    brings_none (g.D.Disk.seen journal.disk) (journal.settled c.requires.whole).only (g.met.D.Disk.only_now journal.disk)
-    (MayGain journal.version c.args.limits.now c.args.core.now.history entries) c.args.core.now.history entries
+    let settled = journal.settled c.requires.whole in
+    brings_none (seen journal.disk) settled.only (g.met.D.Disk.only_now journal.disk)
+    (MayGain journal.version c.args.limits.now c.args.core.now.history entries)
+    (λ may. settled_newest journal.place journal.version (seen journal.disk) settled may.newest) c.args.core.now.history entries
 
 pub returns-in_err-count-clause-fault : goal.returns-in_err-count-clause-fault
 returns-in_err-count-clause-fault g c version =
     let p = err_from_is_err_and c.from_residual.result c.from_residual.ensures.1 in
     let why = rw c.version.ensures at c.in_err-count.ensures.fault in
     rw (p.1, p.2) (why version)
+
+pub returns-clause-alone : goal.returns-clause-alone
+returns-clause-alone g c version none =
+    let front = rw c.version.ensures at c.in_ok-count.ensures.front in
+    absurd (none c.in_ok-count.count (sym c.version.ensures ∙ c.in_ok-count.ensures.version) (front version))
 
 pub returns-clause-brings : goal.returns-clause-brings
 returns-clause-brings g c entries version held =

@@ -3,14 +3,17 @@ use Rattle.commit_journal.proofs.Steps.{continues_then}
 use Rattle.catalogue_core.specs.Catalogues.{all_entries}
 use Rattle.journal_migration.proofs.Amid.{entry_within}
 use Rattle.journal_migration.proofs.Fronts.{there_is, admitted_at, ends_there}
-use Rattle.journal_migration.proofs.Gaining.{bringing_first, bringing_more, bringing_all, brings_more}
+use Rattle.journal_migration.proofs.Gaining.{settled_newest, bringing_first, bringing_more, bringing_all, brings_more}
 use Rattle.journal_migration.proofs.bringing.bring_rest.Goals as goal
 
 pub loop-entry-init : goal.loop-entry-init
 loop-entry-init g c =
+    let seen = g.D.Disk.seen in
     let journal = c.args.journal.now in
-    bringing_first c.args.core.now.history c.args.count (g.D.Disk.seen journal.disk) journal.broken journal.version (journal.settled c.requires.whole).only
-    (g.met.D.Disk.only_now journal.disk) c.requires.within c.requires.whole c.requires.newest
+    let settled = journal.settled c.requires.whole in
+    bringing_first c.args.core.now.history c.args.count (seen journal.disk) journal.broken journal.version settled.only
+    (g.met.D.Disk.only_now journal.disk) (settled_newest journal.place journal.version (seen journal.disk) settled c.requires.newest)
+    c.requires.within c.requires.whole c.requires.newest
 
 pub append_entry-requires-clause-admitted : goal.append_entry-requires-clause-admitted
 append_entry-requires-clause-admitted g c =

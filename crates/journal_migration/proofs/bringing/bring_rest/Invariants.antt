@@ -1,5 +1,4 @@
-use Rattle.std.proofs.Common.{◌≡◌, ◌≤◌, ◌-◌, false, length, take}
-use Rattle.commit_journal.specs.Journal.{Continues}
+use Rattle.std.proofs.Common.{◌-◌, length}
 use Rattle.journal_migration.proofs.Gaining.{IsBringing}
 use Rattle.journal_migration.proofs.bringing.bring_rest.Given as goal
 

@@ -1,4 +1,4 @@
-use Rattle.std.proofs.Common.{◌≡◌, ◌<◌, true, refl, arith, length}
+use Rattle.std.proofs.Common.{◌≡◌, true, refl, arith}
 use Rattle.journal_migration.proofs.Fronts.{one_same, all_same, there_is}
 use Rattle.journal_migration.proofs.front.begins.Goals as goal
 

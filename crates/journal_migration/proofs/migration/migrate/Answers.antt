@@ -1,9 +1,8 @@
-use Rattle.std.proofs.Common.{◌≡◌, ◌∙◌, sym, ap, subst}
-use Rattle.durable_catalogue.specs.Refused.{LeavesDiskAlone}
-use Rattle.durable_catalogue.proofs.Refused.{recovered_alone}
+use Rattle.std.proofs.Common.{◌≡◌, ◌∙◌, Some, sym, ap, subst}
+use Rattle.durable_catalogue.proofs.Refused.{recovered_alone, unwritten_alone}
 use Rattle.journal_migration.specs.declared.fault.MigrateFault.TheVariants.{DeviceFault}
 use Rattle.journal_migration.specs.Migrations.{IsUnmigrated, IsMigration}
-use Rattle.journal_migration.proofs.Opened.{opened_alone, is_version, fit, brought_all, images_all, migrated, unmigrated, unopened}
+use Rattle.journal_migration.proofs.Opened.{opened_alone, is_version, fit, unfit, brought_all, images_all, migrated, unmigrated, unopened, device_words}
 use Rattle.journal_migration.proofs.migration.migrate.Goals as goal
 
 pub returns-in-Ok-bring-clause-fit : goal.returns-in-Ok-bring-clause-fit
@@ -23,7 +22,7 @@ returns-in-Ok-bring-clause-all g c was bytes is_history told image =
     let brought = rw (c.as_slice.ensures, c.core.ensures.value) at c.in-Ok-bring.ensures.brought in
     images_all c.args.old.now.core.history c.in-Ok.frames journal.place journal.version (seen c.args.new) (seen journal.disk) c.in-Ok.ensures.recovered c.in-Ok.ensures.crash
     c.in-Ok.ensures.content (seen new) c.bring.ensures.continues was is_history (g.met.D.Disk.content_is_image new) c.args.limits c.in-Ok-bring.ensures.version front brought
-    (c.bring.new.journal.settled c.in-Ok-bring.ensures.whole).only bytes told (subst (λ d. (seen d).image bytes) c.close.ensures image)
+    c.bring.new.journal.place c.bring.new.journal.version (c.bring.new.journal.settled c.in-Ok-bring.ensures.whole) c.in-Ok-bring.ensures.newest bytes told (subst (λ d. (seen d).image bytes) c.close.ensures image)
 
 pub returns-in-Ok-bring-clause-content : goal.returns-in-Ok-bring-clause-content
 returns-in-Ok-bring-clause-content g c was bytes is_history is_now =
@@ -34,6 +33,7 @@ returns-in-Ok-bring-clause-content g c was bytes is_history is_now =
     let brought = rw (c.as_slice.ensures, c.core.ensures.value) at c.in-Ok-bring.ensures.brought in
     brought_all c.args.old.now.core.history c.in-Ok.frames journal.place journal.version (seen c.args.new) (seen journal.disk) c.in-Ok.ensures.recovered c.in-Ok.ensures.crash
     c.in-Ok.ensures.content (seen new) c.bring.ensures.continues was is_history (g.met.D.Disk.content_is_image new) c.args.limits c.in-Ok-bring.ensures.version front brought
+    c.bring.new.journal.place c.bring.new.journal.version (c.bring.new.journal.settled c.in-Ok-bring.ensures.whole) c.in-Ok-bring.ensures.newest
     bytes (sym (ap (λ d. (seen d).content) c.close.ensures) ∙ is_now)
 
 pub returns-in-Ok-bring-clause-crash : goal.returns-in-Ok-bring-clause-crash
@@ -70,18 +70,28 @@ returns-in-Ok-clause-fault g c log told =
     unmigrated c.in-Ok.frames journal.place journal.version (seen c.args.new) (seen journal.disk) c.args.limits history c.in-Err-bring.fault c.in-Ok.ensures.recovered (why version) log told
 
 pub returns-in-Ok-clause-left_alone : goal.returns-in-Ok-clause-left_alone
-returns-in-Ok-clause-left_alone g c refusal =
+returns-in-Ok-clause-left_alone g c log now told is_now none =
     let seen = g.D.Disk.seen in
     let journal = c.in-Ok.journal in
-    let failed = c.in-Err-bring.fault ≡ DeviceFault in
-    let same = c.in-Err-bring.ensures.refused refusal in
-    subst (λ d. LeavesDiskAlone failed (seen c.args.new) (seen d)) (sym c.close-in-Err-bring.ensures)
-    (subst (λ j. LeavesDiskAlone failed (seen c.args.new) (seen j.disk)) (sym same)
-    (recovered_alone (seen c.args.new) (seen journal.disk) c.in-Ok.ensures.content c.in-Ok.frames journal.place journal.version c.in-Ok.ensures.recovered failed))
+    let old = seen c.args.new in
+    let mid = seen journal.disk in
+    let history = c.args.old.now.core.history in
+    let opened = c.in-Ok.ensures in
+    let alone = rw (c.as_slice.ensures, c.core.ensures.value) at c.bring.ensures.alone in
+    let version = is_version history c.in-Ok.frames journal.place journal.version old mid opened.recovered opened.crash log told in
+    let no_front = unfit history c.in-Ok.frames journal.place journal.version old mid opened.recovered opened.crash c.args.limits log told none in
+    recovered_alone old mid opened.content c.in-Ok.frames journal.place journal.version opened.recovered (c.in-Err-bring.fault ≡ DeviceFault) log now told
+    (subst (λ j. (seen j.disk).content ≡ Some now) (alone version no_front) (sym (ap (λ d. (seen d).content) c.close-in-Err-bring.ensures) ∙ is_now))
 
 pub returns-clause-crash : goal.returns-clause-crash
 returns-clause-crash g c was is_history =
     opened_alone c.args.limits c.args.old.now.core.history (g.D.Disk.seen c.args.new) (g.D.Disk.seen c.in-Err.failed.0) c.in-Err.ensures.crash c.in-Err.ensures.content
+
+pub returns-clause-left_alone : goal.returns-clause-left_alone
+returns-clause-left_alone g c log now told is_now none =
+    let seen = g.D.Disk.seen in
+    unwritten_alone (seen c.args.new) (seen c.in-Err.failed.0) c.in-Err.ensures.content (c.migrate_fault.result ≡ DeviceFault) c.in-Err.failed.1 c.in-Err.ensures.fault
+    (λ device. c.migrate_fault.ensures ∙ device_words c.in-Err.failed.1 device) log now told is_now
 
 pub returns-clause-fault : goal.returns-clause-fault
 returns-clause-fault g c log told =

@@ -1,4 +1,5 @@
 use Rattle.std.proofs.Common.{◌≡◌, ◌∙◌, [], ◌∷◌, is_some, refl, sym, ap}
+use Rattle.outside.specs.Room.{bytes_or_none}
 use Rattle.outside.proofs.Rooms.{same_but_itself}
 use Rattle.console_lines.specs.declared.fault.Fault.TheVariants.{Device}
 use Rattle.room_files.specs.Journals.{log_bytes}
@@ -6,7 +7,7 @@ use Rattle.journal_migration.specs.declared.fault.MigrateFault.TheVariants as mi
 use Rattle.migrate_command.specs.Faults.{fault_of_migrating}
 use Rattle.migrate_command.specs.Bringing.{Newest, Refused}
 use Rattle.migrate_command.proofs.Endings.{migrating_device}
-use Rattle.migrate_command.proofs.Rooms.{brings_into, all_into, alone_into, images_into, untouched_into, rose_into}
+use Rattle.migrate_command.proofs.Rooms.{alone_same, brings_into, all_into, alone_into, images_into, untouched_into, rose_into}
 use Rattle.migrate_command.proofs.bringing.bring_into.Goals as goal
 
 -- the archive is of the newest version
@@ -28,7 +29,12 @@ returns-in_default-clause-brings g c was tells is_history = untouched_into _ _ _
 
 pub returns-in_default-clause-fault : goal.returns-in_default-clause-fault
 returns-in_default-clause-fault g c =
-    Refused migrating.DeviceFault (sym c.version.ensures ∙ c.if-version-ne1.false) refl (λ tells. tt) (λ was tells is_history refusal. absurd refusal)
+    let room = g.R.Room.seen in
+    let into = c.args.into.now in
+    let stays = c.in_default.ensures.failed in
+    Refused migrating.DeviceFault (sym c.version.ensures ∙ c.if-version-ne1.false) refl (λ tells. tt)
+    (λ was tells is_history none.
+    alone_same (Device ≡ Device) (log_bytes (room c.args.room.now) into) (log_bytes (room c.open_log.new.self) into) (ap bytes_or_none (stays.files into tt)))
     (λ device. c.in_default.ensures.cause.failed)
 
 -- the history was brought into it
@@ -83,11 +89,11 @@ returns-in-Err-clause-fault g c =
     let closing = c.close_log-in-Err.ensures in
     Refused failed.1 (sym c.version.ensures ∙ c.if-version-ne1.false) told
     (λ tells. c.in-Err.ensures.fault (log_bytes (room c.args.room.now) into) (c.in-Ok.ensures.bytes tells))
-    (λ was tells is_history refusal.
+    (λ was tells is_history none.
     alone_into c.args.archive.now.core.history (room c.args.room.now) (room c.close_log-in-Err.new.self) into (disk c.in-Ok.log) (disk failed.0)
     (c.in-Ok.ensures.bytes tells) (closing.bytes (c.in-Ok.ensures.apart.tells ∙ tells)) (c.in-Err.ensures.crash was is_history)
     (failed.1 ≡ migrating.DeviceFault) (c.fault_of_migrating.result ≡ Device) (λ device. told ∙ ap fault_of_migrating device)
-    (c.in-Err.ensures.left_alone refusal))
+    c.in-Err.ensures.left_alone none)
     (λ device.
     rose_into ((room c.args.room.now).log_faults into) ((room c.open_log.new.self).log_faults into) ((room c.close_log-in-Err.new.self).log_faults into)
     (disk c.in-Ok.log).faults (disk failed.0).faults c.in-Ok.ensures.fresh c.in-Ok.ensures.cause.later closing.counted
