@@ -18,7 +18,7 @@ use Rattle.holdings.specs.declared.refusal.HoldingRefusal.{HoldingRefusal}
 use Rattle.holdings.specs.declared.refusal.HoldingRefusal.TheVariants.{OfRecord, NoTarget}
 use Rattle.file_entries.proofs.EveryPiece.{EntryOr, AnEntry, NotMade, entry_or_refusal}
 use Rattle.file_holdings.specs.Making.{MakesHolding, IsNoHolding, Unread, NotTaken}
-use Rattle.file_holdings.specs.Files.{NoPiece, NoHolding, AreHoldings, NoItem, Accepts, Refuses, listed}
+use Rattle.file_holdings.specs.Files.{NoPiece, NoHolding, NoItem, Accepts, Refuses, listed}
 use Rattle.file_holdings.specs.Judgement.{HaveHoldings}
 
 -- a record that is taken has a proper code and a proper target, and fits its written form

@@ -1,5 +1,5 @@
 -- What a piece comes to.
-use Rattle.std.proofs.Common.{◌≡◌, ℕ, List, None, Some, refl, sym, subst, Result, Ok, Err}
+use Rattle.std.proofs.Common.{◌≡◌, ℕ, List, None, refl, sym, subst, Result, Ok, Err}
 use Rattle.std.specs.Prelude.{OnOk, IfOk}
 use Rattle.marc_types.specs.declared.record.Record.{Record}
 use Rattle.marc_types.specs.declared.refusal.RecordFault.{RecordFault}

@@ -178,9 +178,9 @@ impl<'a> HoldingGroups<'a> {
         group_in(self.rows.as_slice(), key)
     }
 
-    #[tactic(auto, using(outside::proofs::Fronts::writing_begun, outside::proofs::Fronts::writing_done))]
     /// Writes the holdings of the record under a key, in the order of their own keys. After `Failed` some front of that was
     /// written.
+    #[tactic(auto, using(outside::proofs::Fronts::writing_begun, outside::proofs::Fronts::writing_done))]
     pub fn write_group<K: Sink>(&self, key: &Key, out: &mut K) -> Result<(), Failed>
         ensures bytes { OnOk result (Appends (K.written out.old) (K.written out.new) (flat_map written_holding (holdings_of key.now self.now))) }
         ensures front { WritesFront (K.written out.old) (K.written out.new) (flat_map written_holding (holdings_of key.now self.now)) }

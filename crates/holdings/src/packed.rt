@@ -11,7 +11,7 @@ use std::alloc::Global;
 use std::marker::Model;
 
 /// What a shelf keeps of a holding beside its key: the number in its target, and behind it its record's written form, in one
-/// vector of exactly their length. A record with a text for each field's data would take some eight times as much.
+/// vector of exactly their length. Nothing but that is asked of a holding again.
 #[derive(Drop)]
 pub struct PackedHolding {
     bytes: Vec<u8>,
@@ -31,8 +31,8 @@ impl Model for PackedHolding {
 }
 
 impl PackedHolding {
-    #[tactic(auto, using(entry_record::proofs::Written::fitting_length))]
     /// What is kept of a holding. The record itself isn't needed behind this.
+    #[tactic(auto, using(entry_record::proofs::Written::fitting_length))]
     pub(crate) fn of(alloc: Global, content: &HoldingContent) -> Result<PackedHolding, NoMemory>
         ensures { IfOk result (λ held. held ≡ shelved content.now) }
     {

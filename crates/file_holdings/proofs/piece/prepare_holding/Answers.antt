@@ -1,7 +1,7 @@
-use Rattle.std.proofs.Common.{sym, subst, Ok, Err}
+use Rattle.std.proofs.Common.{sym, subst}
 use Rattle.std.proofs.lemmas.Result.{IfErr-weaker}
 use Rattle.file_holdings.specs.Making.{IsNotMade}
-use Rattle.file_holdings.proofs.Made.{makes_holding, not_taken, not_read, made_if}
+use Rattle.file_holdings.proofs.Made.{not_taken, not_read, made_if}
 use Rattle.file_holdings.proofs.piece.prepare_holding.Goals as goal
 
 pub returns-in-Ok-clause-made : goal.returns-in-Ok-clause-made
