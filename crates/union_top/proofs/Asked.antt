@@ -12,7 +12,7 @@ use Rattle.console_lines.specs.declared.fault.Fault.TheVariants as fault
 use Rattle.durable_catalogue.specs.declared.fault.OpenFault.TheVariants as opening
 use Rattle.room_files.proofs.Journals.{unopened_keeps}
 use Rattle.archive_commands.specs.Reads.{DueView, Reads}
-use Rattle.archive_commands.proofs.Endings.{reads_unopened}
+use Rattle.archive_commands.proofs.Endings.{reads_fault}
 use Rattle.plain_commands.proofs.Passes.{passes_told}
 use Rattle.plain_commands.proofs.Made.{makes_no_memory}
 use Rattle.output_files.specs.Outputs as files
@@ -75,22 +75,22 @@ module _ (o : Outcome) (told : o.end ≡ Told fault.Memory) (tells : IsTold faul
   closed : (journal : List ℕ) → o.new.open_as journal ≡ None
   closed journal = stays.open_names journal tt ∙ free journal
 
-  reads : (journal out : List ℕ) (due : DueView) → journal ≢ out → Reads journal out due o
-  reads journal out due differ =
-      reads_unopened journal out due o opening.NoMemory differ told tells (same_but_none o.old o.new (journal ∷ []) stays) (λ old. cc) (λ room. tt)
+  reads : (journal out : List ℕ) (due : DueView) → Reads journal out due o
+  reads journal out due =
+      reads_fault journal out due o opening.NoMemory told tells (same_but_none o.old o.new (journal ∷ []) stays) (λ old. cc) (λ room. tt)
       (λ room. unopened_keeps _ o.old o.new journal stays) (λ device. cc)
 
   pub unasked : (words : List (List ℕ)) (command : Command) → NamesFiles command → AreNames (names_of command) → Ends words command o
   unasked words (Pass out) takes names = λ library is. passes_told library out o fault.Memory told tells tt stays (λ input. cc) (λ full. cc)
   unasked words (Run journal out report files) takes names =
-      runs_failed (libraries_of words) journal o out report fault.Memory told tells (λ other. absurd (other refl))
+      runs_failed (libraries_of words) journal o out report fault.Memory told tells (λ other. absurd (other refl)) (same_but_none o.old o.new (journal ∷ out ∷ []) stays)
       (no_memory o.old o.new journal (libraries_of words) _ (closed journal)
       (λ room. runs.NotLoaded (unbegun journal (libraries_of words)) (stays.files out tt) (stays.files report tt)))
   unasked words (Load journal files) takes names =
       loads_failed (libraries_of words) journal o fault.Memory told tells
       (no_memory o.old o.new journal (libraries_of words) _ (closed journal) (λ room. runs.NotLoaded (unbegun journal (libraries_of words))))
-  unasked words (Export journal out code) takes names = reads journal out _ names.1.0
-  unasked words (Report journal out) takes names = reads journal out _ names.1.0
+  unasked words (Export journal out code) takes names = reads journal out _
+  unasked words (Report journal out) takes names = reads journal out _
   unasked words (Make seed count out) takes names = makes_no_memory seed count out o told tells (λ room. files.AsItWas (stays.files out tt))
   unasked words (Verify journal) takes names = absurd takes
   unasked words (Matches journal out) takes names = absurd takes

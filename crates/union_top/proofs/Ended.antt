@@ -1,5 +1,5 @@
 -- How the commands end that load files into a journal, from what their steps say.
-use Rattle.std.proofs.Common.{◌≡◌, ◌≢◌, ◌⊎◌, inl, inr, ℕ, Bool, true, false, true≢false, List, [], ◌∷◌, ◌++◌, None, refl, sym, ap, subst, ◌∙◌}
+use Rattle.std.proofs.Common.{◌≡◌, ◌≢◌, ◌⊎◌, inl, inr, ℕ, Bool, true, false, true≢false, List, [], ◌∷◌, ◌++◌, Some, None, refl, sym, ap, subst, ◌∙◌}
 use Rattle.std.specs.Io.KnownBytes.{Appends}
 use Rattle.std.specs.Str.{bytes_eq}
 use Rattle.std.proofs.lemmas.Slice.Eq.{bytes_eq-Decides}
@@ -22,7 +22,7 @@ use Rattle.loader_workers.specs.declared.result.FileResult.{FileResult}
 use Rattle.output_files.specs.Outputs.{IsPartWritten}
 use Rattle.journal_loading.specs.Outcomes.{Fails}
 use Rattle.union_top.specs.Texts.{files_text, has_refused}
-use Rattle.union_top.specs.Runs.{EndsLoad, EndsRun, AreOutputs, AreOutAndPart, WhyNotLoad, WhyNotRun, NoMemory, NoMemoryInReport}
+use Rattle.union_top.specs.Runs.{EndsLoad, EndsRun, AreOutputs, AreOutAndPart, WhyNotLoad, WhyNotRun, NoMemory, NoMemoryForReport}
 use Rattle.union_top.specs.Commands.{Loads, Runs}
 use Rattle.union_top.proofs.OneHistory.{MergedBy}
 use Rattle.union_top.proofs.Missing.{told_of_loading, loading_untold, running_untold, unloaded_keeps, unrun_keeps}
@@ -111,8 +111,8 @@ module _ (libraries : List Library) (journal : List ℕ) (o : Outcome) where
 
   module _ (out report : List ℕ) where
     pub runs_failed : (why : Fault) → o.end ≡ Told why → IsTold why o → (why ≢ fault.Memory → SameBut o.old o.new (journal ∷ []))
-        → Fails o.old o.new journal libraries why (WhyNotRun o.old o.new journal out report libraries why) → Runs libraries journal out report o
-    runs_failed why is told apart f =
+        → SameBut o.old o.new (journal ∷ out ∷ []) → Fails o.old o.new journal libraries why (WhyNotRun o.old o.new journal out report libraries why) → Runs libraries journal out report o
+    runs_failed why is told apart no_report f =
         let no = told_not_unwritten o.end why in record {
           ends = subst EndsRun (sym is) (told_of_loading why f.no_usage f.no_other_history);
           told = λ other also. subst (λ w. IsTold w o × (w ≢ fault.Usage)) (told_once o.end why other is also) (told, f.no_usage);
@@ -125,7 +125,7 @@ module _ (libraries : List Library) (journal : List ℕ) (o : Outcome) where
           report_cause = λ also. absurd (no unwritten.Report is also);
           console_cause = λ also. absurd (no unwritten.Console is also);
           whole = λ all. absurd (told_not_all o.end why is all);
-          no_report = λ also. absurd (no unwritten.Out is also);
+          no_report = λ either. no_report;
           silent = neither (no unwritten.Out is) (no unwritten.Report is);
           in_out = λ also. absurd (no unwritten.Out is also);
           in_report = λ also. absurd (no unwritten.Report is also);
@@ -154,7 +154,7 @@ module _ (libraries : List Library) (journal : List ℕ) (o : Outcome) where
             console = subst (Appends o.told o.now) (t.text_is ∙ m.text_is) (t.whole all);
             end_is = t.done all ∙ ap (λ b. end_of b) (t.refused_is ∙ m.any_is);
           };
-      no_report = λ also. absurd (t.no_output.0 also);
+      no_report = neither t.no_output.0 (λ also. never_told o.end fault.Memory t.untold also);
       silent = neither t.no_output.0 t.no_output.1;
       in_out = λ also. absurd (t.no_output.0 also);
       in_report = λ also. absurd (t.no_output.1 also);
@@ -186,7 +186,7 @@ module _ (libraries : List Library) (journal : List ℕ) (o : Outcome) where
             report_cause = λ also. absurd (out_not_report o.end is also);
             console_cause = λ also. absurd (out_not_console o.end is also);
             whole = λ all. absurd (all_not_unwritten o.end unwritten.Out all is);
-            no_report = λ also. apart;
+            no_report = λ either. apart;
             silent = λ either. silent;
             in_out = λ also tells.
                 let m = merged tells in
@@ -210,7 +210,7 @@ module _ (libraries : List Library) (journal : List ℕ) (o : Outcome) where
             report_cause = λ also. rose;
             console_cause = λ also. absurd (report_not_console o.end is also);
             whole = λ all. absurd (all_not_unwritten o.end unwritten.Report all is);
-            no_report = λ also. absurd (out_not_report o.end also is);
+            no_report = neither (λ also. out_not_report o.end also is) (no fault.Memory);
             silent = λ either. silent;
             in_out = λ also. absurd (out_not_report o.end also is);
             in_report = λ also tells.
@@ -219,15 +219,19 @@ module _ (libraries : List Library) (journal : List ℕ) (o : Outcome) where
             untold = λ also. absurd (report_not_console o.end is also);
           }
 
--- memory ran out behind loading: before OUT was begun, or over REPORT
+-- memory ran out behind loading: before OUT was begun, or before REPORT was
 pub why_no_memory : (old new : RoomView) (journal out report : List ℕ) (libraries : List Library) (entries : List Entry) (results : List FileResult)
-    → AreNames (journal ∷ out ∷ report ∷ []) → MergedBy old new journal libraries entries results → old.tells ≡ true
-    → SameBut old new (journal ∷ []) ⊎ (old.tells ≡ true → AreOutAndPart old new out report entries)
+    → AreNames (journal ∷ out ∷ report ∷ []) → MergedBy old new journal libraries entries results → old.tells ≡ true → SameBut old new (journal ∷ out ∷ [])
+    → SameBut old new (journal ∷ []) ⊎ (old.tells ≡ true → new.file out ≡ Some (export_of all_keys (state_of entries)))
     → WhyNotRun old new journal out report libraries fault.Memory
-why_no_memory old new journal out report libraries entries results names m tells (inl apart) =
+why_no_memory old new journal out report libraries entries results names m tells no_report (inl apart) =
     NoMemory refl m.merged (apart.files out ((λ same. names.1.0 (sym same)), tt)) (apart.files report ((λ same. names.1.1.0 (sym same)), tt))
-why_no_memory old new journal out report libraries entries results names m tells (inr part) =
-    NoMemoryInReport refl (record { merged = m.merged; outputs = subst (AreOutAndPart old new out report) m.entries_are (part tells) })
+why_no_memory old new journal out report libraries entries results names m tells no_report (inr export) =
+    NoMemoryForReport refl (record {
+      merged = m.merged;
+      export = subst (λ es. new.file out ≡ Some (export_of all_keys (state_of es))) m.entries_are (export tells);
+      no_report = no_report.files report ((λ same. names.1.1.0 (sym same)), ((λ same. names.2.1.0 (sym same)), tt));
+    })
 
 -- memory ran out behind loading
 pub no_memory : (old new : RoomView) (journal : List ℕ) (libraries : List Library) (so : Type 0) → new.open_as journal ≡ None → (old.tells ≡ true → so)

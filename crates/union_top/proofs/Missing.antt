@@ -68,4 +68,4 @@ module _ (old new : RoomView) (journal : List ℕ) where
       → IsFileMissing libraries old → HasSameHistory old new journal
   unrun_keeps out report libraries why tells (runs.NotLoaded so as_was too) gone = loading_keeps old new journal libraries why tells so gone
   unrun_keeps out report libraries why tells (runs.NoMemory is merged as_was too) gone = absurd (merged_there libraries merged gone)
-  unrun_keeps out report libraries why tells (runs.NoMemoryInReport is part) gone = absurd (merged_there libraries part.merged gone)
+  unrun_keeps out report libraries why tells (runs.NoMemoryForReport is written) gone = absurd (merged_there libraries written.merged gone)

@@ -100,4 +100,4 @@ module _ (old new : RoomView) (journal : List ℕ) (libraries : List Library) (t
   pub of_run : (out report : List ℕ) (why : Fault) → WhyNotRun old new journal out report libraries why → Remains why
   of_run out report why (runs.NotLoaded is out_stays report_stays) = of_loading why is
   of_run out report why (runs.NoMemory memory loaded out_stays report_stays) = subst Remains (sym memory) tt
-  of_run out report why (runs.NoMemoryInReport memory part) = subst Remains (sym memory) tt
+  of_run out report why (runs.NoMemoryForReport memory written) = subst Remains (sym memory) tt

@@ -1,5 +1,5 @@
 -- What a run's outputs are, from what was written one after the other.
-use Rattle.std.proofs.Common.{◌≡◌, ◌≢◌, ◌⊎◌, inl, inr, ◌∙◌, ℕ, true, List, [], ◌∷◌, Some, sym, subst, arith}
+use Rattle.std.proofs.Common.{◌≡◌, ◌≢◌, ◌⊎◌, inl, inr, ◌∙◌, ℕ, true, List, [], ◌∷◌, Some, refl, sym, subst, arith}
 use Rattle.marc_types.specs.declared.entry.Entry.{Entry}
 use Rattle.outside.specs.Fault.{Rose}
 use Rattle.outside.specs.Room.{RoomView, SameBut}
@@ -18,7 +18,7 @@ module _ (old new : RoomView) (out report : List ℕ) (entries : List Entry) whe
   nothing_begun apart = record {
     out_cause = λ is. cc;
     report_cause = λ is. cc;
-    no_report = λ is. cc;
+    no_report = λ other. same_but_none old new (out ∷ []) apart;
     in_out = λ is. cc;
     in_report = λ is. cc;
     memory = λ is. inl apart;
@@ -30,7 +30,7 @@ module _ (old new : RoomView) (out report : List ℕ) (entries : List Entry) whe
   out_failed apart rose part = record {
     out_cause = λ is. rose;
     report_cause = λ is. cc;
-    no_report = λ is. apart;
+    no_report = λ other. apart;
     in_out = λ is. part;
     in_report = λ is. cc;
     memory = λ is. cc;
@@ -49,21 +49,23 @@ module _ (old new : RoomView) (out report : List ℕ) (entries : List Entry) whe
     report_rose rose = record {
       out_cause = λ is. cc;
       report_cause = λ is. let earlier = first.outs report in omega (arith, earlier, rose);
-      no_report = λ is. cc;
+      no_report = λ other. absurd (other refl);
       in_out = λ is. cc;
       in_report = λ is. out_and_part;
       memory = λ is. cc;
     }
 
-    pub report_no_memory : AreUnwritten old new out report entries NoMemory
-    report_no_memory = record {
-      out_cause = λ is. cc;
-      report_cause = λ is. cc;
-      no_report = λ is. cc;
-      in_out = λ is. cc;
-      in_report = λ is. cc;
-      memory = λ is. inr out_and_part;
-    }
+  -- memory ran out behind OUT, and nothing of REPORT is begun
+  pub report_unbegun : (mid : RoomView) → SameBut old mid (out ∷ []) → SameBut mid new []
+      → (old.tells ≡ true → mid.file out ≡ Some (export_of all_keys (state_of entries))) → AreUnwritten old new out report entries NoMemory
+  report_unbegun mid first unbegun whole = record {
+    out_cause = λ is. cc;
+    report_cause = λ is. cc;
+    no_report = λ other. same_but_then old mid new (out ∷ []) first (same_but_none mid new (out ∷ []) unbegun);
+    in_out = λ is. cc;
+    in_report = λ is. cc;
+    memory = λ is. inr (λ tells. unbegun.files out tt ∙ whole tells);
+  }
 
 -- the same where a journal was opened before that and closed behind it
 module _ (old mid wrote new : RoomView) (journal out report : List ℕ) (entries : List Entry) (names : AreNames (journal ∷ out ∷ report ∷ []))
@@ -92,33 +94,30 @@ module _ (old mid wrote new : RoomView) (journal out report : List ℕ) (entries
     pub report_rose_too : fault ≡ ReportFault → Rose (old.out_faults report) (new.out_faults report)
     report_rose_too is = rose_between report (are.report_cause is)
 
-    pub no_report : fault ≡ OutFault → SameBut old new (journal ∷ out ∷ [])
-    no_report is =
+    pub no_report : fault ≢ ReportFault → SameBut old new (journal ∷ out ∷ [])
+    no_report unfailed =
         let names_too = journal ∷ out ∷ [] in
         same_but_then old mid new names_too (same_but_more old mid (journal ∷ []) names_too (λ n other. (other.0, tt)) opened)
-        (same_but_then mid wrote new names_too (same_but_more mid wrote (out ∷ []) names_too (λ n other. other.1) (are.no_report is))
+        (same_but_then mid wrote new names_too (same_but_more mid wrote (out ∷ []) names_too (λ n other. other.1) (are.no_report unfailed))
         (same_but_more wrote new (journal ∷ []) names_too (λ n other. (other.0, tt)) closing))
 
     pub in_out : fault ≡ OutFault → old.tells ≡ true → IsPartWritten (old.file out) (new.file out) (export_of all_keys (state_of entries))
     in_out is tells = part_between out (export_of all_keys (state_of entries)) (λ same. names.1.0 (sym same)) (are.in_out is (opened.tells ∙ tells))
 
-    are_out_and_part : (mid.tells ≡ true → AreOutAndPart mid wrote out report entries) → old.tells ≡ true → AreOutAndPart old new out report entries
-    are_out_and_part so tells =
-        let is = so (opened.tells ∙ tells) in record {
+    pub in_report : fault ≡ ReportFault → old.tells ≡ true → AreOutAndPart old new out report entries
+    in_report fails tells =
+        let is = are.in_report fails (opened.tells ∙ tells) in record {
           export = out_is ∙ is.export;
           report_is = part_between report (report_of (state_of entries)) (λ same. names.1.1.0 (sym same)) is.report_is;
         }
 
-    pub in_report : fault ≡ ReportFault → old.tells ≡ true → AreOutAndPart old new out report entries
-    in_report is = are_out_and_part (are.in_report is)
-
-    pub ran_out : fault ≡ NoMemory → SameBut old new (journal ∷ []) ⊎ (old.tells ≡ true → AreOutAndPart old new out report entries)
+    pub ran_out : fault ≡ NoMemory → SameBut old new (journal ∷ []) ⊎ (old.tells ≡ true → new.file out ≡ Some (export_of all_keys (state_of entries)))
     ran_out is = by_case (are.memory is)
       where
         names_too : List (List ℕ)
         names_too = journal ∷ []
 
-        by_case : SameBut mid wrote [] ⊎ (mid.tells ≡ true → AreOutAndPart mid wrote out report entries)
-            → SameBut old new names_too ⊎ (old.tells ≡ true → AreOutAndPart old new out report entries)
+        by_case : SameBut mid wrote [] ⊎ (mid.tells ≡ true → wrote.file out ≡ Some (export_of all_keys (state_of entries)))
+            → SameBut old new names_too ⊎ (old.tells ≡ true → new.file out ≡ Some (export_of all_keys (state_of entries)))
         by_case (inl apart) = inl (same_but_then old mid new names_too opened (same_but_then mid wrote new names_too (same_but_none mid wrote names_too apart) closing))
-        by_case (inr part) = inr (are_out_and_part part)
+        by_case (inr export) = inr (λ tells. out_is ∙ export (opened.tells ∙ tells))

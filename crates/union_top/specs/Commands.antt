@@ -56,8 +56,9 @@ pub record Runs (libraries : List Library) (journal out report : List ℕ) (o : 
   pub console_cause : o.end ≡ console_unwritten → Rose o.faults o.faults_now
   -- the headline
   pub whole : IsAllDone o.end → o.old.tells ≡ true → IsWholeRun o.old o.new journal out report libraries o.told o.now o.end
-  -- nothing that comes behind an output that could not be written has begun: REPORT behind OUT, the console behind both
-  pub no_report : o.end ≡ out_unwritten → SameBut o.old o.new (journal ∷ out ∷ [])
+  -- nothing that comes behind an output that could not be written has begun: REPORT behind OUT, the console behind both; and REPORT
+  -- isn't begun where memory runs out
+  pub no_report : (o.end ≡ out_unwritten) ⊎ (o.end ≡ Told Memory) → SameBut o.old o.new (journal ∷ out ∷ [])
   pub silent : (o.end ≡ out_unwritten) ⊎ (o.end ≡ report_unwritten) → IsSilent o
   -- and what comes before it is whole
   pub in_out : o.end ≡ out_unwritten → o.old.tells ≡ true → IsRunInOut o.old o.new journal out libraries

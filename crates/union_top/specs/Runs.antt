@@ -96,10 +96,16 @@ pub record IsRunInOut (old new : RoomView) (journal out : List ℕ) (libraries :
   pub merged : IsMergedLoad old new journal libraries
   pub part : IsPartWritten (old.file out) (new.file out) (export_of all_keys (state_of (merged.before ++ merged.added)))
 
--- REPORT was not written whole: the files were loaded whole, OUT is the export, and REPORT is as it was or holds a front of the report.
+-- REPORT could not be written: the files were loaded whole, OUT is the export, and REPORT is as it was or holds a front of the report.
 pub record IsRunInReport (old new : RoomView) (journal out report : List ℕ) (libraries : List Library) : Type 0 where
   pub merged : IsMergedLoad old new journal libraries
   pub outputs : AreOutAndPart old new out report (merged.before ++ merged.added)
+
+-- Memory ran out before REPORT was begun: the files were loaded whole, OUT is the export, and REPORT is as it was.
+pub record IsRunToOut (old new : RoomView) (journal out report : List ℕ) (libraries : List Library) : Type 0 where
+  pub merged : IsMergedLoad old new journal libraries
+  pub export : new.file out ≡ Some (export_of all_keys (state_of (merged.before ++ merged.added)))
+  pub no_report : new.file report ≡ old.file report
 
 -- The console could not be written: the files were loaded whole, OUT and REPORT are, and the console was told a front of the lines.
 pub record IsUntoldRun (old new : RoomView) (journal out report : List ℕ) (libraries : List Library) (told now : Option (List ℕ)) : Type 0 where
@@ -113,10 +119,10 @@ pub data WhyNotLoad (old new : RoomView) (journal : List ℕ) (libraries : List 
   NoMemory : why ≡ Memory → IsMergedLoad old new journal libraries → WhyNotLoad old new journal libraries why
 
 -- why `run` told a fault: the files were not loaded whole, or memory ran out behind that, and OUT and REPORT are as they were; or
--- memory ran out over REPORT
+-- memory ran out behind OUT, and REPORT is as it was
 pub data WhyNotRun (old new : RoomView) (journal out report : List ℕ) (libraries : List Library) (why : Fault) : Type 0 where
   NotLoaded : IsLoadingFault old new journal libraries why → new.file out ≡ old.file out → new.file report ≡ old.file report
       → WhyNotRun old new journal out report libraries why
   NoMemory : why ≡ Memory → IsMergedLoad old new journal libraries → new.file out ≡ old.file out → new.file report ≡ old.file report
       → WhyNotRun old new journal out report libraries why
-  NoMemoryInReport : why ≡ Memory → IsRunInReport old new journal out report libraries → WhyNotRun old new journal out report libraries why
+  NoMemoryForReport : why ≡ Memory → IsRunToOut old new journal out report libraries → WhyNotRun old new journal out report libraries why

@@ -16,7 +16,7 @@ pub enum OutputsFault {
     OutFault,
     /// REPORT could not be written.
     ReportFault,
-    /// Memory ran out before OUT is begun, or over REPORT.
+    /// Memory ran out before OUT is begun, or behind OUT before REPORT is.
     NoMemory,
 }
 

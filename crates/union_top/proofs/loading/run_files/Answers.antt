@@ -17,7 +17,7 @@ returns-in-Err-clause-ends g c =
     let f = c.in-Err.ensures.failed in
     let apart = c.load_journal.ensures.apart in
     let names = c.requires.names in
-    runs_failed _ _ _ _ _ c.in-Err.fault c.tell.ensures.end c.tell.ensures.told (λ other. apart) (record {
+    runs_failed _ _ _ _ _ c.in-Err.fault c.tell.ensures.end c.tell.ensures.told (λ other. apart) (same_but_first _ _ _ _ apart) (record {
       closed = f.closed;
       because = λ tells. NotLoaded (f.because tells) (apart.files c.args.out.now ((λ same. names.1.0 (sym same)), tt)) (apart.files c.args.report.now ((λ same. names.1.1.0 (sym same)), tt));
       device = f.device;
@@ -46,6 +46,7 @@ returns-in-Err-files_text-clause-ends g c =
     let names = c.requires.names in
     let apart = same_but_then _ _ _ _ c.load_journal.ensures.apart c.close_journal.ensures.apart in
     runs_failed _ _ _ _ _ _ c.tell-in-Err-files_text.ensures.end c.tell-in-Err-files_text.ensures.told (λ other. apart)
+    (same_but_first _ _ _ _ apart)
     (no_memory _ _ _ _ _ c.close_journal.ensures.closed (λ tells. NoMemory refl (
     merged_by (seen c.args.room.now) (seen c.close_journal.new.room) c.args.journal.now c.args.libraries.now (durable_view c.in-Ok.loaded.durable) c.in-Ok.loaded.results
     c.is_within_limits.ensures (l.whole tells) (λ told. c.close_journal.ensures.log (c.load_journal.ensures.apart.tells ∙ tells) told) tells).merged
@@ -116,7 +117,7 @@ returns-in-Err-OutFault-clause-ends g c =
     let are : so d.core.history outputs.OutFault = subst (λ r. IfErr r (so d.core.history)) fault (subst (λ es. IfErr c.write_outputs-written.result (so es)) history w.unwritten) in
     runs_in_out _ _ _ _ _ d.core.history c.in-Ok.loaded.results (refl, refl) (λ tells. merged_by old new c.args.journal.now c.args.libraries.now (durable_view d) c.in-Ok.loaded.results
     c.is_within_limits.ensures (l.whole tells) (λ told. c.close_journal-2.ensures.log (w.apart.tells ∙ (opened.tells ∙ tells)) told) tells)
-    refl (out_rose old mid wrote new c.args.journal.now c.args.out.now c.args.report.now d.core.history c.requires.names opened closing outputs.OutFault are refl) (no_report old mid wrote new c.args.journal.now c.args.out.now c.args.report.now d.core.history c.requires.names opened closing outputs.OutFault are refl)
+    refl (out_rose old mid wrote new c.args.journal.now c.args.out.now c.args.report.now d.core.history c.requires.names opened closing outputs.OutFault are refl) (no_report old mid wrote new c.args.journal.now c.args.out.now c.args.report.now d.core.history c.requires.names opened closing outputs.OutFault are (λ same. cc))
     (in_out old mid wrote new c.args.journal.now c.args.out.now c.args.report.now d.core.history c.requires.names opened closing outputs.OutFault are refl)
 
 pub returns-in-Err-ReportFault-clause-apart : goal.returns-in-Err-ReportFault-clause-apart
@@ -174,9 +175,10 @@ returns-clause-ends g c =
     let so : List Entry → OutputsFault → Type 0 = AreUnwritten mid wrote c.args.out.now c.args.report.now in
     let fault : c.write_outputs-written.result ≡ Err outputs.NoMemory = search rules in
     let are : so d.core.history outputs.NoMemory = subst (λ r. IfErr r (so d.core.history)) fault (subst (λ es. IfErr c.write_outputs-written.result (so es)) history w.unwritten) in
-    runs_failed _ _ _ _ _ _ c.tell-in-Err-NoMemory.ensures.end c.tell-in-Err-NoMemory.ensures.told (λ other. absurd (other refl))
+    let unreported = no_report old mid wrote new c.args.journal.now c.args.out.now c.args.report.now d.core.history c.requires.names opened closing outputs.NoMemory are (λ same. cc) in
+    runs_failed _ _ _ _ _ _ c.tell-in-Err-NoMemory.ensures.end c.tell-in-Err-NoMemory.ensures.told (λ other. absurd (other refl)) unreported
     (no_memory _ _ _ _ _ c.close_journal-2.ensures.closed (λ tells.
     let m = merged_by old new c.args.journal.now c.args.libraries.now (durable_view d) c.in-Ok.loaded.results
     c.is_within_limits.ensures (l.whole tells) (λ told. c.close_journal-2.ensures.log (w.apart.tells ∙ (opened.tells ∙ tells)) told) tells in
-    why_no_memory old new c.args.journal.now c.args.out.now c.args.report.now c.args.libraries.now d.core.history c.in-Ok.loaded.results c.requires.names m tells
+    why_no_memory old new c.args.journal.now c.args.out.now c.args.report.now c.args.libraries.now d.core.history c.in-Ok.loaded.results c.requires.names m tells unreported
     (ran_out old mid wrote new c.args.journal.now c.args.out.now c.args.report.now d.core.history c.requires.names opened closing outputs.NoMemory are refl)))

@@ -1,5 +1,5 @@
 use Rattle.std.proofs.Common.{Err, ap, ◌∙◌}
-use Rattle.union_top.proofs.Written.{nothing_begun, out_failed, report_rose, report_no_memory}
+use Rattle.union_top.proofs.Written.{nothing_begun, out_failed, report_rose, report_unbegun}
 use Rattle.union_top.proofs.outputs.write_outputs.Goals as goal
 
 pub returns-in-Err-OutputFault-clause-unwritten : goal.returns-in-Err-OutputFault-clause-unwritten
@@ -18,5 +18,5 @@ returns-in-Err-OutputFault-write_report_file-clause-unwritten g c =
 
 pub returns-in-Err-NoMemory-write_report_file-clause-unwritten : goal.returns-in-Err-NoMemory-write_report_file-clause-unwritten
 returns-in-Err-NoMemory-write_report_file-clause-unwritten g c =
-    report_no_memory _ _ _ _ _ _ c.requires.differ c.write_all_records.ensures.apart c.write_report_file.ensures.apart c.in-Ok.ensures.bytes
-    c.write_report_file.ensures.part
+    report_unbegun _ _ _ _ _ _ c.write_all_records.ensures.apart
+    (c.write_report_file.ensures.unbegun (c.in-Err-NoMemory-write_report_file.is ∙ ap Err c.in-Err-NoMemory-write_report_file.field-0-is)) c.in-Ok.ensures.bytes
