@@ -53,7 +53,7 @@ fn write_field<K: Sink>(
     let Some(awaited) = &tie.awaits else {
         return Ok(());
     };
-    make_line(text, class, key, place, field, awaited)?;
+    make_line(text, class, key, place, field, awaited.key())?;
     out.write_all(text)?;
     Ok(())
 }

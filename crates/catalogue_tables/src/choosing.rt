@@ -123,7 +123,8 @@ pub fn heading_form(alloc: Global, class: Class, field: &Field) -> Result<Option
 }
 
 impl CatalogueTables {
-    /// What an unlinked field is to be linked to, if it is a heading. It takes memory for keys and forms alone.
+    /// What an unlinked field is to be linked to, if it is a heading: then its base form is given. It takes memory for keys and
+    /// full forms alone.
     pub fn choose_field(
         &self,
         alloc: Global,
@@ -131,14 +132,16 @@ impl CatalogueTables {
         class: Class,
         field: &Field,
         tie: &Tie,
+        base: Option<&Form>,
     ) -> Result<Option<Chosen>, NoMemory>
+        requires { option_copied base ≡ heading_base_form class field.now }
         ensures { IfOk result (λ chosen. (s : State) → TellsState self.now.forms keys.now self.now.index s
             → chosen ≡ option_map (chosen_for keys.now) (heading_choice (linkable_authorities s) class (kept_field field.now tie.now))) }
     {
-        let Some(base) = heading_form(alloc, class, field)? else {
+        let Some(form) = base else {
             return Ok(None);
         };
-        let chosen = self.choose(alloc, keys, class, field, tie, &base)?;
+        let chosen = self.choose(alloc, keys, class, field, tie, form)?;
         Ok(Some(chosen))
     }
 
@@ -258,7 +261,7 @@ impl CatalogueTables {
         let Some(key) = &tie.awaits else {
             return None;
         };
-        self.taker(keys, key, kind, takes)
+        self.taker(keys, key.key(), kind, takes)
     }
 
     fn first_taker(

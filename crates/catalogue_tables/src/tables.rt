@@ -23,6 +23,8 @@ pub struct CatalogueTables {
 
 impl CatalogueTables {
     ghost use Rattle.std.specs.Prelude.{[]};
+    ghost use Rattle.std.specs.List.{IsDistinct};
+    ghost use Rattle.marc_types.specs.Order.{same_form};
     ghost use Rattle.marc_types.specs.declared.key.Key.{Key};
     ghost use Rattle.form_index.specs.Index.{IsInOrder, no_index};
     ghost use Rattle.link_table.specs.Links.{less_taken, no_links};
@@ -44,6 +46,13 @@ impl CatalogueTables {
             waits: WaitTable::new(alloc),
             links: LinkTable::new(alloc),
         }
+    }
+
+    /// No form has two numbers.
+    pub fn each_form_has_one_number(&self)
+        ensures { IsDistinct same_form self.now.forms }
+    {
+        self.forms.len();
     }
 
     #[tactic(auto, using(crate::proofs::Linked::adds))]

@@ -1,7 +1,9 @@
 //! The choice of an unlinked field by the tables, and the field that it makes: a link is written from its authority's record.
 ghost use Rattle.std.specs.Prelude.{◌≡◌, ◌+◌, ◌≤◌, true, None, IfOk, IfSome, option_map};
+ghost use Rattle.std.specs.Option.{option_copied};
 ghost use Rattle.marc_types.specs.Valid.{is_field};
 ghost use Rattle.marc_types.specs.declared.key.Class.TheVariants.{Authority as AnAuthority};
+ghost use Rattle.entry_record.specs.Prepared.{heading_base_form};
 ghost use Rattle.catalogue_rules.specs.State.{kept_field, linkable_authorities};
 ghost use Rattle.field_settling.specs.Held.{heading_as, held_as};
 ghost use Rattle.linking_laws.specs.Middle.{AreAuthoritiesInOrder};
@@ -12,10 +14,10 @@ ghost use Rattle.choice_settling.specs.Settled.{IsChoiceSettledTo};
 ghost use Rattle.choice_settling.specs.Standing.{stands_settled};
 
 use crate::settled::{Settled, Stands};
-use catalogue_tables::Chosen;
+use catalogue_tables::{Chosen, heading_form};
 use field_settling::{Heading, Held, governing, link_to};
 use linked_store::LinkedStore;
-use marc_types::{Class, Field, NoMemory, Tie};
+use marc_types::{Class, Field, Form, NoMemory, Tie};
 use record_store::Steps;
 use std::alloc::Global;
 use std::sync::ledger::Ledger;
@@ -34,20 +36,23 @@ pub fn settle_unlinked<L: Ledger>(
     ensures settled { IfOk result (IsChoiceSettledTo (linkable_authorities store.now.state) class (kept_field field.now tie.now)) }
     ensures visits { steps.new ≤ steps.old + link_visit (linkable_authorities store.now.state) class (kept_field field.now tie.now) }
 {
-    let settled = settle_with_standing(store, alloc, class, field, tie, steps)?;
+    let base = heading_form(alloc, class, field)?;
+    let settled = settle_with_standing(store, alloc, class, field, tie, base.as_ref(), steps)?;
     Ok(settled.made)
 }
 
-/// The same, and how the field stands then.
+/// The same of a field whose base form is given, if it is a heading, and how the field stands then.
 pub fn settle_with_standing<L: Ledger>(
     store: &LinkedStore,
     alloc: Global,
     class: Class,
     field: &Field,
     tie: &Tie,
+    base: Option<&Form>,
     steps: &mut Steps<L>,
 ) -> Result<Settled, NoMemory>
-    requires { AreAuthoritiesInOrder store.now.state }
+    requires ordered { AreAuthoritiesInOrder store.now.state }
+    requires base { option_copied base ≡ heading_base_form class field.now }
     ensures settled { IfOk result (λ settled.
         IsChoiceSettledTo (linkable_authorities store.now.state) class (kept_field field.now tie.now) settled.made) }
     ensures stands { tie.now.key ≡ None → IfOk result (λ settled.
@@ -55,7 +60,7 @@ pub fn settle_with_standing<L: Ledger>(
     ensures visits { steps.new ≤ steps.old + link_visit (linkable_authorities store.now.state) class (kept_field field.now tie.now) }
 {
     store.each_authority_has_a_number();
-    let Some(chosen) = store.choose(alloc, class, field, tie)? else {
+    let Some(chosen) = store.choose(alloc, class, field, tie, base)? else {
         return Ok(stays(Stands::NoHeading));
     };
     match chosen {

@@ -129,13 +129,5 @@ pub(crate) fn settle_brought<L: Ledger>(
             unlinked: 0,
         });
     }
-    let entry = item.entry();
-    settle_own(
-        store,
-        alloc,
-        entry.class,
-        number,
-        entry.rec.fields.as_slice(),
-        steps,
-    )
+    settle_own(store, alloc, number, item, steps)
 }

@@ -9,9 +9,9 @@ ghost use Rattle.durable_catalogue.specs.Openings.{IsUnopened, IsOpening, KeepsC
 ghost use Rattle.durable_catalogue.specs.Refused.{LeavesDiskAlone, IsPutInOrder};
 ghost use Rattle.entry_record.specs.History.{IsWithin};
 
-use crate::OpenFault;
 use crate::fault::open_fault;
 use crate::loading::load_either;
+use crate::{Memory, OpenFault};
 use catalogue_core::Catalogue;
 use commit_journal::Journal;
 use marc_types::Limits;
@@ -79,10 +79,11 @@ impl<D: Disk> Archive<D> {
     }
 
     /// Gives the disk back.
-    pub fn close(self) -> D
+    pub fn close(self, memory: Memory) -> D
         ensures { result ≡ self.journal.disk }
     {
-        let Archive { journal, .. } = self;
+        let Archive { journal, core, .. } = self;
+        memory.end(core);
         journal.close()
     }
 }

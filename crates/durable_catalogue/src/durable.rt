@@ -19,13 +19,13 @@ ghost use Rattle.durable_catalogue.specs.Images.{Holds, HasFrameOrNot};
 ghost use Rattle.durable_catalogue.specs.Lasting.{GoesOn};
 ghost use Rattle.durable_catalogue.specs.Durables.{mark_of, marked, events, is_taken, TookNothing, opening, IsKept, IsLeft, IsLostBy, IsSameOpening};
 
-use crate::OpenFault;
 use crate::fault::open_fault;
 use crate::fitting::fitting_part;
 use crate::loading::{Loaded, load};
 use crate::seen::{Seen, look_at};
 use crate::staging::stage_all;
 use crate::written::each_can_stand_in_a_payload;
+use crate::{Memory, OpenFault};
 use catalogue_core::Catalogue;
 use catalogue_lock::Object;
 use commit_journal::Journal;
@@ -156,7 +156,7 @@ impl<D: Disk> Durable<D> {
 
     /// Gives the disk back, with all that was committed.
     #[tactic(auto, using(crate::proofs::Keeping::left_of))]
-    pub fn close(self) -> D
+    pub fn close(self, memory: Memory) -> D
         ensures disk { result ≡ self.journal.disk }
         ensures left { IsLeft (opening self.limits self.run self.opened (D.seen self.before.value) (D.seen self.first.value.disk))
             self.core.history (marked (mark_of self.mark)) (D.seen result) }
@@ -167,7 +167,8 @@ impl<D: Disk> Durable<D> {
         ensures whole { self.mark ≡ None → (log c : List ℕ) → (D.seen result).content ≡ Some log → (D.seen result).image c → HasHistory self.core.history c }
         ensures cause { is_some self.mark ≡ true → Rose (D.seen self.before.value).faults (D.seen result).faults }
     {
-        let Durable { journal, .. } = self;
+        let Durable { journal, core, .. } = self;
+        memory.end(core);
         journal.close()
     }
 

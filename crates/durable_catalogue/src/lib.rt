@@ -4,6 +4,7 @@
 pub use archive::Archive;
 pub use durable::Durable;
 pub use fault::OpenFault;
+pub use memory::Memory;
 pub use seen::Seen;
 
 mod archive;
@@ -12,6 +13,7 @@ mod fault;
 mod fitting;
 pub mod laws;
 mod loading;
+mod memory;
 mod seen;
 mod staging;
 #[cfg(test)]

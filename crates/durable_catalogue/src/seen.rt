@@ -46,7 +46,7 @@ fn look_at_field(
         told seen ≡ Some (field_told (linkable_authorities engine.now.state) class (kept_field field.now tie.now))) }
 {
     if let Some(key) = &tie.key {
-        return Ok(Seen::Linked(key.copy(alloc)?));
+        return Ok(Seen::Linked(key.key().copy(alloc)?));
     }
     match engine.standing(alloc, class, field, tie)? {
         Standing::Ambiguous(_) => Ok(Seen::Ambiguous),

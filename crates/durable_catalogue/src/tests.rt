@@ -1,6 +1,6 @@
 ghost use Rattle.std.specs.Prelude.{◌≢◌, [], IfOk};
 
-use crate::{Durable, OpenFault};
+use crate::{Durable, Memory, OpenFault};
 use entry_history::Batch;
 use marc_types::{Limits, Text, can_be_code};
 use outside_mem::MemDisk;
@@ -54,7 +54,7 @@ fn a_commit_outlasts_its_catalogue(rt: HostRuntime) -> Result<(), Fail> {
     let reply = durable.commit(alloc, batch);
     assert!(rt; reply.end.is_none());
     assert_eq!(rt; reply.receipts.len(), 1);
-    let disk = durable.close();
+    let disk = durable.close(Memory::GivenBack);
     assert_eq!(rt; disk.bytes().len(), 210);
     assert_eq!(rt; history_len(alloc, disk.bytes(), LIMITS)?, 1);
     let none = Limits {

@@ -41,6 +41,11 @@ pub record Counted : Type 0 where
   pub version : ℕ
   pub extent : Extent
 
+-- a valid payload is taken behind some entries, it holds these, and they are counted
+pub record CountsEntries (old : Counted) (before entries : List Entry) (payload : List ℕ) (new : Counted) : Type 0 where
+  pub holds : Holds old.version before entries payload
+  pub extent : HasExtent (before ++ entries) new.extent
+
 -- a valid payload is taken behind these entries, and its entries are counted
 pub record Counts (old : Counted) (before : List Entry) (payload : List ℕ) (new : Counted) : Type 0 where
   pub entries : List Entry

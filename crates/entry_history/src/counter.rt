@@ -1,11 +1,12 @@
 //! The reading of a journal's payloads with one of them in memory.
-ghost use Rattle.std.specs.Prelude.{◌≡◌, ◌+◌, ◌^◌, ◌<◌, ◌≤◌, List, [], length, OnOk, IfErr, OnErr};
+ghost use Rattle.std.specs.Prelude.{◌≡◌, ◌+◌, ◌^◌, ◌<◌, ◌≤◌, List, [], length, IfOk, OnOk, IfErr, OnErr};
 ghost use Rattle.marc_types.specs.declared.entry.Entry.{Entry as AnyEntry};
-ghost use Rattle.entry_history.specs.Readers.{IsVersion, HasExtent, Counts, HoldsNone};
+ghost use Rattle.entry_history.specs.Readers.{IsVersion, HasExtent, Counts, CountsEntries, HoldsNone};
 
 use crate::EntryFault;
 use crate::extent::Extent;
 use crate::reader::read;
+use entry_record::Prepared;
 use std::alloc::Global;
 use std::marker::Model;
 
@@ -52,9 +53,24 @@ impl HistoryCounter {
             → HoldsNone self.old.version before payload.now fault) }
         ensures unchanged { OnErr result (self.new ≡ self.old) }
     {
+        self.read(alloc, payload)?;
+        Ok(())
+    }
+
+    /// Takes a journal's next payload as `take` does, and hands out its entries.
+    pub fn read(&mut self, alloc: Global, payload: &[u8]) -> Result<Vec<Prepared>, EntryFault>
+        requires room { self.old.extent.count + length payload.now < 2 ^ 64 }
+        ensures read { IfOk result (λ items. (before : List AnyEntry) → HasExtent before self.old.extent
+            → CountsEntries self.old before items.items payload.now self.new) }
+        ensures version { self.new.version ≡ self.old.version }
+        ensures few { OnOk result (self.new.extent.count ≤ self.old.extent.count + length payload.now) }
+        ensures bad { IfErr result (λ fault. (before : List AnyEntry) → HasExtent before self.old.extent
+            → HoldsNone self.old.version before payload.now fault) }
+        ensures unchanged { OnErr result (self.new ≡ self.old) }
+    {
         let items = read(alloc, self.version, self.extent, payload)?;
         self.extent = self.extent.with(items.as_slice());
-        Ok(())
+        Ok(items)
     }
 
     /// How many entries the payloads had that were taken.

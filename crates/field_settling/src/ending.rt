@@ -7,14 +7,14 @@ ghost use Rattle.field_settling.specs.Held.{held_as};
 
 use crate::held::Held;
 use heading_fields::unlink;
-use marc_types::{Field, Key, NoMemory, Tie, TryCopy};
+use marc_types::{Field, Key, NoMemory, Tie, TiedKey, TryCopy};
 use std::alloc::Global;
 
-fn copy_key(alloc: Global, key: Option<&Key>) -> Result<Option<Key>, NoMemory>
+fn tied(alloc: Global, key: Option<&Key>) -> Result<Option<TiedKey>, NoMemory>
     ensures { IfOk result (λ twin. twin ≡ option_copied key.entry) }
 {
     match key {
-        Some(key) => Ok(Some(key.copy(alloc)?)),
+        Some(key) => Ok(Some(TiedKey::new(alloc, key.copy(alloc)?)?)),
         None => Ok(None),
     }
 }
@@ -34,7 +34,7 @@ pub fn end_link(
         tie: Tie {
             key: None,
             whole: tie.whole,
-            awaits: copy_key(alloc, successor)?,
+            awaits: tied(alloc, successor)?,
         },
     })
 }
@@ -48,7 +48,7 @@ pub fn await_key(alloc: Global, field: &Field, tie: &Tie, key: &Key) -> Result<H
         tie: Tie {
             key: tie.key.copy(alloc)?,
             whole: tie.whole,
-            awaits: Some(key.copy(alloc)?),
+            awaits: Some(TiedKey::new(alloc, key.copy(alloc)?)?),
         },
     })
 }

@@ -5,7 +5,7 @@ ghost use Rattle.field_settling.specs.Held.{held_as, linked_by};
 use crate::heading::Heading;
 use crate::held::Held;
 use heading_fields::rewrite;
-use marc_types::{Class, Field, Key, NoMemory, Tie, TryCopy};
+use marc_types::{Class, Field, Key, NoMemory, Tie, TiedKey, TryCopy};
 use std::alloc::Global;
 
 /// The field linked to the authority with that key and heading, whole or by its base, and rewritten from the heading.
@@ -22,7 +22,7 @@ pub fn link_to(
     Ok(Held {
         field: rewrite(alloc, field, heading.kind, class, heading.field, key, whole)?,
         tie: Tie {
-            key: Some(key.copy(alloc)?),
+            key: Some(TiedKey::new(alloc, key.copy(alloc)?)?),
             whole,
             awaits: None,
         },

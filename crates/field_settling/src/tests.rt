@@ -1,7 +1,7 @@
 use crate::{Heading, await_key, end_link, governing, link_to};
 use marc_types::{
     Class, Field, Key, Kind, Leader, Record, Sequence, Subfield, Subfields, Tag, Text, Tie,
-    makes_record,
+    TiedKey, makes_record,
 };
 use std::alloc::Global;
 use std::test::Fail;
@@ -37,11 +37,18 @@ fn key(alloc: Global, number: &str) -> Result<Key, Fail> {
 }
 
 // The tie of a field that is linked by its base, or awaits a key.
-fn tie(key: Option<Key>, awaits: Option<Key>) -> Tie {
-    Tie {
-        key,
+fn tie(alloc: Global, key: Option<Key>, awaits: Option<Key>) -> Result<Tie, Fail> {
+    Ok(Tie {
+        key: tied(alloc, key)?,
         whole: false,
-        awaits,
+        awaits: tied(alloc, awaits)?,
+    })
+}
+
+fn tied(alloc: Global, key: Option<Key>) -> Result<Option<TiedKey>, Fail> {
+    match key {
+        Some(key) => Ok(Some(TiedKey::new(alloc, key)?)),
+        None => Ok(None),
     }
 }
 
@@ -66,7 +73,7 @@ fn a_link_is_made(rt: HostRuntime) -> Result<(), Fail> {
     let subject = field(alloc, b"650", &[(b'a', "WOMEN"), (b'z', "France")])?;
     let linked = link_to(alloc, &sh4, heading, Class::Bibliographic, &subject, false)?;
     let written = linked_subject(alloc)?;
-    let wanted = tie(Some(sh4), None);
+    let wanted = tie(alloc, Some(sh4), None)?;
     assert!(rt; linked.is(&written, &wanted));
     Ok(())
 }
@@ -77,13 +84,13 @@ fn a_link_ends(rt: HostRuntime) -> Result<(), Fail> {
     let alloc = rt.alloc();
     let (sh4, sh5) = (key(alloc, "sh4")?, key(alloc, "sh5")?);
     let subject = linked_subject(alloc)?;
-    let link = tie(Some(key(alloc, "sh4")?), None);
+    let link = tie(alloc, Some(key(alloc, "sh4")?), None)?;
     let ended = end_link(alloc, &subject, &link, &sh4, Some(&sh5))?;
     let unlinked = field(alloc, b"650", &[(b'a', "Women"), (b'z', "France")])?;
-    let wanted = tie(None, Some(sh5));
+    let wanted = tie(alloc, None, Some(sh5))?;
     assert!(rt; ended.is(&unlinked, &wanted));
     let handed = await_key(alloc, &unlinked, &wanted, &sh4)?;
-    let wanted = tie(None, Some(sh4));
+    let wanted = tie(alloc, None, Some(sh4))?;
     assert!(rt; handed.is(&unlinked, &wanted));
     Ok(())
 }

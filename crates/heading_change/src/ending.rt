@@ -15,7 +15,7 @@ ghost use Rattle.heading_change.specs.Dropping.{IsChangedTo, drop_ending, ending
 use choice_settling::settle_unlinked;
 use field_settling::{Held, await_key, end_link};
 use linked_store::LinkedStore;
-use marc_types::{Class, Key, NoMemory, Tie};
+use marc_types::{Class, Key, NoMemory, Tie, TiedKey};
 use record_store::Steps;
 use stage_turns::FieldAt;
 use std::alloc::Global;
@@ -30,11 +30,11 @@ pub struct EndingLinks<'a> {
     pub successor: Option<&'a Key>,
 }
 
-fn is_key(key: &Key, other: &Option<Key>) -> bool
+fn is_key(key: &Key, other: &Option<TiedKey>) -> bool
     ensures { result ≡ option_map_or (same_key key.now) other.now false }
 {
     match other {
-        Some(other) => *key == *other,
+        Some(other) => *key == *other.key(),
         None => false,
     }
 }

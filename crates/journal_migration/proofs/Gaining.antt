@@ -4,6 +4,7 @@ use Rattle.std.proofs.lemmas.List.{take_all}
 use Rattle.std.proofs.Math.Logic.{∥∥₁_map}
 use Rattle.marc_types.specs.declared.entry.Entry.{Entry}
 use Rattle.outside.specs.Disk.{DiskView, OnlyContent, LeavesOnly}
+use Rattle.commit_journal.specs.declared.format.TheConstants.{LENGTH_BYTES}
 use Rattle.commit_journal.specs.declared.frame.Frame.{Frame}
 use Rattle.commit_journal.specs.Log.{frames_of, version_of}
 use Rattle.commit_journal.specs.Journal as journal
@@ -16,9 +17,9 @@ use Rattle.entry_payload.proofs.Payloads.{held_alone}
 use Rattle.durable_catalogue.specs.Logs.{HasHistory}
 use Rattle.durable_catalogue.proofs.Keeping.{some_of}
 use Rattle.durable_catalogue.proofs.Readings.{either_reading, longer_reading}
-use Rattle.journal_migration.specs.Migrations.{IsAmid, Before}
-use Rattle.journal_migration.specs.Fronts.{EachFollows, Brings, BringsRest, HasBrought, HasOneMoreOrNot, TriesEntry, AddsEntry}
-use Rattle.journal_migration.proofs.Amid.{entry_within, one_more, split_at, amid_either, amid_where}
+use Rattle.journal_migration.specs.Migrations.{IsAmid, Before, framed_lengths}
+use Rattle.journal_migration.specs.Fronts.{EachFollows, Brings, BringsRest, HasGained, HasBrought, HasOneMoreOrNot, TriesEntry, AddsEntry}
+use Rattle.journal_migration.proofs.Amid.{framed_append, entry_within, one_more, split_at, amid_either, amid_where}
 use Rattle.journal_migration.proofs.Following.{follows_at}
 
 -- nothing happens to a disk
@@ -46,10 +47,11 @@ module _ (disk : DiskView) (only : OnlyContent disk) (last : (c : List ℕ) → 
     since = λ t c earlier left. inl left;
   }
     where
-      still : (c : List ℕ) → c ≡ log → HasOneMoreOrNot before e c
+      still : (c : List ℕ) → c ≡ log → HasOneMoreOrNot before e log c
       still c is = record {
         has = ∥∥₁_map (subst (HasHistory before) (sym is) has) (λ reading. inl reading);
         newest = ap version_of is ∙ newest log told;
+        no_longer = omega (arith, ap length is);
       }
 
   pub brings_none : (may : Type 0) → (may → IsNewest disk) → (history entries : List Entry) → Brings may history entries disk disk
@@ -57,7 +59,8 @@ module _ (disk : DiskView) (only : OnlyContent disk) (last : (c : List ℕ) → 
     since = λ t c earlier left. inl left;
     now = λ c image.
         let is : c ≡ log = only log c told image in
-        ∥∥₁_map (subst (HasHistory entries) (sym is) has) (λ reading. Before reading (λ so. ap version_of is ∙ newest so log told));
+        ∥∥₁_map (subst (HasHistory entries) (sym is) has) (λ reading.
+        Before reading (λ so. ap version_of is ∙ newest so log told) (omega (arith, ap length is)));
   }
 
 -- an entry is appended in a frame
@@ -74,21 +77,28 @@ module _ (e : Entry) (entry : IsEntry e) (place : ℕ) (old new : DiskView) (set
     since = λ t c earlier left. or_either c ((leaves log told).since t c earlier left);
   }
     where
-      either : (c : List ℕ) → journal.HasFrameOrNot log frame c → HasOneMoreOrNot before e c
+      either : (c : List ℕ) → journal.HasFrameOrNot log frame c → HasOneMoreOrNot before e log c
       either c left = record {
         has = ∥∥₁_map has (λ reading. either_reading before (e ∷ []) log c frame (held log before told follows) left reading);
         newest = left.version ∙ version_two log (settled.header log told);
+        no_longer = omega (arith, left.no_longer, ap length is);
       }
 
-      or_either : (c : List ℕ) {P : Type 0} → P ⊎ journal.HasFrameOrNot log frame c → P ⊎ HasOneMoreOrNot before e c
+      or_either : (c : List ℕ) {P : Type 0} → P ⊎ journal.HasFrameOrNot log frame c → P ⊎ HasOneMoreOrNot before e log c
       or_either c (inl was) = inl was
       or_either c (inr left) = inr (either c left)
 
-  pub adds_frame : (next : ℕ) → IsSettled next 2 new
+  pub adds_frame : (next : ℕ) → IsSettled next 2 new → next ≡ place + 1 + LENGTH_BYTES + length frame.payload
       → ((b c : List ℕ) → old.content ≡ Some b → new.content ≡ Some c → frames_of c ≡ and_frame (frames_of b) frame) → AddsEntry e old new
-  adds_frame next settled_now appended log now before told has follows is_now =
+  adds_frame next settled_now behind appended log now before told has follows is_now =
       let version : version_of now ≡ version_of log = version_two now (settled_now.header now is_now) ∙ sym (version_two log (settled.header log told)) in
-      ∥∥₁_map has (λ reading. longer_reading before (e ∷ []) log now frame (appended log now told is_now) version (held log before told follows) reading)
+      let was = (settled.ends log told).end in
+      let is_end = (settled_now.ends now is_now).end in
+      record {
+        has = ∥∥₁_map has (λ reading.
+            longer_reading before (e ∷ []) log now frame (appended log now told is_now) version (held log before told follows) reading);
+        no_longer = omega (arith, was, is_end, behind, ap length is, framed_append before (e ∷ []));
+      }
 
 -- one entry more
 module _ (history : List Entry) (count at : ℕ) (e : Entry) (least : count ≤ at) (there : slice_get history at ≡ Some e) (old mid new : DiskView)
@@ -102,29 +112,42 @@ module _ (history : List Entry) (count at : ℕ) (e : Entry) (least : count ≤ 
   pub brings_more : TriesEntry e mid new → BringsRest history count old new
   brings_more tries log told has each =
       let now = told_mid log told in
-      let left = tries now.0 (take at history) now.1 (has_so_far log now.0 told has each now.1) (follows_now each) in
+      let gained = has_so_far log now.0 told has each now.1 in
+      let left = tries now.0 (take at history) now.1 gained.has (follows_now each) in
       let before = so_far log told has each in
       record {
-        since = λ t c earlier is. since_left c (before.since t c earlier) (left.since t c (omega (arith, earlier, continues.later)) is);
-        now = λ c image. either c (left.now c image);
+        since = λ t c earlier is.
+            since_left log now.0 c gained (before.since t c earlier) (left.since t c (omega (arith, earlier, continues.later)) is);
+        now = λ c image. either log now.0 c gained (left.now c image);
       }
     where
-      either : (c : List ℕ) → HasOneMoreOrNot (take at history) e c → ∥ IsAmid (Unit {0}) history (take count history) c ∥₁
-      either c one = ∥∥₁_map one.has (λ has. amid_either history count at e c least there one.newest has)
+      either : (log now c : List ℕ) → HasGained (take count history) (take at history) log now → HasOneMoreOrNot (take at history) e now c
+          → ∥ IsAmid (Unit {0}) history (take count history) log c ∥₁
+      either log now c gained one =
+          ∥∥₁_map one.has (λ has. amid_either history count at e log c least there one.newest (omega (arith, gained.no_longer, one.no_longer)) has)
 
-      since_left : (c : List ℕ) {P Q : Type 0} → (Q → P ⊎ ∥ IsAmid (Unit {0}) history (take count history) c ∥₁) → Q ⊎ HasOneMoreOrNot (take at history) e c
-          → P ⊎ ∥ IsAmid (Unit {0}) history (take count history) c ∥₁
-      since_left c before (inl was) = before was
-      since_left c before (inr is) = inr (either c is)
+      since_left : (log now c : List ℕ) {P Q : Type 0} → HasGained (take count history) (take at history) log now
+          → (Q → P ⊎ ∥ IsAmid (Unit {0}) history (take count history) log c ∥₁) → Q ⊎ HasOneMoreOrNot (take at history) e now c
+          → P ⊎ ∥ IsAmid (Unit {0}) history (take count history) log c ∥₁
+      since_left log now c gained before (inl was) = before was
+      since_left log now c gained before (inr is) = inr (either log now c gained is)
 
   pub has_more : AddsEntry e mid new → HasBrought history (take count history) (take (at + 1) history) old new
   has_more adds log now told has each is_now =
       let before = told_mid log told in
-      subst (λ es. HasHistory es now) (sym (one_more history at e there))
-      (adds before.0 now (take at history) before.1 (has_so_far log before.0 told has each before.1) (follows_now each) is_now)
+      let gained = has_so_far log before.0 told has each before.1 in
+      let added = adds before.0 now (take at history) before.1 gained.has (follows_now each) is_now in
+      record {
+        has = subst (λ es. HasHistory es now) (sym (one_more history at e there)) added.has;
+        no_longer = omega (arith, gained.no_longer, added.no_longer, ap framed_lengths (one_more history at e there));
+      }
 
 pub has_first : (history : List Entry) (count : ℕ) (disk : DiskView) → HasBrought history (take count history) (take count history) disk disk
-has_first history count disk log now told has each is = let same : log ≡ now = cc (told, is) in subst (λ c. HasHistory (take count history) c) same has
+has_first history count disk log now told has each is =
+    let same : log ≡ now = cc (told, is) in record {
+      has = subst (λ c. HasHistory (take count history) c) same has;
+      no_longer = omega (arith, ap length same);
+    }
 
 -- so many entries of a history are in the journal, more than at first or as many
 pub record IsBringing (history : List Entry) (count at : ℕ) (old now : DiskView) (broken : Bool) (version : ℕ) : Type 0 where
@@ -175,13 +198,13 @@ pub brings_where : (may : Type 0) (history entries : List Entry) (old new : Disk
 brings_where may history entries old new so brings log told has each =
     let extends = brings log told has each in
     record {
-      since = λ t c earlier left. since_left c (extends.since t c earlier left);
-      now = λ c image. gained c (extends.now c image);
+      since = λ t c earlier left. since_left log c (extends.since t c earlier left);
+      now = λ c image. gained log c (extends.now c image);
     }
   where
-    gained : (c : List ℕ) → ∥ IsAmid (Unit {0}) history entries c ∥₁ → ∥ IsAmid may history entries c ∥₁
-    gained c is = ∥∥₁_map is (λ one. amid_where (Unit {0}) may history entries c (λ free. so) (λ may. tt) one)
+    gained : (log c : List ℕ) → ∥ IsAmid (Unit {0}) history entries log c ∥₁ → ∥ IsAmid may history entries log c ∥₁
+    gained log c is = ∥∥₁_map is (λ one. amid_where (Unit {0}) may history entries log log c (λ free. so) (λ may. tt) (omega arith) one)
 
-    since_left : (c : List ℕ) {P : Type 0} → P ⊎ ∥ IsAmid (Unit {0}) history entries c ∥₁ → P ⊎ ∥ IsAmid may history entries c ∥₁
-    since_left c (inl was) = inl was
-    since_left c (inr is) = inr (gained c is)
+    since_left : (log c : List ℕ) {P : Type 0} → P ⊎ ∥ IsAmid (Unit {0}) history entries log c ∥₁ → P ⊎ ∥ IsAmid may history entries log c ∥₁
+    since_left log c (inl was) = inl was
+    since_left log c (inr is) = inr (gained log c is)

@@ -1,5 +1,5 @@
 -- What a migration leaves, from the opening of the journal and what was brought into it.
-use Rattle.std.proofs.Common.{◌≡◌, ◌⊎◌, inl, inr, ℕ, ◌<◌, ◌≤◌, true, List, [], ◌++◌, length, Some, None, is_some, refl, sym, ap, subst, ◌∙◌, arith, drop, Bool, false, take-append-drop}
+use Rattle.std.proofs.Common.{◌≡◌, ◌⊎◌, inl, inr, ℕ, ◌<◌, ◌≤◌, max, true, List, [], ◌++◌, length, Some, None, is_some, refl, sym, ap, subst, ◌∙◌, arith, drop, Bool, false, take-append-drop}
 use Rattle.std.specs.Prelude.{◌≢◌}
 use Rattle.std.proofs.lemmas.Option.{none-some}
 use Rattle.std.proofs.Math.Logic.{∥∥₁_map, ∥∥₁_elim, ∥∥₁_prop}
@@ -41,8 +41,9 @@ same_newest log c same two = decided (short_or_long (length c) BLANK_LENGTH)
 
 -- it has what that had, where nothing was brought
 pub same_before : (limits : Limits) (history entries : List Entry) (log c : List ℕ) → SameLog log c → IsLogOf entries log
-    → IsAmid (IsFit limits history entries log) history entries c
-same_before limits history entries log c same is = Before (same_log entries log c same is) (λ fits. same_newest log c same fits.version)
+    → IsAmid (IsFit limits history entries log) history entries log c
+same_before limits history entries log c same is =
+    Before (same_log entries log c same is) (λ fits. same_newest log c same fits.version) same.no_longer
 
 -- a journal of the newest version to which a history was brought
 pub brought_settled : (history : List Entry) (place version : ℕ) (disk : DiskView) → IsSettled place version disk → version ≡ 2
@@ -74,12 +75,13 @@ module _ (history : List Entry) (frames : List Frame) (place version : ℕ) (old
   pub is_version : (log : List ℕ) → old.content ≡ Some log → IsVersion version
   is_version log told = subst IsVersion (recovered.named log told) (either_version log)
 
-  -- the disk tells the log that was brought into order, with the same history
+  -- the disk tells the log that was brought into order, with the same history, and no longer
   told_mid : (leaves : LeavesContent old mid) (log : List ℕ) (entries : List Entry) → old.content ≡ Some log → IsLogOf entries log
-      → (now : List ℕ) × (mid.content ≡ Some now) × HasHistory entries now
+      → (now : List ℕ) × (mid.content ≡ Some now) × HasHistory entries now × (length now ≤ max BLANK_LENGTH (length log))
   told_mid leaves log entries told is =
       let now = some_of mid.content (opens.continues.tells ∙ ap is_some told) in
-      (now.0, now.1, ∣ same_log entries log now.0 (leaves log now.0 told now.1).same is ∣₁)
+      let same = (leaves log now.0 told now.1).same in
+      (now.0, now.1, ∣ same_log entries log now.0 same is ∣₁, same.no_longer)
 
   -- the log is one into which the history is brought
   pub fit : (limits : Limits) → version ≡ 2 → (IsVersion version → (count : ℕ) × HoldsFront version frames limits history count)
@@ -117,7 +119,7 @@ module _ (history : List Entry) (frames : List Frame) (place version : ℕ) (old
         let ordered = told_mid leaves log.0 front.0 log.1 front.1.has in
         brought_settled history at number new settled newest now is_now
         (∥∥₁_elim is_history ∥∥₁_prop (λ (reads : IsLogOf history was).
-        brought front.0 (is_version log.0 log.1) (of_frames log.0 front.0 log.1 front.1.has) ordered.0 now ordered.1 ordered.2 (log_follows history was reads) is_now))
+        (brought front.0 (is_version log.0 log.1) (of_frames log.0 front.0 log.1 front.1.has) ordered.0 now ordered.1 ordered.2 (log_follows history was reads) is_now).has))
 
     pub images_all : (limits : Limits) → version ≡ 2 → (IsVersion version → (count : ℕ) × HoldsFront version frames limits history count)
         → ((entries : List Entry) → IsVersion version → IsHistory version [] (payloads_of frames) entries → HasBrought history entries history mid new)
@@ -129,24 +131,26 @@ module _ (history : List Entry) (frames : List Frame) (place version : ℕ) (old
     module _ (limits : Limits)
         (brings : (entries : List Entry) → IsVersion version → IsHistory version [] (payloads_of frames) entries
         → Brings (MayGain version limits history entries) history entries mid new) where
-      extended : (log : List ℕ) (entries : List Entry) → old.content ≡ Some log → IsLogOf entries log → IsLogOf history was
-          → Extends (MayGain version limits history entries) history entries mid new
+      extended : (log : List ℕ) (entries : List Entry) (told : old.content ≡ Some log) (is : IsLogOf entries log) → IsLogOf history was
+          → Extends (MayGain version limits history entries) history entries (told_mid leaves log entries told is).0 mid new
       extended log entries told is reads =
           let ordered = told_mid leaves log entries told is in
           brings entries (is_version log told) (of_frames log entries told is) ordered.0 ordered.1 ordered.2 (log_follows history was reads)
 
       -- a log that may gain more is fit for the history
-      gained : (log : List ℕ) (entries : List Entry) (c : List ℕ) → old.content ≡ Some log → IsLogOf entries log
-          → ∥ IsAmid (MayGain version limits history entries) history entries c ∥₁ → ∥ IsAmid (IsFit limits history entries log) history entries c ∥₁
+      gained : (log : List ℕ) (entries : List Entry) (c : List ℕ) (told : old.content ≡ Some log) (is : IsLogOf entries log)
+          → ∥ IsAmid (MayGain version limits history entries) history entries (told_mid leaves log entries told is).0 c ∥₁
+          → ∥ IsAmid (IsFit limits history entries log) history entries log c ∥₁
       gained log entries c told is amid =
+          let ordered = told_mid leaves log entries told is in
           ∥∥₁_map amid (λ one.
-          amid_where (MayGain version limits history entries) (IsFit limits history entries log) history entries c (λ may.
+          amid_where (MayGain version limits history entries) (IsFit limits history entries log) history entries ordered.0 log c (λ may.
           record {
             version = recovered.named log told ∙ may.newest;
             has = is;
             within = may.within;
             begins = may.begins;
-          }) (λ fits. record { newest = sym (recovered.named log told) ∙ fits.version; within = fits.within; begins = fits.begins }) one)
+          }) (λ fits. record { newest = sym (recovered.named log told) ∙ fits.version; within = fits.within; begins = fits.begins }) ordered.3 one)
 
       module _ (bounded : (s : ℕ) → mid.synced old.moment ≡ Some s → s ≤ mid.moment) (synced : old.dated ≡ true → is_some (mid.synced old.moment) ≡ true)
           (undated : new.dated ≡ false → new.synced old.moment ≡ None) where
@@ -176,9 +180,10 @@ module _ (history : List Entry) (frames : List Frame) (place version : ℕ) (old
           tells = tells_now;
         }
           where
-            since_opened : (log : List ℕ) (entries : List Entry) (c : List ℕ) {P : Type 0} → old.content ≡ Some log → IsLogOf entries log
-                → (P → ∥ IsAmid (IsFit limits history entries log) history entries c ∥₁)
-                → P ⊎ ∥ IsAmid (MayGain version limits history entries) history entries c ∥₁ → ∥ IsAmid (IsFit limits history entries log) history entries c ∥₁
+            since_opened : (log : List ℕ) (entries : List Entry) (c : List ℕ) {P : Type 0} (told : old.content ≡ Some log) (is : IsLogOf entries log)
+                → (P → ∥ IsAmid (IsFit limits history entries log) history entries log c ∥₁)
+                → P ⊎ ∥ IsAmid (MayGain version limits history entries) history entries (told_mid leaves log entries told is).0 c ∥₁
+                → ∥ IsAmid (IsFit limits history entries log) history entries log c ∥₁
             since_opened log entries c told is before (inl earlier) = before earlier
             since_opened log entries c told is before (inr amid) = gained log entries c told is amid
 

@@ -1,5 +1,5 @@
 -- What a journal has of a history already, and how it gains the rest.
-use Rattle.std.specs.Prelude.{◌≡◌, ◌≢◌, ◌⊎◌, ℕ, ◌≤◌, List, [], ◌∷◌, ◌++◌, length, take, Some}
+use Rattle.std.specs.Prelude.{◌≡◌, ◌≢◌, ◌⊎◌, ℕ, ◌+◌, ◌≤◌, List, [], ◌∷◌, ◌++◌, length, take, Some}
 use Rattle.marc_types.specs.declared.entry.Entry.{Entry}
 use Rattle.marc_types.specs.declared.entry.Limits.{Limits}
 use Rattle.outside.specs.Disk.{DiskView, LeavesOnly}
@@ -9,7 +9,7 @@ use Rattle.commit_journal.specs.Log.{version_of}
 use Rattle.entry_history.specs.Payloads.{CanFollow, IsHistory}
 use Rattle.durable_catalogue.specs.Logs.{payloads_of, IsLogOf, HasHistory}
 use Rattle.durable_catalogue.specs.Openings.{IsBadFrame}
-use Rattle.journal_migration.specs.Migrations.{Begins, AreWithin, IsAmid}
+use Rattle.journal_migration.specs.Migrations.{Begins, AreWithin, IsAmid, framed_length, framed_lengths}
 use Rattle.journal_migration.specs.declared.fault.MigrateFault.{MigrateFault}
 use Rattle.journal_migration.specs.declared.fault.MigrateFault.TheVariants.{DeviceFault, NotAJournal, OldVersion, Full, NotPrefix, NoMemory}
 
@@ -57,37 +57,44 @@ pub record MayGain (version : ℕ) (limits : Limits) (history entries : List Ent
   pub begins : Begins history entries
 
 -- each image since a moment is one that there was, or has these entries or, where it may have more, a front of the rest of the history
-pub record Extends (may : Type 0) (history entries : List Entry) (old new : DiskView) : Type 0 where
-  pub since : (t : ℕ) (c : List ℕ) → t ≤ old.moment → new.left t c → old.left t c ⊎ ∥ IsAmid may history entries c ∥₁
-  pub now : (c : List ℕ) → new.image c → ∥ IsAmid may history entries c ∥₁
+pub record Extends (may : Type 0) (history entries : List Entry) (log : List ℕ) (old new : DiskView) : Type 0 where
+  pub since : (t : ℕ) (c : List ℕ) → t ≤ old.moment → new.left t c → old.left t c ⊎ ∥ IsAmid may history entries log c ∥₁
+  pub now : (c : List ℕ) → new.image c → ∥ IsAmid may history entries log c ∥₁
 
 -- so it is where the disk tells a log of these entries, and the runs of the history are in order
 abbrev pub Brings : Type 0 → List Entry → List Entry → DiskView → DiskView → Type 0
-Brings may history entries old new = (log : List ℕ) → old.content ≡ Some log → HasHistory entries log → EachFollows [] history → Extends may history entries old new
+Brings may history entries old new = (log : List ℕ) → old.content ≡ Some log → HasHistory entries log → EachFollows [] history
+    → Extends may history entries log old new
 
 -- the entries are a front of the history, and no more is asked
 abbrev pub BringsRest : List Entry → ℕ → DiskView → DiskView → Type 0
 BringsRest history count old new = Brings (Unit {0}) history (take count history) old new
 
+-- a log has these entries now, and is longer than it was, of some entries, by a frame for each that is new at most
+pub record HasGained (entries these : List Entry) (log now : List ℕ) : Type 0 where
+  pub has : HasHistory these now
+  pub no_longer : length now + framed_lengths entries ≤ length log + framed_lengths these
+
 -- where the disk told a log of some entries, it tells one of these
 abbrev pub HasBrought : List Entry → List Entry → List Entry → DiskView → DiskView → Type 0
 HasBrought history entries these old new = (log now : List ℕ) → old.content ≡ Some log → HasHistory entries log → EachFollows [] history
-    → new.content ≡ Some now → HasHistory these now
+    → new.content ≡ Some now → HasGained entries these log now
 
--- an image has these entries, or these and one more, and is of the newest version
-pub record HasOneMoreOrNot (before : List Entry) (e : Entry) (image : List ℕ) : Type 0 where
+-- an image has these entries, or these and one more, is of the newest version, and no longer than the log with a frame for that one
+pub record HasOneMoreOrNot (before : List Entry) (e : Entry) (log image : List ℕ) : Type 0 where
   pub has : ∥ IsLogOf before image ⊎ IsLogOf (before ++ e ∷ []) image ∥₁
   pub newest : version_of image ≡ 2
+  pub no_longer : length image ≤ length log + framed_length e
 
 -- an entry is tried behind those of a log: a crash leaves these, or these and the entry
 abbrev pub TriesEntry : Entry → DiskView → DiskView → Type 0
 TriesEntry e old new = (log : List ℕ) (before : List Entry) → old.content ≡ Some log → HasHistory before log → CanFollow before e.run
-    → LeavesOnly old new (HasOneMoreOrNot before e)
+    → LeavesOnly old new (HasOneMoreOrNot before e log)
 
 -- it is there
 abbrev pub AddsEntry : Entry → DiskView → DiskView → Type 0
 AddsEntry e old new = (log now : List ℕ) (before : List Entry) → old.content ≡ Some log → HasHistory before log → CanFollow before e.run
-    → new.content ≡ Some now → HasHistory (before ++ e ∷ []) now
+    → new.content ≡ Some now → HasGained before (before ++ e ∷ []) log now
 
 -- why a journal was not appended to: a device failed, whose count rose, or there was no memory
 abbrev pub IsUnappended : ℕ → ℕ → MigrateFault → Type 0

@@ -1,11 +1,13 @@
 -- A journal's history that is brought into another journal. The rules are this project's own.
-use Rattle.std.specs.Prelude.{◌≡◌, ℕ, true, List, ◌++◌, Some, None, is_some}
+use Rattle.std.specs.Prelude.{◌≡◌, ℕ, ◌+◌, ◌≤◌, max, true, List, [], ◌∷◌, ◌++◌, length, Some, None, is_some}
 use Rattle.marc_types.specs.declared.entry.Entry.{Entry}
 use Rattle.marc_types.specs.declared.entry.Limits.{Limits}
 use Rattle.outside.specs.Disk.{DiskView}
+use Rattle.commit_journal.specs.declared.format.TheConstants.{BLANK_LENGTH, LENGTH_BYTES}
 use Rattle.commit_journal.specs.Log.{walk_of, version_of}
 use Rattle.commit_journal.specs.Journal.{EndsAt}
 use Rattle.entry_record.specs.History.{IsWithin}
+use Rattle.entry_record.specs.Payload.{payload_of}
 use Rattle.durable_catalogue.specs.Logs.{IsLogOf, HasHistory}
 use Rattle.durable_catalogue.specs.Openings.{IsNoJournal}
 use Rattle.durable_catalogue.specs.Refused.{LeavesAlone}
@@ -53,21 +55,30 @@ pub record IsBrought (history : List Entry) (log : List ℕ) : Type 0 where
   pub newest : version_of log ≡ 2
   pub ended : EndsAt (walk_of log).place log
 
--- An image has these entries; or, where it may have more and a history begins with them, these and a front of what that has behind
--- them. Where it may have more it is of the newest version.
-pub data IsAmid (may : Type 0) (history entries : List Entry) (image : List ℕ) : Type 0 where
-  Before : IsLogOf entries image → (may → version_of image ≡ 2) → IsAmid may history entries image
+-- the bytes of an entry in a frame of its own: the payload behind its length, and a gate
+abbrev pub framed_length : Entry → ℕ
+framed_length e = LENGTH_BYTES + length (payload_of e) + 1
+
+abbrev pub framed_lengths : List Entry → ℕ
+framed_lengths [] = 0
+framed_lengths (e ∷ es) = framed_length e + framed_lengths es
+
+-- An image has these entries, in no more bytes than the log or a blank one; or, where it may have more and a history begins with them,
+-- these and a front of what that has behind them, in no more bytes than with a frame for each entry there. Where it may have more it is
+-- of the newest version.
+pub data IsAmid (may : Type 0) (history entries : List Entry) (log image : List ℕ) : Type 0 where
+  Before : IsLogOf entries image → (may → version_of image ≡ 2) → length image ≤ max BLANK_LENGTH (length log) → IsAmid may history entries log image
   Behind : may → (more rest : List Entry) → (entries ++ more) ++ rest ≡ history → IsLogOf (entries ++ more) image → version_of image ≡ 2
-      → IsAmid may history entries image
+      → length image ≤ max BLANK_LENGTH (length log) + framed_lengths (more ++ rest) → IsAmid may history entries log image
 
 -- A history is brought into a disk's log: each image since the first sync that succeeded has the entries that the log had, or, where
 -- the log is fit for the history, these and a front of the rest, and is of the newest version; where no sync succeeded, the content is
 -- as it was. So has the content.
 pub record IsMigration (limits : Limits) (history : List Entry) (old new : DiskView) : Type 0 where
   pub images : (s : ℕ) (log c : List ℕ) (entries : List Entry) → new.synced old.moment ≡ Some s → old.content ≡ Some log → new.left s c
-      → HasHistory entries log → ∥ IsAmid (IsFit limits history entries log) history entries c ∥₁
+      → HasHistory entries log → ∥ IsAmid (IsFit limits history entries log) history entries log c ∥₁
   pub content : (log c : List ℕ) (entries : List Entry) → old.content ≡ Some log → new.content ≡ Some c → HasHistory entries log
-      → ∥ IsAmid (IsFit limits history entries log) history entries c ∥₁
+      → ∥ IsAmid (IsFit limits history entries log) history entries log c ∥₁
   pub unsynced : old.dated ≡ true → new.synced old.moment ≡ None → new.content ≡ old.content
   pub dated : new.dated ≡ old.dated
   pub tells : is_some new.content ≡ is_some old.content

@@ -15,7 +15,10 @@ use Rattle.marc_types.specs.declared.field.Field.{Field}
 use Rattle.marc_types.specs.declared.key.Class.{Class}
 use Rattle.marc_types.specs.declared.key.Key.{Key}
 use Rattle.marc_types.specs.declared.key.Place.{Place}
+use Rattle.marc_types.specs.declared.entry.Entry.{Entry}
+use Rattle.marc_types.specs.declared.form.Form.{Form}
 use Rattle.entry_record.specs.Authority.{Linkable}
+use Rattle.entry_record.specs.Prepared.{field_form_of, heading_base_form}
 use Rattle.numbering.specs.declared.seat.Seat.{Seat}
 use Rattle.form_index.specs.Order.{key_at}
 use Rattle.catalogue_rules.specs.State.{KeptField, KeptRecord, Row, State, fields_of, linkable_authorities, new_field, rows_of}
@@ -105,6 +108,17 @@ came_at (Some r) fields i f came there =
 
 some_same : {T : Type 0} (x y : T) → Some x ≡ Some y → x ≡ y
 some_same x y e = cc
+
+-- the form that was made with the entry is that of the field at its place
+pub own_form : (e : Entry) (class : Class) (fields : List Field) (i : ℕ) (f : Field) (made : Option Form) → class ≡ e.class → fields ≡ e.rec.fields → i < length fields → f ≡ get_or fields i f
+    → made ≡ field_form_of e i → made ≡ heading_base_form class f
+unfolding field_form_of
+own_form e class fields i f made class_is fields_are low is made_is =
+    let got : slice_get fields i ≡ Some f = slice_get-get_or fields i f low ∙ ap (λ (g : Field). Some g) (sym is) in
+    made_is
+    ∙ ap (λ (l : List Field). option_and_then (heading_base_form e.class) (slice_get l i)) (sym fields_are)
+    ∙ ap (option_and_then (heading_base_form e.class)) got
+    ∙ ap (λ (d : Class). heading_base_form d f) (sym class_is)
 
 -- ---- visits
 

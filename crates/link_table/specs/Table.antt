@@ -1,5 +1,4 @@
 -- What callers see of the struct.
-use Rattle.std.specs.Prelude.{nat_eq}
 use Rattle.numbering.specs.Seats.{same_seat}
 use Rattle.place_names.specs.Slots.{row_at, rooms_at}
 use Rattle.place_names.specs.Counts.{times}
@@ -8,4 +7,4 @@ use Rattle.link_table.specs.Sound.{seen}
 use Rattle.link_table.specs.declared.table.LinkTable.{LinkTable}
 
 unfoldable pub links : LinkTable → Links
-links table = seen (row_at same_seat table.slots.slots) (rooms_at same_seat table.slots.slots) (times nat_eq same_seat table.names.groups)
+links table = seen (row_at same_seat table.slots.slots) (rooms_at same_seat table.slots.slots) (times same_seat table.names.groups.items)

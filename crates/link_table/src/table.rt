@@ -1,6 +1,4 @@
-ghost use Rattle.std.specs.Prelude.{◌≡◌, nat_eq, OnOk, OnErr, IfOk, IfSome, IfNone, None, Some, filter};
-ghost use Rattle.std.specs.HashMap.{keys};
-ghost use Rattle.std.specs.List.{IsDistinct};
+ghost use Rattle.std.specs.Prelude.{◌≡◌, OnOk, OnErr, IfOk, IfSome, IfNone, None, Some, filter};
 ghost use Rattle.numbering.specs.Seats.{same_seat};
 ghost use Rattle.place_names.specs.Slots.{row_at, rooms_at};
 ghost use Rattle.place_names.specs.Counts.{times};
@@ -12,14 +10,13 @@ use marc_types::NoMemory;
 use numbering::{Seat, Seats};
 use place_names::{Counts, Slots};
 use std::alloc::Global;
-use std::collections::HashMap;
 
 /// Links of seats to authorities. A seat is linked to one authority at most.
 #[derive(Drop)]
 pub struct LinkTable {
     slots: Slots<Seat, u32>,
-    names: Counts<u32, Seat>,
-    ghost sound: { LinksAgree (row_at same_seat slots.slots) (rooms_at same_seat slots.slots) (times nat_eq same_seat names.groups) },
+    names: Counts<Seat>,
+    ghost sound: { LinksAgree (row_at same_seat slots.slots) (rooms_at same_seat slots.slots) (times same_seat names.groups.items) },
 }
 
 #[tactic(auto, unfolding(crate::specs::Table::links))]
@@ -105,25 +102,17 @@ impl LinkTable {
     pub fn of(&self, alloc: Global, number: u32) -> Result<Seats, NoMemory>
         ensures { IfOk result (λ seats. ListsEach same_seat (is_linked number (links self.now)) seats.items) }
     {
-        let Some(group) = self.names.group(number) else {
-            return Ok(Vec::new(alloc));
-        };
-        let seats = self.linked_in(alloc, group, number)?;
+        let counted = self.names.things(alloc, number)?;
+        let seats = self.linked_among(alloc, counted.as_slice(), number)?;
         Ok(seats)
     }
 
-    // Those of a group's seats that are linked to the authority.
-    fn linked_in(
-        &self,
-        alloc: Global,
-        group: &HashMap<Seat, u32>,
-        number: u32,
-    ) -> Result<Seats, NoMemory>
-        ensures kept { IfOk result (λ seats. seats.items ≡ filter (is_linked number (links self.now)) (keys group.now)) }
-        ensures distinct { IsDistinct same_seat (keys group.now) }
+    // Those of the seats that are linked to the authority.
+    fn linked_among(&self, alloc: Global, among: &[Seat], number: u32) -> Result<Seats, NoMemory>
+        ensures { IfOk result (λ seats. seats.items ≡ filter (is_linked number (links self.now)) among.now) }
     {
-        let mut seats = Vec::new(alloc);
-        for seat in group.keys() {
+        let mut seats = Vec::with_capacity(alloc, among.len())?;
+        for seat in among {
             if self.is_linked(*seat, number) {
                 seats.push(*seat)?;
             }

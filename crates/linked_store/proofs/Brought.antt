@@ -1,7 +1,10 @@
 -- What an entry brings: its record with new ties, and what its fields' seats are to wait for.
-use Rattle.std.proofs.Common.{◌≡◌, ◌∙◌, sym, ap, refl, subst, ℕ, suc, ◌+◌, ◌<◌, ◌≤◌, arith, true, List, [], ◌∷◌, ◌++◌, length, map, Option, Some, None}
-use Rattle.std.specs.Prelude.{slice_get}
-use Rattle.std.specs.Prelude.{IsSomeAnd}
+use Rattle.std.proofs.Common.{◌≡◌, ◌∙◌, sym, ap, refl, subst, ℕ, ◌+◌, ◌<◌, ◌≤◌, arith, Bool, true, false, cond, List, [], ◌∷◌, ◌++◌, length, map, Option, Some, None, if◌then◌else◌}
+use Rattle.std.specs.Prelude.{◌==◌, IsSomeAnd, nat_lt, slice_get}
+use Rattle.std.specs.Cmp.{unsigned_Decides}
+use Rattle.std.proofs.lemmas.Bool.{ltb-false, ltb-true}
+use Rattle.std.proofs.lemmas.Option.{slice_get_past}
+use mathlib.Core.Bool.{false≢true}
 use Rattle.marc_types.specs.declared.entry.Entry.{Entry}
 use Rattle.marc_types.specs.declared.entry.Kept.{Kept}
 use Rattle.marc_types.specs.declared.entry.Tie.{Tie}
@@ -16,19 +19,20 @@ use Rattle.numbering.proofs.Numberlaws.{thing_at}
 use Rattle.numbered_store.proofs.Shelving.{low_number}
 use Rattle.catalogue_tables.specs.Seam.{KeyLists, KeysKeep, keys_in}
 use Rattle.form_index.specs.Order.{key_at}
-use Rattle.linking_laws.specs.Partway.{HasAtMost}
-use Rattle.catalogue_rules.specs.Receipt.{kept_under}
+use Rattle.entry_record.specs.Identity.{is_deletion}
+use Rattle.catalogue_rules.specs.Settle.{arrival_of}
 use Rattle.iso2709_record.proofs.Lengths.{record_bounds}
-use Rattle.catalogue_rules.specs.State.{KeptField, KeptRecord, State, kept_record, new_field, new_record, new_tie, tied}
+use Rattle.catalogue_rules.specs.State.{KeptField, KeptRecord, kept_record, new_field, new_record, new_tie, tied}
 use Rattle.linked_store.specs.Fielding.{IsRowFor}
-use Rattle.linked_store.specs.Placing.{AreRowsFrom, CoversFields, IsRowAt, IsWantedAt}
+use Rattle.linked_store.specs.Placing.{AreApart, AreRowsOf, IsRowAt, IsWantedAt, fields_brought, noted_rows, row_of_field}
 use Rattle.linked_store.specs.Wanted.{IsWanted}
 use Rattle.linked_store.specs.declared.wanted.Wanted.{Wanted}
 use Rattle.std.specs.Borrow.{Bor}
 use Rattle.std.specs.Option.{option_copied}
+use Rattle.linked_store.specs.declared.seating.FieldRow.{FieldRow}
 use Rattle.linked_store.specs.declared.turns.Row.{Row}
 use Rattle.linked_store.proofs.Agreed.{key_there}
-use Rattle.linked_store.proofs.Seated.{numbers_kept}
+use Rattle.linked_store.proofs.Seated.{fails, numbers_kept}
 
 -- ---- the record
 
@@ -76,14 +80,87 @@ row_at_kept : (class : Class) (o : Option Field) (old new : List Key) (row : Opt
 row_at_kept class None old new row keeps is = is
 row_at_kept class (Some field) old new row keeps is = row_for_kept class (new_field field) old new row keeps is
 
-pub rows_more : (class : Class) (fields : List Field) (old new : List Key) (first : ℕ) (rows : List (Option Row)) (n : ℕ) (row : Option Row) → Keeps same_key old new → n ≡ first + length rows
-    → AreRowsFrom class old fields first rows → IsRowAt class new (slice_get fields n) row → AreRowsFrom class new fields first (rows ++ row ∷ [])
-rows_more class fields old new first [] n row keeps at are is =
-    let here : n ≡ first = omega (arith, at) in
-    (subst (λ m. IsRowAt class new (slice_get fields m) row) here is, tt)
-rows_more class fields old new first (r ∷ rows) n row keeps at are is =
-    let there : n ≡ suc first + length rows = omega (arith, at) in
-    (row_at_kept class (slice_get fields first) old new r keeps are.0, rows_more class fields old new (suc first) rows n row keeps there are.1 is)
+-- how far the rows of fields have been found: those of the fields below one
+pub record AreRowsBelow (class : Class) (keys : List Key) (fields : List Field) (end : ℕ) (rows : List FieldRow) : Type 0 where
+  pub own : (field : ℕ) → field < end → IsRowAt class keys (slice_get fields field) (row_of_field field rows)
+  pub past : (field : ℕ) → end ≤ field → row_of_field field rows ≡ None
+  pub apart : AreApart rows
+
+pub no_rows_yet : (class : Class) (keys : List Key) (fields : List Field) (rows : List FieldRow) → rows ≡ [] → AreRowsBelow class keys fields 0 rows
+no_rows_yet class keys fields rows none =
+    subst (λ (l : List FieldRow). AreRowsBelow class keys fields 0 l) (sym none)
+    (record { own = λ field low. absurd (omega (arith, low)); past = λ field high. refl; apart = tt })
+
+-- another field's row stays
+other_row : (one : ℕ) (row : Option Row) (field : ℕ) (rows : List FieldRow) → (one == field) ≡ false → row_of_field field (rows ++ noted_rows one row) ≡ row_of_field field rows
+other_row one None field [] apart = refl
+other_row one (Some row) field [] apart = ap (λ b. cond b (Some row) None) apart
+other_row one row field (x ∷ rows) apart = ap (λ (o : Option Row). cond (x.field == field) (Some x.row) o) (other_row one row field rows apart)
+
+-- the row that was noted
+noted_row : (one : ℕ) (row : Option Row) (rows : List FieldRow) → row_of_field one rows ≡ None → row_of_field one (rows ++ noted_rows one row) ≡ row
+noted_row one None [] none = refl
+noted_row one (Some row) [] none = ap (λ b. cond b (Some row) None) ((unsigned_Decides one one).1 refl)
+noted_row one row (x ∷ rows) none = by (x.field == one) refl (λ none. noted_row one row rows none)
+  where
+    by : (b : Bool) → (x.field == one) ≡ b → (row_of_field one rows ≡ None → row_of_field one (rows ++ noted_rows one row) ≡ row) → cond (x.field == one) (Some x.row) (row_of_field one (rows ++ noted_rows one row)) ≡ row
+    by true e later = let there : Some x.row ≡ None = sym (ap (λ b. cond b (Some x.row) (row_of_field one rows)) e) ∙ none in cc
+    by false e later =
+        ap (λ b. cond b (Some x.row) (row_of_field one (rows ++ noted_rows one row))) e
+        ∙ later (sym (ap (λ b. cond b (Some x.row) (row_of_field one rows)) e) ∙ none)
+
+-- no field has two rows then
+apart_noted : (one : ℕ) (row : Option Row) (rows : List FieldRow) → row_of_field one rows ≡ None → AreApart rows → AreApart (rows ++ noted_rows one row)
+apart_noted one None [] none apart = tt
+apart_noted one (Some row) [] none apart = (refl, tt)
+apart_noted one row (x ∷ rows) none apart = by (x.field == one) refl (λ none. apart_noted one row rows none apart.1)
+  where
+    by : (b : Bool) → (x.field == one) ≡ b → (row_of_field one rows ≡ None → AreApart (rows ++ noted_rows one row)) → AreApart (x ∷ (rows ++ noted_rows one row))
+    by true e later = let there : Some x.row ≡ None = sym (ap (λ b. cond b (Some x.row) (row_of_field one rows)) e) ∙ none in cc
+    by false e later =
+        let back : (one == x.field) ≡ false =
+        fails (one == x.field) (λ same. false≢true (sym e ∙ (unsigned_Decides x.field one).1 (sym ((unsigned_Decides one x.field).0 same)))) in (
+          other_row one row x.field rows back ∙ apart.0,
+          later (sym (ap (λ b. cond b (Some x.row) (row_of_field one rows)) e) ∙ none),
+        )
+
+below_last : (field end : ℕ) → field < end + 1 → (end ≡ field → ⊥) → field < end
+below_last field end low apart = at (nat_lt field end) refl
+  where
+    at : (b : Bool) → nat_lt field end ≡ b → field < end
+    at true e = ltb-true field end e
+    at false e = let high = ltb-false field end e in absurd (apart (omega (arith, high, low)))
+
+pub rows_more : (class : Class) (fields : List Field) (old new : List Key) (end : ℕ) (rows more : List FieldRow) (row : Option Row) → Keeps same_key old new
+    → more ≡ rows ++ noted_rows end row → AreRowsBelow class old fields end rows → IsRowAt class new (slice_get fields end) row → AreRowsBelow class new fields (end + 1) more
+rows_more class fields old new end rows more row keeps noted below is =
+    subst (λ (l : List FieldRow). AreRowsBelow class new fields (end + 1) l) (sym noted) (record {
+      own = λ field low. by field low (end == field) refl;
+      past = λ field high. other_row end row field rows (unlike field (λ same. omega (arith, same, high))) ∙ below.past field (omega (arith, high));
+      apart = apart_noted end row rows (below.past end (omega arith)) below.apart;
+    })
+  where
+    unlike : (field : ℕ) → (end ≡ field → ⊥) → (end == field) ≡ false
+    unlike field apart = fails (end == field) (λ same. apart ((unsigned_Decides end field).0 same))
+
+    by : (field : ℕ) → field < end + 1 → (b : Bool) → (end == field) ≡ b → IsRowAt class new (slice_get fields field) (row_of_field field (rows ++ noted_rows end row))
+    by field low true e =
+        subst (λ (n : ℕ). IsRowAt class new (slice_get fields n) (row_of_field n (rows ++ noted_rows end row))) ((unsigned_Decides end field).0 e)
+        (subst (λ (r : Option Row). IsRowAt class new (slice_get fields end) r) (sym (noted_row end row rows (below.past end (omega arith)))) is)
+    by field low false e =
+        subst (λ (r : Option Row). IsRowAt class new (slice_get fields field) r) (sym (other_row end row field rows e))
+        (row_at_kept class (slice_get fields field) old new (row_of_field field rows) keeps (below.own field (below_last field end low (λ same. false≢true (sym e ∙ (unsigned_Decides end field).1 same)))))
+
+-- the rows of all fields
+pub rows_found : (class : Class) (keys : List Key) (fields : List Field) (end : ℕ) (rows : List FieldRow) → length fields ≤ end → AreRowsBelow class keys fields end rows
+    → AreRowsOf class keys fields rows
+rows_found class keys fields end rows long below = record { own = λ field. by field (nat_lt field end) refl; apart = below.apart }
+  where
+    by : (field : ℕ) (b : Bool) → nat_lt field end ≡ b → IsRowAt class keys (slice_get fields field) (row_of_field field rows)
+    by field true e = below.own field (ltb-true field end e)
+    by field false e =
+        let high = ltb-false field end e in
+        subst (λ (o : Option Field). IsRowAt class keys o (row_of_field field rows)) (sym (slice_get_past fields field (omega (arith, long, high)))) (below.past field high)
 
 -- ---- the number of the entry's key
 
@@ -97,29 +174,14 @@ pub number_kept : (class : Class) (old new : KeyLists) (key : Key) (number : ℕ
 number_kept Authority old new key number keep of = record { known = keep.authorities.known key of.known; is = of.is ∙ sym (keep.authorities.same_number key of.known) }
 number_kept Bibliographic old new key number keep of = record { known = keep.bibliographic.known key of.known; is = of.is ∙ sym (keep.bibliographic.same_number key of.known) }
 
--- ---- each field has a row
+-- ---- how many fields an entry brings
 
-pub covers_kept : (e : Entry) (n m : ℕ) (s t : State) → m ≡ n → t ≡ s → CoversFields e n s → CoversFields e m t
-covers_kept e n m s t long same covers = subst (λ (k : ℕ). CoversFields e k t) (sym long) (subst (λ (x : State). CoversFields e n x) (sym same) covers)
+brought_short : (b : Bool) (fields : List Field) (n : ℕ) → length fields ≤ n → length (if b then [] else fields) ≤ n
+brought_short true fields n low = omega arith
+brought_short false fields n low = low
 
-pub covers : (e : Entry) (own old n : ℕ) (key : Key) (s : State) → key ≡ e.key → own ≡ length e.rec.fields → old ≤ 8331 → own ≤ n → old ≤ n → n ≤ 8331
-    → HasAtMost e.class key old s → CoversFields e n s
-covers e own old n key s same is few more most low at = record {
-  old = λ r there. let short = at r (ap (λ (k : Key). kept_under e.class k s) same ∙ there) in omega (arith, short, most);
-  new = omega (arith, is, more);
-  few = low;
-}
-
-own_few : (e : Entry) → length e.rec.fields ≤ 8331
-own_few e = (record_bounds e.rec.leader e.rec.fields e.rec.valid).0
-
--- there are as many rows as the record that stands there has fields, or as the entry's has
-pub covers_old : (e : Entry) (own old : ℕ) (key : Key) (s : State) → key ≡ e.key → own ≡ length e.rec.fields → old ≤ 8331 → own ≤ old → HasAtMost e.class key old s → CoversFields e old s
-covers_old e own old key s same is few more at = covers e own old old key s same is few more (omega arith) few at
-
-pub covers_own : (e : Entry) (own old : ℕ) (key : Key) (s : State) → key ≡ e.key → own ≡ length e.rec.fields → old ≤ 8331 → old ≤ own → HasAtMost e.class key old s → CoversFields e own s
-covers_own e own old key s same is few more at =
-    let short = own_few e in covers e own old own key s same is few (omega arith) more (omega (arith, short, is)) at
+pub brought_few : (e : Entry) → length (fields_brought (arrival_of e)) ≤ 8331
+brought_few e = brought_short (is_deletion e.rec.leader) e.rec.fields 8331 ((record_bounds e.rec.leader e.rec.fields e.rec.valid).0)
 
 -- ---- what a field waits for
 

@@ -1,5 +1,6 @@
 -- Frames: one change more, none, and one after another.
 use Rattle.std.proofs.Common.{◌≡◌, ◌∙◌, sym, ap, refl, subst, ℕ, zero, suc, ◌≤◌, arith, Bool, true, false, cond, List, [], ◌∷◌, ◌++◌, length, map, take, drop, Option, Some, None}
+use Rattle.std.specs.Option.{is_some}
 use Rattle.marc_types.specs.declared.form.Form.{Form}
 use Rattle.marc_types.specs.Order.{same_form}
 use Rattle.numbering.proofs.Numberlaws.{keeps_itself, keeps_same}
@@ -23,6 +24,7 @@ use Rattle.linked_store.specs.Rooms.{link_back, link_gone, link_out, wait_back, 
 use Rattle.linked_store.specs.Frames.{GoesBack, GoesOn, IsRoomy, IsRowOut, KeepsRows, LetsGo, FormsKeep, SameForms, StaysButHeld, TakesBack, WaitsNow, contents, links_in, steps_of, waits_in}
 use Rattle.linked_store.specs.declared.change.Change.{Change}
 use Rattle.linked_store.specs.declared.frame.Frame.{Frame}
+use Rattle.linked_store.proofs.Outside.{link_none_out, wait_none_out}
 use Rattle.linked_store.proofs.Going.{back_join, can_join, can_less, join_assoc, join_none, last_link_out, last_wait_out, rooms_less, rooms_link_gone, rooms_more, rooms_relinked, rooms_rewaited, rooms_same, rooms_unlinked, rooms_unwaited, rooms_wait_gone, rooms_waited, steps_pushed}
 
 -- one change more, whose step leads back
@@ -89,6 +91,10 @@ set_back {V} seat was now things is s = by (same_seat seat s) refl
 pub forms_same : (old new : CatalogueTables) → new.forms ≡ old.forms → FormsKeep old new
 forms_same old new forms = record { forms = keeps_same same_form forms }
 
+no_thing : {V : Type 0} (thing : Option V) → is_some thing ≡ false → thing ≡ None
+no_thing None none = refl
+no_thing (Some thing) none = cc
+
 -- a link went out
 pub goes_unlinked : (old new : Frame) (seat : Seat) (number : Option ℕ) → steps_of new ≡ steps_of old ++ ToLink seat number ∷ [] → new.store ≡ old.store → OnlyLinks old.tables new.tables
     → number ≡ (links_in old.tables).key_of seat → links_in new.tables ≡ link_out seat ((links_in old.tables).key_of seat) (links_in old.tables) → GoesOn old new
@@ -104,6 +110,15 @@ goes_unlinked old new seat number steps store only was out =
     (subst (λ (l : Links). HaveRooms (steps_of old ++ ToLink seat number ∷ []) l (waits_in old.tables)) (sym gone)
     (rooms_unlinked (steps_of old) seat number (links_in old.tables) (waits_in old.tables) r))))
     (forms_same old.tables new.tables only.forms)
+
+-- there was no link to go out
+pub goes_unlinked_before : (old new : Frame) (seat : Seat) (number : Option ℕ) → new.store ≡ old.store → new.log.items ≡ old.log.items → OnlyLinks old.tables new.tables
+    → number ≡ (links_in old.tables).key_of seat → links_in new.tables ≡ link_out seat ((links_in old.tables).key_of seat) (links_in old.tables) → is_some number ≡ false → GoesOn old new
+goes_unlinked_before old new seat number store log only was out none =
+    let free : (links_in old.tables).key_of seat ≡ None = sym was ∙ no_thing number none in
+    let same : links_in new.tables ≡ links_in old.tables =
+    out ∙ ap (λ n. link_out seat n (links_in old.tables)) free ∙ link_none_out seat (links_in old.tables) free in
+    goes_still old new store log same (ap waits only.waits) only.index (forms_same old.tables new.tables only.forms)
 
 -- a link came in
 pub goes_linked : (old new : Frame) (seat : Seat) (number : ℕ) → steps_of new ≡ steps_of old ++ ToLink seat None ∷ [] → new.store ≡ old.store → OnlyLinks old.tables new.tables
@@ -137,6 +152,15 @@ goes_unwaited old new seat waiting steps store only was out =
     (subst (λ (w : Waits). HaveRooms (steps_of old ++ ToWait seat waiting ∷ []) (links_in old.tables) w) (sym gone)
     (rooms_unwaited (steps_of old) seat waiting (links_in old.tables) (waits_in old.tables) r))))
     (forms_same old.tables new.tables only.forms)
+
+-- there was nothing that waited to go out
+pub goes_unwaited_before : (old new : Frame) (seat : Seat) (waiting : Option Waiting) → new.store ≡ old.store → new.log.items ≡ old.log.items → OnlyWaits old.tables new.tables
+    → waiting ≡ (waits_in old.tables).waiting seat → waits_in new.tables ≡ wait_out seat ((waits_in old.tables).waiting seat) (waits_in old.tables) → is_some waiting ≡ false → GoesOn old new
+goes_unwaited_before old new seat waiting store log only was out none =
+    let free : (waits_in old.tables).waiting seat ≡ None = sym was ∙ no_thing waiting none in
+    let same : waits_in new.tables ≡ waits_in old.tables =
+    out ∙ ap (λ n. wait_out seat n (waits_in old.tables)) free ∙ wait_none_out seat (waits_in old.tables) free in
+    goes_still old new store log (ap links only.links) same only.index (forms_same old.tables new.tables only.forms)
 
 -- a seat waits now
 pub goes_waiting : (old new : Frame) (seat : Seat) (waiting : Waiting) → steps_of new ≡ steps_of old ++ ToWait seat None ∷ [] → new.store ≡ old.store → OnlyWaitsAndForms old.tables new.tables

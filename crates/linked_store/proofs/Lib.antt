@@ -6,6 +6,7 @@ pub mod Agreed
 pub mod Telling
 pub mod Turned
 pub mod Seated
+pub mod Fieldless
 pub mod Brought
 pub mod Sounding
 pub mod Keyed

@@ -30,14 +30,18 @@ there_and_back n m = omega arith
 
 -- ---- links
 
+-- nothing goes out of a seat that is linked to none
+pub link_none_out : (seat : Seat) (l : Links) → l.key_of seat ≡ None → link_out seat None l ≡ l
+link_none_out seat l free =
+    sym (λ i. record {
+      key_of = λ s. none_at seat l.key_of free s i;
+      taken = λ s. plus_none (l.taken s) i;
+      taken_from = λ n s. plus_none (l.taken_from n s) i;
+    })
+
 took_by : (seat : Seat) (old new : Links) (number : Option ℕ) → old.key_of seat ≡ number → IfSome (row_of seat number) (λ link. TakesLink link old new)
     → IfNone (row_of seat number) (new ≡ old) → new ≡ link_out seat number old
-took_by seat old new None is some none =
-    none ∙ (λ i. record {
-      key_of = λ s. none_at seat old.key_of is s i;
-      taken = λ s. plus_none (old.taken s) i;
-      taken_from = λ n s. plus_none (old.taken_from n s) i;
-    })
+took_by seat old new None is some none = none ∙ sym (link_none_out seat old is)
 took_by seat old new (Some number) is some none = some.is
 
 pub took_link : (seat : Seat) (old new : Links) (row : Option Link) → row ≡ row_of seat (old.key_of seat) → IfSome row (λ link. TakesLink link old new) → IfNone row (new ≡ old)
@@ -73,15 +77,19 @@ link_stays_out seat old new e same =
 
 -- ---- what seats wait for
 
+-- nothing goes out of a seat that waits for nothing
+pub wait_none_out : (seat : Seat) (w : Waits) → w.waiting seat ≡ None → wait_out seat None w ≡ w
+wait_none_out seat w free =
+    sym (λ i. record {
+      waiting = λ s. none_at seat w.waiting free s i;
+      taken = λ s. plus_none (w.taken s) i;
+      taken_forms = λ n s. plus_none (w.taken_forms n s) i;
+      taken_keys = λ n s. plus_none (w.taken_keys n s) i;
+    })
+
 waited_by : (seat : Seat) (old new : Waits) (waiting : Option Waiting) → old.waiting seat ≡ waiting → IfSome (wait_row_of seat waiting) (λ row. TakesWait row old new)
     → IfNone (wait_row_of seat waiting) (new ≡ old) → new ≡ wait_out seat waiting old
-waited_by seat old new None is some none =
-    none ∙ (λ i. record {
-      waiting = λ s. none_at seat old.waiting is s i;
-      taken = λ s. plus_none (old.taken s) i;
-      taken_forms = λ n s. plus_none (old.taken_forms n s) i;
-      taken_keys = λ n s. plus_none (old.taken_keys n s) i;
-    })
+waited_by seat old new None is some none = none ∙ sym (wait_none_out seat old is)
 waited_by seat old new (Some waiting) is some none = some.is
 
 pub took_waiting : (seat : Seat) (old new : Waits) (row : Option WaitRow) → row ≡ wait_row_of seat (old.waiting seat) → IfSome row (λ r. TakesWait r old new) → IfNone row (new ≡ old)

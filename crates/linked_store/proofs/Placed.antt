@@ -1,13 +1,12 @@
 -- The tables agree with the records once a record has come into its place with its rows.
-use Rattle.std.proofs.Common.{◌≡◌, ◌∙◌, sym, ap, refl, subst, ℕ, suc, ◌+◌, ◌<◌, ◌≤◌, arith, Bool, true, false, cond, List, [], ◌∷◌, length, map, Option, Some, None, if◌then◌else◌, ◌⊎◌, inl, inr}
-use Rattle.std.specs.Prelude.{◌&&◌, ◌==◌, filter, nat_lt, slice_get}
+use Rattle.std.proofs.Common.{◌≡◌, ◌∙◌, sym, ap, refl, subst, ℕ, ◌<◌, Bool, true, false, cond, List, [], length, map, Option, Some, None, if◌then◌else◌, ◌⊎◌, inl, inr}
+use Rattle.std.specs.Prelude.{◌&&◌, ◌==◌, filter, slice_get}
 use Rattle.std.specs.Cmp.{unsigned_Decides}
 use Rattle.std.specs.Option.{option_and_then, option_map, option_map_or}
 use Rattle.std.specs.List.{IsDistinct}
 use Rattle.std.specs.Map.{lookup, remove_entry}
 use Rattle.std.specs.BTreeMap.{insert_entry}
-use Rattle.std.proofs.lemmas.Bool.{ltb-false, ltb-true}
-use Rattle.std.proofs.lemmas.Option.{slice_get-map, slice_get_past}
+use Rattle.std.proofs.lemmas.Option.{slice_get-map}
 use mathlib.Core.Bool.{false≢true}
 use Rattle.marc_types.specs.declared.entry.Entry.{Entry}
 use Rattle.marc_types.specs.declared.field.Field.{Field}
@@ -25,7 +24,7 @@ use Rattle.entry_record.specs.Authority.{is_bare, is_valid_key}
 use Rattle.entry_record.specs.Identity.{is_deletion}
 use Rattle.catalogue_rules.specs.Receipt.{is_committed, kept_under, same_class}
 use Rattle.catalogue_rules.specs.Settle.{Arrival, arrival_of, place}
-use Rattle.catalogue_rules.specs.State.{KeptField, KeptRecord, Row as StateRow, State, linkable_authorities, new_field, new_record, rows_of}
+use Rattle.catalogue_rules.specs.State.{KeptField, Row as StateRow, State, linkable_authorities, new_field, new_record, rows_of}
 use Rattle.catalogue_rules.specs.Valid.{IsRow}
 use Rattle.catalogue_rules.proofs.Rows.{ascend_place, each_place}
 use Rattle.catalogue_rules.proofs.States.{IsFitArrival, fit_entry}
@@ -43,7 +42,7 @@ use Rattle.link_table.specs.Links.{is_linked, leads_to}
 use Rattle.wait_table.specs.Waits.{asks, asks_form, names, names_key}
 use Rattle.wait_table.specs.declared.waiting.Waiting.{Waiting}
 use Rattle.linking_laws.specs.Behind.{placed_in}
-use Rattle.linking_laws.specs.Partway.{AreOrdered, HasAtMost}
+use Rattle.linking_laws.specs.Partway.{AreOrdered}
 use Rattle.linking_laws.specs.Tables.{Agree, Tables, asks_at, holds_at, index_row, linked_at}
 use Rattle.linking_laws.specs.Visits.{waits_for_key}
 use Rattle.linking_laws.proofs.Agreeing.{agree_placed}
@@ -59,16 +58,17 @@ use Rattle.linked_store.specs.Contents.{Contents}
 use Rattle.linked_store.specs.Frames.{FormsKeep, GoesOn, contents}
 use Rattle.linked_store.specs.Linked.{IsAhead}
 use Rattle.linking_laws.specs.Commits.{placed_by}
-use Rattle.linked_store.specs.Placing.{AreRowsFrom, CoversFields, HasRow, HaveRowsFrom, IndexFollows, IsElsewhere, IsPlaced, IsRowAt, fields_brought, record_brought, seat_in}
+use Rattle.linked_store.specs.Placing.{AreRowsOf, IndexFollows, IsElsewhere, IsPlaced, IsRowAt, fields_brought, record_brought, row_of_field, seat_in}
 use Rattle.linked_store.specs.Sound.{AgreesWith, IsSound, key_lists, keys_of, linked_view, seen_links, seen_waits, state_in}
 use Rattle.linked_store.specs.Turns.{IsWaitingOf}
 use Rattle.linked_store.specs.declared.frame.Frame.{Frame}
+use Rattle.linked_store.specs.declared.seating.FieldRow.{FieldRow}
 use Rattle.linked_store.specs.declared.turns.Row.{Row}
 use Rattle.linked_store.proofs.Agreed.{key_there, keys_alike, keys_keep}
 use Rattle.linked_store.proofs.Fielded.{ahead_turned, wait_of}
 use Rattle.linked_store.proofs.Sounding.{sound_on}
 use Rattle.linked_store.proofs.Brought.{number_key}
-use Rattle.linked_store.proofs.Seated.{fails, other_field}
+use Rattle.linked_store.proofs.Seated.{fails}
 
 -- ---- the state
 
@@ -142,30 +142,6 @@ told_placed Bibliographic number e f g keys s distinct same order of keeps follo
 
 -- ---- the rows of one field
 
--- a seat of a field that comes in: its row, and what that says
-record HasPlace (forms : List Form) (keys : List Key) (k : Class) (number : ℕ) (fields : List Field) (j : ℕ) (c : Contents) : Type 0 where
-  row : Option Row
-  has : HasRow forms row (seat_in k number j) c
-  is : IsRowAt k keys (slice_get fields j) row
-
-place_from : (forms : List Form) (keys : List Key) (k : Class) (number : ℕ) (fields : List Field) (first : ℕ) (rows : List (Option Row)) (c : Contents) → HaveRowsFrom forms k number first rows c
-    → AreRowsFrom k keys fields first rows → (j : ℕ) → first ≤ j → j < first + length rows → HasPlace forms keys k number fields j c
-place_from forms keys k number fields first [] c have are j low high = absurd (omega (arith, low, high))
-place_from forms keys k number fields first (row ∷ rows) c have are j low high =
-    at (j == first) refl (λ above. place_from forms keys k number fields (suc first) rows c have.1 are.1 j above (omega (arith, high)))
-  where
-    beyond : (j ≡ first → ⊥) → suc first ≤ j
-    beyond apart = by (nat_lt first j) refl
-      where
-        by : (b : Bool) → nat_lt first j ≡ b → suc first ≤ j
-        by true e = let less = ltb-true first j e in omega (arith, less)
-        by false e = let more = ltb-false first j e in absurd (apart (omega (arith, more, low)))
-
-    at : (b : Bool) → (j == first) ≡ b → (suc first ≤ j → HasPlace forms keys k number fields j c) → HasPlace forms keys k number fields j c
-    at true e later =
-        subst (λ n. HasPlace forms keys k number fields n c) (sym ((unsigned_Decides j first).0 e)) (record { row = row; has = have.0; is = are.0 })
-    at false e later = later (beyond (λ same. false≢true (sym e ∙ (unsigned_Decides j first).1 same)))
-
 no_field : (forms : List Form) (row : Option Row) (waiting : Option Waiting) → row ≡ None → IsWaitingOf forms row waiting → waiting ≡ None
 no_field forms None None none is = refl
 no_field forms None (Some waiting) none is = absurd is
@@ -206,27 +182,18 @@ no_link_own key k (Some field) = refl
 
 -- ---- seats and places
 
--- a seat is that of a field below, or elsewhere
-record IsOwn (k : Class) (number count : ℕ) (seat : Seat) : Type 0 where
+-- a seat is that of a record's field, or elsewhere
+record IsOwn (k : Class) (number : ℕ) (seat : Seat) : Type 0 where
   field : ℕ
-  low : field < count
   is : seat ≡ seat_in k number field
 
-own_or_elsewhere : (k : Class) (number count : ℕ) (seat : Seat) → IsOwn k number count seat ⊎ IsElsewhere k number 0 count seat
-own_or_elsewhere k number count seat = by (same_seat (seat_in k number seat.field) seat) refl
+own_or_elsewhere : (k : Class) (number : ℕ) (seat : Seat) → IsOwn k number seat ⊎ IsElsewhere k number seat
+own_or_elsewhere k number seat = by (same_seat (seat_in k number seat.field) seat) refl
   where
-    below : (b : Bool) → nat_lt seat.field count ≡ b → same_seat (seat_in k number seat.field) seat ≡ true → IsOwn k number count seat ⊎ IsElsewhere k number 0 count seat
-    below true low e =
-        inl (record { field = seat.field; low = ltb-true seat.field count low; is = sym ((seat_Decides (seat_in k number seat.field) seat).0 e) })
-    below false high e =
-        inr (λ field first low. fails (same_seat (seat_in k number field) seat)
-        (λ same. let is : field ≡ seat.field = ap (λ (s : Seat). s.field) ((seat_Decides (seat_in k number field) seat).0 same) in
-        let far = ltb-false seat.field count high in omega (arith, is, far, low)))
-
-    by : (b : Bool) → same_seat (seat_in k number seat.field) seat ≡ b → IsOwn k number count seat ⊎ IsElsewhere k number 0 count seat
-    by true e = below (nat_lt seat.field count) refl e
+    by : (b : Bool) → same_seat (seat_in k number seat.field) seat ≡ b → IsOwn k number seat ⊎ IsElsewhere k number seat
+    by true e = inl (record { field = seat.field; is = sym ((seat_Decides (seat_in k number seat.field) seat).0 e) })
     by false e =
-        inr (λ field first low. fails (same_seat (seat_in k number field) seat)
+        inr (λ field. fails (same_seat (seat_in k number field) seat)
         (λ same. let is : seat_in k number field ≡ seat = (seat_Decides (seat_in k number field) seat).0 same in
         false≢true (sym e ∙ subst (λ (n : ℕ). same_seat (seat_in k number n) seat ≡ true) (ap (λ (s : Seat). s.field) is) same)))
 
@@ -245,8 +212,7 @@ not_three true true c e = cc
 not_three true false c e = refl
 not_three false b c e = refl
 
-module _ (keys : KeyLists) (a : Arrival) (s : State) (number count : ℕ) (of : IsNumberOf same_key (keys_in a.class keys) a.key number) (order : AreOrdered s)
-    (most : HasAtMost a.class a.key count s) (long : length (fields_brought a) ≤ count) where
+module _ (keys : KeyLists) (a : Arrival) (s : State) (number : ℕ) (of : IsNumberOf same_key (keys_in a.class keys) a.key number) (order : AreOrdered s) where
   own_seat : (j : ℕ) → seat_of keys (own_place a.class a.key j) ≡ seat_in a.class number j
   own_seat j = ap (λ (n : ℕ). seat_in a.class n j) (sym of.is)
 
@@ -255,46 +221,21 @@ module _ (keys : KeyLists) (a : Arrival) (s : State) (number count : ℕ) (of : 
   its_place q e = place_is (own_place a.class a.key q.field) q (all_three (same_class a.class q.class) (same_key a.key q.key) (q.field == q.field) e ((unsigned_Decides q.field q.field).1 refl))
 
   -- the seat of another place is elsewhere
-  elsewhere : (q : Place) → is_committed a q.class q.key ≡ false → IsElsewhere a.class number 0 count (seat_of keys q)
-  elsewhere q e field first low =
+  elsewhere : (q : Place) → is_committed a q.class q.key ≡ false → IsElsewhere a.class number (seat_of keys q)
+  elsewhere q e field =
       ap (λ (t : Seat). same_seat t (seat_of keys q)) (sym (own_seat field)) ∙ seat_alike keys (own_place a.class a.key field) q of.known
       ∙ not_three (same_class a.class q.class) (same_key a.key q.key) (field == q.field) e
-
-  beyond_all : (j : ℕ) → count ≤ j → IsElsewhere a.class number 0 count (seat_in a.class number j)
-  beyond_all j high field first low = other_field a.class number field j (λ e. omega (arith, e, high, low))
 
   -- the field that comes in at a place
   field_then : (j : ℕ) → field_under (own_place a.class a.key j) (placed_in a.class a s) ≡ option_map new_field (slice_get (fields_brought a) j)
   field_then j = ap (option_and_then (field_at j)) (kept_placed a.class a s order) ∙ field_brought a j
 
-  none_past : (o : Option KeptRecord) (j : ℕ) → ((r : KeptRecord) → o ≡ Some r → length r.fields ≤ count) → count ≤ j → option_and_then (field_at j) o ≡ None
-  none_past None j most high = refl
-  none_past (Some r) j most high = slice_get_past r.fields j (let few = most r refl in omega (arith, few, high))
-
-  -- no field stood past them
-  field_before : (j : ℕ) → count ≤ j → field_under (own_place a.class a.key j) s ≡ None
-  field_before j high = none_past (kept_under a.class a.key s) j most high
-
-  field_past : (j : ℕ) → count ≤ j → option_map new_field (slice_get (fields_brought a) j) ≡ None
-  field_past j high = ap (option_map new_field) (slice_get_past (fields_brought a) j (omega (arith, long, high)))
-
   -- what a test of seats says once the record's seats are as its fields are, and others as they were
   module _ (before after : Seat → Bool) (test : Class → KeptField → Bool)
-      (own : (j : ℕ) → j < count → after (seat_in a.class number j) ≡ option_map_or (test a.class) (option_map new_field (slice_get (fields_brought a) j)) false)
-      (others : (seat : Seat) → IsElsewhere a.class number 0 count seat → after seat ≡ before seat)
-      (was : (p : Place) → before (seat_of keys p) ≡ holds_at test s p) where
+      (own : (j : ℕ) → after (seat_in a.class number j) ≡ option_map_or (test a.class) (option_map new_field (slice_get (fields_brought a) j)) false)
+      (others : (seat : Seat) → IsElsewhere a.class number seat → after seat ≡ before seat) where
     at_own : (j : ℕ) → after (seat_in a.class number j) ≡ holds_at test (placed_in a.class a s) (own_place a.class a.key j)
-    at_own j = by (nat_lt j count) refl
-      where
-        then_is : option_map_or (test a.class) (option_map new_field (slice_get (fields_brought a) j)) false ≡ holds_at test (placed_in a.class a s) (own_place a.class a.key j)
-        then_is = ap (λ (o : Option KeptField). option_map_or (test a.class) o false) (sym (field_then j))
-
-        by : (b : Bool) → nat_lt j count ≡ b → after (seat_in a.class number j) ≡ holds_at test (placed_in a.class a s) (own_place a.class a.key j)
-        by true e = own j (ltb-true j count e) ∙ then_is
-        by false e =
-            let high = ltb-false j count e in
-            others (seat_in a.class number j) (beyond_all j high) ∙ ap before (sym (own_seat j)) ∙ was (own_place a.class a.key j)
-            ∙ ap (λ (o : Option KeptField). option_map_or (test a.class) o false) (field_before j high ∙ sym (field_past j high)) ∙ then_is
+    at_own j = own j ∙ ap (λ (o : Option KeptField). option_map_or (test a.class) o false) (sym (field_then j))
 
     pub says : (q : Place) → after (seat_of keys q) ≡ (if is_committed a q.class q.key then holds_at test (placed_in a.class a s) q else before (seat_of keys q))
     says q = by (is_committed a q.class q.key) refl
@@ -306,10 +247,6 @@ module _ (keys : KeyLists) (a : Arrival) (s : State) (number count : ℕ) (of : 
 
 -- ---- the whole
 
-brought_few : (b : Bool) (fields : List Field) (n : ℕ) → length fields ≤ n → length (if b then [] else fields) ≤ n
-brought_few true fields n long = omega arith
-brought_few false fields n long = long
-
 seat_back_number : (keys : KeyLists) → AreDistinct keys → (seat : Seat) → HasKey keys seat → IsNumberOf same_key (keys_in seat.class keys) (key_at (keys_in seat.class keys) seat.number) seat.number
 seat_back_number keys distinct seat low = key_numbered (keys_in seat.class keys) seat.number (distinct_by seat.class) low
   where
@@ -317,10 +254,9 @@ seat_back_number keys distinct seat low = key_numbered (keys_in seat.class keys)
     distinct_by Authority = distinct.authorities
     distinct_by Bibliographic = distinct.bibliographic
 
-module _ (f g : Frame) (number : ℕ) (e : Entry) (rows : List (Option Row)) (distinct : AreDistinct (keys_of (contents f))) (low : number < length (keys_in e.class (keys_of (contents f))))
+module _ (f g : Frame) (number : ℕ) (e : Entry) (rows : List FieldRow) (distinct : AreDistinct (keys_of (contents f))) (low : number < length (keys_in e.class (keys_of (contents f))))
     (key : key_at (keys_in e.class (keys_of (contents f))) number ≡ e.key) (is : IsPlaced number e rows f g)
-    (rows_are : AreRowsFrom e.class (keys_of (contents f)).authorities (fields_brought (arrival_of e)) 0 rows) (covers : CoversFields e (length rows) (state_in (contents f)))
-    (forms : FormsKeep f.tables g.tables) (agrees : AgreesWith f.tables (contents f)) where
+    (rows_are : AreRowsOf e.class (keys_of (contents f)).authorities (fields_brought (arrival_of e)) rows) (forms : FormsKeep f.tables g.tables) (agrees : AgreesWith f.tables (contents f)) where
   abbrev a : Arrival
   a = arrival_of e
 
@@ -342,50 +278,44 @@ module _ (f g : Frame) (number : ℕ) (e : Entry) (rows : List (Option Row)) (di
   of : IsNumberOf same_key (keys_in e.class keys) e.key number
   of = subst (λ (k : Key). IsNumberOf same_key (keys_in e.class keys) k number) key (seat_back_number keys distinct (seat_in e.class number 0) low)
 
-  few : length (fields_brought a) ≤ length rows
-  few = brought_few (is_deletion a.leader) a.fields (length rows) covers.new
-
-  placed_at : (j : ℕ) → j < length rows → HasPlace g.tables.forms keys.authorities e.class number (fields_brought a) j (contents g)
-  placed_at j high = place_from g.tables.forms keys.authorities e.class number (fields_brought a) 0 rows (contents g) is.own rows_are j (omega arith) (omega (arith, high))
-
   -- ---- links
 
-  link_then : (n : ℕ) (j : ℕ) → j < length rows → is_linked n (seen_links (contents g).links) (seat_in e.class number j) ≡ false
-  link_then n j high = ap (leads_to n) (placed_at j high).has.link
+  link_then : (n : ℕ) (j : ℕ) → is_linked n (seen_links (contents g).links) (seat_in e.class number j) ≡ false
+  link_then n j = ap (leads_to n) (is.own j).link
 
-  link_stays : (n : ℕ) (seat : Seat) → IsElsewhere e.class number 0 (length rows) seat → is_linked n (seen_links (contents g).links) seat ≡ is_linked n (seen_links (contents f).links) seat
+  link_stays : (n : ℕ) (seat : Seat) → IsElsewhere e.class number seat → is_linked n (seen_links (contents g).links) seat ≡ is_linked n (seen_links (contents f).links) seat
   link_stays n seat far = ap (leads_to n) (is.others seat far).link
 
   linked_then : (name : Key) (q : Place) → linked_by keys (seen_links (contents g).links) name q
       ≡ (if is_committed a q.class q.key then holds_at (linked_at name) now q else linked_by keys (seen_links (contents f).links) name q)
   linked_then name q =
       let n = number_of same_key keys.authorities name in
-      says keys a before number (length rows) of agrees.ordered covers.old few (is_linked n (seen_links (contents f).links)) (is_linked n (seen_links (contents g).links)) (linked_at name)
-      (λ j high. link_then n j high ∙ no_link_own name e.class (slice_get (fields_brought a) j)) (λ seat far. link_stays n seat far) (λ p. agrees.linked name p) q
+      says keys a before number of agrees.ordered (is_linked n (seen_links (contents f).links)) (is_linked n (seen_links (contents g).links)) (linked_at name)
+      (λ j. link_then n j ∙ no_link_own name e.class (slice_get (fields_brought a) j)) (λ seat far. link_stays n seat far) q
 
   links_fit : LinksFit keys (seen_links (contents g).links)
-  links_fit = record { named = λ n seat passes. by n seat passes (own_or_elsewhere e.class number (length rows) seat); seated = λ n seat passes. at n seat passes (own_or_elsewhere e.class number (length rows) seat) }
+  links_fit = record { named = λ n seat passes. by n seat passes (own_or_elsewhere e.class number seat); seated = λ n seat passes. at n seat passes (own_or_elsewhere e.class number seat) }
     where
-      none : (n : ℕ) (seat : Seat) → is_linked n (seen_links (contents g).links) seat ≡ true → IsOwn e.class number (length rows) seat → ⊥
+      none : (n : ℕ) (seat : Seat) → is_linked n (seen_links (contents g).links) seat ≡ true → IsOwn e.class number seat → ⊥
       none n seat passes own =
-          false≢true (sym (link_then n own.field own.low) ∙ ap (λ (s : Seat). is_linked n (seen_links (contents g).links) s) (sym own.is) ∙ passes)
+          false≢true (sym (link_then n own.field) ∙ ap (λ (s : Seat). is_linked n (seen_links (contents g).links) s) (sym own.is) ∙ passes)
 
-      by : (n : ℕ) (seat : Seat) → is_linked n (seen_links (contents g).links) seat ≡ true → IsOwn e.class number (length rows) seat ⊎ IsElsewhere e.class number 0 (length rows) seat
+      by : (n : ℕ) (seat : Seat) → is_linked n (seen_links (contents g).links) seat ≡ true → IsOwn e.class number seat ⊎ IsElsewhere e.class number seat
           → n < length keys.authorities
       by n seat passes (inl own) = absurd (none n seat passes own)
       by n seat passes (inr far) = agrees.links_fit.named n seat (sym (link_stays n seat far) ∙ passes)
 
-      at : (n : ℕ) (seat : Seat) → is_linked n (seen_links (contents g).links) seat ≡ true → IsOwn e.class number (length rows) seat ⊎ IsElsewhere e.class number 0 (length rows) seat
+      at : (n : ℕ) (seat : Seat) → is_linked n (seen_links (contents g).links) seat ≡ true → IsOwn e.class number seat ⊎ IsElsewhere e.class number seat
           → HasKey keys seat
       at n seat passes (inl own) = absurd (none n seat passes own)
       at n seat passes (inr far) = agrees.links_fit.seated n seat (sym (link_stays n seat far) ∙ passes)
 
   -- ---- what waits
 
-  wait_stays : (seat : Seat) → IsElsewhere e.class number 0 (length rows) seat → (contents g).waits seat ≡ (contents f).waits seat
+  wait_stays : (seat : Seat) → IsElsewhere e.class number seat → (contents g).waits seat ≡ (contents f).waits seat
   wait_stays seat far = (is.others seat far).waiting
 
-  own_key_low : (seat : Seat) → IsOwn e.class number (length rows) seat → HasKey keys seat
+  own_key_low : (seat : Seat) → IsOwn e.class number seat → HasKey keys seat
   own_key_low seat own = subst (λ (s : Seat). HasKey keys s) (sym own.is) low
 
   asking_before : (form : Form) (p : Place) → asking_by g.tables.forms keys (seen_waits (contents f).waits) form p ≡ holds_at (asks_at form) before p
@@ -397,50 +327,50 @@ module _ (f g : Frame) (number : ℕ) (e : Entry) (rows : List (Option Row)) (di
       ≡ (if is_committed a q.class q.key then holds_at (asks_at form) now q else asking_by g.tables.forms keys (seen_waits (contents f).waits) form q)
   asking_then form q =
       let n = number_of same_form g.tables.forms form in
-      says keys a before number (length rows) of agrees.ordered covers.old few (asks n (seen_waits (contents f).waits)) (asks n (seen_waits (contents g).waits)) (asks_at form)
-      (λ j high. let at = placed_at j high in
-      asks_own g.tables.forms keys.authorities e.class (slice_get (fields_brought a) j) at.row ((contents g).waits (seat_in e.class number j)) at.is at.has.waiting form)
-      (λ seat far. ap (asks_form n) (wait_stays seat far)) (asking_before form) q
+      says keys a before number of agrees.ordered (asks n (seen_waits (contents f).waits)) (asks n (seen_waits (contents g).waits)) (asks_at form)
+      (λ j. asks_own g.tables.forms keys.authorities e.class (slice_get (fields_brought a) j) (row_of_field j rows) ((contents g).waits (seat_in e.class number j)) (rows_are.own j)
+      (is.own j).waiting form)
+      (λ seat far. ap (asks_form n) (wait_stays seat far)) q
 
   naming_then : (name : Key) (q : Place) → is_valid_key name ≡ true → naming_by keys (seen_waits (contents g).waits) name q
       ≡ (if is_committed a q.class q.key then holds_at (waits_for_key name) now q else naming_by keys (seen_waits (contents f).waits) name q)
   naming_then name q valid =
       let n = number_of same_key keys.authorities name in
-      says keys a before number (length rows) of agrees.ordered covers.old few (names n (seen_waits (contents f).waits)) (names n (seen_waits (contents g).waits)) (waits_for_key name)
-      (λ j high. let at = placed_at j high in
-      names_own g.tables.forms keys.authorities e.class (slice_get (fields_brought a) j) at.row ((contents g).waits (seat_in e.class number j)) at.is at.has.waiting name valid)
-      (λ seat far. ap (names_key n) (wait_stays seat far)) (λ p. agrees.naming name p valid) q
+      says keys a before number of agrees.ordered (names n (seen_waits (contents f).waits)) (names n (seen_waits (contents g).waits)) (waits_for_key name)
+      (λ j. names_own g.tables.forms keys.authorities e.class (slice_get (fields_brought a) j) (row_of_field j rows) ((contents g).waits (seat_in e.class number j)) (rows_are.own j)
+      (is.own j).waiting name valid)
+      (λ seat far. ap (names_key n) (wait_stays seat far)) q
 
   asks_fit : IsWithin (length g.tables.forms) keys (λ n seat. asks n (seen_waits (contents g).waits) seat)
-  asks_fit = record { named = λ n seat passes. by n seat passes (own_or_elsewhere e.class number (length rows) seat); seated = λ n seat passes. at n seat passes (own_or_elsewhere e.class number (length rows) seat) }
+  asks_fit = record { named = λ n seat passes. by n seat passes (own_or_elsewhere e.class number seat); seated = λ n seat passes. at n seat passes (own_or_elsewhere e.class number seat) }
     where
       was : IsWithin (length g.tables.forms) keys (λ n seat. asks n (seen_waits (contents f).waits) seat)
       was = within_kept same_form f.tables.forms g.tables.forms keys keys (λ n s. asks n (seen_waits (contents f).waits) s) forms.forms (keys_keep keys) agrees.waits_fit.asking
 
-      by : (n : ℕ) (seat : Seat) → asks n (seen_waits (contents g).waits) seat ≡ true → IsOwn e.class number (length rows) seat ⊎ IsElsewhere e.class number 0 (length rows) seat
+      by : (n : ℕ) (seat : Seat) → asks n (seen_waits (contents g).waits) seat ≡ true → IsOwn e.class number seat ⊎ IsElsewhere e.class number seat
           → n < length g.tables.forms
       by n seat passes (inl own) =
-          let at = placed_at own.field own.low in
-          forms_own g.tables.forms keys.authorities e.class (slice_get (fields_brought a) own.field) at.row ((contents g).waits (seat_in e.class number own.field)) at.is at.has.waiting n
+          forms_own g.tables.forms keys.authorities e.class (slice_get (fields_brought a) own.field) (row_of_field own.field rows) ((contents g).waits (seat_in e.class number own.field))
+          (rows_are.own own.field) (is.own own.field).waiting n
           (ap (λ (s : Seat). asks n (seen_waits (contents g).waits) s) (sym own.is) ∙ passes)
       by n seat passes (inr far) = was.named n seat (sym (ap (asks_form n) (wait_stays seat far)) ∙ passes)
 
-      at : (n : ℕ) (seat : Seat) → asks n (seen_waits (contents g).waits) seat ≡ true → IsOwn e.class number (length rows) seat ⊎ IsElsewhere e.class number 0 (length rows) seat → HasKey keys seat
+      at : (n : ℕ) (seat : Seat) → asks n (seen_waits (contents g).waits) seat ≡ true → IsOwn e.class number seat ⊎ IsElsewhere e.class number seat → HasKey keys seat
       at n seat passes (inl own) = own_key_low seat own
       at n seat passes (inr far) = was.seated n seat (sym (ap (asks_form n) (wait_stays seat far)) ∙ passes)
 
   names_fit : IsWithin (length keys.authorities) keys (λ n seat. names n (seen_waits (contents g).waits) seat)
-  names_fit = record { named = λ n seat passes. by n seat passes (own_or_elsewhere e.class number (length rows) seat); seated = λ n seat passes. at n seat passes (own_or_elsewhere e.class number (length rows) seat) }
+  names_fit = record { named = λ n seat passes. by n seat passes (own_or_elsewhere e.class number seat); seated = λ n seat passes. at n seat passes (own_or_elsewhere e.class number seat) }
     where
-      by : (n : ℕ) (seat : Seat) → names n (seen_waits (contents g).waits) seat ≡ true → IsOwn e.class number (length rows) seat ⊎ IsElsewhere e.class number 0 (length rows) seat
+      by : (n : ℕ) (seat : Seat) → names n (seen_waits (contents g).waits) seat ≡ true → IsOwn e.class number seat ⊎ IsElsewhere e.class number seat
           → n < length keys.authorities
       by n seat passes (inl own) =
-          let at = placed_at own.field own.low in
-          keys_own g.tables.forms keys.authorities e.class (slice_get (fields_brought a) own.field) at.row ((contents g).waits (seat_in e.class number own.field)) at.is at.has.waiting n
+          keys_own g.tables.forms keys.authorities e.class (slice_get (fields_brought a) own.field) (row_of_field own.field rows) ((contents g).waits (seat_in e.class number own.field))
+          (rows_are.own own.field) (is.own own.field).waiting n
           (ap (λ (s : Seat). names n (seen_waits (contents g).waits) s) (sym own.is) ∙ passes)
       by n seat passes (inr far) = agrees.waits_fit.naming.named n seat (sym (ap (names_key n) (wait_stays seat far)) ∙ passes)
 
-      at : (n : ℕ) (seat : Seat) → names n (seen_waits (contents g).waits) seat ≡ true → IsOwn e.class number (length rows) seat ⊎ IsElsewhere e.class number 0 (length rows) seat → HasKey keys seat
+      at : (n : ℕ) (seat : Seat) → names n (seen_waits (contents g).waits) seat ≡ true → IsOwn e.class number seat ⊎ IsElsewhere e.class number seat → HasKey keys seat
       at n seat passes (inl own) = own_key_low seat own
       at n seat passes (inr far) = agrees.waits_fit.naming.seated n seat (sym (ap (names_key n) (wait_stays seat far)) ∙ passes)
 
@@ -499,9 +429,8 @@ module _ (f g : Frame) (number : ℕ) (e : Entry) (rows : List (Option Row)) (di
 pub known_by_number : (class : Class) (s : Numbered) (key : Key) (number : ℕ) → IsNumberOf same_key (keys_in class (key_lists s.keys)) key number → number < length (keys_by class s.keys)
 known_by_number class s key number of = subst (λ (l : List Key). number < length l) (keys_alike class s) (low_number (keys_in class (key_lists s.keys)) key number of)
 
-module _ (f g : Frame) (marked number : ℕ) (e : Entry) (rows : List (Option Row)) (sound : IsSound f marked) (of : IsNumberOf same_key (keys_in e.class (linked_view f marked).keys) e.key number)
-    (rows_are : AreRowsFrom e.class (linked_view f marked).keys.authorities (fields_brought (arrival_of e)) 0 rows)
-    (covers : CoversFields e (length rows) (linked_view f marked).state) (is : IsPlaced number e rows f g) (goes : GoesOn f g) where
+module _ (f g : Frame) (marked number : ℕ) (e : Entry) (rows : List FieldRow) (sound : IsSound f marked) (of : IsNumberOf same_key (keys_in e.class (linked_view f marked).keys) e.key number)
+    (rows_are : AreRowsOf e.class (linked_view f marked).keys.authorities (fields_brought (arrival_of e)) rows) (is : IsPlaced number e rows f g) (goes : GoesOn f g) where
   low : number < length (keys_in e.class (linked_view f marked).keys)
   low = low_number (keys_in e.class (linked_view f marked).keys) e.key number of
 
@@ -511,10 +440,10 @@ module _ (f g : Frame) (marked number : ℕ) (e : Entry) (rows : List (Option Ro
   pub sound_placed : IsSound g marked
   sound_placed =
       sound_on f g marked goes (ap (λ (s : Numbered). s.keys) is.store) sound
-      (agrees_placed f g number e rows sound.distinct low key is rows_are covers goes.rows sound.now)
+      (agrees_placed f g number e rows sound.distinct low key is rows_are goes.rows sound.now)
 
   pub state_placed_to : state_in (contents g) ≡ placed_by e.class (linked_view f marked).state e
-  state_placed_to = state_now f g number e rows sound.distinct low key is rows_are covers goes.rows sound.now
+  state_placed_to = state_now f g number e rows sound.distinct low key is rows_are goes.rows sound.now
 
   pub ahead_placed : IsAhead (linked_view f marked) (linked_view g marked)
   ahead_placed = ahead_turned f g marked sound goes (ap (λ (s : Numbered). s.keys) is.store)

@@ -1,5 +1,9 @@
 -- The seats of a record's fields get their rows, one after another.
-use Rattle.std.proofs.Common.{◌≡◌, ◌∙◌, sym, ap, refl, subst, ℕ, suc, ◌+◌, ◌<◌, ◌≤◌, arith, Bool, true, false, cond, List, [], ◌∷◌, ◌++◌, length, length-append, map, Option, Some, None, Result, Ok, Err, OnOk}
+use Rattle.std.proofs.Common.{◌≡◌, ◌∙◌, sym, ap, refl, subst, ℕ, ◌+◌, ◌<◌, ◌≤◌, arith, Bool, true, false, cond, List, [], ◌∷◌, ◌++◌, map, Option, Some, None, Result, Ok, Err, OnOk}
+use Rattle.std.specs.Prelude.{◌==◌, nat_lt}
+use Rattle.std.specs.Cmp.{unsigned_Decides}
+use Rattle.std.proofs.lemmas.Bool.{ltb-false, ltb-true}
+use mathlib.Core.Bool.{false≢true}
 use Rattle.std.specs.List.{AllByRecursion}
 use Rattle.marc_types.specs.declared.form.Form.{Form}
 use Rattle.marc_types.specs.declared.entry.Entry.{Entry}
@@ -19,12 +23,14 @@ use Rattle.wait_table.specs.declared.waiting.Waiting.{Waiting}
 use Rattle.catalogue_tables.specs.Waiting.{AreNumbersOf}
 use Rattle.linked_store.specs.Contents.{Contents, ToRecord, ToWait, apply, at_seat}
 use Rattle.linked_store.specs.Frames.{FormsKeep, GoesOn, contents}
-use Rattle.linked_store.specs.Placing.{HasRow, HaveRowsFrom, IndexFollows, IsElsewhere, IsPlaced, IsReseated, IsSeated, StaysAt, StaysInSeats, record_brought, seat_in}
+use Rattle.linked_store.specs.Placing.{AreApart, AreFreeFrom, HasRow, HaveRows, IndexFollows, IsElsewhere, IsPlaced, IsReseated, StaysAt, StaysInSeats, record_brought, row_of_field, seat_in}
 use Rattle.linked_store.specs.Turns.{IsWaiting, IsWaitingOf, without_rows}
 use Rattle.linked_store.specs.declared.frame.Frame.{Frame}
+use Rattle.linked_store.specs.declared.seating.FieldRow.{FieldRow}
 use Rattle.linked_store.specs.declared.turns.Row.{Row}
 use Rattle.linked_store.proofs.Framed.{goes_none, goes_then}
 use Rattle.linked_store.proofs.Outside.{gone_at}
+use Rattle.linked_store.proofs.Turned.{no_link_at, no_row_at}
 
 pub fails : (b : Bool) → (b ≡ true → ⊥) → b ≡ false
 fails true h = absurd (h refl)
@@ -35,27 +41,34 @@ fails false h = refl
 left_at : {V : Type 0} (seat other : Seat) (now : Option V) (things : Seat → Option V) → same_seat seat other ≡ false → at_seat seat now things other ≡ things other
 left_at seat other now things apart = ap (λ b. cond b now (things other)) apart
 
--- what a seat had went out, and its row came in
-pub seated : (old middle new : Frame) (seat : Seat) (row : Option Row) → contents middle ≡ without_rows seat (contents old) → middle.store ≡ old.store → new.store ≡ middle.store
-    → IsWaiting seat row middle new → IsSeated seat row old new
-seated old middle new seat row out store_out store_in waits =
-    let now : contents new ≡ apply (ToWait seat waits.waiting) (without_rows seat (contents old)) = waits.now ∙ ap (apply (ToWait seat waits.waiting)) out in
-    record {
-      store = store_in ∙ store_out;
-      index = ap (λ (c : Contents). c.index) now;
-      own = record {
-        link = ap (λ (c : Contents). c.links seat) now ∙ gone_at seat None (contents old).links;
-        waiting =
-            subst (λ (w : Option Waiting). IsWaitingOf new.tables.forms row w)
-            (sym (ap (λ (c : Contents). c.waits seat) now ∙ gone_at seat waits.waiting (without_rows seat (contents old)).waits)) waits.is;
-      };
-      others = λ other apart. record {
-        link = ap (λ (c : Contents). c.links other) now ∙ left_at seat other None (contents old).links apart;
-        waiting =
-            ap (λ (c : Contents). c.waits other) now ∙ left_at seat other waits.waiting (without_rows seat (contents old)).waits apart
-            ∙ left_at seat other None (contents old).waits apart;
-      };
-    }
+-- a seat without rows waits for nothing
+waits_for_none : (forms : List Form) (waiting : Option Waiting) → IsWaitingOf forms None waiting → waiting ≡ None
+waits_for_none forms None is = refl
+waits_for_none forms (Some waiting) is = absurd is
+
+pub no_wait_there : (forms : List Form) (row : Option Row) (seat : Seat) (c : Contents) → row ≡ None → HasRow forms row seat c → c.waits seat ≡ None
+no_wait_there forms row seat c none has =
+    waits_for_none forms (c.waits seat) (subst (λ (r : Option Row). IsWaitingOf forms r (c.waits seat)) none has.waiting)
+
+pub has_no_row : (forms : List Form) (seat : Seat) (c : Contents) → c.links seat ≡ None → c.waits seat ≡ None → HasRow forms None seat c
+has_no_row forms seat c link waiting = record { link = link; waiting = subst (λ (w : Option Waiting). IsWaitingOf forms None w) (sym waiting) tt }
+
+-- another seat is as it was once rows went out of one
+stays_without : (seat other : Seat) (c d : Contents) → d ≡ without_rows seat c → same_seat seat other ≡ false → StaysAt other c d
+stays_without seat other c d is apart = record {
+  link = ap (λ (x : Contents). x.links other) is ∙ left_at seat other None c.links apart;
+  waiting = ap (λ (x : Contents). x.waits other) is ∙ left_at seat other None c.waits apart;
+}
+
+-- another seat is as it was once one waits
+stays_waiting : (seat other : Seat) (waiting : Option Waiting) (c d : Contents) → d ≡ apply (ToWait seat waiting) c → same_seat seat other ≡ false → StaysAt other c d
+stays_waiting seat other waiting c d is apart = record {
+  link = ap (λ (x : Contents). x.links other) is;
+  waiting = ap (λ (x : Contents). x.waits other) is ∙ left_at seat other waiting c.waits apart;
+}
+
+pub stays_then : (seat : Seat) (a b c : Contents) → StaysAt seat a b → StaysAt seat b c → StaysAt seat a c
+stays_then seat a b c first second = record { link = second.link ∙ first.link; waiting = second.waiting ∙ first.waiting }
 
 -- ---- rows stay while forms get numbers and other seats change
 
@@ -86,13 +99,10 @@ row_kept forms more row seat c d keeps stays has = record {
       subst (λ (w : Option Waiting). IsWaitingOf more row w) (sym stays.waiting) (waiting_kept forms more row (c.waits seat) keeps has.waiting);
 }
 
-pub rows_kept : (forms more : List Form) (class : Class) (number first : ℕ) (rows : List (Option Row)) (c d : Contents) → Keeps same_form forms more
-    → ((field : ℕ) → first ≤ field → StaysAt (seat_in class number field) c d) → HaveRowsFrom forms class number first rows c → HaveRowsFrom more class number first rows d
-rows_kept forms more class number first [] c d keeps stays have = tt
-rows_kept forms more class number first (row ∷ rows) c d keeps stays have = (
-  row_kept forms more row (seat_in class number first) c d keeps (stays first (omega arith)) have.0,
-  rows_kept forms more class number (suc first) rows c d keeps (λ field low. stays field (omega (arith, low))) have.1,
-)
+pub rows_kept : (forms more : List Form) (class : Class) (number : ℕ) (rows : List FieldRow) (c d : Contents) → Keeps same_form forms more
+    → ((field : ℕ) → StaysAt (seat_in class number field) c d) → HaveRows forms class number rows c → HaveRows more class number rows d
+rows_kept forms more class number rows c d keeps stays have = λ field.
+    row_kept forms more (row_of_field field rows) (seat_in class number field) c d keeps (stays field) (have field)
 
 -- ---- the seats of a record's fields
 
@@ -101,81 +111,176 @@ other_field class number one other apart =
     fails (same_seat (seat_in class number one) (seat_in class number other))
     (λ e. apart (ap (λ (s : Seat). s.field) ((seat_Decides (seat_in class number one) (seat_in class number other)).0 e)))
 
--- how far the rows have come in: those of the last fields are in, and those that are left are out
-pub record IsReseating (class : Class) (number : ℕ) (whole left : List (Option Row)) (start now : Frame) : Type 0 where
-  pub rest : List (Option Row)
-  pub parts : whole ≡ left ++ rest
-  pub own : HaveRowsFrom now.tables.forms class number (length left) rest (contents now)
-  pub others : (seat : Seat) → IsElsewhere class number (length left) (length whole) seat → StaysAt seat (contents start) (contents now)
+-- how far a record's seats are cleared
+pub record IsClearing (class : Class) (number done : ℕ) (start now : Frame) : Type 0 where
+  pub own : (field : ℕ) → field < done → HasRow now.tables.forms None (seat_in class number field) (contents now)
+  pub later : (field : ℕ) → done ≤ field → StaysAt (seat_in class number field) (contents start) (contents now)
+  pub others : (seat : Seat) → IsElsewhere class number seat → StaysAt seat (contents start) (contents now)
   pub store : now.store ≡ start.store
   pub index : now.tables.index ≡ start.tables.index
   pub goes : GoesOn start now
 
-whole_alone : (rows : List (Option Row)) → rows ≡ rows ++ []
-whole_alone [] = refl
-whole_alone (row ∷ rows) = ap (λ l. row ∷ l) (whole_alone rows)
-
-pub reseating : (class : Class) (number : ℕ) (rows : List (Option Row)) (start : Frame) → IsReseating class number rows rows start start
-reseating class number rows start = record {
-  rest = [];
-  parts = whole_alone rows;
-  own = tt;
+pub clearing : (class : Class) (number : ℕ) (start : Frame) → IsClearing class number 0 start start
+clearing class number start = record {
+  own = λ field low. absurd (omega (arith, low));
+  later = λ field high. record { link = refl; waiting = refl };
   others = λ seat elsewhere. record { link = refl; waiting = refl };
   store = refl;
   index = refl;
   goes = goes_none start start refl refl refl;
 }
 
-regrouped : (left rest : List (Option Row)) (row : Option Row) → (left ++ row ∷ []) ++ rest ≡ left ++ (row ∷ rest)
+pub cleared_more : (class : Class) (number done : ℕ) (start now next : Frame) → IsClearing class number done start now
+    → contents next ≡ without_rows (seat_in class number done) (contents now) → next.store ≡ now.store → GoesOn now next → IsClearing class number (done + 1) start next
+cleared_more class number done start now next way out store goes =
+    let seat = seat_in class number done in
+    let stays : (other : Seat) → same_seat seat other ≡ false → StaysAt other (contents now) (contents next) =
+    λ other apart. stays_without seat other (contents now) (contents next) out apart in
+    let gone : HasRow next.tables.forms None seat (contents next) =
+    has_no_row next.tables.forms seat (contents next) (no_link_at seat (contents now) (contents next) out) (no_row_at seat (contents now) (contents next) out) in
+    record {
+      own = λ field low. by field low (nat_lt field done) refl gone stays;
+      later = λ field high.
+          stays_then (seat_in class number field) (contents start) (contents now) (contents next) (way.later field (omega (arith, high)))
+          (stays (seat_in class number field) (other_field class number done field (λ e. omega (arith, e, high))));
+      others = λ other elsewhere.
+          stays_then other (contents start) (contents now) (contents next) (way.others other elsewhere) (stays other (elsewhere done));
+      store = store ∙ way.store;
+      index = ap (λ (c : Contents). c.index) out ∙ way.index;
+      goes = goes_then start now next way.goes goes;
+    }
+  where
+    by : (field : ℕ) → field < done + 1 → (b : Bool) → nat_lt field done ≡ b → HasRow next.tables.forms None (seat_in class number done) (contents next)
+        → ((other : Seat) → same_seat (seat_in class number done) other ≡ false → StaysAt other (contents now) (contents next))
+        → HasRow next.tables.forms None (seat_in class number field) (contents next)
+    by field low true e gone stays =
+        let below = ltb-true field done e in
+        row_kept now.tables.forms next.tables.forms None (seat_in class number field) (contents now) (contents next) goes.rows.forms
+        (stays (seat_in class number field) (other_field class number done field (λ same. omega (arith, same, below)))) (way.own field below)
+    by field low false e gone stays =
+        let high = ltb-false field done e in
+        let last : field ≡ done = omega (arith, high, low) in
+        subst (λ (n : ℕ). HasRow next.tables.forms None (seat_in class number n) (contents next)) (sym last) gone
+
+-- no seat of the record has a row then
+pub cleared : (class : Class) (number fields done : ℕ) (start now : Frame) → AreFreeFrom start.tables.forms class number fields (contents start)
+    → fields ≤ done → IsClearing class number done start now → IsReseated class number [] start now
+cleared class number fields done start now free all way = record {
+  store = way.store;
+  index = way.index;
+  own = λ field. by field (nat_lt field done) refl;
+  others = way.others;
+}
+  where
+    by : (field : ℕ) (b : Bool) → nat_lt field done ≡ b → HasRow now.tables.forms None (seat_in class number field) (contents now)
+    by field true e = way.own field (ltb-true field done e)
+    by field false e =
+        let high = ltb-false field done e in
+        row_kept start.tables.forms now.tables.forms None (seat_in class number field) (contents start) (contents now) way.goes.rows.forms
+        (way.later field high) (free field (omega (arith, all, high)))
+
+-- how far the rows have come in: those of the last fields are in, and those that are left are out
+pub record IsSeating (class : Class) (number : ℕ) (whole left : List FieldRow) (start now : Frame) : Type 0 where
+  pub rest : List FieldRow
+  pub parts : whole ≡ left ++ rest
+  pub own : HaveRows now.tables.forms class number rest (contents now)
+  pub others : (seat : Seat) → IsElsewhere class number seat → StaysAt seat (contents start) (contents now)
+  pub store : now.store ≡ start.store
+  pub index : now.tables.index ≡ start.tables.index
+  pub goes : GoesOn start now
+
+whole_alone : (rows : List FieldRow) → rows ≡ rows ++ []
+whole_alone [] = refl
+whole_alone (row ∷ rows) = ap (λ l. row ∷ l) (whole_alone rows)
+
+pub seating : (class : Class) (number : ℕ) (rows : List FieldRow) (start : Frame) → HaveRows start.tables.forms class number [] (contents start)
+    → IsSeating class number rows rows start start
+seating class number rows start free = record {
+  rest = [];
+  parts = whole_alone rows;
+  own = free;
+  others = λ seat elsewhere. record { link = refl; waiting = refl };
+  store = refl;
+  index = refl;
+  goes = goes_none start start refl refl refl;
+}
+
+regrouped : (left rest : List FieldRow) (row : FieldRow) → (left ++ row ∷ []) ++ rest ≡ left ++ (row ∷ rest)
 regrouped [] rest row = refl
 regrouped (x ∷ left) rest row = ap (λ l. x ∷ l) (regrouped left rest row)
 
-pub one_longer : (left : List (Option Row)) (row : Option Row) → length (left ++ row ∷ []) ≡ suc (length left)
-one_longer [] row = refl
-one_longer (x ∷ left) row = ap suc (one_longer left row)
+apart_behind : (left rest : List FieldRow) → AreApart (left ++ rest) → AreApart rest
+apart_behind [] rest apart = apart
+apart_behind (x ∷ left) rest apart = apart_behind left rest apart.1
 
-module _ (class : Class) (number : ℕ) (whole left : List (Option Row)) (row : Option Row) (start now : Frame)
-    (way : IsReseating class number whole (left ++ row ∷ []) start now) where
-  parted : whole ≡ left ++ (row ∷ way.rest)
-  parted = way.parts ∙ regrouped left way.rest row
+module _ (class : Class) (number : ℕ) (whole left : List FieldRow) (one : FieldRow) (start now : Frame) (apart : AreApart whole)
+    (way : IsSeating class number whole (left ++ one ∷ []) start now) where
+  parted : whole ≡ left ++ (one ∷ way.rest)
+  parted = way.parts ∙ regrouped left way.rest one
 
-  pub low_left : length left < length whole
-  low_left =
-      let long : length whole ≡ length left + suc (length way.rest) = ap (λ (l : List (Option Row)). length l) parted ∙ length-append left (row ∷ way.rest) in
-      omega (arith, long)
+  -- no row of the field is in yet
+  new_field_row : row_of_field one.field way.rest ≡ None
+  new_field_row = (apart_behind left (one ∷ way.rest) (subst AreApart parted apart)).0
 
-  pub reseated_more : (next : Frame) → IsSeated (seat_in class number (length left)) row now next → GoesOn now next → IsReseating class number whole left start next
-  reseated_more next is goes = record {
-    rest = row ∷ way.rest;
+  pub waits_not : (contents now).waits (seat_in class number one.field) ≡ None
+  waits_not = no_wait_there now.tables.forms (row_of_field one.field way.rest) (seat_in class number one.field) (contents now) new_field_row (way.own one.field)
+
+  pub seated_more : (next : Frame) → IsWaiting (seat_in class number one.field) (Some one.row) now next → next.store ≡ now.store → GoesOn now next
+      → IsSeating class number whole left start next
+  seated_more next waits store goes = record {
+    rest = one ∷ way.rest;
     parts = parted;
-    own = (
-      is.own,
-      rows_kept now.tables.forms next.tables.forms class number (suc (length left)) way.rest (contents now) (contents next) goes.rows.forms
-          (λ field low. is.others (seat_in class number field) (other_field class number (length left) field (λ e. omega (arith, e, low))))
-          (subst (λ n. HaveRowsFrom now.tables.forms class number n way.rest (contents now)) (one_longer left row) way.own),
-    );
-    others = λ seat elsewhere.
-        let before = way.others seat (λ field low high. elsewhere field (let e = one_longer left row in omega (arith, e, low)) high) in
-        let after = is.others seat (elsewhere (length left) (omega arith) low_left) in
-        record { link = after.link ∙ before.link; waiting = after.waiting ∙ before.waiting };
-    store = is.store ∙ way.store;
-    index = is.index ∙ way.index;
+    own = λ field. by field (one.field == field) refl;
+    others = λ seat elsewhere. stays_then seat (contents start) (contents now) (contents next) (way.others seat elsewhere) (stays seat (elsewhere one.field));
+    store = store ∙ way.store;
+    index = ap (λ (c : Contents). c.index) waits.now ∙ way.index;
     goes = goes_then start now next way.goes goes;
   }
+    where
+      stays : (other : Seat) → same_seat (seat_in class number one.field) other ≡ false → StaysAt other (contents now) (contents next)
+      stays other far = stays_waiting (seat_in class number one.field) other waits.waiting (contents now) (contents next) waits.now far
 
-pub reseated : (class : Class) (number : ℕ) (whole left : List (Option Row)) (start now : Frame) → IsReseating class number whole left start now → left ≡ []
+      here : HasRow next.tables.forms (Some one.row) (seat_in class number one.field) (contents next)
+      here = record {
+        link = ap (λ (c : Contents). c.links (seat_in class number one.field)) waits.now ∙ (way.own one.field).link;
+        waiting =
+            subst (λ (w : Option Waiting). IsWaitingOf next.tables.forms (Some one.row) w)
+            (sym (ap (λ (c : Contents). c.waits (seat_in class number one.field)) waits.now
+            ∙ gone_at (seat_in class number one.field) waits.waiting (contents now).waits)) waits.is;
+      }
+
+      by : (field : ℕ) (b : Bool) → (one.field == field) ≡ b → HasRow next.tables.forms (row_of_field field (one ∷ way.rest)) (seat_in class number field) (contents next)
+      by field true e =
+          subst (λ (n : ℕ). HasRow next.tables.forms (row_of_field field (one ∷ way.rest)) (seat_in class number n) (contents next)) ((unsigned_Decides one.field field).0 e)
+          (subst (λ (r : Option Row). HasRow next.tables.forms r (seat_in class number one.field) (contents next))
+          (sym (ap (λ c. cond c (Some one.row) (row_of_field field way.rest)) e)) here)
+      by field false e =
+          subst (λ (r : Option Row). HasRow next.tables.forms r (seat_in class number field) (contents next))
+          (sym (ap (λ c. cond c (Some one.row) (row_of_field field way.rest)) e))
+          (row_kept now.tables.forms next.tables.forms (row_of_field field way.rest) (seat_in class number field) (contents now) (contents next) goes.rows.forms
+          (stays (seat_in class number field) (other_field class number one.field field (λ same. false≢true (sym e ∙ (unsigned_Decides one.field field).1 same))))
+          (way.own field))
+
+pub seated : (class : Class) (number : ℕ) (whole left : List FieldRow) (start now : Frame) → IsSeating class number whole left start now → left ≡ []
     → IsReseated class number whole start now
-reseated class number whole left start now way none =
-    let none_left : length left ≡ 0 = ap (λ (l : List (Option Row)). length l) none in
-    let all : way.rest ≡ whole = sym (way.parts ∙ ap (λ (l : List (Option Row)). l ++ way.rest) none) in
+seated class number whole left start now way none =
+    let all : way.rest ≡ whole = sym (way.parts ∙ ap (λ (l : List FieldRow). l ++ way.rest) none) in
     record {
       store = way.store;
       index = way.index;
-      own =
-          subst (λ (l : List (Option Row)). HaveRowsFrom now.tables.forms class number 0 l (contents now)) all
-          (subst (λ n. HaveRowsFrom now.tables.forms class number n way.rest (contents now)) none_left way.own);
-      others = λ seat elsewhere. way.others seat (λ field low high. elsewhere field (omega arith) high);
+      own = subst (λ (l : List FieldRow). HaveRows now.tables.forms class number l (contents now)) all way.own;
+      others = way.others;
     }
+
+-- cleared, and then seated
+pub reseated : (class : Class) (number : ℕ) (rows : List FieldRow) (f a b : Frame) → IsReseated class number [] f a → IsReseated class number rows a b
+    → IsReseated class number rows f b
+reseated class number rows f a b first second = record {
+  store = second.store ∙ first.store;
+  index = second.index ∙ first.index;
+  own = second.own;
+  others = λ seat far. stays_then seat (contents f) (contents a) (contents b) (first.others seat far) (second.others seat far);
+}
 
 -- ---- the rows, the record and the index
 
@@ -186,7 +291,7 @@ follows_from Authority number e f b g index keys follows = (
 )
 follows_from Bibliographic number e f b g index keys follows = follows ∙ index
 
-placed_all : (number : ℕ) (e : Entry) (rows : List (Option Row)) (r : Option KeptRecord) (f a b g : Frame) → IsReseated e.class number rows f a
+placed_all : (number : ℕ) (e : Entry) (rows : List FieldRow) (r : Option KeptRecord) (f a b g : Frame) → IsReseated e.class number rows f a
     → contents b ≡ apply (ToRecord e.class number r) (contents a) → b.tables ≡ a.tables → r ≡ record_brought (arrival_of e) → g.store ≡ b.store → FormsKeep b.tables g.tables
     → IndexFollows e.class number e b g → StaysInSeats b g → IsPlaced number e rows f g
 placed_all number e rows r f a b g seats now tables kept store forms follows stays =
@@ -200,14 +305,14 @@ placed_all number e rows r f a b g seats now tables kept store forms follows sta
           follows_from e.class number e f b g (ap (λ (t : CatalogueTables). t.index) tables ∙ seats.index)
           (ap (λ (c : Contents). c.numbered.keys) now ∙ ap (λ (s : Numbered). s.keys) seats.store) follows;
       own =
-          rows_kept a.tables.forms g.tables.forms e.class number 0 rows (contents a) (contents g)
-          (subst (λ (t : CatalogueTables). Keeps same_form t.forms g.tables.forms) tables forms.forms) (λ field low. here (seat_in e.class number field)) seats.own;
+          rows_kept a.tables.forms g.tables.forms e.class number rows (contents a) (contents g)
+          (subst (λ (t : CatalogueTables). Keeps same_form t.forms g.tables.forms) tables forms.forms) (λ field. here (seat_in e.class number field)) seats.own;
       others = λ seat far.
           let was = seats.others seat far in
           record { link = (here seat).link ∙ was.link; waiting = (here seat).waiting ∙ was.waiting };
     }
 
-pub placed_on : {T E : Type 0} (result : Result T E) (number : ℕ) (e : Entry) (rows : List (Option Row)) (r : Option KeptRecord) (f a b g : Frame) → IsReseated e.class number rows f a
+pub placed_on : {T E : Type 0} (result : Result T E) (number : ℕ) (e : Entry) (rows : List FieldRow) (r : Option KeptRecord) (f a b g : Frame) → IsReseated e.class number rows f a
     → contents b ≡ apply (ToRecord e.class number r) (contents a) → b.tables ≡ a.tables → r ≡ record_brought (arrival_of e) → g.store ≡ b.store → FormsKeep b.tables g.tables
     → OnOk result (IndexFollows e.class number e b g) → OnOk result (StaysInSeats b g) → OnOk result (IsPlaced number e rows f g)
 placed_on (Ok x) number e rows r f a b g seats now tables kept store forms follows stays = placed_all number e rows r f a b g seats now tables kept store forms follows stays

@@ -1,5 +1,5 @@
 -- A record comes into its place, with the rows of its seats and its authority's row of the index.
-use Rattle.std.specs.Prelude.{◌≡◌, ℕ, suc, ◌<◌, ◌≤◌, false, List, [], ◌∷◌, length, slice_get, Option, None, Some, if◌then◌else◌, ⊤}
+use Rattle.std.specs.Prelude.{◌≡◌, ℕ, ◌==◌, ◌≤◌, false, List, [], ◌∷◌, slice_get, Option, None, Some, if◌then◌else◌, ⊤}
 use Rattle.marc_types.specs.declared.entry.Entry.{Entry}
 use Rattle.marc_types.specs.declared.field.Field.{Field}
 use Rattle.marc_types.specs.declared.form.Form.{Form}
@@ -10,8 +10,7 @@ use Rattle.numbering.specs.Seats.{same_seat}
 use Rattle.numbering.specs.declared.seat.Seat.{Seat}
 use Rattle.entry_record.specs.Identity.{is_deletion}
 use Rattle.catalogue_rules.specs.Settle.{Arrival, arrival_of}
-use Rattle.catalogue_rules.specs.State.{KeptRecord, State, new_field, new_record}
-use Rattle.linking_laws.specs.Partway.{HasAtMost}
+use Rattle.catalogue_rules.specs.State.{KeptRecord, new_field, new_record}
 use Rattle.form_index.specs.Index.{IsInOrder}
 use Rattle.catalogue_tables.specs.Following.{FollowsAuthority, authority_brought}
 use Rattle.numbered_store.specs.Numbered.{with_record}
@@ -20,6 +19,7 @@ use Rattle.linked_store.specs.Fielding.{IsRowFor}
 use Rattle.linked_store.specs.Frames.{contents}
 use Rattle.linked_store.specs.Turns.{IsWaitingOf}
 use Rattle.linked_store.specs.declared.frame.Frame.{Frame}
+use Rattle.linked_store.specs.declared.seating.FieldRow.{FieldRow}
 use Rattle.linked_store.specs.declared.turns.Row.{Row}
 use Rattle.linked_store.specs.declared.wanted.Wanted.{Wanted}
 use Rattle.linked_store.specs.Wanted.{IsWanted}
@@ -56,48 +56,60 @@ IndexFollows Bibliographic number e old new = new.tables.index ≡ old.tables.in
 abbrev pub seat_in : Class → ℕ → ℕ → Seat
 seat_in class number field = record { class = class; number = number; field = field }
 
--- the seat isn't one of a record's fields from one on, below another
-abbrev pub IsElsewhere : Class → ℕ → ℕ → ℕ → Seat → Type 0
-IsElsewhere class number first end seat = (field : ℕ) → first ≤ field → field < end → same_seat (seat_in class number field) seat ≡ false
+-- the seat isn't one of a record's fields
+abbrev pub IsElsewhere : Class → ℕ → Seat → Type 0
+IsElsewhere class number seat = (field : ℕ) → same_seat (seat_in class number field) seat ≡ false
+
+-- ---- the rows of a record's fields
+
+-- the row of a field, if there is one
+abbrev pub row_of_field : ℕ → List FieldRow → Option Row
+row_of_field field [] = None
+row_of_field field (one ∷ rows) = if one.field == field then Some one.row else row_of_field field rows
+
+-- a field's row as a list
+abbrev pub noted_rows : ℕ → Option Row → List FieldRow
+noted_rows field None = []
+noted_rows field (Some row) = (record { field = field; row = row }) ∷ []
+
+-- no field has two rows
+abbrev pub AreApart : List FieldRow → Type 0
+AreApart [] = ⊤
+AreApart (one ∷ rows) = (row_of_field one.field rows ≡ None) × AreApart rows
 
 -- a seat is linked to nothing, and waits for what the row says
 pub record HasRow (forms : List Form) (row : Option Row) (seat : Seat) (c : Contents) : Type 0 where
   pub link : c.links seat ≡ None
   pub waiting : IsWaitingOf forms row (c.waits seat)
 
--- the seats of a record's fields from one on have these rows
-abbrev pub HaveRowsFrom : List Form → Class → ℕ → ℕ → List (Option Row) → Contents → Type 0
-HaveRowsFrom forms class number first [] c = ⊤
-HaveRowsFrom forms class number first (row ∷ rows) c =
-    HasRow forms row (seat_in class number first) c × HaveRowsFrom forms class number (suc first) rows c
+-- the seats of a record's fields have these rows, and no others
+abbrev pub HaveRows : List Form → Class → ℕ → List FieldRow → Contents → Type 0
+HaveRows forms class number rows c = (field : ℕ) → HasRow forms (row_of_field field rows) (seat_in class number field) c
+
+-- the seats of a record's fields from one on have no rows
+abbrev pub AreFreeFrom : List Form → Class → ℕ → ℕ → Contents → Type 0
+AreFreeFrom forms class number first c = (field : ℕ) → first ≤ field → HasRow forms None (seat_in class number field) c
 
 -- the links and rows of a seat are as they were
 pub record StaysAt (seat : Seat) (old new : Contents) : Type 0 where
   pub link : new.links seat ≡ old.links seat
   pub waiting : new.waits seat ≡ old.waits seat
 
--- one seat has this row now, and all else stays
-pub record IsSeated (seat : Seat) (row : Option Row) (old new : Frame) : Type 0 where
-  pub store : new.store ≡ old.store
-  pub index : new.tables.index ≡ old.tables.index
-  pub own : HasRow new.tables.forms row seat (contents new)
-  pub others : (other : Seat) → same_seat seat other ≡ false → StaysAt other (contents old) (contents new)
-
 -- the seats of a record's fields have these rows, and all else stays
-pub record IsReseated (class : Class) (number : ℕ) (rows : List (Option Row)) (old new : Frame) : Type 0 where
+pub record IsReseated (class : Class) (number : ℕ) (rows : List FieldRow) (old new : Frame) : Type 0 where
   pub store : new.store ≡ old.store
   pub index : new.tables.index ≡ old.tables.index
-  pub own : HaveRowsFrom new.tables.forms class number 0 rows (contents new)
-  pub others : (seat : Seat) → IsElsewhere class number 0 (length rows) seat → StaysAt seat (contents old) (contents new)
+  pub own : HaveRows new.tables.forms class number rows (contents new)
+  pub others : (seat : Seat) → IsElsewhere class number seat → StaysAt seat (contents old) (contents new)
 
 -- ---- the whole
 
 -- another record, or none, stands under the number, with the index and the rows
-pub record IsPlaced (number : ℕ) (e : Entry) (rows : List (Option Row)) (old new : Frame) : Type 0 where
+pub record IsPlaced (number : ℕ) (e : Entry) (rows : List FieldRow) (old new : Frame) : Type 0 where
   pub store : new.store ≡ with_record e.class number (record_brought (arrival_of e)) old.store
   pub index : IndexFollows e.class number e old new
-  pub own : HaveRowsFrom new.tables.forms e.class number 0 rows (contents new)
-  pub others : (seat : Seat) → IsElsewhere e.class number 0 (length rows) seat → StaysAt seat (contents old) (contents new)
+  pub own : HaveRows new.tables.forms e.class number rows (contents new)
+  pub others : (seat : Seat) → IsElsewhere e.class number seat → StaysAt seat (contents old) (contents new)
 
 -- ---- the rows of new fields
 
@@ -111,14 +123,7 @@ abbrev pub IsWantedAt : Class → Option Field → Option Wanted → Type 0
 IsWantedAt class None wanted = wanted ≡ None
 IsWantedAt class (Some field) wanted = IsWanted class (new_field field) wanted
 
--- the rows of these fields, from one on
-abbrev pub AreRowsFrom : Class → List Key → List Field → ℕ → List (Option Row) → Type 0
-AreRowsFrom class keys fields first [] = ⊤
-AreRowsFrom class keys fields first (row ∷ rows) =
-    IsRowAt class keys (slice_get fields first) row × AreRowsFrom class keys fields (suc first) rows
-
--- there are so many rows that each field of the entry has one, and each of the record that stands in its place; and there are few
-pub record CoversFields (e : Entry) (rows : ℕ) (s : State) : Type 0 where
-  pub old : HasAtMost e.class e.key rows s
-  pub new : length e.rec.fields ≤ rows
-  pub few : rows ≤ 8331
+-- the rows of these fields, at most one each
+pub record AreRowsOf (class : Class) (keys : List Key) (fields : List Field) (rows : List FieldRow) : Type 0 where
+  pub own : (field : ℕ) → IsRowAt class keys (slice_get fields field) (row_of_field field rows)
+  pub apart : AreApart rows

@@ -1,7 +1,8 @@
 //! What a field is to be linked to, and what is known of an authority.
 ghost use Rattle.std.specs.Prelude.{◌≡◌, ◌<◌, length, find, IfOk};
-ghost use Rattle.std.specs.Option.{option_map};
+ghost use Rattle.std.specs.Option.{option_copied, option_map};
 ghost use Rattle.marc_types.specs.declared.key.Class.TheVariants.{Authority as AnAuthority};
+ghost use Rattle.entry_record.specs.Prepared.{heading_base_form};
 ghost use Rattle.catalogue_rules.specs.Choice.{has_key};
 ghost use Rattle.catalogue_rules.specs.State.{kept_field, linkable_authorities};
 ghost use Rattle.catalogue_tables.specs.Choosing.{chosen_for, heading_choice};
@@ -11,26 +12,29 @@ ghost use Rattle.linked_store.specs.Linked.{IsNumber, key_of};
 
 use crate::store::LinkedStore;
 use catalogue_tables::{Chosen, KnownAuthority};
-use marc_types::{Class, Field, NoMemory, Tie};
+use marc_types::{Class, Field, Form, NoMemory, Tie};
 use std::alloc::Global;
 
 impl LinkedStore {
-    /// What an unlinked field is to be linked to, if it is a heading, by the tables alone. It visits no record.
+    /// What an unlinked field is to be linked to, if it is a heading, by the tables alone: then its base form is given. It visits no
+    /// record.
     pub fn choose(
         &self,
         alloc: Global,
         class: Class,
         field: &Field,
         tie: &Tie,
+        base: Option<&Form>,
     ) -> Result<Option<Chosen>, NoMemory>
-        requires { AreAuthoritiesInOrder self.now.state }
+        requires ordered { AreAuthoritiesInOrder self.now.state }
+        requires base { option_copied base ≡ heading_base_form class field.now }
         ensures { IfOk result (λ chosen. chosen ≡ option_map (chosen_for self.now.keys.authorities)
             (heading_choice (linkable_authorities self.now.state) class (kept_field field.now tie.now))) }
     {
         let keys = self.frame.store.keys(Class::Authority);
         self.frame
             .tables
-            .choose_field(alloc, keys, class, field, tie)
+            .choose_field(alloc, keys, class, field, tie, base)
     }
 
     /// The kind and the forms of the authority under the key that has the number, if fields can be linked to it. It visits no record.

@@ -46,7 +46,7 @@ impl LinkedStore {
         let Some(key) = &tie.key else {
             return Ok(None);
         };
-        let number = self.number(alloc, Class::Authority, key)?;
+        let number = self.number(alloc, Class::Authority, key.key())?;
         Ok(Some(number))
     }
 
@@ -72,7 +72,7 @@ impl LinkedStore {
         ensures unchanged { IsUnchanged self.old self.new }
         ensures ok { IfOk result (AreNumbersOf same_key self.new.keys.authorities keys.now) }
     {
-        let mut numbers = Vec::new(alloc);
+        let mut numbers = Vec::with_capacity(alloc, keys.len())?;
         for key in keys {
             let number = self.number(alloc, Class::Authority, key)?;
             numbers.push(number)?;

@@ -93,6 +93,9 @@ impl Frame {
     {
         self.log.reserve(1)?;
         let before = take_link(&mut self.tables, seat);
+        if before.is_none() {
+            return Ok(());
+        }
         self.log.push_reserved(Change::Relinked { seat, before });
         Ok(())
     }
@@ -119,6 +122,9 @@ impl Frame {
     {
         self.log.reserve(1)?;
         let before = take_waiting(&mut self.tables, seat);
+        if before.is_none() {
+            return Ok(());
+        }
         self.log.push_reserved(Change::Awaited { seat, before });
         Ok(())
     }

@@ -1,5 +1,5 @@
 //! A record that comes into its place, with its rows in the tables.
-ghost use Rattle.std.specs.Prelude.{◌≡◌, ◌≤◌, length, map, slice_get, IfOk, OnOk, OnErr};
+ghost use Rattle.std.specs.Prelude.{◌≡◌, ◌++◌, length, map, slice_get, IfOk, OnOk, OnErr};
 ghost use Rattle.std.specs.Option.{option_copied, option_map};
 ghost use Rattle.marc_types.specs.Order.{same_key};
 ghost use Rattle.numbering.specs.Numbers.{IsNumberOf};
@@ -9,9 +9,10 @@ ghost use Rattle.catalogue_rules.specs.State.{kept_record, new_record, new_tie};
 ghost use Rattle.linking_laws.specs.Commits.{placed_by};
 ghost use Rattle.linking_laws.specs.Partway.{HasAtMost};
 ghost use Rattle.linked_store.specs.Linked.{IsAhead, IsNumber, IsUnchanged, key_of};
-ghost use Rattle.linked_store.specs.Placing.{AreRowsFrom, CoversFields, IsRowAt, IsWantedAt, fields_brought, record_brought};
+ghost use Rattle.linked_store.specs.Placing.{AreRowsOf, IsRowAt, IsWantedAt, fields_brought, noted_rows, record_brought};
 
 use crate::back::go_back;
+use crate::seating::FieldRow;
 use crate::store::LinkedStore;
 use crate::turns::Row;
 use crate::wanted::{Wanted, wants_of};
@@ -36,51 +37,32 @@ impl LinkedStore {
         ensures ahead { IsAhead self.old self.new }
     {
         let kept = kept_of(alloc, item)?;
-        let rows = self.rows_for(alloc, number, item)?;
+        let rows = self.rows_for(alloc, item)?;
         self.put(alloc, number, kept, rows, item)
     }
 
-    // What the seats of the entry's fields are to wait for, and those of the record that stands in its place.
-    fn rows_for(
-        &mut self,
-        alloc: Global,
-        number: u32,
-        item: &Prepared,
-    ) -> Result<Vec<Option<Row>>, NoMemory>
-        requires number { IsNumberOf same_key (keys_in item.now.class self.old.keys) item.now.key number }
+    // What the seats of the entry's fields are to wait for.
+    fn rows_for(&mut self, alloc: Global, item: &Prepared) -> Result<Vec<FieldRow>, NoMemory>
         ensures unchanged { IsUnchanged self.old self.new }
         ensures rows { IfOk result (λ rows.
-            AreRowsFrom item.now.class self.new.keys.authorities (fields_brought (arrival_of item.now)) 0 rows.items) }
-        ensures covers { IfOk result (λ rows. CoversFields item.now (length rows.items) self.new.state) }
+            AreRowsOf item.now.class self.new.keys.authorities (fields_brought (arrival_of item.now)) rows.items) }
     {
-        let places = self.places_of(number, item);
+        let places = places_of(item);
         let mut rows = Vec::new(alloc);
         for place in 0..places {
             let row = self.row_at(alloc, item, place)?;
-            rows.push(row)?;
+            note_row(&mut rows, place, row)?;
         }
         Ok(rows)
     }
 
-    // How many seats the entry's fields have, or those of the record that stands in its place, if they are more.
-    fn places_of(&self, number: u32, item: &Prepared) -> usize
-        requires { IsNumberOf same_key (keys_in item.now.class self.now.keys) item.now.key number }
-        ensures { CoversFields item.now result self.now.state }
-    {
-        let entry = item.entry();
-        let own = entry.rec.fields.len();
-        let old = self.fields_under(entry.class, number);
-        if own < old { old } else { own }
-    }
-
     // How many fields the record under the key that has the number has.
-    fn fields_under(&self, class: Class, number: u32) -> usize
+    fn fields_under(&self, class: Class, number: u32) -> u32
         requires { IsNumber class number self.now.keys }
-        ensures most { HasAtMost class (key_of class number self.now.keys) result self.now.state }
-        ensures few { result ≤ 8331 }
+        ensures { HasAtMost class (key_of class number self.now.keys) result self.now.state }
     {
         match self.look(class, number) {
-            Some(kept) => kept.rec.fields.len(),
+            Some(kept) => kept.rec.fields.len() as u32,
             None => 0,
         }
     }
@@ -90,7 +72,7 @@ impl LinkedStore {
         &mut self,
         alloc: Global,
         item: &Prepared,
-        place: usize,
+        place: u32,
     ) -> Result<Option<Row>, NoMemory>
         ensures unchanged { IsUnchanged self.old self.new }
         ensures ok { IfOk result (λ row.
@@ -108,19 +90,20 @@ impl LinkedStore {
         alloc: Global,
         number: u32,
         kept: Option<Kept>,
-        rows: Vec<Option<Row>>,
+        rows: Vec<FieldRow>,
         item: &Prepared,
     ) -> Result<(), NoMemory>
         requires number { IsNumberOf same_key (keys_in item.now.class self.old.keys) item.now.key number }
         requires kept { option_map kept_record kept ≡ record_brought (arrival_of item.now) }
-        requires rows { AreRowsFrom item.now.class self.old.keys.authorities (fields_brought (arrival_of item.now)) 0 rows.items }
-        requires covers { CoversFields item.now (length rows.items) self.old.state }
+        requires rows { AreRowsOf item.now.class self.old.keys.authorities (fields_brought (arrival_of item.now)) rows.items }
         ensures ok { OnOk result (self.new.state ≡ placed_by item.now.class self.old.state item.now) }
         ensures err { OnErr result (self.new.state ≡ self.old.state) }
         ensures ahead { IsAhead self.old self.new }
     {
+        let fields = self.fields_under(item.entry().class, number);
+        self.frame.tables.each_form_has_one_number();
         let position = self.frame.log.len();
-        if let Err(error) = self.frame.place(alloc, number, kept, rows, item) {
+        if let Err(error) = self.frame.place(alloc, number, fields, kept, rows, item) {
             go_back(&mut self.frame, position);
             return Err(error);
         }
@@ -128,8 +111,26 @@ impl LinkedStore {
     }
 }
 
+// Notes the row of a field, if it has one.
+fn note_row(rows: &mut Vec<FieldRow>, field: u32, row: Option<Row>) -> Result<(), NoMemory>
+    ensures { OnOk result (rows.new.items ≡ rows.old.items ++ noted_rows field row) }
+{
+    let Some(row) = row else {
+        return Ok(());
+    };
+    rows.push(FieldRow { field, row })?;
+    Ok(())
+}
+
+// How many fields an entry brings.
+fn places_of(item: &Prepared) -> u32
+    ensures { result ≡ length (fields_brought (arrival_of item.now)) }
+{
+    brought(item).len() as u32
+}
+
 // What the entry's field at a place waits for; where there is no field, nothing waits.
-fn wanted_at(alloc: Global, item: &Prepared, place: usize) -> Result<Option<Wanted>, NoMemory>
+fn wanted_at(alloc: Global, item: &Prepared, place: u32) -> Result<Option<Wanted>, NoMemory>
     ensures { IfOk result (IsWantedAt item.now.class (slice_get (fields_brought (arrival_of item.now)) place)) }
 {
     let Some(field) = field_at(item, place) else {
@@ -138,10 +139,10 @@ fn wanted_at(alloc: Global, item: &Prepared, place: usize) -> Result<Option<Want
     wants_of(alloc, item.entry().class, field, &NEW_TIE)
 }
 
-fn field_at(item: &Prepared, place: usize) -> Option<&Field>
+fn field_at(item: &Prepared, place: u32) -> Option<&Field>
     ensures { option_copied result ≡ slice_get (fields_brought (arrival_of item.now)) place }
 {
-    brought(item).get(place)
+    brought(item).get(place as usize)
 }
 
 // The fields that an entry brings; a deletion brings none.

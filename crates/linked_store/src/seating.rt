@@ -1,12 +1,12 @@
 //! A record put into its place with its row of the index and the rows of its seats.
-ghost use Rattle.std.specs.Prelude.{◌≡◌, ◌≤◌, length, OnOk};
+ghost use Rattle.std.specs.Prelude.{◌≡◌, OnOk, []};
 ghost use Rattle.std.specs.Option.{option_map};
 ghost use Rattle.catalogue_rules.specs.Settle.{arrival_of};
 ghost use Rattle.catalogue_rules.specs.State.{kept_record};
 ghost use Rattle.form_index.specs.Index.{IsInOrder};
 ghost use Rattle.numbered_store.specs.Numbered.{IsNumber};
-ghost use Rattle.linked_store.specs.Frames.{GoesOn};
-ghost use Rattle.linked_store.specs.Placing.{IndexFollows, IsPlaced, IsReseated, IsSeated, StaysInSeats, record_brought};
+ghost use Rattle.linked_store.specs.Frames.{GoesOn, contents};
+ghost use Rattle.linked_store.specs.Placing.{AreApart, AreFreeFrom, HaveRows, IndexFollows, IsPlaced, IsReseated, StaysInSeats, record_brought};
 
 use crate::frame::Frame;
 use crate::turns::Row;
@@ -15,25 +15,36 @@ use marc_types::{Class, Kept, NoMemory};
 use numbering::Seat;
 use std::alloc::Global;
 
+/// What the seat of a record's field is to wait for.
+#[derive(Drop)]
+pub(crate) struct FieldRow {
+    pub(crate) field: u32,
+    pub(crate) row: Row,
+}
+
 impl Frame {
-    /// Puts what an entry brings under a number, with these rows at its seats. Where memory ends, the log says how far it came.
+    /// Puts what an entry brings under a number, where so many fields stand, with these rows at its seats. Where memory ends, the
+    /// log says how far it came.
     pub(crate) fn place(
         &mut self,
         alloc: Global,
         number: u32,
+        fields: u32,
         kept: Option<Kept>,
-        rows: Vec<Option<Row>>,
+        rows: Vec<FieldRow>,
         item: &Prepared,
     ) -> Result<(), NoMemory>
         requires known { IsNumber item.now.class number self.old.store }
         requires kept { option_map kept_record kept ≡ record_brought (arrival_of item.now) }
         requires ordered { IsInOrder self.old.store.keys.authorities self.old.tables.index }
-        requires few { length rows.items ≤ 8331 }
+        requires free { AreFreeFrom self.old.tables.forms item.now.class number fields (contents self.old) }
+        requires apart { AreApart rows.items }
         ensures now { OnOk result (IsPlaced number item.now rows.items self.old self.new) }
         ensures goes { GoesOn self.old self.new }
     {
         let class = item.entry().class;
-        self.reseat(alloc, class, number, rows)?;
+        self.clear(class, number, fields)?;
+        self.seat_rows(alloc, class, number, rows)?;
         self.exchange(class, number, kept)?;
         self.follow_entry(alloc, number, item)
     }
@@ -53,39 +64,44 @@ impl Frame {
         }
     }
 
-    // Takes out what the seats of a record's fields have, and puts these rows in.
-    fn reseat(
-        &mut self,
-        alloc: Global,
-        class: Class,
-        number: u32,
-        mut rows: Vec<Option<Row>>,
-    ) -> Result<(), NoMemory>
-        requires few { length rows.items ≤ 8331 }
-        ensures now { OnOk result (IsReseated class number rows.items self.old self.new) }
+    // Takes out what the seats of a record have, where so many fields stand.
+    fn clear(&mut self, class: Class, number: u32, fields: u32) -> Result<(), NoMemory>
+        requires free { AreFreeFrom self.old.tables.forms class number fields (contents self.old) }
+        ensures now { OnOk result (IsReseated class number [] self.old self.new) }
         ensures goes { GoesOn self.old self.new }
     {
-        while let Some(row) = rows.pop() {
-            let field = rows.len() as u32;
-            self.seat_row(
-                alloc,
-                Seat {
-                    class,
-                    number,
-                    field,
-                },
-                row,
-            )?;
+        for field in 0..fields {
+            let seat = Seat {
+                class,
+                number,
+                field,
+            };
+            self.take_rows(seat)?;
         }
         Ok(())
     }
 
-    // Takes out what a seat has, and lets it wait for what the row says.
-    fn seat_row(&mut self, alloc: Global, seat: Seat, row: Option<Row>) -> Result<(), NoMemory>
-        ensures now { OnOk result (IsSeated seat row self.old self.new) }
+    // Lets the seats of a record, which have no rows, wait for what these rows say.
+    fn seat_rows(
+        &mut self,
+        alloc: Global,
+        class: Class,
+        number: u32,
+        mut rows: Vec<FieldRow>,
+    ) -> Result<(), NoMemory>
+        requires free { HaveRows self.old.tables.forms class number [] (contents self.old) }
+        requires apart { AreApart rows.items }
+        ensures now { OnOk result (IsReseated class number rows.items self.old self.new) }
         ensures goes { GoesOn self.old self.new }
     {
-        self.take_rows(seat)?;
-        self.put_row(alloc, seat, row)
+        while let Some(one) = rows.pop() {
+            let seat = Seat {
+                class,
+                number,
+                field: one.field,
+            };
+            self.put_row(alloc, seat, Some(one.row))?;
+        }
+        Ok(())
     }
 }

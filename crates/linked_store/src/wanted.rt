@@ -134,6 +134,6 @@ fn note_awaited(keys: &mut Vec<Key>, alloc: Global, tie: &Tie) -> Result<(), NoM
     let Some(key) = &tie.awaits else {
         return Ok(());
     };
-    keys.push(key.copy(alloc)?)?;
+    keys.push(key.key().copy(alloc)?)?;
     Ok(())
 }

@@ -5,15 +5,16 @@ use crate::key::{Class, Key};
 use crate::record::Record;
 use crate::sequence::Sequence;
 use crate::text::Text;
+use crate::tied_key::TiedKey;
 use std::alloc::Global;
 
 /// What the catalogue keeps beside a field: the key of the authority that governs it, whether that authority governs the
 /// heading with its subdivisions, and the key of an authority that is awaited in the place of a former one.
 #[derive(Debug, Drop, PartialEq, Eq)]
 pub struct Tie {
-    pub key: Option<Key>,
+    pub key: Option<TiedKey>,
     pub whole: bool,
-    pub awaits: Option<Key>,
+    pub awaits: Option<TiedKey>,
 }
 
 pub type Links = Sequence<Tie>;

@@ -13,6 +13,7 @@ pub use record::Record;
 pub use refusal::{RecordFault, Refusal, Set};
 pub use sequence::Sequence;
 pub use text::Text;
+pub use tied_key::TiedKey;
 pub use valid::{can_be_code, can_be_number, is_data_byte, is_printable_byte, makes_record};
 
 mod copying;
@@ -24,4 +25,5 @@ mod record;
 mod refusal;
 mod sequence;
 mod text;
+mod tied_key;
 mod valid;

@@ -1,7 +1,7 @@
 //! International Standard Book Numbers.
-ghost use Rattle.std.specs.Prelude.{◌≡◌, ◌≤◌, ◌*◌, length, take, IsTrue, IfOk, IfSome, MatchOption};
+ghost use Rattle.std.specs.Prelude.{◌≡◌, ◌≤◌, ◌*◌, length, take, IsTrue, IfOk};
 ghost use Rattle.std.specs.List.{list_all};
-ghost use Rattle.marc_types.specs.Valid.{is_digit, is_graphic};
+ghost use Rattle.marc_types.specs.Valid.{is_digit};
 ghost use Rattle.match_report.specs.Isbn.{printed_number, value_of, weighted, is_check, has_prefix, is_isbn_ten, is_isbn_thirteen, check_digit, thirteen_of, isbn_of, isbn_of_printed};
 
 use marc_types::{NoMemory, Text};
@@ -106,48 +106,33 @@ fn check_digit(digits: &[u8]) -> u8
 
 /// A number of the older form in today's form.
 #[tactic(auto, unfolding(crate::specs::Isbn::thirteen_of))]
-fn thirteen_of(alloc: Global, ten: &[u8]) -> Result<Vec<u8>, NoMemory>
+fn thirteen_of(ten: &[u8]) -> [u8; 13]
     requires { length ten.now ≡ 10 }
-    ensures { IfOk result (λ digits. digits.items ≡ thirteen_of ten.now) }
+    ensures { result ≡ thirteen_of ten.now }
 {
-    let mut digits = Vec::with_capacity(alloc, 13)?;
-    digits.extend_from_slice(b"978")?;
-    digits.extend_from_slice(&ten[..9])?;
-    let check = check_digit(&digits);
-    digits.push(check)?;
-    Ok(digits)
+    let mut digits = *b"9780000000000";
+    digits[3..12].copy_from_slice(&ten[..9]);
+    digits[12] = check_digit(&digits[..12]);
+    digits
 }
 
-/// Graphic ASCII characters as a text.
-#[tactic(auto, using(entry_record::proofs::Graphic::text_of_graphic))]
-pub(crate) fn graphic_text(bytes: Vec<u8>) -> Text
-    requires { IsTrue (list_all is_graphic bytes.items) }
-    ensures { result ≡ bytes.items }
+#[tactic(auto, using(crate::proofs::Digits::ten_long, crate::proofs::Digits::thirteen_long))]
+fn isbn_of_printed(printed: &[u8]) -> Option<[u8; 13]>
+    ensures { result ≡ isbn_of_printed printed.now }
 {
-    match String::from_utf8(bytes) {
-        Ok(text) => Text::from_string(text),
-        Err(_) => unreachable!(),
+    if is_isbn_ten(printed) {
+        return Some(thirteen_of(printed));
     }
-}
-
-#[tactic(auto, using(crate::proofs::Digits::ten_long, crate::proofs::Digits::thirteen_of_graphic, crate::proofs::Digits::thirteen_graphic))]
-fn isbn_of_printed(alloc: Global, printed: Vec<u8>) -> Result<Option<Text>, NoMemory>
-    ensures { IfOk result (λ found. found ≡ isbn_of_printed printed.items) }
-{
-    if is_isbn_ten(&printed) {
-        let digits = thirteen_of(alloc, &printed)?;
-        return Ok(Some(graphic_text(digits)));
+    if is_isbn_thirteen(printed) {
+        return <[u8; 13]>::try_from(printed).ok();
     }
-    if is_isbn_thirteen(&printed) {
-        return Ok(Some(graphic_text(printed)));
-    }
-    Ok(None)
+    None
 }
 
 /// The number of a text, in today's form.
-pub(crate) fn isbn_of(alloc: Global, text: &Text) -> Result<Option<Text>, NoMemory>
+pub(crate) fn isbn_of(alloc: Global, text: &Text) -> Result<Option<[u8; 13]>, NoMemory>
     ensures { IfOk result (λ found. found ≡ isbn_of text.now) }
 {
     let printed = printed_number(alloc, text.as_bytes())?;
-    isbn_of_printed(alloc, printed)
+    Ok(isbn_of_printed(&printed))
 }

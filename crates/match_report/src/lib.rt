@@ -12,6 +12,7 @@ mod isbn;
 pub mod laws;
 mod number;
 mod posting;
+mod row_key;
 mod table;
 #[cfg(test)]
 mod tests;

@@ -8,7 +8,7 @@ use marc_types::{Sequence, Text};
 #[derive(Debug, Drop)]
 pub enum Number {
     /// An International Standard Book Number, as its thirteen digits.
-    Isbn(Text),
+    Isbn([u8; 13]),
     /// A Library of Congress control number, without blanks.
     Lccn(Text),
 }
@@ -27,11 +27,12 @@ impl Number {
     }
 
     /// The digits or characters.
-    pub fn text(&self) -> &Text
+    pub fn text(&self) -> &[u8]
         ensures { result.now ≡ number_text self.now }
     {
         match self {
-            Number::Isbn(text) | Number::Lccn(text) => text,
+            Number::Isbn(digits) => digits,
+            Number::Lccn(text) => text.as_bytes(),
         }
     }
 

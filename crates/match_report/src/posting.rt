@@ -1,5 +1,5 @@
 use crate::number::Number;
-use marc_types::Key;
+use crate::row_key::RowKey;
 use std::cmp::Ordering;
 use std::marker::Model;
 
@@ -8,7 +8,7 @@ use std::marker::Model;
 #[derive(Drop)]
 pub(crate) struct PostingRef<'a> {
     pub number: &'a Number,
-    pub key: &'a Key,
+    pub key: &'a RowKey,
 }
 
 impl<'a> Model for PostingRef<'a> {

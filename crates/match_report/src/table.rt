@@ -15,8 +15,9 @@ use crate::fields::numbers;
 use crate::groups::{Groups, groups_among};
 use crate::number::Numbers;
 use crate::posting::PostingRef;
+use crate::row_key::RowKey;
 use entry_record::is_deletion;
-use marc_types::{Class, Entry, Key, NoMemory, Record, TryCopy};
+use marc_types::{Class, Entry, Key, NoMemory, Record};
 use std::alloc::Global;
 use std::collections::{BTreeMap, BTreeSet};
 use std::marker::Model;
@@ -24,7 +25,7 @@ use std::marker::Model;
 /// The numbers of each bibliographic record that is kept, under its key. Contracts see them in key order.
 #[derive(Drop)]
 pub struct Matches {
-    rows: BTreeMap<Key, Numbers>,
+    rows: BTreeMap<RowKey, Numbers>,
 }
 
 impl Model for Matches {
@@ -38,7 +39,7 @@ impl Model for Matches {
 
 /// The numbers of a record, each beside the record's key.
 fn add_postings<'a>(
-    key: &'a Key,
+    key: &'a RowKey,
     numbers: &'a Numbers,
     held: &mut BTreeSet<PostingRef<'a>>,
 ) -> Result<(), NoMemory>
@@ -65,15 +66,18 @@ impl Matches {
         ensures err { OnErr result (self.new ≡ self.old) }
     {
         let found = numbers(alloc, rec)?;
-        let own = key.copy(alloc)?;
+        let own = RowKey::new(alloc, key)?;
         self.rows.insert(own, found)?;
         Ok(())
     }
 
-    fn take_record(&mut self, key: &Key)
-        ensures { self.new ≡ remove_entry (same_key key.now) self.old }
+    fn take_record(&mut self, alloc: Global, key: &Key) -> Result<(), NoMemory>
+        ensures ok { OnOk result (self.new ≡ remove_entry (same_key key.now) self.old) }
+        ensures err { OnErr result (self.new ≡ self.old) }
     {
-        self.rows.remove(key);
+        let own = RowKey::new(alloc, key)?;
+        self.rows.remove(&own);
+        Ok(())
     }
 
     /// Takes what an entry brings: a record comes into its key's place with its numbers, and a deletion takes away what stands
@@ -86,8 +90,7 @@ impl Matches {
             Class::Authority => Ok(()),
             Class::Bibliographic => {
                 if is_deletion(&entry.rec.leader) {
-                    self.take_record(&entry.key);
-                    return Ok(());
+                    return self.take_record(alloc, &entry.key);
                 }
                 self.put_record(alloc, &entry.key, &entry.rec)
             }

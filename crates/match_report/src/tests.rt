@@ -99,10 +99,10 @@ fn numbers_of_texts(rt: HostRuntime) -> Result<(), Fail> {
         let text = Text::from_str(alloc, text)?;
         let found = isbn_of(alloc, &text)?;
         let found = match &found {
-            Some(isbn) => isbn.as_str(),
-            None => "",
+            Some(isbn) => isbn.as_slice(),
+            None => b"".as_slice(),
         };
-        assert_eq!(&rt; found, due);
+        assert_eq!(&rt; found, due.as_bytes());
     }
     Ok(())
 }

@@ -10,8 +10,8 @@ ghost use Rattle.match_report.specs.Postings.{number_text};
 ghost use Rattle.match_report.specs.Groups.{number_word, group_line, total_line, lines_of};
 
 use crate::groups::Group;
+use crate::row_key::RowKey;
 use itoa::Buffer;
-use marc_types::Key;
 use outside::{Failed, Sink};
 
 /// A piece, and another behind it.
@@ -28,18 +28,18 @@ fn write_both<K: Sink>(first: &[u8], second: &[u8], out: &mut K) -> Result<(), F
 
 /// The text of a key, behind a blank.
 #[tactic(auto, unfolding(heading_fields::specs::Numbers::key_text), using(crate::proofs::Writes::code_front, crate::proofs::Writes::code_then, outside::proofs::Fronts::appends_then))]
-fn write_key<K: Sink>(key: &Key, out: &mut K) -> Result<(), Failed>
+fn write_key<K: Sink>(key: &RowKey, out: &mut K) -> Result<(), Failed>
     ensures bytes { OnOk result (Appends (K.written out.old) (K.written out.new) (then_word (key_text key.now))) }
     ensures front { WritesFront (K.written out.old) (K.written out.new) (then_word (key_text key.now)) }
     ensures tells { is_some (K.written out.new) ≡ is_some (K.written out.old) }
     ensures cause { HasCause (K.faults out.old) (K.faults out.new) result }
 {
-    write_both(b" (", key.code.as_bytes(), out)?;
-    write_both(b")", key.number.as_bytes(), out)
+    write_both(b" (", key.code(), out)?;
+    write_both(b")", key.number(), out)
 }
 
 #[tactic(auto, using(outside::proofs::Fronts::writing_begun, outside::proofs::Fronts::writing_done))]
-fn write_keys<K: Sink>(keys: &[&Key], out: &mut K) -> Result<(), Failed>
+fn write_keys<K: Sink>(keys: &[&RowKey], out: &mut K) -> Result<(), Failed>
     ensures bytes { OnOk result (Appends (K.written out.old) (K.written out.new) (then_words (map key_text (map (λ key. key.now) keys.now)))) }
     ensures front { WritesFront (K.written out.old) (K.written out.new) (then_words (map key_text (map (λ key. key.now) keys.now))) }
     ensures tells { is_some (K.written out.new) ≡ is_some (K.written out.old) }
@@ -70,7 +70,7 @@ fn write_words<K: Sink>(group: &Group<'_>, out: &mut K) -> Result<(), Failed>
     ensures tells { is_some (K.written out.new) ≡ is_some (K.written out.old) }
     ensures cause { HasCause (K.faults out.old) (K.faults out.new) result }
 {
-    write_text(group.number.text().as_bytes(), out)?;
+    write_text(group.number.text(), out)?;
     write_keys(group.keys.as_slice(), out)
 }
 

@@ -209,6 +209,7 @@ module _ (from into : List ℕ) (differ : into ≢ from) (old opened brought clo
       reason = reason;
       is = err_once result w why err is ∙ told;
       oldest = λ tells. named tells ∙ oldest;
+      history = fits;
       so = λ tells. (history, has tells, subst (λ l. IsUnmigrated journal_limits history l reason) first_bytes (so (first.tells ∙ tells)));
     });
     device = λ err. inr (risen (err_once result why Device is err));

@@ -80,7 +80,7 @@ module _ (history : List Entry) (old opened brought closed : RoomView) (from int
   bytes_last = ap bytes_or_none (last.files into (differ, tt))
 
   amid_first : (entries : List Entry) (c : List ℕ) → IsAmidInto history entries opened into c → IsAmidInto history entries old into c
-  amid_first entries c amid = subst (λ log. ∥ IsAmid (IsFit journal_limits history entries log) history entries c ∥₁) bytes_first amid
+  amid_first entries c amid = subst (λ log. ∥ IsAmid (IsFit journal_limits history entries log) history entries log c ∥₁) bytes_first amid
 
   has_first : (entries : List Entry) → HasHistory entries (log_bytes old into) → HasHistory entries (log_bytes opened into)
   has_first entries has = subst (λ bytes. HasHistory entries bytes) (sym bytes_first) has

@@ -49,18 +49,20 @@ pub data WhyNotFrom (room : RoomView) (name : List ℕ) (fault : Fault) : Type 0
   Newest : fault ≡ OldVersion → (room.tells ≡ true → (version_of (log_bytes room name) ≡ 2) × HasFittingHistory (log_bytes room name))
       → WhyNotFrom room name fault
 
--- why it is not brought into the new one's log, where the old log is of version 1 and has these entries
+-- why it is not brought into the new one's log, where the old log is of version 1 and has these entries, within the limits
 pub record WhyNotInto (room : RoomView) (from into : List ℕ) (fault : Fault) : Type 0 where
   pub reason : MigrateFault
   pub is : fault ≡ fault_of_migrating reason
   pub oldest : room.tells ≡ true → version_of (log_bytes room from) ≡ 1
+  pub history : room.tells ≡ true → HasFittingHistory (log_bytes room from)
   pub so : room.tells ≡ true → (entries : List Entry) × HasHistory entries (log_bytes room from)
       × IsUnmigrated journal_limits entries (log_bytes room into) reason
 
--- an image has the entries that the log of that name had, or, where that is fit for the history, more of the history; where it is fit
--- the image is of version 2
+-- an image has the entries that the log of that name had, or, where that is fit for the history, more of the history, in no more bytes
+-- than these take; where it is fit the image is of version 2
 abbrev pub IsAmidInto : List Entry → List Entry → RoomView → List ℕ → List ℕ → Type 0
-IsAmidInto history entries room name c = ∥ IsAmid (IsFit journal_limits history entries (log_bytes room name)) history entries c ∥₁
+IsAmidInto history entries room name c =
+    ∥ IsAmid (IsFit journal_limits history entries (log_bytes room name)) history entries (log_bytes room name) c ∥₁
 
 -- A history is brought into the log of that name, as far as it came: the log was not opened, or it is a closed log again, each image
 -- since its first sync is amid, and so is the file; of a log that tells its moments and has not synced the file is as it was.

@@ -23,4 +23,4 @@ pub use progress::ProgressGate;
 pub use room::FileRoom;
 pub use sink::FileSink;
 pub use source::{FileSource, LONGEST_INPUT};
-pub use target::Target;
+pub use target::{Keep, Target};

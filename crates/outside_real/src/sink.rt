@@ -3,7 +3,7 @@ ghost use Rattle.std.specs.Io.KnownBytes.{append_known, Appends, Keeps};
 ghost use Rattle.outside.specs.Fault.{HasCause, counted};
 
 use crate::count::raised;
-use crate::target::Target;
+use crate::target::Keep;
 use outside::{Failed, Sink};
 use std::alloc::Global;
 use std::io;
@@ -62,10 +62,11 @@ impl<W: Write + Drop> FileSink<W> {
         ensures written { OnOk result (Appends (W.contents self.old.to) (W.contents self.new.to) self.old.gathered.items) }
         ensures none { self.new.gathered.items ≡ [] }
 
-        // A fault counts once, and behind one all calls fail.
+        // A fault counts once. Behind one all calls fail, and nothing more is written.
         ensures counts { self.new.faults ≡ counted result self.old.faults }
         ensures cause { HasCause (⟦<FileSink<W> as Sink>⟧.faults self.old) (⟦<FileSink<W> as Sink>⟧.faults self.new) result }
         ensures behind { 0 < self.old.faults → IsErr result }
+        ensures still { 0 < self.old.faults → self.new.to ≡ self.old.to }
     {
         if self.faults > 0 {
             self.gathered.clear();
@@ -91,13 +92,18 @@ impl<W: Write + Drop> FileSink<W> {
     }
 }
 
-impl<R: Print + Drop> FileSink<Target<R>> {
-    /// Writes what was gathered, and has the system keep what a file was given.
+impl<W: Write + Keep + Drop> FileSink<W> {
+    /// Writes what was gathered, and has the system keep what the writer was given.
     pub fn finish(&mut self) -> Result<(), Failed>
-        // A fault counts once, and behind one this fails.
+        // The writer has all that was gathered, and keeps it.
+        ensures written { OnOk result (Appends (W.contents self.old.to) (W.contents self.new.to) self.old.gathered.items) }
+        ensures kept { OnOk result (W.keeps self.new.to) }
+
+        // A fault counts once. Behind one this fails, and nothing more is written.
         ensures counts { self.new.faults ≡ counted result self.old.faults }
-        ensures cause { HasCause (⟦<FileSink<Target<R>> as Sink>⟧.faults self.old) (⟦<FileSink<Target<R>> as Sink>⟧.faults self.new) result }
+        ensures cause { HasCause (⟦<FileSink<W> as Sink>⟧.faults self.old) (⟦<FileSink<W> as Sink>⟧.faults self.new) result }
         ensures behind { 0 < self.old.faults → IsErr result }
+        ensures still { 0 < self.old.faults → self.new.to ≡ self.old.to }
     {
         self.flush()?;
         let kept = self.to.keep();
@@ -121,13 +127,15 @@ impl<W: Write + Drop> Sink for FileSink<W> {
     ghost faults = { λ s. s.faults };
 
     fn write_all(&mut self, piece: &[u8]) -> Result<(), Failed>
-        // The writer has, or will have at the next flush, what it had and then the piece. A fault counts once, and behind one all
-        // calls fail.
+        // The writer has, or will have at the next flush, what it had and then the piece.
         ensures bytes { OnOk result (Appends (append_known (W.contents self.old.to) self.old.gathered.items)
             (append_known (W.contents self.new.to) self.new.gathered.items) piece.now) }
+
+        // A fault counts once. Behind one all calls fail, and nothing more is written.
         ensures counts { self.new.faults ≡ counted result self.old.faults }
         ensures cause { HasCause self.old.faults self.new.faults result }
         ensures behind { 0 < self.old.faults → IsErr result }
+        ensures still { 0 < self.old.faults → self.new.to ≡ self.old.to }
     {
         // What was gathered may be lost, so nothing may come behind it.
         if self.faults != 0 {

@@ -1,10 +1,20 @@
-ghost use Rattle.std.specs.Prelude.{◌≤◌, length, IfOk};
+ghost use Rattle.std.specs.Prelude.{◌≤◌, length, IfOk, OnOk, ⊤};
 
 use crate::opening::synced;
 use outside::Failed;
 use std::fs::File;
 use std::io;
 use std::io::Write;
+
+/// What can be asked to keep what was written to it over a crash.
+pub trait Keep {
+    // It keeps all that was written to it, as far as it can.
+    ghost keeps: { Self → Type 0 };
+
+    /// Has the system keep what was written. Some systems tell only then that they couldn't.
+    fn keep(&self) -> Result<(), Failed>
+        ensures { OnOk result (keeps self.now) };
+}
 
 /// Where an output goes: a file, or what the runtime prints to.
 #[derive(Drop)]
@@ -13,9 +23,11 @@ pub enum Target<R> {
     Console(R),
 }
 
-impl<R> Target<R> {
-    /// Has the system keep what a file was given. Some systems tell only then that they couldn't.
-    pub fn keep(&self) -> Result<(), Failed> {
+impl<R> Keep for Target<R> {
+    // What the system does isn't known.
+    ghost keeps = { λ _. ⊤ };
+
+    fn keep(&self) -> Result<(), Failed> {
         match self {
             Target::File(file) => synced(file),
             Target::Console(_) => Ok(()),

@@ -1,4 +1,5 @@
-pub mod Groups
+pub mod Among
+pub mod Errors
 pub mod Lefts
 pub mod Listings
 pub mod Rows

@@ -1,22 +1,15 @@
--- How often a thing is counted under a name.
-use Rattle.std.specs.Prelude.{◌≡◌, ℕ, ◌+◌, ◌-◌, Bool, List, Option, None, Some, unwrap_or, if◌then◌else◌}
-use Rattle.std.specs.List.{count_by}
-use Rattle.std.specs.HashMap.{HashMap, get}
+-- How often a thing is counted under a name. Names are numbers.
+use Rattle.std.specs.Prelude.{◌≡◌, ℕ, ◌+◌, ◌-◌, Bool, List, if◌then◌else◌}
+use Rattle.std.specs.List.{count_by, slice_index_or}
+use Rattle.place_names.specs.Group.{times_in}
+use Rattle.place_names.specs.declared.group.Group.{Group}
+use Rattle.place_names.specs.declared.group.Group.TheVariants.{Empty}
 
--- how often the group counts the thing
-abbrev pub times_in : {P S : Type 0} (same : P → P → Bool) → HashMap P ℕ S → P → ℕ
-times_in same group thing = unwrap_or (get same group thing) 0
-
--- the same of a group that may be none
-abbrev pub times_if : {P S : Type 0} (same : P → P → Bool) → Option (HashMap P ℕ S) → P → ℕ
-times_if same None thing = 0
-times_if same (Some group) thing = times_in same group thing
+-- how often the thing is counted under the name
+abbrev pub times : {P : Type 0} (same : P → P → Bool) → List (Group P) → ℕ → P → ℕ
+times same groups name thing = times_in same (slice_index_or groups name Empty) thing
 
 module _ {N P : Type 0} (same_name : N → N → Bool) (same : P → P → Bool) where
-  -- how often the thing is counted under the name
-  abbrev pub times : {S T : Type 0} → HashMap N (HashMap P ℕ S) T → N → P → ℕ
-  times groups name thing = times_if same (get same_name groups name) thing
-
   -- how often a list of names brings the thing under the name
   abbrev pub brought : List N → P → N → P → ℕ
   brought names one name thing = if same one thing then count_by (λ n. same_name n name) names else 0

@@ -1,3 +1,4 @@
+pub mod Group
 pub mod Counts
 pub mod Slots
 pub mod Listed

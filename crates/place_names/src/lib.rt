@@ -4,9 +4,11 @@
 #![tactic(auto)]
 
 pub use counts::Counts;
+pub use group::Group;
 pub use slots::Slots;
 
 mod counts;
+mod group;
 mod slots;
 #[cfg(test)]
 mod tests;

@@ -11,7 +11,7 @@ ghost use Rattle.plain_catalogue.specs.Sought.{is_sought, sought_among};
 
 use crate::authority::{Authority, is_bare, tag};
 use heading_fields::{full, has_subdivision, is_number_of, takes_subdivisions};
-use marc_types::{Class, Field, Form, Key, Keys, Kind, NoMemory, Subfield, Tie, TryCopy};
+use marc_types::{Class, Field, Form, Key, Keys, Kind, NoMemory, Subfield, Tie, TiedKey, TryCopy};
 use naco_form::form;
 use std::alloc::Global;
 
@@ -91,6 +91,20 @@ fn link_by_number<'a>(
     Chosen::Link(authority, is_taken_whole(authority, class, field, tie))
 }
 
+/// The authority with an awaited key, where it can take the field by number.
+fn taker_awaited<'a>(
+    authorities: &[&'a Authority],
+    class: Class,
+    kind: Kind,
+    field: &Field,
+    awaited: &TiedKey,
+) -> Option<&'a Authority>
+    ensures { option_copied result
+        ≡ find (λ c. has_key awaited.now c && can_take class kind (new_field field.now) c) (linkables authorities.now) }
+{
+    taker_with_key(authorities, class, kind, field, awaited.key())
+}
+
 /// The link to the authority whose key the field awaits.
 fn by_awaited<'a>(
     authorities: &[&'a Authority],
@@ -105,7 +119,7 @@ fn by_awaited<'a>(
     let Some(key) = &tie.awaits else {
         return None;
     };
-    match taker_with_key(authorities, class, kind, field, key) {
+    match taker_awaited(authorities, class, kind, field, key) {
         Some(authority) => Some(link_by_number(authority, class, field, tie)),
         None => None,
     }

@@ -16,7 +16,7 @@ use crate::authority::Authority;
 use crate::behind::{StateAfter, authorities_after, linkable, state_after};
 use crate::standing::{Standing, Standings};
 use entry_record::Prepared;
-use marc_types::{Class, Form, Forms, Kept, Key, Keys, NoMemory, Place, Status};
+use marc_types::{Class, Form, Forms, Kept, Key, Keys, NoMemory, Place, Status, Tie};
 use record_store::{KeptRows, Rows, Shelf, Steps, Store};
 use std::alloc::Global;
 use std::marker::Model;
@@ -258,13 +258,23 @@ fn item_at<T>(items: &[T], place: u32) -> Option<&T>
     items.get(place as usize)
 }
 
+/// The key to which a tie links.
+fn key_in(tie: &Tie) -> Option<&Key>
+    ensures { option_copied result ≡ tie.now.key }
+{
+    match &tie.key {
+        Some(key) => Some(key.key()),
+        None => None,
+    }
+}
+
 /// The key that the field at a place of a record is linked to.
 #[tactic(auto, using(crate::proofs::Look::link_at))]
 fn link(kept: &Kept, field: u32) -> Option<&Key>
     ensures { option_copied result ≡ option_and_then (λ h. h.tie.key) (field_at field (kept_record kept.now)) }
 {
     match item_at(kept.links.as_slice(), field) {
-        Some(tie) => tie.key.as_ref(),
+        Some(tie) => key_in(tie),
         None => None,
     }
 }

@@ -15,7 +15,7 @@ use crate::authority::{Authority, is_bare};
 use crate::choice::{Chosen, choose};
 use crate::standing::Standing;
 use heading_fields::{controlled, heading_kind, rewrite, unlink};
-use marc_types::{Class, Field, Form, Key, NoMemory, Tie, TryCopy};
+use marc_types::{Class, Field, Form, Key, NoMemory, Tie, TiedKey, TryCopy};
 use naco_form::form;
 use std::alloc::Global;
 
@@ -77,11 +77,11 @@ fn authority_with_key<'a>(authorities: &[&'a Authority], key: &Key) -> Option<&'
     None
 }
 
-fn is_key(key: &Key, other: &Option<Key>) -> bool
+fn is_key(key: &Key, other: &Option<TiedKey>) -> bool
     ensures { result ≡ option_map_or (same_key key.now) other.now false }
 {
     match other {
-        Some(other) => *key == *other,
+        Some(other) => *key == *other.key(),
         None => false,
     }
 }
@@ -98,11 +98,11 @@ fn keeps_link(authorities: &[&Authority], class: Class, field: &Field, tie: &Tie
     }
 }
 
-fn copy_key(alloc: Global, key: Option<&Key>) -> Result<Option<Key>, NoMemory>
+fn tied(alloc: Global, key: Option<&Key>) -> Result<Option<TiedKey>, NoMemory>
     ensures { IfOk result (λ twin. twin ≡ option_copied key.entry) }
 {
     match key {
-        Some(key) => Ok(Some(key.copy(alloc)?)),
+        Some(key) => Ok(Some(TiedKey::new(alloc, key.copy(alloc)?)?)),
         None => Ok(None),
     }
 }
@@ -122,7 +122,7 @@ fn end_link(
         tie: Tie {
             key: None,
             whole: tie.whole,
-            awaits: copy_key(alloc, loosening.successor)?,
+            awaits: tied(alloc, loosening.successor)?,
         },
     })
 }
@@ -136,7 +136,7 @@ fn await_key(alloc: Global, field: &Field, tie: &Tie, key: &Key) -> Result<Held,
         tie: Tie {
             key: tie.key.copy(alloc)?,
             whole: tie.whole,
-            awaits: Some(key.copy(alloc)?),
+            awaits: Some(TiedKey::new(alloc, key.copy(alloc)?)?),
         },
     })
 }
@@ -208,7 +208,7 @@ fn link_to(
             whole,
         )?,
         tie: Tie {
-            key: Some(authority.key.copy(alloc)?),
+            key: Some(TiedKey::new(alloc, authority.key.copy(alloc)?)?),
             whole,
             awaits: None,
         },
@@ -326,7 +326,7 @@ pub(crate) fn settle_field(
 {
     match &tie.key {
         Some(key) => Ok(FieldAfter {
-            changed: settle_linked(alloc, authorities, class, field, tie, key)?,
+            changed: settle_linked(alloc, authorities, class, field, tie, key.key())?,
             standing: Standing::Linked,
         }),
         None => settle_unlinked(alloc, authorities, class, field, tie),

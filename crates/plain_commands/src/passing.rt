@@ -12,6 +12,7 @@ use console_lines::{End, Fault, Unwritten, tell};
 use output_files::write_all_records;
 use outside::{Room, Sink, WriteFault};
 use std::alloc::Global;
+use std::mem;
 
 /// Writes the export into the file `out`, and then tells the console.
 fn deliver<R: Room>(
@@ -80,7 +81,12 @@ pub fn pass<R: Room>(
         (outcome R.seen R.Out.written R.Out.faults room.old room.new console.old console.new result) }
 {
     match prepare(alloc, room, library) {
-        Ok(ready) => deliver(alloc, room, console, out, &ready),
+        Ok(ready) => {
+            let end = deliver(alloc, room, console, out, &ready);
+            // its memory is given back by the end of the process, which comes now
+            mem::forget(ready);
+            end
+        }
         Err(fault) => tell(console, fault),
     }
 }

@@ -114,7 +114,7 @@ pub const MIGRATE: &str = "union_cat migrate OLD NEW
 Brings the history of the journal OLD, of version 1, into the journal NEW, of version 2. It can be given again after any
 stop: it goes on where it was.
 Writes: NEW, which is made if it isn't there; on the console a line with the number of OLD's entries. OLD is only put in
-order.
+order, and made if it isn't there.
 Status: 0 NEW has all; 2 wrong words; 4 NEW has all, but the console couldn't be written; 5 a journal's disk failed; 6 one
 of them is no journal; 7 one has more than a catalogue takes; 8 memory ran out; 9 OLD isn't of version 1, or NEW is; 10 NEW
 has another history.

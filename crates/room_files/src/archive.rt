@@ -10,7 +10,7 @@ ghost use Rattle.entry_record.specs.History.{IsWithin};
 ghost use Rattle.room_files.specs.Journals.{journal_limits, log_bytes, IsClosedDisk, KeepsHistory, KeepsLog};
 
 use crate::JOURNAL_LIMITS;
-use durable_catalogue::{Archive, OpenFault};
+use durable_catalogue::{Archive, Memory, OpenFault};
 use outside::Room;
 use std::alloc::Global;
 
@@ -65,5 +65,5 @@ pub fn close_archive<R: Room>(room: &mut R, name: &str, archive: Archive<R::Log>
     ensures file { (R.seen room.old).tells ≡ true → (R.seen room.new).file name.now ≡ (R.Log.seen archive.journal.disk).content }
     ensures log { (R.seen room.old).tells ≡ true → IsClosedDisk (R.Log.seen archive.journal.disk) (R.seen room.new) name.now }
 {
-    room.close_log(name, archive.close());
+    room.close_log(name, archive.close(Memory::Left));
 }

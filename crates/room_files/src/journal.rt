@@ -9,7 +9,7 @@ ghost use Rattle.durable_catalogue.specs.Views.{durable_view};
 ghost use Rattle.durable_catalogue.specs.Openings.{IsUnopened};
 ghost use Rattle.room_files.specs.Journals.{journal_limits, log_bytes, IsOpenedAs, IsClosedAs, KeepsHistory};
 
-use durable_catalogue::{Durable, OpenFault};
+use durable_catalogue::{Durable, Memory, OpenFault};
 use marc_types::Limits;
 use outside::Room;
 use std::alloc::Global;
@@ -71,5 +71,5 @@ pub fn close_journal<R: Room>(room: &mut R, name: &str, durable: Durable<R::Log>
     ensures cause { is_some (mark_of durable.mark) ≡ true → (R.Log.seen durable.before.value).faults ≡ 0 →
         Rose ((R.seen room.old).log_faults name.now) ((R.seen room.new).log_faults name.now) }
 {
-    room.close_log(name, durable.close());
+    room.close_log(name, durable.close(Memory::Left));
 }

@@ -1,5 +1,4 @@
 -- What callers see of the struct.
-use Rattle.std.specs.Prelude.{nat_eq}
 use Rattle.numbering.specs.Seats.{same_seat}
 use Rattle.place_names.specs.Slots.{row_at, rooms_at}
 use Rattle.place_names.specs.Counts.{times}
@@ -9,5 +8,5 @@ use Rattle.wait_table.specs.declared.table.WaitTable.{WaitTable}
 
 unfoldable pub waits : WaitTable → Waits
 waits table =
-    seen (row_at same_seat table.slots.slots) (rooms_at same_seat table.slots.slots) (times nat_eq same_seat table.forms.groups)
-    (times nat_eq same_seat table.keys.groups)
+    seen (row_at same_seat table.slots.slots) (rooms_at same_seat table.slots.slots) (times same_seat table.forms.groups.items)
+    (times same_seat table.keys.groups.items)

@@ -1,6 +1,4 @@
 ghost use Rattle.std.specs.Prelude.{◌≡◌, nat_eq, OnOk, OnErr, IfOk, IfSome, IfNone, None, Some, filter, option_copied};
-ghost use Rattle.std.specs.HashMap.{keys as things};
-ghost use Rattle.std.specs.List.{IsDistinct};
 ghost use Rattle.numbering.specs.Seats.{same_seat};
 ghost use Rattle.place_names.specs.Slots.{row_at, rooms_at};
 ghost use Rattle.place_names.specs.Counts.{times, brought, TimesSame, TimesMore, TimesLess};
@@ -13,28 +11,27 @@ use marc_types::NoMemory;
 use numbering::{Seat, Seats};
 use place_names::{Counts, Slots};
 use std::alloc::Global;
-use std::collections::HashMap;
 
 /// What each seat waits for, and which seats wait for a form or for a key.
 #[derive(Drop)]
 pub struct WaitTable {
     slots: Slots<Seat, Waiting>,
-    forms: Counts<u32, Seat>,
-    keys: Counts<u32, Seat>,
-    ghost sound: { WaitsAgree (row_at same_seat slots.slots) (rooms_at same_seat slots.slots) (times nat_eq same_seat forms.groups)
-        (times nat_eq same_seat keys.groups) },
+    forms: Counts<Seat>,
+    keys: Counts<Seat>,
+    ghost sound: { WaitsAgree (row_at same_seat slots.slots) (rooms_at same_seat slots.slots) (times same_seat forms.groups.items)
+        (times same_seat keys.groups.items) },
 }
 
 // One more of the seat under each form that is asked for.
 fn note_forms(
-    forms: &mut Counts<u32, Seat>,
+    forms: &mut Counts<Seat>,
     alloc: Global,
     asked: Asked,
     seat: Seat,
 ) -> Result<(), NoMemory>
     ensures ok { OnOk result (TimesMore (brought nat_eq same_seat (forms_of asked) seat)
-        (times nat_eq same_seat forms.old.groups) (times nat_eq same_seat forms.new.groups)) }
-    ensures err { OnErr result (TimesSame (times nat_eq same_seat forms.old.groups) (times nat_eq same_seat forms.new.groups)) }
+        (times same_seat forms.old.groups.items) (times same_seat forms.new.groups.items)) }
+    ensures err { OnErr result (TimesSame (times same_seat forms.old.groups.items) (times same_seat forms.new.groups.items)) }
 {
     match asked {
         Asked::One(own) => forms.note_all(alloc, &[own], seat)?,
@@ -44,9 +41,9 @@ fn note_forms(
 }
 
 // One less of the seat under each form that is asked for.
-fn forget_forms(forms: &mut Counts<u32, Seat>, asked: Asked, seat: Seat)
+fn forget_forms(forms: &mut Counts<Seat>, asked: Asked, seat: Seat)
     ensures { TimesLess (brought nat_eq same_seat (forms_of asked) seat)
-        (times nat_eq same_seat forms.old.groups) (times nat_eq same_seat forms.new.groups) }
+        (times same_seat forms.old.groups.items) (times same_seat forms.new.groups.items) }
 {
     match asked {
         Asked::One(own) => forms.forget_all(&[own], seat),
@@ -148,10 +145,8 @@ impl WaitTable {
     pub fn by_form(&self, alloc: Global, form: u32) -> Result<Seats, NoMemory>
         ensures { IfOk result (λ seats. ListsEach same_seat (asks form (waits self.now)) seats.items) }
     {
-        let Some(group) = self.forms.group(form) else {
-            return Ok(Vec::new(alloc));
-        };
-        let seats = self.asking_in(alloc, group, form)?;
+        let counted = self.forms.things(alloc, form)?;
+        let seats = self.asking_among(alloc, counted.as_slice(), form)?;
         Ok(seats)
     }
 
@@ -159,25 +154,17 @@ impl WaitTable {
     pub fn by_key(&self, alloc: Global, key: u32) -> Result<Seats, NoMemory>
         ensures { IfOk result (λ seats. ListsEach same_seat (names key (waits self.now)) seats.items) }
     {
-        let Some(group) = self.keys.group(key) else {
-            return Ok(Vec::new(alloc));
-        };
-        let seats = self.naming_in(alloc, group, key)?;
+        let counted = self.keys.things(alloc, key)?;
+        let seats = self.naming_among(alloc, counted.as_slice(), key)?;
         Ok(seats)
     }
 
-    // Those of a group's seats that wait for the form.
-    fn asking_in(
-        &self,
-        alloc: Global,
-        group: &HashMap<Seat, u32>,
-        form: u32,
-    ) -> Result<Seats, NoMemory>
-        ensures kept { IfOk result (λ seats. seats.items ≡ filter (asks form (waits self.now)) (things group.now)) }
-        ensures distinct { IsDistinct same_seat (things group.now) }
+    // Those of the seats that wait for the form.
+    fn asking_among(&self, alloc: Global, among: &[Seat], form: u32) -> Result<Seats, NoMemory>
+        ensures { IfOk result (λ seats. seats.items ≡ filter (asks form (waits self.now)) among.now) }
     {
-        let mut seats = Vec::new(alloc);
-        for seat in group.keys() {
+        let mut seats = Vec::with_capacity(alloc, among.len())?;
+        for seat in among {
             if self.asks(*seat, form) {
                 seats.push(*seat)?;
             }
@@ -185,18 +172,12 @@ impl WaitTable {
         Ok(seats)
     }
 
-    // Those of a group's seats that wait for the key.
-    fn naming_in(
-        &self,
-        alloc: Global,
-        group: &HashMap<Seat, u32>,
-        key: u32,
-    ) -> Result<Seats, NoMemory>
-        ensures kept { IfOk result (λ seats. seats.items ≡ filter (names key (waits self.now)) (things group.now)) }
-        ensures distinct { IsDistinct same_seat (things group.now) }
+    // Those of the seats that wait for the key.
+    fn naming_among(&self, alloc: Global, among: &[Seat], key: u32) -> Result<Seats, NoMemory>
+        ensures { IfOk result (λ seats. seats.items ≡ filter (names key (waits self.now)) among.now) }
     {
-        let mut seats = Vec::new(alloc);
-        for seat in group.keys() {
+        let mut seats = Vec::with_capacity(alloc, among.len())?;
+        for seat in among {
             if self.names(*seat, key) {
                 seats.push(*seat)?;
             }

@@ -1,6 +1,6 @@
 //! How a field stands in a catalogue over a log.
 use catalogue_lock::Object;
-use durable_catalogue::{Durable, Seen};
+use durable_catalogue::{Durable, Memory, Seen};
 use marc_types::{Class, Key, Limits, Place, Text};
 use outside_mem::MemDisk;
 use std::alloc::Global;
@@ -42,6 +42,6 @@ fn a_field_is_unlinked_in_the_end(rt: HostRuntime) -> Result<(), Fail> {
     };
     let durable = opened(&rt, alloc, LOG)?;
     assert!(rt; is_unlinked(&durable, &place));
-    durable.close();
+    durable.close(Memory::GivenBack);
     Ok(())
 }

@@ -7,12 +7,12 @@ use Rattle.choice_settling.proofs.settling.settle_with_standing.Goals as goal
 
 pub link_chosen-requires : goal.link_chosen-requires
 link_chosen-requires g c =
-    link_known c.args.store.now c.requires c.each_authority_has_a_number.ensures c.args.class (kept_field c.args.field.now c.args.tie.now) c.in-Link.number c.in-Link.whole
+    link_known c.args.store.now c.requires.ordered c.each_authority_has_a_number.ensures c.args.class (kept_field c.args.field.now c.args.tie.now) c.in-Link.number c.in-Link.whole
     (told_so _ _ _ _ c.in-Some.is c.in-Link.is c.in_ok-chosen.ensures)
 
 pub returns-in_ok-made-in-Link-clause-settled : goal.returns-in_ok-made-in-Link-clause-settled
 returns-in_ok-made-in-Link-clause-settled g c =
-    link_given c.args.store.now c.requires c.each_authority_has_a_number.ensures c.args.class c.args.field.now c.args.tie.now c.in-Link.number c.in-Link.whole
+    link_given c.args.store.now c.requires.ordered c.each_authority_has_a_number.ensures c.args.class c.args.field.now c.args.tie.now c.in-Link.number c.in-Link.whole
     (told_so _ _ _ _ c.in-Some.is c.in-Link.is c.in_ok-chosen.ensures) c.in_ok-made-in-Link.made c.in_ok-made-in-Link.ensures.linked c.link_chosen.ensures.proper
 
 pub returns-in_ok-made-in-Link-clause-stands : goal.returns-in_ok-made-in-Link-clause-stands

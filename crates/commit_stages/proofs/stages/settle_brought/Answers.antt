@@ -1,6 +1,5 @@
-use Rattle.std.proofs.Common.{◌∙◌, ap, sym}
+use Rattle.std.proofs.Common.{◌∙◌, refl, sym}
 use Rattle.std.proofs.lemmas.Result.{IfOk-weaker}
-use Rattle.marc_types.specs.declared.entry.Entry.{Entry}
 use Rattle.catalogue_rules.specs.State.{linkable_authorities}
 use Rattle.stage_turns.proofs.Turning.{ahead_itself}
 use Rattle.commit_stages.proofs.Parts.{counts_brought, deletion_settled}
@@ -16,6 +15,6 @@ returns-then-is_deletion-clause-ahead g c = ahead_itself c.args.store.now
 pub returns-clause-counts : goal.returns-clause-counts
 returns-clause-counts g c =
     IfOk-weaker c.settle_own.result _ _
-    (counts_brought (linkable_authorities c.args.store.now.state) c.args.item.now _ c.as_slice.result.now (c.as_slice.ensures ∙ ap (λ (e : Entry). e.rec.fields) c.entry-entry.ensures.value)
-    (ap (λ (e : Entry). e.class) c.entry-entry.ensures.value) (sym c.is_deletion.ensures ∙ c.if-is_deletion.false))
+    (counts_brought (linkable_authorities c.args.store.now.state) c.args.item.now c.args.item.now.class c.args.item.now.rec.fields refl refl
+    (sym c.is_deletion.ensures ∙ c.if-is_deletion.false))
     c.settle_own.ensures.counts

@@ -28,7 +28,8 @@ returns-clause-added g c =
     let settled = subst (λ v. IsSettled journal.place v (seen journal.disk)) c.requires.newest (journal.settled c.requires.whole) in
     let frame : Frame = record { gate = journal.place; payload = c.as_slice.result.now } in
     adds_frame c.args.entry.now c.can_stand_in_a_payload.ensures journal.place (seen journal.disk) (seen c.append.new.self.disk) settled frame
-    (c.as_slice.ensures ∙ c.in_ok-payload.ensures.value) c.append.new.self.place c.in_ok-append.ensures.settled c.in_ok-append.ensures.appended
+    (c.as_slice.ensures ∙ c.in_ok-payload.ensures.value) c.append.new.self.place c.in_ok-append.ensures.settled
+    c.in_ok-append.ensures.place c.in_ok-append.ensures.appended
 
 pub returns-clause-tried : goal.returns-clause-tried
 returns-clause-tried g c =

@@ -4,8 +4,8 @@ use Rattle.catalogue_rules.specs.State.{new_field}
 use Rattle.late_linking.proofs.Settled.{choice_made, in_order}
 use Rattle.late_linking.proofs.own.settled_own.Goals as goal
 
-pub settle_with_standing-requires : goal.settle_with_standing-requires
-settle_with_standing-requires g c = in_order c.args.store.now.state c.requires.middle
+pub settle_with_standing-requires-clause-ordered : goal.settle_with_standing-requires-clause-ordered
+settle_with_standing-requires-clause-ordered g c = in_order c.args.store.now.state c.requires.middle
 
 pub returns-clause-made : goal.returns-clause-made
 returns-clause-made g c =

@@ -7,7 +7,7 @@ use Rattle.plain_catalogue.proofs.engine.link.Goals as goal
 
 pub returns-in-Some : goal.returns-in-Some
 returns-in-Some c =
-    c.as_ref.ensures.value
+    c.key_in.ensures
     ∙ ap (option_and_then (λ (tie : Tie). tie.key)) (c.in-Some.ensures ∙ ap (λ (l : List Tie). slice_get l c.args.field) c.as_slice.ensures) ∙ link_at c.args.kept.now c.args.field
 
 pub returns-in-None : goal.returns-in-None

@@ -6,16 +6,16 @@ use Rattle.plain_commands.proofs.passing.pass.Goals as goal
 
 pub returns-in-Ok-clause-closed : goal.returns-in-Ok-clause-closed
 returns-in-Ok-clause-closed g c =
-    closed_everywhere _ _ _ c.deliver.ensures.apart c.deliver.ensures.closed
+    closed_everywhere _ _ _ c.deliver-end.ensures.apart c.deliver-end.ensures.closed
     (λ name. c.prepare.ensures.stays.open_names name tt ∙ c.requires.closed name)
 
 pub returns-in-Ok-clause-apart : goal.returns-in-Ok-clause-apart
-returns-in-Ok-clause-apart g c = same_but_then _ _ _ _ (same_but_none _ _ _ c.prepare.ensures.stays) c.deliver.ensures.apart
+returns-in-Ok-clause-apart g c = same_but_then _ _ _ _ (same_but_none _ _ _ c.prepare.ensures.stays) c.deliver-end.ensures.apart
 
 pub returns-in-Ok-clause-ends : goal.returns-in-Ok-clause-ends
 returns-in-Ok-clause-ends g c =
     let mid = g.R.Room.seen c.prepare.new.room in
-    let d = c.deliver.ensures in
+    let d = c.deliver-end.ensures in
     passes_delivered _ _ _ mid c.in-Ok.ready c.prepare.ensures.stays d.fault d.no_report d.out_cause d.console_cause d.silent c.in-Ok.ensures.ready
     d.whole d.part d.told
 

@@ -16,5 +16,5 @@ returns c =
     subst (λ (x : Linked). chosen ≡ option_map (chosen_for x.keys.authorities) (heading_choice (linkable_authorities x.state) c.args.class (kept_field c.args.field.now c.args.tie.now))) c.self.view_is
     (chosen_as c.self.inside.frame.tables (contents c.self.inside.frame) c.args.class (kept_field c.args.field.now c.args.tie.now) c.keys-keys.result.now chosen
     c.keys-keys.ensures c.self.invariant.distinct c.self.invariant.now
-    (subst (λ (x : Linked). AreAuthoritiesInOrder x.state) (sym c.self.view_is) c.requires) told))
+    (subst (λ (x : Linked). AreAuthoritiesInOrder x.state) (sym c.self.view_is) c.requires.ordered) told))
     c.choose_field.ensures

@@ -1,8 +1,11 @@
 use Rattle.linked_store.proofs.Fielded.{keys_numbered, unchanged_none, unchanged_then}
 use Rattle.linked_store.proofs.store.LinkedStore.numbers.Goals as goal
 
+pub returns-in_err-numbers-clause-unchanged : goal.returns-in_err-numbers-clause-unchanged
+returns-in_err-numbers-clause-unchanged c = unchanged_none c.args.self.now
+
 pub loop-key-init : goal.loop-key-init
-loop-key-init c = (unchanged_none c.args.self.now, record { known = tt; are = c.new-numbers.ensures.items })
+loop-key-init c = (unchanged_none c.args.self.now, record { known = tt; are = c.in_ok-numbers.ensures.items })
 
 pub loop-key-preserved : goal.loop-key-preserved
 loop-key-preserved c = (

@@ -1,14 +1,20 @@
 use Rattle.std.proofs.Common.{◌≡◌, ◌∙◌, ap, arith, length, subst, sym}
+use Rattle.marc_types.specs.declared.entry.Entry.{Entry}
+use Rattle.marc_types.specs.declared.key.Key.{Key}
 use Rattle.marc_types.specs.Order.{same_key}
 use Rattle.numbering.specs.Numbers.{IsNumberOf}
 use Rattle.catalogue_rules.specs.Settle.{arrival_of}
 use Rattle.catalogue_tables.specs.Seam.{keys_in}
 use Rattle.linking_laws.specs.Commits.{placed_by}
-use Rattle.linked_store.specs.Frames.{GoesBack, steps_of}
-use Rattle.linked_store.specs.Linked.{IsAhead, Linked}
-use Rattle.linked_store.specs.Placing.{AreRowsFrom, CoversFields, fields_brought}
+use Rattle.linking_laws.specs.Partway.{HasAtMost}
+use Rattle.numbered_store.proofs.Shelving.{low_number}
+use Rattle.linked_store.specs.Frames.{GoesBack, contents, steps_of}
+use Rattle.linked_store.specs.Linked.{IsAhead, IsNumber, Linked, key_of}
+use Rattle.linked_store.specs.Placing.{AreRowsOf, fields_brought}
 use Rattle.linked_store.specs.Sound.{linked_view}
+use Rattle.linked_store.proofs.Brought.{number_key}
 use Rattle.linked_store.proofs.Fielded.{ahead_same, can_on, sound_undone, view_undone}
+use Rattle.linked_store.proofs.Fieldless.{free_behind}
 use Rattle.linked_store.proofs.Framed.{steps_long}
 use Rattle.linked_store.proofs.Placed.{ahead_placed, known_by_number, sound_placed, state_placed_to}
 use Rattle.linked_store.proofs.store.LinkedStore.put.Goals as goal
@@ -21,8 +27,26 @@ place-requires-clause-known c =
 pub place-requires-clause-ordered : goal.place-requires-clause-ordered
 place-requires-clause-ordered c = c.self.invariant.now.told.ordered
 
-pub place-requires-clause-few : goal.place-requires-clause-few
-place-requires-clause-few c = c.requires.covers.few
+pub fields_under-fields-requires : goal.fields_under-fields-requires
+fields_under-fields-requires c =
+    subst (λ (e : Entry). IsNumber e.class c.args.number c.args.self.now.keys) (sym c.entry.ensures.value)
+    (low_number (keys_in c.args.item.now.class c.args.self.now.keys) c.args.item.now.key c.args.number c.requires.number)
+
+pub place-requires-clause-free : goal.place-requires-clause-free
+place-requires-clause-free c =
+    let class = c.args.item.now.class in
+    let of : IsNumberOf same_key (keys_in class c.args.self.now.keys) c.args.item.now.key c.args.number = c.requires.number in
+    let most : HasAtMost class c.args.item.now.key c.fields_under-fields.result c.args.self.now.state =
+    subst (λ (k : Key). HasAtMost class k c.fields_under-fields.result c.args.self.now.state) (number_key (keys_in class c.args.self.now.keys) c.args.item.now.key c.args.number of)
+    (subst (λ (e : Entry). HasAtMost e.class (key_of e.class c.args.number c.args.self.now.keys) c.fields_under-fields.result c.args.self.now.state) c.entry.ensures.value
+    c.fields_under-fields.ensures) in
+    free_behind c.self.inside.frame.tables (contents c.self.inside.frame) class c.args.item.now.key c.args.number c.fields_under-fields.result c.self.invariant.distinct
+    c.each_form_has_one_number.ensures c.self.invariant.now
+    (subst (λ (x : Linked). IsNumberOf same_key (keys_in class x.keys) c.args.item.now.key c.args.number) (sym c.self.view_is) of)
+    (subst (λ (x : Linked). HasAtMost class c.args.item.now.key c.fields_under-fields.result x.state) (sym c.self.view_is) most)
+
+pub place-requires-clause-apart : goal.place-requires-clause-apart
+place-requires-clause-apart c = c.requires.rows.apart
 
 pub go_back-requires-clause-can : goal.go_back-requires-clause-can
 go_back-requires-clause-can c = can_on c.self.inside.frame c.place.new.self c.place.ensures.goes c.self.invariant.can
@@ -52,16 +76,14 @@ pub invariant_of-self-in_default : goal.invariant_of-self-in_default
 invariant_of-self-in_default c =
     sound_placed c.self.inside.frame c.place.new.self c.self.inside.marked c.args.number c.args.item.now c.args.rows.items c.self.invariant
     (subst (λ (x : Linked). IsNumberOf same_key (keys_in c.args.item.now.class x.keys) c.args.item.now.key c.args.number) (sym c.self.view_is) c.requires.number)
-    (subst (λ (x : Linked). AreRowsFrom c.args.item.now.class x.keys.authorities (fields_brought (arrival_of c.args.item.now)) 0 c.args.rows.items) (sym c.self.view_is) c.requires.rows)
-    (subst (λ (x : Linked). CoversFields c.args.item.now (length c.args.rows.items) x.state) (sym c.self.view_is) c.requires.covers)
+    (subst (λ (x : Linked). AreRowsOf c.args.item.now.class x.keys.authorities (fields_brought (arrival_of c.args.item.now)) c.args.rows.items) (sym c.self.view_is) c.requires.rows)
     c.in_default.ensures.now c.place.ensures.goes
 
 pub returns-clause-ok : goal.returns-clause-ok
 returns-clause-ok c =
     state_placed_to c.self.inside.frame c.place.new.self c.self.inside.marked c.args.number c.args.item.now c.args.rows.items c.self.invariant
     (subst (λ (x : Linked). IsNumberOf same_key (keys_in c.args.item.now.class x.keys) c.args.item.now.key c.args.number) (sym c.self.view_is) c.requires.number)
-    (subst (λ (x : Linked). AreRowsFrom c.args.item.now.class x.keys.authorities (fields_brought (arrival_of c.args.item.now)) 0 c.args.rows.items) (sym c.self.view_is) c.requires.rows)
-    (subst (λ (x : Linked). CoversFields c.args.item.now (length c.args.rows.items) x.state) (sym c.self.view_is) c.requires.covers)
+    (subst (λ (x : Linked). AreRowsOf c.args.item.now.class x.keys.authorities (fields_brought (arrival_of c.args.item.now)) c.args.rows.items) (sym c.self.view_is) c.requires.rows)
     c.in_default.ensures.now c.place.ensures.goes
     ∙ ap (λ (x : Linked). placed_by c.args.item.now.class x.state c.args.item.now) c.self.view_is
 
@@ -70,6 +92,5 @@ returns-clause-ahead c =
     subst (λ (x : Linked). IsAhead x (linked_view c.place.new.self c.self.inside.marked)) c.self.view_is
     (ahead_placed c.self.inside.frame c.place.new.self c.self.inside.marked c.args.number c.args.item.now c.args.rows.items c.self.invariant
     (subst (λ (x : Linked). IsNumberOf same_key (keys_in c.args.item.now.class x.keys) c.args.item.now.key c.args.number) (sym c.self.view_is) c.requires.number)
-    (subst (λ (x : Linked). AreRowsFrom c.args.item.now.class x.keys.authorities (fields_brought (arrival_of c.args.item.now)) 0 c.args.rows.items) (sym c.self.view_is) c.requires.rows)
-    (subst (λ (x : Linked). CoversFields c.args.item.now (length c.args.rows.items) x.state) (sym c.self.view_is) c.requires.covers)
+    (subst (λ (x : Linked). AreRowsOf c.args.item.now.class x.keys.authorities (fields_brought (arrival_of c.args.item.now)) c.args.rows.items) (sym c.self.view_is) c.requires.rows)
     c.in_default.ensures.now c.place.ensures.goes)

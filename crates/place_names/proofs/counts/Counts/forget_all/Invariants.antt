@@ -1,8 +1,8 @@
-use Rattle.std.proofs.Common.{◌≡◌, ◌-◌, take}
+use Rattle.std.proofs.Common.{◌≡◌, ◌-◌, ℕ, nat_eq, take}
 use Rattle.place_names.specs.Counts.{times, brought}
 use Rattle.place_names.proofs.counts.Counts.forget_all.Given as goal
 
 abbrev pub invariant-loop-i : goal.invariant-loop-i
 invariant-loop-i g l =
-    (n : g.row.N.Denot) (p : g.row.P.Denot) → times g.N.PartialEq.eq g.P.PartialEq.eq l.self.groups n p
-    ≡ times g.N.PartialEq.eq g.P.PartialEq.eq l.fn.self.groups n p - brought g.N.PartialEq.eq g.P.PartialEq.eq (take l.i l.names) l.thing n p
+    (n : ℕ) (p : g.row.P.Denot) → times g.P.PartialEq.eq l.self.groups.items n p
+    ≡ times g.P.PartialEq.eq l.fn.self.groups.items n p - brought nat_eq g.P.PartialEq.eq (take l.i l.names) l.thing n p

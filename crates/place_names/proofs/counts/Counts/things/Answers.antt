@@ -1,0 +1,10 @@
+use Rattle.std.proofs.Common.{arith}
+use Rattle.std.proofs.lemmas.Grind.{common_steps}
+use Rattle.place_names.specs.Counts.{times}
+use Rattle.place_names.proofs.Among.{has_nothing}
+use Rattle.place_names.proofs.counts.Counts.things.Goals as goal
+
+pub returns-in-None : goal.returns-in-None
+returns-in-None g c =
+    has_nothing g.P.PartialEq.eq (times g.P.PartialEq.eq c.args.self.now.groups.items c.args.name) c.new.result.items c.new.ensures.items
+    (λ p. grind (arith, common_steps))
