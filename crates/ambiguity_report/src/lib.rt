@@ -11,7 +11,5 @@ mod report;
 mod rows;
 mod shared;
 mod standings;
-#[cfg(test)]
-mod tests;
 mod totals;
 mod words;

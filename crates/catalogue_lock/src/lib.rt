@@ -19,6 +19,3 @@ pub use view::Numbered;
 /// There was no memory.
 #[derive(Debug, Clone, Copy, PartialEq, Eq, Drop)]
 pub struct NoMemory;
-
-#[cfg(test)]
-mod tests;

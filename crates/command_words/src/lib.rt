@@ -9,7 +9,5 @@ pub use words::{Words, libraries, request};
 mod asked;
 pub mod laws;
 mod library;
-#[cfg(test)]
-mod tests;
 mod topic;
 mod words;

@@ -13,8 +13,6 @@ mod frame;
 mod journal;
 mod reading;
 mod recovery;
-#[cfg(test)]
-mod tests;
 
 pub use fault::{DeviceFault, JournalFault};
 pub use format::LARGEST_PAYLOAD;

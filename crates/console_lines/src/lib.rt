@@ -10,6 +10,4 @@ mod end;
 mod fault;
 mod lines;
 mod results;
-#[cfg(test)]
-mod tests;
 mod totals;

@@ -16,6 +16,4 @@ mod loading;
 mod memory;
 mod seen;
 mod staging;
-#[cfg(test)]
-mod tests;
 mod written;

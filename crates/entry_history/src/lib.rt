@@ -22,5 +22,3 @@ mod part;
 mod payload;
 mod reader;
 mod reply;
-#[cfg(test)]
-mod tests;

@@ -5,5 +5,3 @@ pub use payload::{is_same, payload_of};
 
 pub mod laws;
 mod payload;
-#[cfg(test)]
-mod tests;

@@ -13,5 +13,3 @@ mod identity;
 mod payload;
 mod prepared;
 mod successor;
-#[cfg(test)]
-mod tests;

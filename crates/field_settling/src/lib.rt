@@ -10,5 +10,3 @@ mod ending;
 mod heading;
 mod held;
 mod linking;
-#[cfg(test)]
-mod tests;

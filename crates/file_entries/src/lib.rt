@@ -7,5 +7,3 @@ pub use refused::{Refused, RefusedItem};
 mod entries;
 pub mod laws;
 mod refused;
-#[cfg(test)]
-mod tests;

@@ -9,5 +9,3 @@ mod items;
 pub mod laws;
 mod piece;
 mod refused;
-#[cfg(test)]
-mod tests;

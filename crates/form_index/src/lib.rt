@@ -14,5 +14,3 @@ pub mod laws;
 mod listings;
 mod lists;
 mod row;
-#[cfg(test)]
-mod tests;

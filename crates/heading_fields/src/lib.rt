@@ -5,12 +5,10 @@
 pub use numbers::{is_number_of, names};
 pub use parts::{controlled, full, has_subdivision, heading_len};
 pub use rewriting::{rewrite, unlink};
-pub use tables::{authority_kind, heading_kind, takes_subdivisions};
+pub use tables::{authority_kind, heading_kind, is_controlled_code, takes_subdivisions};
 
 pub mod laws;
 mod numbers;
 mod parts;
 mod rewriting;
 mod tables;
-#[cfg(test)]
-mod tests;

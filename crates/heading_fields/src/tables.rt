@@ -117,7 +117,7 @@ fn is_topical_code(code: u8) -> bool
 
 /// Whether subfields with that code belong to a heading of that kind.
 #[tactic(auto, unfolding(crate::specs::Tables::is_controlled))]
-pub(crate) fn is_controlled_code(code: u8, kind: Kind) -> bool
+pub fn is_controlled_code(code: u8, kind: Kind) -> bool
     ensures { result ≡ is_controlled kind code }
 {
     match kind {

@@ -16,6 +16,4 @@ mod packed;
 mod packed_key;
 mod refusal;
 mod shelf;
-#[cfg(test)]
-mod tests;
 mod texts;

@@ -9,6 +9,4 @@ pub use waiting::WaitingHoldings;
 mod counts;
 mod export;
 mod listing;
-#[cfg(test)]
-mod tests;
 mod waiting;

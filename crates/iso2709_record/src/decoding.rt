@@ -11,9 +11,6 @@ use marc_types::{NoMemory, RecordFault, Sequence};
 use outside::Bytes;
 use std::alloc::Global;
 
-#[cfg(test)]
-mod tests;
-
 fn fields_of(alloc: Global, bytes: &[u8], layout: &Layout) -> Result<RawFields, NoMemory>
     requires sound { IsSound bytes.now }
     requires layout { layout.now ≡ layout_of bytes.now }

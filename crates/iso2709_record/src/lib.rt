@@ -16,8 +16,6 @@ mod raw;
 mod reading_laws;
 mod size;
 mod subfields;
-#[cfg(test)]
-mod tests;
 
 pub use checking::check;
 pub use decoding::decode;

@@ -6,5 +6,3 @@ pub use rows::{ExportRows, rows_in_order};
 
 mod export;
 mod rows;
-#[cfg(test)]
-mod tests;

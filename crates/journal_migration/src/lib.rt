@@ -8,5 +8,3 @@ mod bringing;
 mod fault;
 mod front;
 mod migration;
-#[cfg(test)]
-mod tests;

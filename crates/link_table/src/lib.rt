@@ -8,5 +8,3 @@ pub use table::LinkTable;
 
 mod link;
 mod table;
-#[cfg(test)]
-mod tests;

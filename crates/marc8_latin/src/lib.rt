@@ -13,7 +13,5 @@ mod fault;
 mod laws;
 mod part;
 mod plain;
-#[cfg(test)]
-mod tests;
 mod text;
 mod writer;

@@ -6,8 +6,6 @@
 
 mod pieces;
 mod scan;
-#[cfg(test)]
-mod tests;
 mod window;
 
 pub use pieces::{Next, Pieces};

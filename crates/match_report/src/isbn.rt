@@ -130,7 +130,7 @@ fn isbn_of_printed(printed: &[u8]) -> Option<[u8; 13]>
 }
 
 /// The number of a text, in today's form.
-pub(crate) fn isbn_of(alloc: Global, text: &Text) -> Result<Option<[u8; 13]>, NoMemory>
+pub fn isbn_of(alloc: Global, text: &Text) -> Result<Option<[u8; 13]>, NoMemory>
     ensures { IfOk result (λ found. found ≡ isbn_of text.now) }
 {
     let printed = printed_number(alloc, text.as_bytes())?;

@@ -3,6 +3,7 @@
 
 pub use fields::numbers;
 pub use groups::Groups;
+pub use isbn::isbn_of;
 pub use number::{Number, Numbers};
 pub use table::Matches;
 
@@ -14,6 +15,4 @@ mod number;
 mod posting;
 mod row_key;
 mod table;
-#[cfg(test)]
-mod tests;
 mod writing;

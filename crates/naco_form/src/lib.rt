@@ -4,8 +4,6 @@
 mod forms;
 mod pen;
 mod table;
-#[cfg(test)]
-mod tests;
 mod text;
 
 pub use forms::form;

@@ -9,5 +9,3 @@ pub use seat::{Seat, Seats};
 pub mod laws;
 mod numbers;
 mod seat;
-#[cfg(test)]
-mod tests;

@@ -10,8 +10,6 @@ mod room;
 mod sink;
 mod source;
 mod tape;
-#[cfg(test)]
-mod tests;
 
 pub use disk::MemDisk;
 pub use room::MemRoom;

@@ -14,8 +14,6 @@ mod room;
 mod sink;
 mod source;
 mod target;
-#[cfg(test)]
-mod tests;
 
 pub use disk::FileDisk;
 pub use gate::OpenGate;

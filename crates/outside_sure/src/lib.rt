@@ -9,8 +9,6 @@ mod sure_files;
 mod sure_room;
 mod sure_sink;
 mod sure_source;
-#[cfg(test)]
-mod tests;
 
 pub use sure_disk::SureDisk;
 pub use sure_room::SureRoom;

@@ -10,5 +10,3 @@ pub use slots::Slots;
 mod counts;
 mod group;
 mod slots;
-#[cfg(test)]
-mod tests;

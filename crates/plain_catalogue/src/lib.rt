@@ -16,5 +16,3 @@ mod engine;
 mod records;
 mod settling;
 mod standing;
-#[cfg(test)]
-mod tests;

@@ -4,6 +4,4 @@
 pub use telling::{help, version};
 
 mod telling;
-#[cfg(test)]
-mod tests;
 mod texts;

@@ -9,6 +9,4 @@ mod field;
 pub mod laws;
 mod record;
 mod subfields;
-#[cfg(test)]
-mod tests;
 mod text;

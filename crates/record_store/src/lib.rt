@@ -14,5 +14,3 @@ mod shelf;
 mod steps;
 mod store;
 mod swapping;
-#[cfg(test)]
-mod tests;

@@ -4,5 +4,3 @@
 pub use selection::Selection;
 
 mod selection;
-#[cfg(test)]
-mod tests;

@@ -7,6 +7,4 @@ pub use table::WaitTable;
 pub use waiting::{Asked, WaitRow, Waiting};
 
 mod table;
-#[cfg(test)]
-mod tests;
 mod waiting;

@@ -10,5 +10,3 @@ mod fields;
 mod maker;
 mod making;
 mod records;
-#[cfg(test)]
-mod tests;

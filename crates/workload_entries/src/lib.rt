@@ -5,5 +5,3 @@ pub use entries::Entries;
 
 mod entries;
 pub mod laws;
-#[cfg(test)]
-mod tests;

@@ -1,0 +1,10 @@
+mod of_entry_history;
+mod of_entry_payload;
+mod of_entry_record;
+mod of_field_settling;
+mod of_file_entries;
+mod of_file_holdings;
+mod of_holdings;
+mod of_match_report;
+mod of_reading;
+mod of_record_store;

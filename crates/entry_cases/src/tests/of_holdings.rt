@@ -1,0 +1,133 @@
+use holdings::{HoldingFault, HoldingShelf, admit_holding};
+use marc_types::{Field, Fields, Leader, Record, Tag, Text, makes_record};
+use std::alloc::Global;
+use std::process::Abort;
+use std::test::Fail;
+
+/// Leader bytes 05 and 06, the 001, and the 004s.
+type Row = (u8, u8, &'static str, &'static [&'static str]);
+
+fn control(alloc: Global, last: u8, text: &str) -> Result<Field, Fail> {
+    let tag = Tag {
+        a: b'0',
+        b: b'0',
+        c: last,
+    };
+    let text = Text::from_str(alloc, text)?;
+    Ok(Field::Control { tag, text })
+}
+
+fn record_of(rt: &impl Abort, alloc: Global, row: &Row) -> Result<Record, Fail> {
+    let (status, rtype, number, targets) = *row;
+    let leader = Leader {
+        status,
+        rtype,
+        level: b' ',
+        control: b' ',
+        encoding: b'1',
+        form: b'n',
+        linked: b' ',
+    };
+    let mut fields = Vec::new(alloc);
+    fields.push(control(alloc, b'1', number)?)?;
+    for target in targets {
+        fields.push(control(alloc, b'4', target)?)?;
+    }
+    let fields = Fields::from_vec(fields);
+    assert!(rt; makes_record(&leader, fields.as_slice()));
+    Ok(Record { leader, fields })
+}
+
+/// 65 characters.
+const LONG: &str = "12345678901234567890123456789012345678901234567890123456789012345";
+
+const TARGETS: [(Row, &str, &str); 5] = [
+    ((b'n', b'u', "h1", &["b1"]), "ULIB", "b1"),
+    ((b'n', b'v', "h1", &[" b 1 "]), "ULIB", "b1"),
+    ((b'd', b'x', "h1", &["b1", "b2"]), "ULIB", "b1"),
+    ((b'n', b'y', "h1", &["b2", LONG]), "ULIB", "b2"),
+    ((b'n', b'x', "h1", &["b1"]), "DLC", "b1"),
+];
+
+#[test]
+fn targets_of_holdings(rt: HostRuntime) -> Result<(), Fail> {
+    let alloc = rt.alloc();
+    for (row, code, target) in TARGETS {
+        let rec = record_of(&rt, alloc, &row)?;
+        let code = Text::from_str(alloc, code)?;
+        match admit_holding(alloc, rec, &code) {
+            Ok(holding) => {
+                assert_eq!(rt; holding.key().number.as_str(), "h1");
+                assert_eq!(rt; holding.target().number.as_str(), target);
+                assert_eq!(rt; holding.target().code.as_str(), code.as_str());
+                assert_eq!(rt; holding.rec().leader.status, row.0);
+            }
+            Err(_fault) => assert!(rt; false),
+        }
+    }
+    Ok(())
+}
+
+const REFUSALS: [(Row, &str, u8); 8] = [
+    ((b'n', b'a', "", &[]), "ULIB", 9),
+    ((b'n', b'z', "h1", &["b1"]), "ULIB", 9),
+    ((b'n', b'x', " ", &[]), "ULIB", 10),
+    ((b'n', b'x', "h1", &[]), "U(B", 11),
+    ((b'n', b'x', "h1", &[]), "ULIB", 17),
+    ((b'd', b'x', "h1", &[]), "ULIB", 17),
+    ((b'n', b'x', "h1", &["  ", "b1"]), "ULIB", 17),
+    ((b'n', b'x', "h1", &[LONG]), "ULIB", 17),
+];
+
+#[test]
+fn refusals_in_order(rt: HostRuntime) -> Result<(), Fail> {
+    let alloc = rt.alloc();
+    for (row, code, number) in REFUSALS {
+        let rec = record_of(&rt, alloc, &row)?;
+        let code = Text::from_str(alloc, code)?;
+        match admit_holding(alloc, rec, &code) {
+            Err(HoldingFault::Refused(refusal)) => assert_eq!(rt; refusal.number(), number),
+            _ => assert!(rt; false),
+        }
+    }
+    Ok(())
+}
+
+/// A holding that replaces another under another target, and one that deletes.
+const SHELVED: [Row; 5] = [
+    (b'n', b'x', "h2", &["b1"]),
+    (b'n', b'x', "h1", &["b1"]),
+    (b'n', b'y', "h3", &["b1"]),
+    (b'c', b'v', "h2", &["b2"]),
+    (b'd', b'x', "h1", &["b1"]),
+];
+
+/// Of 56 bytes, with leader 05 `c` and 06 `v`.
+const CHANGED_LEADER: &[u8] = b"00056cv  a22000491n 4500";
+
+#[test]
+fn a_replaced_and_a_deleted_holding(rt: HostRuntime) -> Result<(), Fail> {
+    let alloc = rt.alloc();
+    let code = Text::from_str(alloc, "ULIB")?;
+    let mut shelf = HoldingShelf::new(alloc);
+    for row in SHELVED {
+        let rec = record_of(&rt, alloc, &row)?;
+        match admit_holding(alloc, rec, &code) {
+            Ok(holding) => shelf.put(alloc, holding)?,
+            Err(_fault) => assert!(rt; false),
+        }
+    }
+    assert_eq!(rt; shelf.len(), 2);
+    let mut rows = shelf.rows();
+    match (rows.next(), rows.next()) {
+        (Some((first, replaced)), Some((second, other))) => {
+            assert!(rt; first.number() == b"h2".as_slice());
+            assert!(rt; replaced.target_number() == b"b2".as_slice());
+            assert!(rt; replaced.written().starts_with(CHANGED_LEADER));
+            assert!(rt; second.number() == b"h3".as_slice());
+            assert!(rt; other.target_number() == b"b1".as_slice());
+        }
+        _ => assert!(rt; false),
+    }
+    Ok(())
+}

@@ -1,4 +1,0 @@
-use Rattle.iso_export.proofs.tests.selected_records_are_exported.Given as goal
-
-abbrev pub ghosts-exports : goal.ghosts-exports
-ghosts-exports g a = record { name = a.blank.name; parts = a.blank.parts }

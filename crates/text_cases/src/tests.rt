@@ -1,0 +1,10 @@
+mod of_command_words;
+mod of_decoding;
+mod of_heading_fields;
+mod of_iso2709_record;
+mod of_marc8_latin;
+mod of_marc_stream;
+mod of_naco_form;
+mod of_selection;
+mod of_workload;
+mod of_workload_entries;

@@ -1,0 +1,270 @@
+use command_words::{Library, Request, Topic, Words, libraries, request};
+use marc_types::{NoMemory, Text};
+use std::alloc::Global;
+use std::test::Fail;
+
+fn words_of(alloc: Global, line: &str) -> Result<Words, NoMemory> {
+    let mut words = Vec::new(alloc);
+    for word in line.split(' ') {
+        words.push(Text::from_str(alloc, word)?)?;
+    }
+    Ok(Words::from_vec(words))
+}
+
+#[test]
+fn lines_that_write_journals(rt: HostRuntime) -> Result<(), Fail> {
+    let table = [
+        (
+            "run j o r ULIB=f0 ULIB=f1",
+            Request::Run {
+                journal: "j",
+                out: "o",
+                report: "r",
+                files: 2,
+            },
+        ),
+        (
+            "load j A=f B=f",
+            Request::Load {
+                journal: "j",
+                files: 2,
+            },
+        ),
+        ("migrate a b", Request::Migrate { old: "a", new: "b" }),
+    ];
+    for (line, asked) in table {
+        let words = words_of(rt.alloc(), line)?;
+        assert_eq!(rt; request(&words), Some(asked), "{line}");
+    }
+    Ok(())
+}
+
+#[test]
+fn lines_that_read_journals(rt: HostRuntime) -> Result<(), Fail> {
+    let table = [
+        (
+            "export j o",
+            Request::Export {
+                journal: "j",
+                out: "o",
+                code: None,
+            },
+        ),
+        (
+            "export j o DLC",
+            Request::Export {
+                journal: "j",
+                out: "o",
+                code: Some("DLC"),
+            },
+        ),
+        (
+            "report j o",
+            Request::Report {
+                journal: "j",
+                out: "o",
+            },
+        ),
+        ("verify ./j", Request::Verify { journal: "./j" }),
+        (
+            "matches a b",
+            Request::Matches {
+                journal: "a",
+                out: "b",
+            },
+        ),
+    ];
+    for (line, asked) in table {
+        let words = words_of(rt.alloc(), line)?;
+        assert_eq!(rt; request(&words), Some(asked), "{line}");
+    }
+    Ok(())
+}
+
+#[test]
+fn lines_of_holdings(rt: HostRuntime) -> Result<(), Fail> {
+    let table = [
+        (
+            "holdings j o r ULIB=h",
+            Request::Holdings {
+                journal: "j",
+                out: "o",
+                rest: "r",
+                code: None,
+            },
+        ),
+        (
+            "holdings j o r ULIB=h DLC",
+            Request::Holdings {
+                journal: "j",
+                out: "o",
+                rest: "r",
+                code: Some("DLC"),
+            },
+        ),
+    ];
+    for (line, asked) in table {
+        let words = words_of(rt.alloc(), line)?;
+        assert_eq!(rt; request(&words), Some(asked), "{line}");
+    }
+    Ok(())
+}
+
+#[test]
+fn other_lines(rt: HostRuntime) -> Result<(), Fail> {
+    let table = [
+        ("pass ./f A=f", Request::Pass { out: "./f" }),
+        (
+            "make 18446744073709551615 1048576 o",
+            Request::Make {
+                seed: u64::MAX,
+                count: 1_048_576,
+                out: "o",
+            },
+        ),
+        (
+            "make 007 00000000000000000000 o",
+            Request::Make {
+                seed: 7,
+                count: 0,
+                out: "o",
+            },
+        ),
+        ("help", Request::Help { topic: Topic::All }),
+        ("--help", Request::Help { topic: Topic::All }),
+        ("-h", Request::Help { topic: Topic::All }),
+        ("help make", Request::Help { topic: Topic::Make }),
+        ("help help", Request::Help { topic: Topic::Help }),
+        ("version", Request::Version),
+        ("--version", Request::Version),
+    ];
+    for (line, asked) in table {
+        let words = words_of(rt.alloc(), line)?;
+        assert_eq!(rt; request(&words), Some(asked), "{line}");
+    }
+    Ok(())
+}
+
+#[test]
+fn faulty_lines_with_files(rt: HostRuntime) -> Result<(), Fail> {
+    let table = [
+        "",
+        "pass",
+        "Pass o A=f",
+        "pass o",
+        "pass o A",
+        "pass f A=f",
+        "pass  A=f",
+        "pass o A=",
+        "pass o =f",
+        "pass o A(=f",
+        "pass o 12345678901234567=f",
+        "pass o A=f B=g",
+        "pass out ULIB",
+        "pass out U(B=f",
+        "run j out",
+        "run j out rep",
+        "run j j rep ULIB=f0",
+        "run j o j A=f",
+        "run j o o A=f",
+        "run j o r A=f B=o",
+        "load j",
+        "load j A=f B=j",
+        "holdings j o r",
+        "holdings j o r D",
+        "holdings j o o A=f",
+        "holdings j j r A=f",
+        "holdings j o j A=f",
+        "holdings j o r A=r",
+        "holdings j o r A=f D(",
+        "holdings j o r A=f D D",
+        "holdings j o r A=f B=f C=f",
+    ];
+    for line in table {
+        let words = words_of(rt.alloc(), line)?;
+        assert_eq!(rt; request(&words), None, "{line}");
+    }
+    assert_eq!(rt; request(&Words::from_vec(Vec::new(rt.alloc()))), None);
+    Ok(())
+}
+
+#[test]
+fn other_faulty_lines(rt: HostRuntime) -> Result<(), Fail> {
+    let table = [
+        "export j",
+        "export j j",
+        "export j o D(",
+        "export j o D D",
+        "report j",
+        "report j o D",
+        "make 1 1048577 out",
+        "make 18446744073709551616 1 o",
+        "make 000000000000000000001 1 o",
+        "make +1 1 o",
+        "make 1  o",
+        "make 1 1 ",
+        "make 1 1",
+        "verify",
+        "verify j o",
+        "matches a",
+        "matches a a",
+        "matches a b c",
+        "migrate a",
+        "migrate a a",
+        "migrate a b c",
+        "help all",
+        "help Make",
+        "help make pass",
+        "--help make",
+        "-h make",
+        "version 2",
+        "--version version",
+    ];
+    for line in table {
+        let words = words_of(rt.alloc(), line)?;
+        assert_eq!(rt; request(&words), None, "{line}");
+    }
+    Ok(())
+}
+
+/// A line that loads so many files.
+fn load_line(alloc: Global, files: u32) -> Result<Words, NoMemory> {
+    let mut line = String::from_str(alloc, "load j")?;
+    for _ in 0..files {
+        line.push_str(" A=f")?;
+    }
+    words_of(alloc, line.as_str())
+}
+
+#[test]
+fn most_files(rt: HostRuntime) -> Result<(), Fail> {
+    assert_eq!(rt;
+        request(&load_line(rt.alloc(), 64)?),
+        Some(Request::Load {
+            journal: "j",
+            files: 64
+        })
+    );
+    assert_eq!(rt; request(&load_line(rt.alloc(), 65)?), None);
+    Ok(())
+}
+
+/// What is listed of a line's files.
+fn listed(alloc: Global, line: &str) -> Result<Vec<Library>, NoMemory> {
+    libraries(alloc, &words_of(alloc, line)?)
+}
+
+#[test]
+fn files(rt: HostRuntime) -> Result<(), Fail> {
+    let made = listed(rt.alloc(), "run j o r A=b=c D=e")?;
+    assert_eq!(rt; made.len(), 2);
+    assert_eq!(rt; made[0].code.as_str(), "A");
+    assert_eq!(rt; made[0].file.as_str(), "b=c");
+    assert_eq!(rt; made[1].code.as_str(), "D");
+    assert_eq!(rt; made[1].file.as_str(), "e");
+    let made = listed(rt.alloc(), "holdings j o r A=h D")?;
+    assert_eq!(rt; made.len(), 1);
+    assert_eq!(rt; made[0].file.as_str(), "h");
+    assert_eq!(rt; listed(rt.alloc(), "export j o D")?.len(), 0);
+    Ok(())
+}

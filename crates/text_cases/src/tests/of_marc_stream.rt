@@ -1,0 +1,214 @@
+ghost use Rattle.std.specs.Prelude.{◌≡◌};
+
+use marc_stream::{Next, Pieces};
+use outside::{Failed, Source};
+use std::alloc::{AllocError, Global};
+use std::cmp::min;
+use std::test::Fail;
+
+/// A source in memory that gives a few bytes a read. The read of that number, from 0, fails.
+#[derive(Drop)]
+struct Chunks {
+    bytes: Vec<u8>,
+    at: usize,
+    chunk: usize,
+    reads: u64,
+    fails: Option<u64>,
+    faults: u64,
+}
+
+impl Source for Chunks {
+    ghost use Rattle.std.specs.Prelude.{None, length, ◌-◌};
+
+    ghost left = { λ _. None };
+
+    ghost bound = { λ s. length s.bytes.items - s.at };
+
+    ghost faults = { λ s. s.faults };
+
+    fn remaining(&self) -> u64 {
+        self.bytes.len().saturating_sub(self.at) as u64
+    }
+
+    fn read(&mut self, buf: &mut [u8]) -> Result<usize, Failed> {
+        let number = self.reads;
+        self.reads = number.saturating_add(1);
+        if self.fails == Some(number) {
+            self.faults = self.faults.saturating_add(1);
+            return Err(Failed);
+        }
+        let rest = self.bytes.len().saturating_sub(self.at);
+        let count = min(min(self.chunk, buf.len()), rest);
+        if count > 0 {
+            buf[..count].copy_from_slice(&self.bytes[self.at..self.at + count]);
+            self.at += count;
+        }
+        Ok(count)
+    }
+
+    ghost left_within_bound = { λ _. tt };
+}
+
+#[derive(Clone, Copy, Debug, PartialEq)]
+enum Seen {
+    /// Ordinal, offset, and length with the terminator.
+    Piece(u64, u64, usize),
+    /// Ordinal, offset, and the refusal's number.
+    Refused(u64, u64, u8),
+    End,
+    Fault,
+}
+
+const CHUNKS: [usize; 4] = [1, 2, 7, 131_072];
+
+const OVERLONG: u8 = 1;
+
+const UNFINISHED: u8 = 2;
+
+/// So many bytes, the last of them a terminator.
+fn push_piece(bytes: &mut Vec<u8>, len: usize) -> Result<(), AllocError> {
+    push_bytes(bytes, b'x', len.saturating_sub(1))?;
+    bytes.push(0x1D)?;
+    Ok(())
+}
+
+fn push_bytes(bytes: &mut Vec<u8>, byte: u8, count: usize) -> Result<(), AllocError> {
+    for _ in 0..count {
+        bytes.push(byte)?;
+    }
+    Ok(())
+}
+
+/// All answers of `next` on these bytes, read in chunks, with the read of that number failing.
+fn answers(
+    alloc: Global,
+    bytes: &[u8],
+    chunk: usize,
+    fails: Option<u64>,
+) -> Result<(Vec<Seen>, u64), AllocError> {
+    let source = Chunks {
+        bytes: bytes.to_vec(alloc)?,
+        at: 0,
+        chunk,
+        reads: 0,
+        fails,
+        faults: 0,
+    };
+    let mut pieces = match Pieces::new(alloc, source) {
+        Ok(pieces) => pieces,
+        Err((_source, _)) => return Err(AllocError),
+    };
+    let mut seen = Vec::with_capacity(alloc, 8)?;
+    for _ in 0..8 {
+        if pieces.is_over() {
+            break;
+        }
+        let next = match pieces.next() {
+            Next::Piece {
+                ordinal,
+                offset,
+                bytes,
+            } => Seen::Piece(ordinal, offset, bytes.len()),
+            Next::Refused {
+                ordinal,
+                offset,
+                refusal,
+            } => Seen::Refused(ordinal, offset, refusal.number()),
+            Next::End => Seen::End,
+            Next::ReadFault => Seen::Fault,
+        };
+        let _pushed = seen.push(next);
+    }
+    let source = pieces.finish();
+    Ok((seen, source.faults))
+}
+
+#[test]
+fn nothing_is_no_item(rt: HostRuntime) -> Result<(), Fail> {
+    for chunk in CHUNKS {
+        let (empty, _) = answers(rt.alloc(), b"", chunk, None)?;
+        assert_eq!(rt; empty.as_slice(), [Seen::End].as_slice());
+        let (line_ends, _) = answers(rt.alloc(), b"\r\n\n\r", chunk, None)?;
+        assert_eq!(rt; line_ends.as_slice(), [Seen::End].as_slice());
+    }
+    Ok(())
+}
+
+#[test]
+fn terminators_alone_are_pieces(rt: HostRuntime) -> Result<(), Fail> {
+    for chunk in CHUNKS {
+        let (seen, _) = answers(rt.alloc(), b"\x1D\x1D\x1D", chunk, None)?;
+        let want = [
+            Seen::Piece(1, 0, 1),
+            Seen::Piece(2, 1, 1),
+            Seen::Piece(3, 2, 1),
+            Seen::End,
+        ];
+        assert_eq!(rt; seen.as_slice(), want.as_slice());
+    }
+    Ok(())
+}
+
+#[test]
+fn line_ends_between_records_belong_to_none(rt: HostRuntime) -> Result<(), Fail> {
+    let mut bytes = Vec::new(rt.alloc());
+    push_piece(&mut bytes, 158)?;
+    push_bytes(&mut bytes, b'\r', 1)?;
+    push_bytes(&mut bytes, b'\n', 1)?;
+    push_piece(&mut bytes, 135)?;
+    push_bytes(&mut bytes, b'\r', 1)?;
+    push_bytes(&mut bytes, b'\n', 1)?;
+    for chunk in CHUNKS {
+        let (seen, _) = answers(rt.alloc(), bytes.as_slice(), chunk, None)?;
+        let want = [Seen::Piece(1, 0, 158), Seen::Piece(2, 160, 135), Seen::End];
+        assert_eq!(rt; seen.as_slice(), want.as_slice());
+    }
+    Ok(())
+}
+
+#[test]
+fn bytes_without_a_terminator_are_unfinished(rt: HostRuntime) -> Result<(), Fail> {
+    for len in [100, 99_999] {
+        let mut bytes = Vec::new(rt.alloc());
+        push_bytes(&mut bytes, b'x', len)?;
+        for chunk in CHUNKS {
+            let (seen, _) = answers(rt.alloc(), bytes.as_slice(), chunk, None)?;
+            let want = [Seen::Refused(1, 0, UNFINISHED), Seen::End];
+            assert_eq!(rt; seen.as_slice(), want.as_slice());
+        }
+    }
+    Ok(())
+}
+
+#[test]
+fn the_longest_piece_has_99_999_bytes(rt: HostRuntime) -> Result<(), Fail> {
+    let mut bytes = Vec::new(rt.alloc());
+    push_piece(&mut bytes, 99_999)?;
+    push_piece(&mut bytes, 100_000)?;
+    push_piece(&mut bytes, 300_000)?;
+    push_piece(&mut bytes, 2)?;
+    push_bytes(&mut bytes, b'x', 100_000)?;
+    for chunk in CHUNKS {
+        let (seen, _) = answers(rt.alloc(), bytes.as_slice(), chunk, None)?;
+        let want = [
+            Seen::Piece(1, 0, 99_999),
+            Seen::Refused(2, 99_999, OVERLONG),
+            Seen::Refused(3, 199_999, OVERLONG),
+            Seen::Piece(4, 499_999, 2),
+            Seen::Refused(5, 500_001, OVERLONG),
+            Seen::End,
+        ];
+        assert_eq!(rt; seen.as_slice(), want.as_slice());
+    }
+    Ok(())
+}
+
+#[test]
+fn a_failed_read_ends_the_items(rt: HostRuntime) -> Result<(), Fail> {
+    // The third read fails: the four bytes before it hold one whole piece.
+    let (seen, faults) = answers(rt.alloc(), b"a\x1Dbc\x1D", 2, Some(2))?;
+    let want = [Seen::Piece(1, 0, 2), Seen::Fault];
+    assert_eq!(rt; seen.as_slice(), want.as_slice());
+    assert_eq!(rt; faults, 1);
+    Ok(())
+}

@@ -1,0 +1,74 @@
+ghost use Rattle.std.specs.Prelude.{Some, ◌≤◌};
+ghost use Rattle.marc_types.specs.Limits.{most_entries};
+
+use outside::{Failed, Sink};
+use std::alloc::Global;
+use std::test::Fail;
+use workload::make;
+
+/// A page that is written to in memory.
+#[derive(Drop)]
+struct Page {
+    bytes: Vec<u8>,
+    faults: u64,
+}
+
+impl Sink for Page {
+    ghost written = { λ page. Some page.bytes.items };
+
+    ghost faults = { λ page. page.faults };
+
+    fn write_all(&mut self, piece: &[u8]) -> Result<(), Failed> {
+        match self.bytes.extend_from_slice(piece) {
+            Ok(()) => Ok(()),
+            Err(_) => {
+                self.faults = self.faults.saturating_add(1);
+                Err(Failed)
+            }
+        }
+    }
+}
+
+fn made(alloc: Global, seed: u64, count: u64) -> Result<Page, Fail>
+    requires { count ≤ most_entries }
+{
+    let mut page = Page {
+        bytes: Vec::new(alloc),
+        faults: 0,
+    };
+    make(alloc, seed, count, &mut page)?;
+    Ok(page)
+}
+
+/// The first record of seed 0.
+const FIRST: &[u8; 116] =
+    b"00116nam a2200073 a 4500001000300000003000500003100002200008245001200030\x1eb1\x1eUCAT\x1e1 \x1faAlias0, X\x1feauthor\x1e00\x1faTitle 1\x1e\x1d";
+
+#[test]
+fn one_record(rt: HostRuntime) -> Result<(), Fail> {
+    assert_eq!(rt; made(rt.alloc(), 0, 1)?.bytes.as_slice(), FIRST.as_slice());
+    assert_eq!(rt; made(rt.alloc(), 0, 0)?.bytes.len(), 0);
+    Ok(())
+}
+
+/// The bytes as the digits of a number in base 31, of which 32 bits are left.
+fn checksum(bytes: &[u8]) -> u32 {
+    bytes.iter().fold(0u32, |sum, byte| {
+        sum.wrapping_mul(31).wrapping_add(u32::from(*byte))
+    })
+}
+
+/// Lengths and checksums of workloads that a second program made by the same rules.
+#[test]
+fn samples(rt: HostRuntime) -> Result<(), Fail> {
+    for (seed, count, len, sum) in [
+        (7, 20, 2_184, 3_044_797_277),
+        (7, 500, 57_210, 2_324_713_485),
+        (u64::MAX, 40, 4_308, 1_844_057_209),
+    ] {
+        let page = made(rt.alloc(), seed, count)?;
+        assert_eq!(rt; page.bytes.len(), len);
+        assert_eq!(rt; checksum(page.bytes.as_slice()), sum);
+    }
+    Ok(())
+}
