@@ -1,3 +1,4 @@
+mod of_catalogue_lock;
 mod of_commit_journal;
 mod of_outside_mem;
 mod of_outside_real;
