@@ -16,7 +16,8 @@ use Rattle.catalogue_lock.specs.History.{items, numbered}
 use Rattle.catalogue_lock.specs.Passes.{Pass, Turned}
 use Rattle.catalogue_lock.proofs.Numbers.{items-append, items-numbered}
 use Rattle.loader_workers.specs.Counts.{HasRoom, IsSummed}
-use Rattle.loader_workers.specs.Turns.{Replies, IsCatalogue, IsCounted, most_entries}
+use Rattle.marc_types.specs.Limits.{most_entries}
+use Rattle.loader_workers.specs.Turns.{Replies, IsCatalogue, IsCounted}
 use Rattle.loader_workers.specs.declared.counts.Counts.{Counts}
 use Rattle.catalogue_rules.proofs.FewRows.{few_changed}
 use Rattle.loader_workers.proofs.Frames.{IsWithin, NoEntry, Within, frame_within}

@@ -2,6 +2,7 @@
 use Rattle.std.specs.Prelude.{◌≡◌, ◌≢◌, ℕ, ◌+◌, ◌*◌, ◌^◌, ◌≤◌, true, List, [], ◌∷◌, ◌++◌, length, Option, Some, None, if◌then◌else◌}
 use Rattle.marc_types.specs.declared.entry.Entry.{Entry}
 use Rattle.marc_types.specs.declared.entry.Receipt.{Receipt}
+use Rattle.marc_types.specs.Limits.{most_entries}
 use Rattle.entry_record.specs.History.{in_run, with_run, passes_limits}
 use Rattle.catalogue_rules.specs.Receipts.{receipts_behind}
 use Rattle.entry_history.specs.Commits.{Origin, IsCommit}
@@ -25,10 +26,6 @@ Replies = List Event → List Entry → BatchReply → List Event → Type 0
 abbrev pub CommitsAs : Replies → Origin → Type 0
 CommitsAs replies origin = (before : List Event) (batch : List Entry) (reply : BatchReply) (added : List Event)
     → replies before batch reply added → IsCommit origin before batch reply added
-
--- no catalogue takes more entries
-abbrev pub most_entries : ℕ
-most_entries = 1048576
 
 -- the object is such a catalogue, whose limits aren't above the most
 pub record IsCatalogue (replies : Replies) : Type 0 where

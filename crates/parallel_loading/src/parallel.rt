@@ -4,7 +4,7 @@ ghost use Rattle.entry_record.specs.History.{next_run};
 ghost use Rattle.durable_catalogue.specs.Views.{durable_view};
 ghost use Rattle.durable_catalogue.specs.Durables.{mark_of, events};
 ghost use Rattle.catalogue_lock.specs.Passes.{new_passes};
-ghost use Rattle.loader_workers.specs.Turns.{most_entries};
+ghost use Rattle.marc_types.specs.Limits.{most_entries};
 ghost use Rattle.parallel_loading.specs.Files.{AreLoaded};
 
 use crate::dealing::{deal, take_apart, turn_round};

@@ -6,7 +6,8 @@ use Rattle.std.proofs.lemmas.List.Sums.{sum_by-append, sum_by-cons}
 use Rattle.marc_types.specs.declared.entry.Entry.{Entry}
 use Rattle.entry_record.specs.History.{entry_size, entries_size}
 use Rattle.catalogue_core.specs.Catalogues.{is_full}
-use Rattle.plain_commands.specs.Totals.{holding, most_entries, most_bytes}
+use Rattle.marc_types.specs.Limits.{most_entries, most_bytes}
+use Rattle.plain_commands.specs.Totals.{holding}
 
 neither : (a b : Bool) → a ≡ false → b ≡ false → (a || b) ≡ false
 neither a b first second = ap (λ x. x || b) first ∙ second

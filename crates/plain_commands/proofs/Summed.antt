@@ -9,7 +9,8 @@ use Rattle.entry_record.specs.History.{entry_size, entries_size}
 use Rattle.catalogue_rules.specs.Receipts.{receipt_behind, receipts_behind}
 use Rattle.catalogue_core.specs.Catalogues.{Catalogued, is_full, with_entry}
 use Rattle.console_lines.specs.Totals.{sums_of, with_receipt, HasRoom}
-use Rattle.plain_commands.specs.Totals.{holding, IsWithinLimits, IsSummed, most_entries, most_bytes}
+use Rattle.plain_commands.specs.Totals.{holding, IsWithinLimits, IsSummed}
+use Rattle.marc_types.specs.Limits.{most_entries, most_bytes}
 use Rattle.plain_commands.specs.Loading.{IsCommitted}
 use Rattle.console_lines.specs.declared.totals.Sums.{Sums}
 use Rattle.catalogue_rules.proofs.FewRows.{few_changed}

@@ -1,7 +1,7 @@
 -- What a pass counts of a file, and how much a catalogue of these commands takes. The bounds are this project's own.
 use Rattle.std.specs.Prelude.{◌≡◌, ℕ, ◌*◌, ◌^◌, ◌≤◌, List, [], length}
 use Rattle.marc_types.specs.declared.entry.Entry.{Entry}
-use Rattle.marc_types.specs.declared.entry.Limits.{Limits}
+use Rattle.marc_types.specs.Limits.{most_entries, most_bytes, greatest_limits}
 use Rattle.entry_record.specs.History.{entries_size}
 use Rattle.catalogue_rules.specs.Receipts.{receipts_behind}
 use Rattle.catalogue_core.specs.Catalogues.{Catalogued}
@@ -19,18 +19,9 @@ totals_of accepted refused = record {
   sums = sums_of (receipts_behind [] accepted);
 }
 
-abbrev pub most_entries : ℕ
-most_entries = 1048576
-
-abbrev pub most_bytes : ℕ
-most_bytes = 536870912
-
-abbrev pub pass_limits : Limits
-pass_limits = record { entries = most_entries; bytes = most_bytes }
-
 -- the catalogue to which these entries were committed
 abbrev pub holding : List Entry → Catalogued
-holding accepted = record { history = accepted; staged = []; limits = pass_limits }
+holding accepted = record { history = accepted; staged = []; limits = greatest_limits }
 
 -- a catalogue has room for these entries
 pub record IsWithinLimits (accepted : List Entry) : Type 0 where

@@ -13,11 +13,6 @@ use std::alloc::Global;
 use std::marker::Model;
 use std::sync::ledger::Ledger;
 
-/// The most entries of a catalogue, and the most bytes of all of them.
-const MOST_ENTRIES: u64 = 1_048_576;
-
-const MOST_BYTES: u64 = 536_870_912;
-
 /// What became of a file's items: a catalogue of the accepted entries, the sums over their receipts, and the refused items.
 #[derive(Drop)]
 pub struct Loaded {
@@ -42,12 +37,8 @@ impl Loaded {
     pub fn new(alloc: Global) -> Loaded
         ensures { result ≡ nothing_loaded }
     {
-        let limits = Limits {
-            entries: MOST_ENTRIES,
-            bytes: MOST_BYTES,
-        };
         Loaded {
-            core: Catalogue::empty(alloc, limits),
+            core: Catalogue::empty(alloc, Limits::GREATEST),
             sums: Sums::none(),
             refused: Vec::new(alloc),
         }

@@ -1,3 +1,4 @@
+ghost use Rattle.marc_types.specs.Limits.{most_entries};
 ghost use Rattle.std.specs.Prelude.{◌≡◌, ◌≤◌, ℕ, List, true, Some, None, OnOk, ◌∷◌, []};
 ghost use Rattle.outside.specs.Fault.{HasWriteCause};
 ghost use Rattle.outside.specs.Room.{SameBut};
@@ -20,7 +21,7 @@ fn write_workload<R: Room>(
     seed: u64,
     count: u64,
 ) -> Result<(), WriteFault>
-    requires few { count ≤ 1048576 }
+    requires few { count ≤ most_entries }
     requires free { (R.seen room.old).open_as name.now ≡ None }
     ensures apart { SameBut (R.seen room.old) (R.seen room.new) (name.now ∷ []) }
     ensures closed { (R.seen room.new).open_as name.now ≡ None }
@@ -48,7 +49,7 @@ pub fn make<R: Room>(
     count: u64,
     out: &str,
 ) -> End
-    requires few { count ≤ 1048576 }
+    requires few { count ≤ most_entries }
     requires closed { (name : List ℕ) → (R.seen room.old).open_as name ≡ None }
     ensures closed { (name : List ℕ) → (R.seen room.new).open_as name ≡ None }
     ensures apart { SameBut (R.seen room.old) (R.seen room.new) (out.now ∷ []) }

@@ -1,3 +1,4 @@
+ghost use Rattle.marc_types.specs.Limits.{most_entries};
 ghost use Rattle.std.specs.Prelude.{◌≡◌, ◌<◌, ◌≤◌, false, OnOk, IfOk, string_bytes};
 ghost use Rattle.catalogue_core.specs.Catalogues.{is_full};
 ghost use Rattle.plain_commands.specs.Totals.{holding};
@@ -42,7 +43,7 @@ fn sum_counted<L: Ledger>(
     count: u64,
     blank: Blank,
 ) -> Result<Sums, NoMemory>
-    requires few { count ≤ 1048576 }
+    requires few { count ≤ most_entries }
     requires name { blank.name ≡ L.name }
     requires parts { blank.parts ≡ L.parts }
     requires shared { 0 < blank.parts }
@@ -60,7 +61,7 @@ fn sum_counted<L: Ledger>(
 
 /// Commits the records of a workload to an empty catalogue, and sums their receipts.
 fn sum_workload(alloc: Global, seed: u64, count: u64) -> Result<Sums, NoMemory>
-    requires { count ≤ 1048576 }
+    requires { count ≤ most_entries }
     ensures { IfOk result (λ sums. sums ≡ workload_sums seed count) }
 {
     sum_counted::<Brand>(alloc, seed, count, Blank::new(1))
@@ -68,7 +69,7 @@ fn sum_workload(alloc: Global, seed: u64, count: u64) -> Result<Sums, NoMemory>
 
 /// What the console is told of a workload.
 pub fn workload_text(alloc: Global, seed: u64, count: u64) -> Result<String, NoMemory>
-    requires { count ≤ 1048576 }
+    requires { count ≤ most_entries }
     ensures { IfOk result (λ text. string_bytes text ≡ workload_line seed count) }
 {
     made_text(alloc, count, &sum_workload(alloc, seed, count)?)

@@ -2,6 +2,7 @@
 use Rattle.std.specs.Prelude.{◌≡◌, ℕ, ◌≤◌, true, List, length, Option, Some, None, is_some}
 use Rattle.marc_types.specs.declared.entry.Entry.{Entry}
 use Rattle.marc_types.specs.declared.entry.Limits.{Limits}
+use Rattle.marc_types.specs.Limits.{greatest_limits}
 use Rattle.outside.specs.Disk.{DiskView, SameDisk, OnlyContent}
 use Rattle.outside.specs.Room.{RoomView, bytes_or_none}
 use Rattle.commit_journal.specs.Log.{walk_of, version_of}
@@ -15,7 +16,7 @@ use Rattle.durable_catalogue.specs.Views.{DurableView}
 
 -- the most that a history has: entries, and bytes
 abbrev pub journal_limits : Limits
-journal_limits = record { entries = 1048576; bytes = 536870912 }
+journal_limits = greatest_limits
 
 -- the bytes of the log of that name, none where there is no such file
 abbrev pub log_bytes : RoomView → List ℕ → List ℕ

@@ -15,10 +15,7 @@ use outside::Room;
 use std::alloc::Global;
 
 /// The most that a history has: entries, and bytes.
-pub const JOURNAL_LIMITS: Limits = Limits {
-    entries: 1_048_576,
-    bytes: 536_870_912,
-};
+pub const JOURNAL_LIMITS: Limits = Limits::GREATEST;
 
 /// Opens the file of that name as a catalogue's log. A fault closes it again.
 #[tactic(auto, using(crate::proofs::Journals::unopened_keeps))]

@@ -28,7 +28,8 @@ use Rattle.archive_commands.specs.Archives.{HasFittingHistory, WhyUnopened}
 use Rattle.archive_commands.specs.Reads.{DueView, Reads, EndsReading}
 use Rattle.plain_commands.specs.Loading.{IsFullAt, EndsLoading}
 use Rattle.plain_commands.specs.Making.{Makes, EndsMake}
-use Rattle.plain_commands.specs.Totals.{IsWithinLimits, most_entries, most_bytes}
+use Rattle.marc_types.specs.Limits.{most_entries, most_bytes}
+use Rattle.plain_commands.specs.Totals.{IsWithinLimits}
 use Rattle.journal_loading.specs.Inputs.{IsInputFault}
 use Rattle.match_command.specs.Telling.{TellsMatches}
 use Rattle.holdings_command.specs.Attaching.{EndsAttaching}
