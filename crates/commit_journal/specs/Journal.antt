@@ -1,10 +1,10 @@
 -- What a journal keeps of its log, and what a crash leaves of it.
 use Rattle.std.specs.Prelude.{◌≡◌, ◌≢◌, ◌⊎◌, ℕ, ◌+◌, ◌<◌, ◌≤◌, max, true, List, [], ◌∷◌, ◌++◌, length, take, nat_le, if◌then◌else◌, Some, None, is_some, Result, Ok, Err, IfErr, IsErrOf}
 use Rattle.std.specs.Int.{w32, to_be_bytes}
-use Rattle.outside.specs.Disk.{DiskView, OnlyContent, Unchanged, NoNewImage}
+use Rattle.outside.specs.Disk.{DiskView, OnlyContent, Unchanged, SameDisk, NoNewImage}
 use Rattle.outside.specs.Fault.{Rose}
 use Rattle.commit_journal.specs.declared.fault.JournalFault.{JournalFault}
-use Rattle.commit_journal.specs.declared.fault.JournalFault.TheVariants.{DeviceFault, NotAJournal}
+use Rattle.commit_journal.specs.declared.fault.JournalFault.TheVariants.{DeviceFault, NotAJournal, NoMemory}
 use Rattle.commit_journal.specs.declared.frame.Frame.{Frame}
 use Rattle.commit_journal.specs.declared.format.TheConstants.{BLANK_LENGTH, CLOSED_GATE, EMPTY_LOG, LENGTH_BYTES}
 use Rattle.commit_journal.specs.Log.{header_fault, walk_of, version_of_header, frames_of, version_of}
@@ -107,8 +107,10 @@ pub record Unwritten (old new : DiskView) : Type 0 where
   pub len : new.len ≡ old.len
   pub images : NoNewImage old new
 
--- why a disk was not opened: what the fault says of it
+-- Why a disk was not opened: what the fault says of it. Unless a device failed, the content is all that a crash may leave; or there was
+-- no memory for the opening to begin, and the disk is as it was.
 pub record HasOpenCause (old new : DiskView) (fault : JournalFault) : Type 0 where
   pub failed : fault ≡ DeviceFault → Rose old.faults new.faults
   pub lost : (wrong : ℕ) (log : List ℕ) → fault ≡ NotAJournal wrong → old.content ≡ Some log → frames_of log ≡ Err wrong
   pub unwritten : fault ≢ DeviceFault → Unwritten old new
+  pub settled : fault ≢ DeviceFault → OnlyContent new ⊎ ((fault ≡ NoMemory) × SameDisk old new)
