@@ -44,7 +44,8 @@ pub record SameLog (log image : List ℕ) : Type 0 where
   pub version : BLANK_LENGTH < length image → version_of image ≡ version_of log
   pub no_longer : length image ≤ max BLANK_LENGTH (length log)
 
--- What an opening leaves of a log, whatever it answers: the same log. One that is no journal at a place is as it was, byte for byte.
+-- What an opening leaves of a log, whatever it answers, and a crash of it: the same log. One that is no journal at a place is as it
+-- was, byte for byte.
 pub record LeavesLog (log now : List ℕ) : Type 0 where
   pub same : SameLog log now
   pub lost : (place : ℕ) → frames_of log ≡ Err place → now ≡ log
@@ -88,10 +89,10 @@ pub record IsRecovered (frames : List Frame) (place version : ℕ) (old new : Di
   pub ordered : (log : List ℕ) → old.content ≡ Some log → new.content ≡ Some (in_order log)
   pub settled : IsSettled place version new
 
--- an opening: each image since its first sync that succeeded is the same log, and where none did the content is as it was
+-- an opening: each image since its first sync that succeeded is what it leaves of the log, and where none did the content is as it was
 pub record Opens (old new : DiskView) : Type 0 where
   pub continues : Continues old new
-  pub crash : (s : ℕ) (log c : List ℕ) → new.synced old.moment ≡ Some s → old.content ≡ Some log → new.left s c → SameLog log c
+  pub crash : (s : ℕ) (log c : List ℕ) → new.synced old.moment ≡ Some s → old.content ≡ Some log → new.left s c → LeavesLog log c
   pub unsynced : old.dated ≡ true → new.synced old.moment ≡ None → new.content ≡ old.content
 
 -- what a journal's fault says of its disk
