@@ -1,5 +1,5 @@
 -- What an opening leaves.
-use Rattle.std.proofs.Common.{◌≡◌, ◌⊎◌, inl, inr, ℕ, ◌<◌, ◌≤◌, Bool, true, false, List, [], length, Some, Ok, refl, sym, ap, subst, ◌∙◌, arith}
+use Rattle.std.proofs.Common.{◌≡◌, ◌⊎◌, inl, inr, ℕ, ◌<◌, ◌≤◌, Bool, true, false, List, [], length, Some, Ok, refl, sym, subst, ◌∙◌, arith}
 use Rattle.std.specs.Prelude.{◌==◌, ◌≢◌, slice_index, nat_eq}
 use Rattle.std.proofs.lemmas.Bool.Decides.{nat_tests}
 use Rattle.marc_types.specs.declared.entry.Entry.{Entry}
@@ -18,15 +18,15 @@ use Rattle.entry_history.specs.Readers.{IsVersion}
 use Rattle.entry_history.specs.Payloads.{IsHistory, CanFollow}
 use Rattle.durable_catalogue.specs.declared.fault.OpenFault.{OpenFault}
 use Rattle.durable_catalogue.specs.declared.fault.OpenFault.TheVariants.{DeviceFault, NotAJournal, OldVersion, Full, NoMemory}
-use Rattle.durable_catalogue.specs.Logs.{payloads_of, IsLogOf, HasHistory}
+use Rattle.durable_catalogue.specs.Logs.{payloads_of, IsLogOf}
 use Rattle.durable_catalogue.specs.Images.{Reaches}
 use Rattle.durable_catalogue.specs.Durables.{IsKept}
-use Rattle.durable_catalogue.specs.Openings.{IsBadFrame, IsUnloaded, NoGate, NoPayload, IsUnopened, IsOpening, KeepsContent}
+use Rattle.durable_catalogue.specs.Openings.{IsBadFrame, IsUnloaded, NoGate, NoPayload, IsUnopened, IsOpening}
 use Rattle.durable_catalogue.specs.Faults.{open_fault}
 use Rattle.durable_catalogue.proofs.Histories.{runs_bounded}
 use Rattle.durable_catalogue.proofs.Images.{front_reaches, whole_front}
 use Rattle.durable_catalogue.proofs.Keeping.{some_of}
-use Rattle.durable_catalogue.proofs.Readings.{like_reading, same_log}
+use Rattle.durable_catalogue.proofs.Readings.{same_log}
 
 pub reading : (log : List ℕ) (frames : List Frame) (version : ℕ) (entries : List Entry) → frames_of log ≡ Ok frames → version_of log ≡ version
     → IsHistory version [] (payloads_of frames) entries → IsLogOf entries log
