@@ -4,7 +4,6 @@ use Rattle.std.proofs.Math.Logic.{∥∥₁_map}
 use Rattle.marc_types.specs.declared.entry.Entry.{Entry}
 use Rattle.outside.specs.Disk.{DiskView, SameDisk, Unchanged, OnlyContent}
 use Rattle.outside.specs.Room.{RoomView, SameBut, bytes_or_none}
-use Rattle.commit_journal.specs.Log.{walk_of}
 use Rattle.commit_journal.specs.Journal.{IsSettled, EndsAt, LeavesLog}
 use Rattle.durable_catalogue.specs.Logs.{HasHistory}
 use Rattle.durable_catalogue.specs.Openings.{IsOpening, KeepsContent}
