@@ -1,4 +1,4 @@
-use Rattle.std.proofs.Common.{◌≡◌, ◌∙◌, Some, sym, ap, subst}
+use Rattle.std.proofs.Common.{◌∙◌, sym, ap, subst}
 use Rattle.journal_migration.specs.Migrations.{IsUnmigrated, IsMigration, LeavesRefused}
 use Rattle.journal_migration.proofs.Opened.{opened_alone, is_version, fit, unfit, brought_all, images_all, migrated, unmigrated, unopened, left_unfit, left_unopened}
 use Rattle.journal_migration.proofs.migration.migrate.Goals as goal
