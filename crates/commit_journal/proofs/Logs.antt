@@ -4,9 +4,10 @@ use Rattle.std.proofs.lemmas.List.{length-take-le, take_at, drop_at, append-nil}
 use Rattle.std.proofs.lemmas.Bool.Decides.{nat_tests}
 use Rattle.std.proofs.lemmas.Grind.{common_steps}
 use Rattle.outside.specs.Disk.{TornCut}
+use Rattle.commit_journal.specs.declared.frame.Frame.{Frame}
 use Rattle.commit_journal.specs.declared.format.TheConstants.{CLOSED_GATE, FIRST_GATE, BLANK_LENGTH, VERSION_PLACE, EMPTY_LOG}
 use Rattle.commit_journal.specs.Log.{header_fault, version_of_header, Walk, walk, walk_of, closed_at, behind, frames_found, frames_of, version_of, first_differing}
-use Rattle.commit_journal.specs.Journal.{EndsAt, SameLog}
+use Rattle.commit_journal.specs.Journal.{EndsAt, SameLog, LeavesLog}
 use Rattle.commit_journal.specs.Reading.{IsWalk}
 use Rattle.commit_journal.proofs.Walks.{split, walk_closed}
 
@@ -165,6 +166,14 @@ blank_same log c short now = record {
 
 pub same_self : (log : List ℕ) → SameLog log log
 same_self log = record { frames = refl; version = λ long. refl; no_longer = omega arith }
+
+-- a log that is as it was
+pub leaves_self : (log : List ℕ) → LeavesLog log log
+leaves_self log = record { same = same_self log; lost = λ place lost. refl }
+
+-- one that has frames has no wrong place
+pub leaves_found : (log now : List ℕ) (frames : List Frame) → frames_of log ≡ Ok frames → SameLog log now → LeavesLog log now
+leaves_found log now frames found same = record { same = same; lost = λ place lost. let never : Ok frames ≡ Err place = sym found ∙ lost in absurd cc }
 
 -- the log that is written over a blank one
 pub empty_ends : EndsAt FIRST_GATE EMPTY_LOG

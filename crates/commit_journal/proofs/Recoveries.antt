@@ -8,10 +8,10 @@ use Rattle.outside.specs.Disk.{DiskView, OnlyContent, Unchanged, TornCut}
 use Rattle.commit_journal.specs.declared.frame.Frame.{Frame}
 use Rattle.commit_journal.specs.declared.format.TheConstants.{BLANK_LENGTH, FIRST_GATE, EMPTY_LOG, CLOSED_GATE}
 use Rattle.commit_journal.specs.Log.{Walk, walk_of, frames_of, version_of_header}
-use Rattle.commit_journal.specs.Journal.{EndsAt, SameLog, Steps, StaysShort, Keeps, IsRecovered, LeavesContent, in_order}
+use Rattle.commit_journal.specs.Journal.{EndsAt, LeavesLog, Steps, StaysShort, Keeps, IsRecovered, LeavesContent, in_order}
 use Rattle.commit_journal.specs.Reading.{IsLog}
 use Rattle.outside.proofs.Disks.{unchanged_only}
-use Rattle.commit_journal.proofs.Logs.{Parts, parts, cut_front, frames_blank, version_blank, version_long, frames_self, frames_closed, cut_same, cut_ends, blank_same, same_self, empty_ends, empty_says}
+use Rattle.commit_journal.proofs.Logs.{Parts, parts, cut_front, frames_blank, version_blank, version_long, frames_self, frames_closed, cut_same, cut_ends, blank_same, leaves_self, leaves_found, empty_ends, empty_says}
 use Rattle.commit_journal.proofs.Steps.{keeps_only, keeps_after, told_map}
 
 -- what a log is once it is in order
@@ -41,8 +41,9 @@ blank_recovered old new short sized content len only =
       };
     }
 
-pub blank_kept : (old new : DiskView) (log : List ℕ) → OnlyContent old → old.content ≡ Some log → length log ≤ BLANK_LENGTH → Steps StaysShort old new → Keeps (SameLog log) old new
-blank_kept old new log only told short steps = keeps_only StaysShort (SameLog log) old new log only told steps (λ c stays. blank_same log c short (omega (arith, short, stays)))
+pub blank_kept : (old new : DiskView) (log : List ℕ) → OnlyContent old → old.content ≡ Some log → length log ≤ BLANK_LENGTH → Steps StaysShort old new → Keeps (LeavesLog log) old new
+blank_kept old new log only told short steps =
+    keeps_only StaysShort (LeavesLog log) old new log only told steps (λ c stays. leaves_found log c [] (frames_blank log short) (blank_same log c short (omega (arith, short, stays))))
 
 -- over a journal, which was read
 pub journal_parts : (frames : List Frame) (place version : ℕ) (log : List ℕ) → BLANK_LENGTH < length log → IsLog frames place version log → Parts log
@@ -108,33 +109,29 @@ journal_recovered frames place version old new long is_log content len only = re
         subst (CutLog frames place version) (sym from.2) (cut_log frames place version from.0 (long from.0 from.1) (is_log from.0 from.1))
 
 pub journal_kept : (frames : List Frame) (place version : ℕ) (old mid new : DiskView) (log : List ℕ) → OnlyContent old → old.content ≡ Some log → BLANK_LENGTH < length log → IsLog frames place version log
-    → Unchanged old mid → Steps (TornCut (place + 1)) mid new → Keeps (SameLog log) old new
+    → Unchanged old mid → Steps (TornCut (place + 1)) mid new → Keeps (LeavesLog log) old new
 journal_kept frames place version old mid new log only told long is same steps =
     let p = journal_parts frames place version log long is in
     let at = journal_place frames place version log is p in
-    keeps_after (SameLog log) old mid new same (keeps_only (TornCut (place + 1)) (SameLog log) mid new log (unchanged_only old mid same only) (same.content ∙ told) steps
-    (λ c torn. cut_same log c p is.header long (subst (λ n. TornCut (n + 1) log c) (sym at) torn)))
+    let found = read_frames frames place version log long is in
+    keeps_after (LeavesLog log) old mid new same (keeps_only (TornCut (place + 1)) (LeavesLog log) mid new log (unchanged_only old mid same only) (same.content ∙ told) steps
+    (λ c torn. leaves_found log c frames found (cut_same log c p is.header long (subst (λ n. TornCut (n + 1) log c) (sym at) torn))))
 
 -- a content that stays
 pub leaves_same : (old new : DiskView) → new.content ≡ old.content → LeavesContent old new
 leaves_same old new same log now was is =
     let stays : now ≡ log = cc (same, was, is) in
-    record { same = subst (SameLog log) (sym stays) (same_self log); lost = λ place lost. stays }
+    subst (LeavesLog log) (sym stays) (leaves_self log)
 
 pub leaves_from : (old mid new : DiskView) → mid.content ≡ old.content → LeavesContent mid new → LeavesContent old new
 leaves_from old mid new same leaves log now was is = leaves log now (same ∙ was) is
 
 pub leaves_blank : (old new : DiskView) → OnlyContent old → ((b : List ℕ) → old.content ≡ Some b → length b ≤ BLANK_LENGTH) → ((b : List ℕ) → new.content ≡ Some b → new.image b)
     → Steps StaysShort old new → LeavesContent old new
-leaves_blank old new only short image steps log now was is = record {
-  same = (blank_kept old new log only was (short log was) steps).now now (image now is);
-  lost = λ place lost. let blank = frames_blank log (short log was) in absurd cc;
-}
+leaves_blank old new only short image steps log now was is = (blank_kept old new log only was (short log was) steps).now now (image now is)
 
 pub leaves_journal : (frames : List Frame) (place version : ℕ) (old mid new : DiskView) → OnlyContent old → ((b : List ℕ) → old.content ≡ Some b → BLANK_LENGTH < length b)
     → ((b : List ℕ) → old.content ≡ Some b → IsLog frames place version b) → ((b : List ℕ) → new.content ≡ Some b → new.image b)
     → Unchanged old mid → Steps (TornCut (place + 1)) mid new → LeavesContent old new
-leaves_journal frames place version old mid new only long is_log image same steps log now was is = record {
-  same = (journal_kept frames place version old mid new log only was (long log was) (is_log log was) same steps).now now (image now is);
-  lost = λ wrong lost. let read = read_frames frames place version log (long log was) (is_log log was) in absurd cc;
-}
+leaves_journal frames place version old mid new only long is_log image same steps log now was is =
+    (journal_kept frames place version old mid new log only was (long log was) (is_log log was) same steps).now now (image now is)

@@ -2,8 +2,8 @@
 use Rattle.std.proofs.Common.{◌≡◌, inl, inr, ⊎_elim, ℕ, ◌<◌, ◌≤◌, List, Bool, true, false, Option, Some, None, is_some, refl, sym, ap, subst, ◌∙◌, arith}
 use Rattle.std.specs.Option.{option_or, option_map}
 use Rattle.outside.specs.Disk.{DiskView, Follows, NoNewImage, Elapses, SameSyncs, SyncsNow, Unchanged, OnlyContent, Torn, TornCut, LeavesOnly}
-use Rattle.commit_journal.specs.Journal.{Continues, Steps, Keeps, StaysShort, SameLog, Opens, IsRecovered}
-use Rattle.commit_journal.proofs.Logs.{same_self}
+use Rattle.commit_journal.specs.Journal.{Continues, Steps, Keeps, StaysShort, LeavesLog, Opens, IsRecovered}
+use Rattle.commit_journal.proofs.Logs.{leaves_self}
 use Rattle.commit_journal.specs.declared.format.TheConstants.{BLANK_LENGTH}
 use Rattle.commit_journal.specs.declared.frame.Frame.{Frame}
 
@@ -148,7 +148,7 @@ opens_unsynced old new on content none = record {
 
 -- and one whose first sync did
 pub opens_synced : (old mid new : DiskView) → old.synced old.moment ≡ None → ((c : List ℕ) → mid.left mid.moment c → mid.image c) → ((t : ℕ) → new.dated ≡ false → new.synced t ≡ None)
-    → Continues old mid → SyncsNow old mid → mid.content ≡ old.content → OnlyContent mid → Continues mid new → ((log : List ℕ) → mid.content ≡ Some log → Keeps (SameLog log) mid new) → Opens old new
+    → Continues old mid → SyncsNow old mid → mid.content ≡ old.content → OnlyContent mid → Continues mid new → ((log : List ℕ) → mid.content ≡ Some log → Keeps (LeavesLog log) mid new) → Opens old new
 opens_synced old mid new none only_now undated on now content only further kept = record {
   continues = continues_then old mid new on further;
   crash = λ s log c first told left. crashed old.dated refl s log c first told left;
@@ -158,11 +158,11 @@ opens_synced old mid new none only_now undated on now content only further kept 
     first_is : old.dated ≡ true → new.synced old.moment ≡ Some mid.moment
     first_is dated = further.syncs old.moment mid.moment on.later (now dated old.moment (omega arith) ∙ ap (λ o. option_or o (Some mid.moment)) none)
 
-    crashed : (b : Bool) → old.dated ≡ b → (s : ℕ) (log c : List ℕ) → new.synced old.moment ≡ Some s → old.content ≡ Some log → new.left s c → SameLog log c
+    crashed : (b : Bool) → old.dated ≡ b → (s : ℕ) (log c : List ℕ) → new.synced old.moment ≡ Some s → old.content ≡ Some log → new.left s c → LeavesLog log c
     crashed false is s log c first told left = absurd (not_both (new.synced old.moment) s (undated old.moment (further.dated ∙ on.dated ∙ is)) first)
     crashed true is s log c first told left =
         let same : s ≡ mid.moment = (let e : Some s ≡ Some mid.moment = sym first ∙ first_is is in cc) in
-        ⊎_elim (λ was. subst (SameLog log) (sym (only log c (content ∙ told) (only_now c was))) (same_self log)) (λ has. has)
+        ⊎_elim (λ was. subst (LeavesLog log) (sym (only log c (content ∙ told) (only_now c was))) (leaves_self log)) (λ has. has)
         ((kept log (content ∙ told)).since mid.moment c (omega arith) (subst (λ t. new.left t c) same left))
 
 -- its first sync is told from then on

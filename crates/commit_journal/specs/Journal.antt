@@ -1,10 +1,10 @@
 -- What a journal keeps of its log, and what a crash leaves of it.
 use Rattle.std.specs.Prelude.{◌≡◌, ◌≢◌, ◌⊎◌, ℕ, ◌+◌, ◌<◌, ◌≤◌, max, true, List, [], ◌∷◌, ◌++◌, length, take, nat_le, if◌then◌else◌, Some, None, is_some, Result, Ok, Err, IfErr, IsErrOf}
 use Rattle.std.specs.Int.{w32, to_be_bytes}
-use Rattle.outside.specs.Disk.{DiskView, OnlyContent, Unchanged, NoNewImage}
+use Rattle.outside.specs.Disk.{DiskView, OnlyContent, Unchanged, SameDisk, NoNewImage}
 use Rattle.outside.specs.Fault.{Rose}
 use Rattle.commit_journal.specs.declared.fault.JournalFault.{JournalFault}
-use Rattle.commit_journal.specs.declared.fault.JournalFault.TheVariants.{DeviceFault, NotAJournal}
+use Rattle.commit_journal.specs.declared.fault.JournalFault.TheVariants.{DeviceFault, NotAJournal, NoMemory}
 use Rattle.commit_journal.specs.declared.frame.Frame.{Frame}
 use Rattle.commit_journal.specs.declared.format.TheConstants.{BLANK_LENGTH, CLOSED_GATE, EMPTY_LOG, LENGTH_BYTES}
 use Rattle.commit_journal.specs.Log.{header_fault, walk_of, version_of_header, frames_of, version_of}
@@ -44,7 +44,8 @@ pub record SameLog (log image : List ℕ) : Type 0 where
   pub version : BLANK_LENGTH < length image → version_of image ≡ version_of log
   pub no_longer : length image ≤ max BLANK_LENGTH (length log)
 
--- What an opening leaves of a log, whatever it answers: the same log. One that is no journal at a place is as it was, byte for byte.
+-- What an opening leaves of a log, whatever it answers, and a crash of it: the same log. One that is no journal at a place is as it
+-- was, byte for byte.
 pub record LeavesLog (log now : List ℕ) : Type 0 where
   pub same : SameLog log now
   pub lost : (place : ℕ) → frames_of log ≡ Err place → now ≡ log
@@ -88,10 +89,10 @@ pub record IsRecovered (frames : List Frame) (place version : ℕ) (old new : Di
   pub ordered : (log : List ℕ) → old.content ≡ Some log → new.content ≡ Some (in_order log)
   pub settled : IsSettled place version new
 
--- an opening: each image since its first sync that succeeded is the same log, and where none did the content is as it was
+-- an opening: each image since its first sync that succeeded is what it leaves of the log, and where none did the content is as it was
 pub record Opens (old new : DiskView) : Type 0 where
   pub continues : Continues old new
-  pub crash : (s : ℕ) (log c : List ℕ) → new.synced old.moment ≡ Some s → old.content ≡ Some log → new.left s c → SameLog log c
+  pub crash : (s : ℕ) (log c : List ℕ) → new.synced old.moment ≡ Some s → old.content ≡ Some log → new.left s c → LeavesLog log c
   pub unsynced : old.dated ≡ true → new.synced old.moment ≡ None → new.content ≡ old.content
 
 -- what a journal's fault says of its disk
@@ -107,8 +108,10 @@ pub record Unwritten (old new : DiskView) : Type 0 where
   pub len : new.len ≡ old.len
   pub images : NoNewImage old new
 
--- why a disk was not opened: what the fault says of it
+-- Why a disk was not opened: what the fault says of it. Unless a device failed, the content is all that a crash may leave; or there was
+-- no memory for the opening to begin, and the disk is as it was.
 pub record HasOpenCause (old new : DiskView) (fault : JournalFault) : Type 0 where
   pub failed : fault ≡ DeviceFault → Rose old.faults new.faults
   pub lost : (wrong : ℕ) (log : List ℕ) → fault ≡ NotAJournal wrong → old.content ≡ Some log → frames_of log ≡ Err wrong
   pub unwritten : fault ≢ DeviceFault → Unwritten old new
+  pub settled : fault ≢ DeviceFault → OnlyContent new ⊎ ((fault ≡ NoMemory) × SameDisk old new)

@@ -89,15 +89,16 @@ impl<D: Disk> Journal<D> {
         ensures recovered { IfOk result (λ r. IsRecovered r.1 r.0.place r.0.version (D.seen disk) (D.seen r.0.disk)) }
         ensures whole { IfOk result (λ r. r.0.broken ≡ false) }
 
-        // Each image since the first sync is the same log; where that sync didn't succeed, the content is as it was. The content
-        // is the same log, whatever the opening answers.
+        // Each image since the first sync is the same log, and one that is no journal is as it was, byte for byte; where that
+        // sync didn't succeed, the content is as it was. The content is the same log, whatever the opening answers.
         ensures crash { MatchResult result (λ r. Opens (D.seen disk) (D.seen r.0.disk)) (λ e. Opens (D.seen disk) (D.seen e.0)) }
         ensures content { MatchResult result (λ r. LeavesContent (D.seen disk) (D.seen r.0.disk)) (λ e. LeavesContent (D.seen disk) (D.seen e.0)) }
         ensures synced { IfOk result (λ r. (D.seen disk).dated ≡ true
             → is_some ((D.seen r.0.disk).synced (D.seen disk).moment) ≡ true) }
         ensures later { MatchResult result (λ r. (D.seen disk).faults ≤ (D.seen r.0.disk).faults) (λ e. (D.seen disk).faults ≤ (D.seen e.0).faults) }
 
-        // A device fault comes only where the count rose, and NotAJournal only where the log is none. All else wrote nothing.
+        // A device fault comes only where the count rose, and NotAJournal only where the log is none. All else wrote nothing,
+        // and what a crash may leave then is the content alone, or want of memory came before any call on the disk.
         ensures fault { IfErr result (λ e. HasOpenCause (D.seen disk) (D.seen e.0) e.1) }
     {
         let mut disk = disk;

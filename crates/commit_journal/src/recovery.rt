@@ -2,7 +2,7 @@ ghost use Rattle.std.specs.Prelude.{◌≡◌, ℕ, ◌+◌, ◌<◌, ◌≤◌,
 ghost use Rattle.std.specs.Option.{option_map};
 ghost use Rattle.outside.specs.Disk.{OnlyContent, TornCut, Unchanged};
 ghost use Rattle.outside.specs.Fault.{HasCause};
-ghost use Rattle.commit_journal.specs.Journal.{Steps, StaysShort, Continues, Keeps, SameLog, IsRecovered, LeavesContent, HasFaultCause};
+ghost use Rattle.commit_journal.specs.Journal.{Steps, StaysShort, Continues, Keeps, LeavesLog, IsRecovered, LeavesContent, HasFaultCause};
 
 use crate::format::{BLANK_LENGTH, EMPTY_LOG, FIRST_GATE};
 use crate::reading::{Log, read_log};
@@ -44,7 +44,7 @@ fn recover_blank<D: Disk>(alloc: Global, disk: &mut D) -> Result<Log, JournalFau
     requires blank { (D.seen disk.old).len ≤ BLANK_LENGTH }
     ensures recovered { IfOk result (λ log. IsRecovered log.frames.items log.place log.version (D.seen disk.old) (D.seen disk.new)) }
     ensures continues { Continues (D.seen disk.old) (D.seen disk.new) }
-    ensures crash { (log : List ℕ) → (D.seen disk.old).content ≡ Some log → Keeps (SameLog log) (D.seen disk.old) (D.seen disk.new) }
+    ensures crash { (log : List ℕ) → (D.seen disk.old).content ≡ Some log → Keeps (LeavesLog log) (D.seen disk.old) (D.seen disk.new) }
     ensures content { LeavesContent (D.seen disk.old) (D.seen disk.new) }
     ensures fault { HasFaultCause (D.seen disk.old) (D.seen disk.new) result }
 {
@@ -62,7 +62,7 @@ fn recover_journal<D: Disk>(alloc: Global, disk: &mut D) -> Result<Log, JournalF
     requires long { BLANK_LENGTH < (D.seen disk.old).len }
     ensures recovered { IfOk result (λ log. IsRecovered log.frames.items log.place log.version (D.seen disk.old) (D.seen disk.new)) }
     ensures continues { Continues (D.seen disk.old) (D.seen disk.new) }
-    ensures crash { (log : List ℕ) → (D.seen disk.old).content ≡ Some log → Keeps (SameLog log) (D.seen disk.old) (D.seen disk.new) }
+    ensures crash { (log : List ℕ) → (D.seen disk.old).content ≡ Some log → Keeps (LeavesLog log) (D.seen disk.old) (D.seen disk.new) }
     ensures content { LeavesContent (D.seen disk.old) (D.seen disk.new) }
     ensures fault { HasFaultCause (D.seen disk.old) (D.seen disk.new) result }
 {
@@ -76,7 +76,7 @@ pub fn recover<D: Disk>(alloc: Global, disk: &mut D) -> Result<Log, JournalFault
     requires { OnlyContent (D.seen disk.old) }
     ensures recovered { IfOk result (λ log. IsRecovered log.frames.items log.place log.version (D.seen disk.old) (D.seen disk.new)) }
     ensures continues { Continues (D.seen disk.old) (D.seen disk.new) }
-    ensures crash { (log : List ℕ) → (D.seen disk.old).content ≡ Some log → Keeps (SameLog log) (D.seen disk.old) (D.seen disk.new) }
+    ensures crash { (log : List ℕ) → (D.seen disk.old).content ≡ Some log → Keeps (LeavesLog log) (D.seen disk.old) (D.seen disk.new) }
     ensures content { LeavesContent (D.seen disk.old) (D.seen disk.new) }
     ensures fault { HasFaultCause (D.seen disk.old) (D.seen disk.new) result }
 {

@@ -1,7 +1,6 @@
 -- What an opening leaves.
-use Rattle.std.proofs.Common.{◌≡◌, ◌⊎◌, inl, inr, ℕ, ◌<◌, ◌≤◌, Bool, true, false, List, [], length, Some, Ok, refl, sym, ap, subst, ◌∙◌, arith}
+use Rattle.std.proofs.Common.{◌≡◌, ◌⊎◌, inl, inr, ℕ, ◌<◌, ◌≤◌, Bool, true, false, List, [], length, Some, Ok, refl, sym, subst, ◌∙◌, arith}
 use Rattle.std.specs.Prelude.{◌==◌, ◌≢◌, slice_index, nat_eq}
-use Rattle.std.proofs.Math.Logic.{∥∥₁_map}
 use Rattle.std.proofs.lemmas.Bool.Decides.{nat_tests}
 use Rattle.marc_types.specs.declared.entry.Entry.{Entry}
 use Rattle.marc_types.specs.declared.entry.Limits.{Limits}
@@ -19,15 +18,15 @@ use Rattle.entry_history.specs.Readers.{IsVersion}
 use Rattle.entry_history.specs.Payloads.{IsHistory, CanFollow}
 use Rattle.durable_catalogue.specs.declared.fault.OpenFault.{OpenFault}
 use Rattle.durable_catalogue.specs.declared.fault.OpenFault.TheVariants.{DeviceFault, NotAJournal, OldVersion, Full, NoMemory}
-use Rattle.durable_catalogue.specs.Logs.{payloads_of, IsLogOf, HasHistory}
+use Rattle.durable_catalogue.specs.Logs.{payloads_of, IsLogOf}
 use Rattle.durable_catalogue.specs.Images.{Reaches}
 use Rattle.durable_catalogue.specs.Durables.{IsKept}
-use Rattle.durable_catalogue.specs.Openings.{IsBadFrame, IsUnloaded, NoGate, NoPayload, IsUnopened, IsOpening, KeepsContent}
+use Rattle.durable_catalogue.specs.Openings.{IsBadFrame, IsUnloaded, NoGate, NoPayload, IsUnopened, IsOpening}
 use Rattle.durable_catalogue.specs.Faults.{open_fault}
 use Rattle.durable_catalogue.proofs.Histories.{runs_bounded}
 use Rattle.durable_catalogue.proofs.Images.{front_reaches, whole_front}
 use Rattle.durable_catalogue.proofs.Keeping.{some_of}
-use Rattle.durable_catalogue.proofs.Readings.{like_reading, same_log}
+use Rattle.durable_catalogue.proofs.Readings.{same_log}
 
 pub reading : (log : List ℕ) (frames : List Frame) (version : ℕ) (entries : List Entry) → frames_of log ≡ Ok frames → version_of log ≡ version
     → IsHistory version [] (payloads_of frames) entries → IsLogOf entries log
@@ -58,7 +57,7 @@ module _ (frames : List Frame) (place : ℕ) (old new : DiskView) (entries : Lis
     images = λ c told image.
         let now = some_of new.content (opens.continues.tells ∙ told) in
         ∣ whole c (subst (IsLogOf entries) (sym (recovered.settled.only now.0 c now.1 image)) (now_reading now.0 now.1)) ∣₁;
-    since = λ s c told synced left. let was = some_of old.content told in ∣ whole c (same_log entries was.0 c (opens.crash s was.0 c synced was.1 left) (was_reading was.0 was.1)) ∣₁;
+    since = λ s c told synced left. let was = some_of old.content told in ∣ whole c (same_log entries was.0 c (opens.crash s was.0 c synced was.1 left).same (was_reading was.0 was.1)) ∣₁;
     syncs = λ s synced. synced;
     tells = opens.continues.tells;
     dated = opens.continues.dated;
@@ -71,8 +70,7 @@ module _ (frames : List Frame) (place : ℕ) (old new : DiskView) (entries : Lis
 -- an opening, whatever it answers
 pub opening_of : (old new : DiskView) → Opens old new → IsOpening old new
 opening_of old new opens = record {
-  history = λ s log c entries synced told left has. ∥∥₁_map has (λ is. same_log entries log c (opens.crash s log c synced told left) is);
-  no_longer = λ s log c synced told left. (opens.crash s log c synced told left).no_longer;
+  images = opens.crash;
   unsynced = opens.unsynced;
   dated = opens.continues.dated;
   tells = opens.continues.tells;

@@ -1,11 +1,11 @@
 -- Why a log is not opened, and what an opening leaves. The rules are this project's own.
-use Rattle.std.specs.Prelude.{◌≡◌, ◌≢◌, ℕ, ◌≤◌, max, true, List, [], ◌∷◌, ◌++◌, length, Some, None, is_some, Ok, Err}
+use Rattle.std.specs.Prelude.{◌≡◌, ◌≢◌, ℕ, true, List, [], ◌∷◌, ◌++◌, Some, None, is_some, Ok, Err}
 use Rattle.marc_types.specs.declared.entry.Entry.{Entry}
 use Rattle.marc_types.specs.declared.entry.Limits.{Limits}
 use Rattle.outside.specs.Disk.{DiskView}
 use Rattle.commit_journal.specs.declared.frame.Frame.{Frame}
-use Rattle.commit_journal.specs.declared.format.TheConstants.{BLANK_LENGTH}
 use Rattle.commit_journal.specs.Log.{frames_of, version_of}
+use Rattle.commit_journal.specs.Journal.{LeavesLog}
 use Rattle.entry_record.specs.History.{IsWithin}
 use Rattle.entry_history.specs.Payloads.{Holds, IsHistory}
 use Rattle.catalogue_core.specs.Catalogues.{Catalogued}
@@ -45,11 +45,10 @@ IsUnopened limits log OldVersion = (version_of log ≡ 1) × ((entries : List En
 IsUnopened limits log Full = (entries : List Entry) × IsLogOf entries log × (IsWithin limits entries → ⊥)
 IsUnopened limits log NoMemory = Unit {0}
 
--- an opening: each image since its first sync that succeeded has the history that the log had, in no more bytes than it or a blank
--- log has; where no sync succeeded, the content is as it was; whether the disk tells stays
+-- an opening: each image since its first sync that succeeded is the same log, and so has the history that this had; one that is no
+-- journal at a place is as it was, byte for byte; where no sync succeeded, the content is as it was; whether the disk tells stays
 pub record IsOpening (old new : DiskView) : Type 0 where
-  pub history : (s : ℕ) (log c : List ℕ) (entries : List Entry) → new.synced old.moment ≡ Some s → old.content ≡ Some log → new.left s c → HasHistory entries log → HasHistory entries c
-  pub no_longer : (s : ℕ) (log c : List ℕ) → new.synced old.moment ≡ Some s → old.content ≡ Some log → new.left s c → length c ≤ max BLANK_LENGTH (length log)
+  pub images : (s : ℕ) (log c : List ℕ) → new.synced old.moment ≡ Some s → old.content ≡ Some log → new.left s c → LeavesLog log c
   pub unsynced : old.dated ≡ true → new.synced old.moment ≡ None → new.content ≡ old.content
   pub dated : new.dated ≡ old.dated
   pub tells : is_some new.content ≡ is_some old.content

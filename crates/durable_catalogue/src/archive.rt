@@ -6,7 +6,7 @@ ghost use Rattle.commit_journal.specs.Log.{version_of};
 ghost use Rattle.durable_catalogue.specs.declared.fault.OpenFault.TheVariants.{DeviceFault, OldVersion};
 ghost use Rattle.durable_catalogue.specs.Logs.{HasHistory};
 ghost use Rattle.durable_catalogue.specs.Openings.{IsUnopened, IsOpening, KeepsContent};
-ghost use Rattle.durable_catalogue.specs.Refused.{LeavesDiskAlone, IsPutInOrder};
+ghost use Rattle.durable_catalogue.specs.Refused.{LeavesDiskAlone, LeavesSettled, IsPutInOrder};
 ghost use Rattle.entry_record.specs.History.{IsWithin};
 
 use crate::fault::open_fault;
@@ -42,8 +42,10 @@ impl<D: Disk> Archive<D> {
         ensures synced { IfOk result (λ a. (D.seen disk).dated ≡ true → is_some ((D.seen a.journal.disk).synced (D.seen disk).moment) ≡ true) }
         ensures only { IfOk result (λ a. OnlyContent (D.seen a.journal.disk)) }
 
-        // A log that is refused is left alone, and each fault comes only where the log is so.
+        // A log that is refused is left alone: unless a device failed, its content is all that a crash may leave. Each fault comes only
+        // where the log is so.
         ensures left_alone { IfErr result (λ e. LeavesDiskAlone (e.1 ≡ DeviceFault) (D.seen disk) (D.seen e.0)) }
+        ensures settled { IfErr result (λ e. LeavesSettled (D.seen disk) (D.seen e.0) e.1) }
         ensures later { MatchResult result (λ a. (D.seen disk).faults ≤ (D.seen a.journal.disk).faults) (λ e. (D.seen disk).faults ≤ (D.seen e.0).faults) }
         ensures fault { IfErr result (λ e. (log : List ℕ) → (D.seen disk).content ≡ Some log → IsUnopened limits log e.1) }
         ensures current { IfErr result (λ e. e.1 ≢ OldVersion) }

@@ -14,7 +14,7 @@ ghost use Rattle.entry_history.specs.declared.event.Event.{Event};
 ghost use Rattle.durable_catalogue.specs.Logs.{HasHistory};
 ghost use Rattle.durable_catalogue.specs.declared.fault.OpenFault.{OpenFault};
 ghost use Rattle.durable_catalogue.specs.Openings.{IsUnopened, IsOpening, KeepsContent};
-ghost use Rattle.durable_catalogue.specs.Refused.{LeavesDiskAlone, IsPutInOrder};
+ghost use Rattle.durable_catalogue.specs.Refused.{LeavesDiskAlone, LeavesSettled, IsPutInOrder};
 ghost use Rattle.durable_catalogue.specs.Images.{Holds, HasFrameOrNot};
 ghost use Rattle.durable_catalogue.specs.Lasting.{GoesOn};
 ghost use Rattle.durable_catalogue.specs.Durables.{mark_of, marked, events, is_taken, TookNothing, opening, IsKept, IsLeft, IsLostBy, IsSameOpening};
@@ -92,16 +92,17 @@ impl<D: Disk> Durable<D> {
         ensures first { IfOk result (λ d. d.first.value ≡ d.journal) }
         ensures synced { IfOk result (λ d. (D.seen disk).dated ≡ true → is_some ((D.seen d.first.value.disk).synced (D.seen disk).moment) ≡ true) }
 
-        // Each image since the first sync has the log's history; where that sync didn't succeed, the content is as it was. So
-        // has the content, whatever the opening answers.
+        // Each image since the first sync is the same log, and as it was where that is no journal; where that sync didn't succeed,
+        // the content is as it was. The content has the log's history, whatever the opening answers.
         ensures crash { MatchResult result (λ d. IsOpening (D.seen disk) (D.seen d.journal.disk)) (λ e. IsOpening (D.seen disk) (D.seen e.0)) }
         ensures content { MatchResult result (λ d. KeepsContent (D.seen disk) (D.seen d.journal.disk))
             (λ e. KeepsContent (D.seen disk) (D.seen e.0)) }
         ensures later { MatchResult result (λ d. (D.seen disk).faults ≤ (D.seen d.journal.disk).faults) (λ e. (D.seen disk).faults ≤ (D.seen e.0).faults) }
 
-        // The log is in order, or it was refused, and is left alone.
+        // The log is in order, or it was refused, and is left alone: unless a device failed, its content is all that a crash may leave.
         ensures in_order { IfOk result (λ d. IsPutInOrder (D.seen disk) (D.seen d.journal.disk)) }
         ensures left_alone { IfErr result (λ e. LeavesDiskAlone (e.1 ≡ OpenFault.DeviceFault) (D.seen disk) (D.seen e.0)) }
+        ensures settled { IfErr result (λ e. LeavesSettled (D.seen disk) (D.seen e.0) e.1) }
 
         // Each fault comes only where the log is so, and Full only where it is of version 2; a device fault only where the count
         // of faults rose.

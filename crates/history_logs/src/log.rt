@@ -6,7 +6,7 @@ ghost use Rattle.durable_catalogue.specs.declared.fault.OpenFault.TheVariants.{D
 ghost use Rattle.durable_catalogue.specs.Faults.{open_fault};
 ghost use Rattle.durable_catalogue.specs.Logs.{HasHistory};
 ghost use Rattle.durable_catalogue.specs.Openings.{IsUnopened, IsOpening, KeepsContent};
-ghost use Rattle.durable_catalogue.specs.Refused.{LeavesDiskAlone, IsPutInOrder};
+ghost use Rattle.durable_catalogue.specs.Refused.{LeavesDiskAlone, LeavesSettled, IsPutInOrder};
 ghost use Rattle.entry_record.specs.History.{IsWithin};
 
 use crate::frames::read_within;
@@ -52,6 +52,7 @@ impl<D: Disk> HistoryLog<D> {
 
         // A log that is refused is left alone, and each fault comes only where the log is so.
         ensures left_alone { IfErr result (λ e. LeavesDiskAlone (e.1 ≡ DeviceFault) (D.seen disk) (D.seen e.0)) }
+        ensures settled { IfErr result (λ e. LeavesSettled (D.seen disk) (D.seen e.0) e.1) }
         ensures later { MatchResult result (λ h. (D.seen disk).faults ≤ (D.seen h.journal.disk).faults) (λ e. (D.seen disk).faults ≤ (D.seen e.0).faults) }
         ensures fault { IfErr result (λ e. (log : List ℕ) → (D.seen disk).content ≡ Some log → IsUnopened limits log e.1) }
         ensures current { IfErr result (λ e. e.1 ≢ OldVersion) }

@@ -38,7 +38,7 @@ same_history before log now was is entries has =
 kept_same : (failed : Type 0) (old new : RoomView) (journal : List ℕ) → KeepsHistory failed old new journal → HasSameHistory old new journal
 kept_same failed old new journal (journals.Unopened untouched) entries has =
     subst (λ file. HasHistory entries (bytes_or_none file)) (sym untouched.file) has
-kept_same failed old new journal (journals.Opened is_log alone content images unsynced) entries has = content entries has
+kept_same failed old new journal (journals.Opened closed) entries has = closed.history entries has
 
 -- loading didn't begin
 unbegun_keeps : (old new : RoomView) (journal : List ℕ) (why : Fault) → old.tells ≡ true → IsUnbegun old new journal why → HasSameHistory old new journal

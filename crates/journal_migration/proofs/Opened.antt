@@ -1,5 +1,5 @@
 -- What a migration leaves, from the opening of the journal and what was brought into it.
-use Rattle.std.proofs.Common.{◌≡◌, ◌⊎◌, inl, inr, ℕ, ◌<◌, ◌≤◌, max, true, List, [], ◌++◌, length, Some, None, is_some, refl, sym, ap, subst, ◌∙◌, arith, drop, Bool, false, take-append-drop}
+use Rattle.std.proofs.Common.{◌≡◌, ◌⊎◌, inl, inr, ⊎_elim, ℕ, ◌<◌, ◌≤◌, max, true, List, [], ◌++◌, length, Some, None, is_some, refl, sym, ap, subst, ◌∙◌, arith, drop, Bool, false, take-append-drop}
 use Rattle.std.specs.Prelude.{◌≢◌}
 use Rattle.std.proofs.lemmas.Option.{none-some}
 use Rattle.std.proofs.Math.Logic.{∥∥₁_map, ∥∥₁_elim, ∥∥₁_prop}
@@ -21,12 +21,13 @@ use Rattle.durable_catalogue.specs.Openings.{IsBadFrame, NoGate, NoPayload, IsOp
 use Rattle.durable_catalogue.proofs.Keeping.{some_of}
 use Rattle.durable_catalogue.proofs.Opened.{reading, opening_of, either_version}
 use Rattle.durable_catalogue.proofs.Readings.{same_log}
+use Rattle.durable_catalogue.proofs.Refused.{recovered_alone, unwritten_alone}
 use Rattle.journal_migration.specs.declared.fault.MigrateFault.{MigrateFault}
 use Rattle.journal_migration.specs.declared.fault.MigrateFault.TheVariants.{DeviceFault, NotAJournal, OldVersion, Full, NotPrefix, NoMemory}
 use Rattle.durable_catalogue.specs.Faults.{open_fault}
 use Rattle.durable_catalogue.specs.declared.fault.OpenFault.TheVariants as opening
 use Rattle.journal_migration.specs.Faults.{migrate_fault}
-use Rattle.journal_migration.specs.Migrations.{IsFit, IsUnfit, IsUnmigrated, IsBrought, IsMigration, IsAmid, Before}
+use Rattle.journal_migration.specs.Migrations.{IsFit, IsUnfit, LeavesRefused, IsUnmigrated, IsBrought, IsMigration, IsAmid, Before}
 use Rattle.journal_migration.specs.Fronts.{HoldsFront, HoldNoFront, MayGain, MayNotGain, Extends, Brings, HasBrought}
 use Rattle.journal_migration.proofs.Amid.{amid_where}
 use Rattle.journal_migration.proofs.Following.{log_follows}
@@ -57,7 +58,7 @@ pub opened_alone : (limits : Limits) (history : List Entry) (old new : DiskView)
 opened_alone limits history old new opens leaves =
     let opening : IsOpening old new = opening_of old new opens in
     record {
-      images = λ s log c entries synced told left has. ∥∥₁_map has (same_before limits history entries log c (opens.crash s log c synced told left));
+      images = λ s log c entries synced told left has. ∥∥₁_map has (same_before limits history entries log c (opens.crash s log c synced told left).same);
       content = λ log c entries told is_now has. ∥∥₁_map has (same_before limits history entries log c (leaves log c told is_now).same);
       unsynced = opening.unsynced;
       dated = opening.dated;
@@ -103,6 +104,14 @@ module _ (history : List Entry) (frames : List Frame) (place version : ℕ) (old
   -- into a log that is not fit for a history, the frames may not gain it
   pub unfit : (limits : Limits) (log : List ℕ) → old.content ≡ Some log → IsUnfit limits history log → MayNotGain version frames limits history
   unfit limits log told none count two holds = let front = fit limits two (λ is. (count, holds)) log told in none front.0 front.1
+
+  -- and its opening leaves it so, where nothing is brought
+  pub left_unfit : LeavesContent old mid → (fault : MigrateFault) (log : List ℕ) → old.content ≡ Some log → LeavesRefused fault log old mid
+  left_unfit leaves fault log told = record {
+    content = λ now is. recovered_alone old mid leaves frames place version recovered (fault ≡ DeviceFault) log now told is;
+    images = λ s c synced left. opens.crash s log c synced told left;
+    settled = λ other. inl recovered.settled.only;
+  }
 
   module _ (leaves : LeavesContent old mid) (new : DiskView) (continues : Continues mid new) (was : List ℕ) (is_history : HasHistory history was)
       (images : (c : List ℕ) → new.content ≡ Some c → new.image c) where
@@ -170,7 +179,7 @@ module _ (history : List Entry) (frames : List Frame) (place version : ℕ) (old
           images = λ s log c entries at told left has.
               let first = synced_mid old.dated refl s at in
               ∥∥₁_elim has ∥∥₁_prop (λ (is : IsLogOf entries log). ∥∥₁_elim is_history ∥∥₁_prop (λ (reads : IsLogOf history was).
-              since_opened log entries c told is (λ earlier. ∣ same_before limits history entries log c (opens.crash s log c first told earlier) is ∣₁)
+              since_opened log entries c told is (λ earlier. ∣ same_before limits history entries log c (opens.crash s log c first told earlier).same is ∣₁)
               ((extended log entries told is reads).since s c (bounded s first) left)));
           content = λ log c entries told is_now has.
               ∥∥₁_elim has ∥∥₁_prop (λ (is : IsLogOf entries log). ∥∥₁_elim is_history ∥∥₁_prop (λ (reads : IsLogOf history was).
@@ -221,3 +230,12 @@ pub device_words : (fault : JournalFault) → open_fault fault ≡ opening.Devic
 device_words journal.DeviceFault is = refl
 device_words (journal.NotAJournal place) is = cc
 device_words journal.NoMemory is = cc
+
+-- a log that the journal did not open
+pub left_unopened : (old new : DiskView) (fault : JournalFault) → Opens old new → LeavesContent old new → HasOpenCause old new fault → (log : List ℕ) → old.content ≡ Some log
+    → LeavesRefused (migrate_fault fault) log old new
+left_unopened old new fault opens leaves cause log told = record {
+  content = λ now is. unwritten_alone old new leaves (migrate_fault fault ≡ DeviceFault) fault cause (device_words fault) log now told is;
+  images = λ s c synced left. opens.crash s log c synced told left;
+  settled = λ other. ⊎_elim (λ only. inl only) (λ same. inr (ap migrate_fault same.0, same.1)) (cause.settled (λ device. other (ap migrate_fault device)));
+}

@@ -1,11 +1,11 @@
 -- A journal's history that is brought into another journal. The rules are this project's own.
-use Rattle.std.specs.Prelude.{◌≡◌, ℕ, ◌+◌, ◌≤◌, max, true, List, [], ◌∷◌, ◌++◌, length, Some, None, is_some}
+use Rattle.std.specs.Prelude.{◌≡◌, ◌≢◌, ◌⊎◌, ℕ, ◌+◌, ◌≤◌, max, true, List, [], ◌∷◌, ◌++◌, length, Some, None, is_some}
 use Rattle.marc_types.specs.declared.entry.Entry.{Entry}
 use Rattle.marc_types.specs.declared.entry.Limits.{Limits}
-use Rattle.outside.specs.Disk.{DiskView}
+use Rattle.outside.specs.Disk.{DiskView, OnlyContent, SameDisk}
 use Rattle.commit_journal.specs.declared.format.TheConstants.{BLANK_LENGTH, LENGTH_BYTES}
 use Rattle.commit_journal.specs.Log.{walk_of, version_of}
-use Rattle.commit_journal.specs.Journal.{EndsAt}
+use Rattle.commit_journal.specs.Journal.{EndsAt, LeavesLog}
 use Rattle.entry_record.specs.History.{IsWithin}
 use Rattle.entry_record.specs.Payload.{payload_of}
 use Rattle.durable_catalogue.specs.Logs.{IsLogOf, HasHistory}
@@ -34,10 +34,17 @@ pub record IsFit (limits : Limits) (history entries : List Entry) (log : List �
 abbrev pub IsUnfit : Limits → List Entry → List ℕ → Type 0
 IsUnfit limits history log = (entries : List Entry) → IsFit limits history entries log → ⊥
 
--- a log that is not fit for the history is left alone, where the disk tells its content
-abbrev pub LeavesUnfitAlone : Limits → List Entry → Type 0 → DiskView → DiskView → Type 0
-LeavesUnfitAlone limits history failed old new = (log now : List ℕ) → old.content ≡ Some log → new.content ≡ Some now
-    → IsUnfit limits history log → LeavesAlone failed log now
+-- What a refused migration leaves of a log: its content is left alone, and each image since the first sync that succeeded is the same
+-- log. Unless a device failed, the content is all that a crash may leave; or there was no memory for the opening to begin, and the disk
+-- is as it was.
+pub record LeavesRefused (fault : MigrateFault) (log : List ℕ) (old new : DiskView) : Type 0 where
+  pub content : (now : List ℕ) → new.content ≡ Some now → LeavesAlone (fault ≡ DeviceFault) log now
+  pub images : (s : ℕ) (c : List ℕ) → new.synced old.moment ≡ Some s → new.left s c → LeavesLog log c
+  pub settled : fault ≢ DeviceFault → OnlyContent new ⊎ ((fault ≡ NoMemory) × SameDisk old new)
+
+-- so is a log that is not fit for the history, where the disk tells its content
+abbrev pub LeavesUnfitAlone : Limits → List Entry → MigrateFault → DiskView → DiskView → Type 0
+LeavesUnfitAlone limits history fault old new = (log : List ℕ) → old.content ≡ Some log → IsUnfit limits history log → LeavesRefused fault log old new
 
 -- why a history is not brought into a log
 abbrev pub IsUnmigrated : Limits → List Entry → List ℕ → MigrateFault → Type 0

@@ -40,10 +40,10 @@ pub fn migrate<D: Disk>(
         (λ e. IsMigration limits old.now.core.history (D.seen new) (D.seen e.0)) }
 
     // Each fault comes only where the new log is so; a device fault only where the count of faults rose. A log that isn't fit is left
-    // alone, whatever the fault is; one that isn't gets a fault, by `fit`.
+    // alone, whatever the fault is, in its content and in what a crash may leave; one that isn't gets a fault, by `fit`.
     ensures fault { IfErr result (λ e. (log : List ℕ) → (D.seen new).content ≡ Some log → IsUnmigrated limits old.now.core.history log e.1) }
     ensures failed { IfErr result (λ e. e.1 ≡ DeviceFault → Rose (D.seen new).faults (D.seen e.0).faults) }
-    ensures left_alone { IfErr result (λ e. LeavesUnfitAlone limits old.now.core.history (e.1 ≡ DeviceFault) (D.seen new) (D.seen e.0)) }
+    ensures left_alone { IfErr result (λ e. LeavesUnfitAlone limits old.now.core.history e.1 (D.seen new) (D.seen e.0)) }
     ensures later { MatchResult result (λ disk. (D.seen new).faults ≤ (D.seen disk).faults) (λ e. (D.seen new).faults ≤ (D.seen e.0).faults) }
 {
     match Journal::open(alloc, new) {

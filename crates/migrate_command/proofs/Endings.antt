@@ -6,7 +6,6 @@ use Rattle.outside.specs.Fault.{Rose}
 use Rattle.outside.specs.Room.{SameBut}
 use Rattle.outside.specs.Sink.{WritesFront}
 use Rattle.durable_catalogue.specs.Logs.{HasHistory}
-use Rattle.durable_catalogue.specs.Refused.{LeavesAlone}
 use Rattle.durable_catalogue.specs.declared.fault.OpenFault.{OpenFault}
 use Rattle.durable_catalogue.specs.declared.fault.OpenFault.TheVariants as opening
 use Rattle.console_lines.specs.Ends.{Outcome, IsTold, console_unwritten}
@@ -16,7 +15,7 @@ use Rattle.console_lines.specs.declared.fault.Fault.{Fault}
 use Rattle.console_lines.specs.declared.fault.Fault.TheVariants.{Device}
 use Rattle.console_lines.proofs.Ends.{told_once, told_not_done, told_not_unwritten, done_not_unwritten, never_told}
 use Rattle.room_files.specs.Faults.{fault_of_opening}
-use Rattle.room_files.specs.Journals.{journal_limits, log_bytes}
+use Rattle.room_files.specs.Journals.{journal_limits, log_bytes, KeepsHistory}
 use Rattle.room_files.proofs.Journals.{keeps_where}
 use Rattle.journal_migration.specs.Migrations.{IsUnfit}
 use Rattle.journal_migration.specs.declared.fault.MigrateFault.{MigrateFault}
@@ -24,7 +23,6 @@ use Rattle.journal_migration.specs.declared.fault.MigrateFault.TheVariants as mi
 use Rattle.migrate_command.specs.Faults.{fault_of_migrating}
 use Rattle.migrate_command.specs.Bringing.{IsDeviceFaultOf, IsBroughtOver}
 use Rattle.migrate_command.specs.Migrates.{EndsMigrating, WhyNotFrom, NotOpened, Newest, WhyNotInto, IsDeviceOf, migrated_line, Migrates}
-use Rattle.migrate_command.proofs.Rooms.{alone_where}
 
 opening_ends : (reason : OpenFault) → EndsMigrating (Told (fault_of_opening reason))
 opening_ends opening.DeviceFault = tt
@@ -71,7 +69,7 @@ module _ (from into : List ℕ) (o : Outcome) (result : Result ℕ Fault) (over 
         (λ device. (is ∙ ap Told (err_once result why Device err device.0), device.1)) (over.keeps tells);
     brings = over.brings;
     alone = λ entries tells has none.
-        alone_where (IsDeviceFaultOf o.old o.new into result) (IsDeviceOf o into) (log_bytes o.old into) (log_bytes o.new into)
+        keeps_where (IsDeviceFaultOf o.old o.new into result) (IsDeviceOf o into) o.old o.new into
         (λ device. (is ∙ ap Told (err_once result why Device err device.0), device.1)) (over.alone entries tells has none);
     told = λ other also. subst (λ w. IsTold w o × ((WhyNotFrom o.old from w × SameBut o.old o.new (from ∷ [])) ⊎ WhyNotInto o.old from into w))
         (told_once o.end why other is also) (told, over.refused why err);
@@ -92,9 +90,9 @@ module _ (from into : List ℕ) (o : Outcome) (result : Result ℕ Fault) (over 
     no_device name device = absurd (ok_not_err result count Device ok device.0)
 
     left_alone : (entries : List Entry) → o.old.tells ≡ true → HasHistory entries (log_bytes o.old from) → IsUnfit journal_limits entries (log_bytes o.old into)
-        → LeavesAlone (IsDeviceOf o into) (log_bytes o.old into) (log_bytes o.new into)
+        → KeepsHistory (IsDeviceOf o into) o.old o.new into
     left_alone entries tells has none =
-        alone_where (IsDeviceFaultOf o.old o.new into result) (IsDeviceOf o into) (log_bytes o.old into) (log_bytes o.new into) (no_device into)
+        keeps_where (IsDeviceFaultOf o.old o.new into result) (IsDeviceOf o into) o.old o.new into (no_device into)
         (over.alone entries tells has none)
 
     pub migrates_done : o.end ≡ Done → Appends o.told o.now (migrated_line count) → Migrates from into o

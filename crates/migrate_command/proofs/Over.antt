@@ -21,8 +21,9 @@ use Rattle.durable_catalogue.proofs.Opened.{either_version}
 use Rattle.console_lines.specs.declared.fault.Fault.{Fault}
 use Rattle.console_lines.specs.declared.fault.Fault.TheVariants.{Device, OldVersion}
 use Rattle.room_files.specs.Faults.{fault_of_opening}
+use Rattle.room_files.specs.Journals as journals
 use Rattle.room_files.specs.Journals.{journal_limits, log_bytes, IsClosedDisk, KeepsHistory, KeepsLog, IsUntouched}
-use Rattle.room_files.proofs.Journals.{closed_keeps, keeps_where}
+use Rattle.room_files.proofs.Journals.{closed_keeps, keeps_where, unopened_keeps}
 use Rattle.archive_commands.specs.Archives.{HasFittingHistory}
 use Rattle.archive_commands.proofs.Histories.{fitting_history}
 use Rattle.journal_migration.specs.Migrations.{IsFit, IsUnfit, IsUnmigrated, IsBrought}
@@ -30,7 +31,7 @@ use Rattle.migrate_command.specs.Bringing as bringing
 use Rattle.migrate_command.specs.Bringing.{IsBroughtInto, IsUnbrought, Refused, IsDeviceFaultOf, IsBroughtOver}
 use Rattle.migrate_command.specs.Migrates.{BringsInto, Unopened, HasInEachImage, NotOpened, Newest}
 use Rattle.migrate_command.proofs.Endings.{ok_not_err, err_once}
-use Rattle.migrate_command.proofs.Rooms.{alone_same, alone_where, bytes_first, bytes_last, brings_across, images_across, alone_across}
+use Rattle.migrate_command.proofs.Rooms.{bytes_first, bytes_last, brings_across, images_across, keeps_across}
 use mathlib.Core.HLevel.{⊥_prop}
 
 opening_device : (reason : OpenFault) → fault_of_opening reason ≡ Device → reason ≡ opening.DeviceFault
@@ -72,8 +73,7 @@ module _ (from into : List ℕ) (differ : into ≢ from) (old opened : RoomView)
         keeps = λ tells. keeps_where (reason ≡ opening.DeviceFault) (IsDeviceFaultOf old opened from result) old opened from
             (λ device. (is ∙ ap (λ r. Err (fault_of_opening r)) device, rose device)) (keeps tells);
         brings = λ entries tells has. ∣ Unopened other_untouched ∣₁;
-        alone = λ entries tells has unfit.
-            alone_same (IsDeviceFaultOf old opened into result) (log_bytes old into) (log_bytes opened into) (ap bytes_or_none other_untouched.file);
+        alone = λ entries tells has unfit. journals.Unopened other_untouched;
         refused = λ why also. inl (NotOpened reason current (err_once result why fault also is) so, apart);
         device = λ also. inl (rose (opening_device reason (err_once result fault Device is also)));
         history = λ count ok. absurd (ok_not_err result count fault ok is);
@@ -177,8 +177,8 @@ module _ (from into : List ℕ) (differ : into ≢ from) (old opened brought clo
     keeps = keeps_opened (IsDeviceFaultOf old closed from result);
     brings = brings_opened;
     alone = λ entries tells also none.
-        alone_same (IsDeviceFaultOf old closed into result) (log_bytes old into) (log_bytes closed into)
-        (bytes_last history old opened brought closed from into differ first last ∙ ap bytes_or_none (stays.files into tt) ∙ first_bytes);
+        let failed = IsDeviceFaultOf old closed into result in
+        keeps_across history old opened brought closed from into differ first last failed (unopened_keeps failed opened brought into stays);
     refused = λ w err. inl (Newest (err_once result w why err is ∙ newest) (λ tells. (two tells, fits tells)), apart);
     device = λ err. let device : why ≡ Device = err_once result why Device is err in let never : OldVersion ≡ Device = sym newest ∙ device in cc;
     history = λ count ok. absurd (ok_not_err result count why ok is);
@@ -200,9 +200,8 @@ module _ (from into : List ℕ) (differ : into ≢ from) (old opened brought clo
     keeps = keeps_opened (IsDeviceFaultOf old closed from result);
     brings = brings_opened;
     alone = λ entries tells also none.
-        alone_where (why ≡ Device) (IsDeviceFaultOf old closed into result) (log_bytes old into) (log_bytes closed into)
-        (λ device. (is ∙ ap Err device, risen device))
-        (alone_across history old opened brought closed from into differ first last (why ≡ Device)
+        keeps_where (why ≡ Device) (IsDeviceFaultOf old closed into result) old closed into (λ device. (is ∙ ap Err device, risen device))
+        (keeps_across history old opened brought closed from into differ first last (why ≡ Device)
         (alone (log_bytes old from) (first.tells ∙ tells) (has tells)
         (subst (IsUnfit journal_limits history) (sym first_bytes) (unfit_any entries (log_bytes old into) tells also none))));
     refused = λ w err. inr (record {

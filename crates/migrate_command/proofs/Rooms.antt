@@ -1,5 +1,6 @@
 -- What a room keeps of a log into which a history was brought.
-use Rattle.std.proofs.Common.{◌≡◌, ◌≢◌, ◌∙◌, inl, ℕ, ◌≤◌, true, List, [], ◌∷◌, Some, None, is_some, sym, ap, subst}
+use Rattle.std.proofs.Common.{◌≡◌, ◌≢◌, ◌∙◌, inl, inr, ⊎_elim, ℕ, ◌≤◌, true, List, [], ◌∷◌, Some, None, is_some, sym, ap, subst}
+use Rattle.std.proofs.Math.Logic.{∥∥₁_map}
 use Rattle.marc_types.specs.declared.entry.Entry.{Entry}
 use Rattle.outside.specs.Disk.{DiskView, SameDisk}
 use Rattle.outside.specs.Fault.{Rose, count_sum}
@@ -7,26 +8,19 @@ use Rattle.outside.specs.Room.{RoomView, SameBut, bytes_or_none}
 use Rattle.outside.proofs.Counts.{rose_closed}
 use Rattle.outside.proofs.Disks.{same_disk_then}
 use Rattle.outside.proofs.Rooms.{same_but_then, same_but_first, same_but_more}
-use Rattle.commit_journal.specs.Journal.{SameLog}
-use Rattle.commit_journal.proofs.Logs.{same_self}
+use Rattle.commit_journal.specs.Journal.{LeavesLog}
 use Rattle.durable_catalogue.specs.Logs.{HasHistory}
 use Rattle.durable_catalogue.specs.Refused.{LeavesAlone}
 use Rattle.durable_catalogue.proofs.Keeping.{some_of}
-use Rattle.room_files.specs.Journals.{journal_limits, log_bytes}
+use Rattle.durable_catalogue.proofs.Readings.{same_log}
+use Rattle.room_files.specs.Journals as journals
+use Rattle.room_files.specs.Journals.{journal_limits, log_bytes, IsUntouched, IsClosedDisk, KeepsHistory}
+use Rattle.room_files.proofs.Journals.{IsTimed, settled_now, closed_history}
 use Rattle.archive_commands.proofs.Rooms.{closed_opened}
-use Rattle.journal_migration.specs.Migrations.{IsFit, IsUnfit, LeavesUnfitAlone, IsBrought, IsMigration, IsAmid}
+use Rattle.journal_migration.specs.declared.fault.MigrateFault.{MigrateFault}
+use Rattle.journal_migration.specs.declared.fault.MigrateFault.TheVariants as migrating
+use Rattle.journal_migration.specs.Migrations.{IsFit, IsUnfit, LeavesRefused, LeavesUnfitAlone, IsBrought, IsMigration, IsAmid}
 use Rattle.migrate_command.specs.Migrates.{BringsInto, Unopened, Opened, IsAmidInto, HasInEachImage}
-
--- a log that is as it was is left alone
-pub alone_same : (failed : Type 0) (log now : List ℕ) → now ≡ log → LeavesAlone failed log now
-alone_same failed log now is = record {
-  leaves = record { same = subst (SameLog log) (sym is) (same_self log); lost = λ place lost. is };
-  bytes = λ other. inl is;
-}
-
--- what fails so fails otherwise
-pub alone_where : (failed also : Type 0) (log now : List ℕ) → (failed → also) → LeavesAlone failed log now → LeavesAlone also log now
-alone_where failed also log now is alone = record { leaves = alone.leaves; bytes = λ other. alone.bytes (λ f. other (is f)) }
 
 -- a log was opened as a disk, into which a history was brought, and the disk was closed as the log
 module _ (history : List Entry) (old new : RoomView) (name : List ℕ) (before disk : DiskView) (told : before.content ≡ Some (log_bytes old name))
@@ -50,12 +44,25 @@ module _ (history : List Entry) (old new : RoomView) (name : List ℕ) (before d
   pub all_into : ((c : List ℕ) → disk.content ≡ Some c → IsBrought history c) → IsBrought history (log_bytes new name)
   all_into all = subst (λ o. IsBrought history (bytes_or_none o)) (sym (file ∙ told_now.1)) (all told_now.0 told_now.1)
 
-  -- a log that isn't fit is left alone
-  pub alone_into : (failed also : Type 0) → (failed → also) → LeavesUnfitAlone journal_limits history failed before disk
-      → IsUnfit journal_limits history (log_bytes old name) → LeavesAlone also (log_bytes old name) (log_bytes new name)
-  alone_into failed also is alone unfit =
-      subst (λ o. LeavesAlone also (log_bytes old name) (bytes_or_none o)) (sym (file ∙ told_now.1))
-      (alone_where failed also (log_bytes old name) told_now.0 is (alone (log_bytes old name) told_now.0 told told_now.1 unfit))
+  -- a log that isn't fit keeps what it has
+  pub alone_into : before.moment ≡ 0 → IsClosedDisk disk new name → IsTimed disk → (fault : MigrateFault) → LeavesUnfitAlone journal_limits history fault before disk
+      → IsUnfit journal_limits history (log_bytes old name) → KeepsHistory (fault ≡ migrating.DeviceFault) old new name
+  alone_into begins closed timed fault alone unfit =
+      closed_history old new name disk file closed (fault ≡ migrating.DeviceFault)
+      (subst (λ o. LeavesAlone (fault ≡ migrating.DeviceFault) log (bytes_or_none o)) (sym told_now.1) content)
+      (λ entries has. subst (λ o. HasHistory entries (bytes_or_none o)) (sym told_now.1) (∥∥₁_map has (same_log entries log told_now.0 content.leaves.same)))
+      (λ s c synced was. left.images s c (ap disk.synced begins ∙ synced) was)
+      (λ dated none. ap bytes_or_none (m.unsynced (sym m.dated ∙ dated) (ap disk.synced begins ∙ none) ∙ told))
+      (λ other synced. settled_now before disk begins timed synced told_now.0 told_now.1 (⊎_elim (λ only. inl only) (λ same. inr same.1) (left.settled other)))
+    where
+      log : List ℕ
+      log = log_bytes old name
+
+      left : LeavesRefused fault log before disk
+      left = alone log told unfit
+
+      content : LeavesAlone (fault ≡ migrating.DeviceFault) log told_now.0
+      content = left.content told_now.0 told_now.1
 
 pub images_into : (history : List Entry) (room : RoomView) (name : List ℕ) (disk : DiskView) → room.has_log name ≡ true → SameDisk disk (room.log name)
     → ((c : List ℕ) → disk.image c → IsBrought history c) → HasInEachImage history room name
@@ -85,16 +92,18 @@ module _ (history : List Entry) (old opened brought closed : RoomView) (from int
   has_first : (entries : List Entry) → HasHistory entries (log_bytes old into) → HasHistory entries (log_bytes opened into)
   has_first entries has = subst (λ bytes. HasHistory entries bytes) (sym bytes_first) has
 
+  untouched_across : IsUntouched opened brought into → IsUntouched old closed into
+  untouched_across u = record {
+    file = last.files into (differ, tt) ∙ u.file ∙ first.files into (differ, tt);
+    is_log = last.log_names into (differ, tt) ∙ u.is_log ∙ first.log_names into (differ, tt);
+    log = λ is.
+        let then = first.log_names into (differ, tt) ∙ is in
+        same_disk_then (old.log into) (opened.log into) (closed.log into) (first.logs into (differ, tt) is)
+        (same_disk_then (opened.log into) (brought.log into) (closed.log into) (u.log then) (last.logs into (differ, tt) (u.is_log ∙ then)));
+  }
+
   pub brings_across : BringsInto history opened brought into → BringsInto history old closed into
-  brings_across (Unopened u) =
-      Unopened (record {
-        file = last.files into (differ, tt) ∙ u.file ∙ first.files into (differ, tt);
-        is_log = last.log_names into (differ, tt) ∙ u.is_log ∙ first.log_names into (differ, tt);
-        log = λ is.
-            let then = first.log_names into (differ, tt) ∙ is in
-            same_disk_then (old.log into) (opened.log into) (closed.log into) (first.logs into (differ, tt) is)
-            (same_disk_then (opened.log into) (brought.log into) (closed.log into) (u.log then) (last.logs into (differ, tt) (u.is_log ∙ then)));
-      })
+  brings_across (Unopened u) = Unopened (untouched_across u)
   brings_across (Opened is_log images content unsynced) =
       let unchanged = (last.logs into (differ, tt) is_log).unchanged in
       Opened (last.log_names into (differ, tt) ∙ is_log)
@@ -112,11 +121,22 @@ module _ (history : List Entry) (old opened brought closed : RoomView) (from int
     images = λ c image. has.images c (((last.logs into (differ, tt) has.is_log).unchanged.images c).0 image);
   }
 
-  pub alone_across : (failed : Type 0) → LeavesAlone failed (log_bytes opened into) (log_bytes brought into)
-      → LeavesAlone failed (log_bytes old into) (log_bytes closed into)
-  alone_across failed alone =
-      subst (λ log. LeavesAlone failed log (log_bytes closed into)) bytes_first
-      (subst (λ now. LeavesAlone failed (log_bytes opened into) now) (sym bytes_last) alone)
+  pub keeps_across : (failed : Type 0) → KeepsHistory failed opened brought into → KeepsHistory failed old closed into
+  keeps_across failed (journals.Unopened u) = journals.Unopened (untouched_across u)
+  keeps_across failed (journals.Opened c) =
+      let unchanged = (last.logs into (differ, tt) c.is_log).unchanged in
+      journals.Opened (record {
+        is_log = last.log_names into (differ, tt) ∙ c.is_log;
+        alone = subst (λ log. LeavesAlone failed log (log_bytes closed into)) bytes_first
+            (subst (λ now. LeavesAlone failed (log_bytes opened into) now) (sym bytes_last) c.alone);
+        history = λ entries has. subst (λ bytes. HasHistory entries bytes) (sym bytes_last) (c.history entries (has_first entries has));
+        images = λ s i synced left. subst (λ log. LeavesLog log i) bytes_first (c.images s i (sym (unchanged.syncs 0) ∙ synced) ((unchanged.lefts s i).0 left));
+        image_history = λ entries s i has synced left.
+            c.image_history entries s i (has_first entries has) (sym (unchanged.syncs 0) ∙ synced) ((unchanged.lefts s i).0 left);
+        unsynced = λ dated none. bytes_last ∙ c.unsynced (sym unchanged.dated ∙ dated) (sym (unchanged.syncs 0) ∙ none) ∙ bytes_first;
+        settled = λ other synced i image.
+            c.settled other (λ dated. ap is_some (sym (unchanged.syncs 0)) ∙ synced (unchanged.dated ∙ dated)) i ((unchanged.images i).0 image) ∙ sym bytes_last;
+      })
 
 -- three steps that touch two names alone
 module _ (old opened brought closed : RoomView) (from into : List ℕ) (first : SameBut old opened (from ∷ [])) (second : SameBut opened brought (into ∷ []))

@@ -5,7 +5,6 @@ use Rattle.outside.specs.Fault.{Rose}
 use Rattle.outside.specs.Room.{RoomView, SameBut}
 use Rattle.commit_journal.specs.Log.{version_of}
 use Rattle.durable_catalogue.specs.Logs.{HasHistory}
-use Rattle.durable_catalogue.specs.Refused.{LeavesAlone}
 use Rattle.console_lines.specs.declared.fault.Fault.{Fault}
 use Rattle.console_lines.specs.declared.fault.Fault.TheVariants.{Device, OldVersion}
 use Rattle.room_files.specs.Journals.{journal_limits, log_bytes, KeepsHistory}
@@ -22,14 +21,14 @@ pub record IsBroughtInto (history : List Entry) (version : ℕ) (old new : RoomV
   pub all : (was : List ℕ) → old.tells ≡ true → HasHistory history was → IsBrought history (log_bytes new into)
   pub durable : (was : List ℕ) → old.tells ≡ true → HasHistory history was → HasInEachImage history new into
 
--- it wasn't: the archive is of the newest version, and nothing was opened; or the new log doesn't take it, and is left alone where it is
--- not fit for that
+-- it wasn't: the archive is of the newest version, and nothing was opened; or the new log doesn't take it, and keeps what it has where
+-- it is not fit for that
 pub data IsUnbrought (history : List Entry) (version : ℕ) (old new : RoomView) (into : List ℕ) (fault : Fault) : Type 0 where
   Newest : fault ≡ OldVersion → (version ≡ 1 → ⊥) → SameBut old new [] → IsUnbrought history version old new into fault
   Refused : (reason : MigrateFault) → version ≡ 1 → fault ≡ fault_of_migrating reason
       → (old.tells ≡ true → IsUnmigrated journal_limits history (log_bytes old into) reason)
       → ((was : List ℕ) → old.tells ≡ true → HasHistory history was → IsUnfit journal_limits history (log_bytes old into)
-      → LeavesAlone (fault ≡ Device) (log_bytes old into) (log_bytes new into))
+      → KeepsHistory (fault ≡ Device) old new into)
       → (fault ≡ Device → Rose (old.log_faults into) (new.log_faults into)) → IsUnbrought history version old new into fault
 
 -- a device's fault was told, and the count of faults of that name's logs rose
@@ -41,7 +40,7 @@ pub record IsBroughtOver (from into : List ℕ) (old new : RoomView) (result : R
   pub keeps : old.tells ≡ true → KeepsHistory (IsDeviceFaultOf old new from result) old new from
   pub brings : (entries : List Entry) → old.tells ≡ true → HasHistory entries (log_bytes old from) → ∥ BringsInto entries old new into ∥₁
   pub alone : (entries : List Entry) → old.tells ≡ true → HasHistory entries (log_bytes old from) → IsUnfit journal_limits entries (log_bytes old into)
-      → LeavesAlone (IsDeviceFaultOf old new into result) (log_bytes old into) (log_bytes new into)
+      → KeepsHistory (IsDeviceFaultOf old new into result) old new into
   pub refused : (why : Fault) → result ≡ Err why → (WhyNotFrom old from why × SameBut old new (from ∷ [])) ⊎ WhyNotInto old from into why
   pub device : result ≡ Err Device → Rose (old.log_faults from) (new.log_faults from) ⊎ Rose (old.log_faults into) (new.log_faults into)
   pub history : (count : ℕ) → result ≡ Ok count → old.tells ≡ true → HasFittingHistory (log_bytes old from)

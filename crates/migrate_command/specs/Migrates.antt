@@ -9,7 +9,6 @@ use Rattle.outside.specs.Sink.{WritesFront}
 use Rattle.commit_journal.specs.Log.{version_of}
 use Rattle.durable_catalogue.specs.Logs.{HasHistory}
 use Rattle.durable_catalogue.specs.Openings.{IsUnopened}
-use Rattle.durable_catalogue.specs.Refused.{LeavesAlone}
 use Rattle.durable_catalogue.specs.declared.fault.OpenFault.{OpenFault}
 use Rattle.durable_catalogue.specs.declared.fault.OpenFault.TheVariants as opening
 use Rattle.console_lines.specs.Ends.{Outcome, IsTold, IsUntold, console_unwritten}
@@ -93,9 +92,9 @@ pub record Migrates (from into : List ℕ) (o : Outcome) : Type 0 where
   pub ends : EndsMigrating o.end
   pub keeps : o.old.tells ≡ true → KeepsHistory (IsDeviceOf o from) o.old o.new from
   pub brings : (entries : List Entry) → o.old.tells ≡ true → HasHistory entries (log_bytes o.old from) → ∥ BringsInto entries o.old o.new into ∥₁
-  -- a new one that is not fit for the history is left alone, whatever the end is
+  -- a new one that is not fit for the history is left alone, whatever the end is, in its file and in what a crash may leave
   pub alone : (entries : List Entry) → o.old.tells ≡ true → HasHistory entries (log_bytes o.old from)
-      → IsUnfit journal_limits entries (log_bytes o.old into) → LeavesAlone (IsDeviceOf o into) (log_bytes o.old into) (log_bytes o.new into)
+      → IsUnfit journal_limits entries (log_bytes o.old into) → KeepsHistory (IsDeviceOf o into) o.old o.new into
   -- a fault is told for its reason; one of the old journal comes before the new one is opened
   pub told : (why : Fault) → o.end ≡ Told why
       → IsTold why o × ((WhyNotFrom o.old from why × SameBut o.old o.new (from ∷ [])) ⊎ WhyNotInto o.old from into why)

@@ -1,24 +1,56 @@
 -- A journal as it is opened and closed again.
-use Rattle.std.proofs.Common.{◌≡◌, inr, ◌∙◌, ℕ, ◌≤◌, true, List, length, Option, Some, None, is_some, sym, ap, subst, arith, []}
+use Rattle.std.proofs.Common.{◌≡◌, ◌⊎◌, inl, inr, ⊎_elim, ◌∙◌, ℕ, ◌<◌, ◌≤◌, Bool, true, false, List, length, Option, Some, None, is_some, refl, sym, ap, subst, arith, []}
+use Rattle.std.proofs.Math.Logic.{∥∥₁_map}
 use Rattle.marc_types.specs.declared.entry.Entry.{Entry}
-use Rattle.outside.specs.Disk.{DiskView, SameDisk, OnlyContent}
+use Rattle.outside.specs.Disk.{DiskView, SameDisk, Unchanged, OnlyContent}
 use Rattle.outside.specs.Room.{RoomView, SameBut, bytes_or_none}
-use Rattle.commit_journal.specs.Log.{walk_of}
 use Rattle.commit_journal.specs.Journal.{IsSettled, EndsAt, LeavesLog}
 use Rattle.durable_catalogue.specs.Logs.{HasHistory}
 use Rattle.durable_catalogue.specs.Openings.{IsOpening, KeepsContent}
-use Rattle.durable_catalogue.specs.Refused.{LeavesAlone, LeavesDiskAlone, IsPutInOrder}
+use Rattle.durable_catalogue.specs.Refused.{LeavesAlone, LeavesDiskAlone, LeavesSettled, IsPutInOrder}
+use Rattle.durable_catalogue.specs.declared.fault.OpenFault.{OpenFault}
+use Rattle.durable_catalogue.specs.declared.fault.OpenFault.TheVariants.{DeviceFault}
 use Rattle.durable_catalogue.specs.Durables.{Opening, IsLeft, marked}
 use Rattle.durable_catalogue.proofs.Keeping.{some_of}
-use Rattle.room_files.specs.Journals.{log_bytes, KeepsLog, KeepsHistory, Unopened, Opened, IsClosedDisk, IsClosedTo, IsDurable}
+use Rattle.durable_catalogue.proofs.Readings.{same_log}
+use Rattle.room_files.specs.Journals.{log_bytes, HasSynced, KeepsLog, KeepsHistory, Unopened, Opened, IsClosedDisk, IsClosedTo, IsDurable}
+
+-- what the trait says of a disk's moments
+pub record IsTimed (disk : DiskView) : Type 0 where
+  pub after : (t s : ℕ) → disk.synced t ≡ Some s → t < s
+  pub by_now : (t s : ℕ) → disk.synced t ≡ Some s → s ≤ disk.moment
+  pub undated : disk.dated ≡ false → OnlyContent disk
+
+-- where a disk has synced, some call was made on it, so the content is all that a crash may leave
+pub settled_now : (old new : DiskView) → old.moment ≡ 0 → IsTimed new → HasSynced new → (now : List ℕ) → new.content ≡ Some now
+    → OnlyContent new ⊎ SameDisk old new → (c : List ℕ) → new.image c → c ≡ bytes_or_none new.content
+settled_now old new begins timed synced now told either c image = decided either
+  where
+    only : OnlyContent new → c ≡ bytes_or_none new.content
+    only is = is now c told image ∙ sym (ap bytes_or_none told)
+
+    never : SameDisk old new → (s : ℕ) → new.synced 0 ≡ Some s → ⊥
+    never same s at =
+        let moment = same.unchanged.moment in
+        let later = timed.after 0 s at in
+        let no_later = timed.by_now 0 s at in
+        omega (arith, moment, begins, later, no_later)
+
+    untouched : SameDisk old new → (b : Bool) → new.dated ≡ b → c ≡ bytes_or_none new.content
+    untouched same true dated = let s = some_of (new.synced 0) (synced dated) in absurd (never same s.0 s.1)
+    untouched same false dated = only (timed.undated dated)
+
+    decided : OnlyContent new ⊎ SameDisk old new → c ≡ bytes_or_none new.content
+    decided (inl is) = only is
+    decided (inr same) = untouched same new.dated refl
 
 -- a log that was opened: what it was before and is now
 module _ (old new : DiskView) (log : List ℕ) (told : old.content ≡ Some log) (begins : old.moment ≡ 0) (opening : IsOpening old new) where
   since_began : (s : ℕ) → new.synced 0 ≡ Some s → new.synced old.moment ≡ Some s
   since_began s synced = ap new.synced begins ∙ synced
 
-  pub images_keep : (entries : List Entry) (s : ℕ) (c : List ℕ) → HasHistory entries log → new.synced 0 ≡ Some s → new.left s c → HasHistory entries c
-  images_keep entries s c has synced left = opening.history s log c entries (since_began s synced) told left has
+  pub images_keep : (s : ℕ) (c : List ℕ) → new.synced 0 ≡ Some s → new.left s c → LeavesLog log c
+  images_keep s c synced left = opening.images s log c (since_began s synced) told left
 
   -- the content now
   now_told : (now : List ℕ) × (new.content ≡ Some now)
@@ -47,26 +79,42 @@ module _ (old new : DiskView) (log : List ℕ) (told : old.content ≡ Some log)
   pub refusal_alone : (failed : Type 0) → LeavesDiskAlone failed old new → LeavesAlone failed log (bytes_or_none new.content)
   refusal_alone failed alone = subst (λ o. LeavesAlone failed log (bytes_or_none o)) (sym now_told.1) (alone log now_told.0 told now_told.1)
 
+  -- and settled, where it has synced
+  pub refusal_settled : (fault : OpenFault) → LeavesSettled old new fault → IsTimed new → (fault ≡ DeviceFault → ⊥) → HasSynced new
+      → (c : List ℕ) → new.image c → c ≡ bytes_or_none new.content
+  refusal_settled fault settled timed other synced =
+      settled_now old new begins timed synced now_told.0 now_told.1 (⊎_elim (λ only. inl only) (λ same. inr same.1) (settled other))
+
 -- a log that is closed has what its disk has
 module _ (old new : RoomView) (name : List ℕ) (disk : DiskView) (file : new.file name ≡ disk.content) (closed : IsClosedDisk disk new name) where
   pub closed_history : (failed : Type 0) → LeavesAlone failed (log_bytes old name) (bytes_or_none disk.content)
       → ((entries : List Entry) → HasHistory entries (log_bytes old name) → HasHistory entries (bytes_or_none disk.content))
-      → ((entries : List Entry) (s : ℕ) (c : List ℕ) → HasHistory entries (log_bytes old name) → disk.synced 0 ≡ Some s → disk.left s c → HasHistory entries c)
+      → ((s : ℕ) (c : List ℕ) → disk.synced 0 ≡ Some s → disk.left s c → LeavesLog (log_bytes old name) c)
       → (disk.dated ≡ true → disk.synced 0 ≡ None → bytes_or_none disk.content ≡ log_bytes old name)
+      → ((failed → ⊥) → HasSynced disk → (c : List ℕ) → disk.image c → c ≡ bytes_or_none disk.content)
       → KeepsHistory failed old new name
-  closed_history failed alone content images unsynced =
-      let unchanged = closed.same.unchanged in
-      Opened closed.is_log
-      (subst (λ o. LeavesAlone failed (log_bytes old name) (bytes_or_none o)) (sym file) alone)
-      (λ entries has. subst (λ o. HasHistory entries (bytes_or_none o)) (sym file) (content entries has))
-      (λ entries s c has synced left. images entries s c has (sym (unchanged.syncs 0) ∙ synced) ((unchanged.lefts s c).0 left))
-      (λ dated none. ap bytes_or_none file ∙ unsynced (sym unchanged.dated ∙ dated) (sym (unchanged.syncs 0) ∙ none))
+  closed_history failed alone content images unsynced settled = Opened (record {
+    is_log = closed.is_log;
+    alone = subst (λ o. LeavesAlone failed (log_bytes old name) (bytes_or_none o)) (sym file) alone;
+    history = λ entries has. subst (λ o. HasHistory entries (bytes_or_none o)) (sym file) (content entries has);
+    images = each;
+    image_history = λ entries s c has synced left. ∥∥₁_map has (same_log entries (log_bytes old name) c (each s c synced left).same);
+    unsynced = λ dated none. ap bytes_or_none file ∙ unsynced (sym unchanged.dated ∙ dated) (sym (unchanged.syncs 0) ∙ none);
+    settled = λ other synced c image.
+        settled other (λ dated. ap is_some (sym (unchanged.syncs 0)) ∙ synced (unchanged.dated ∙ dated)) c ((unchanged.images c).0 image) ∙ sym (ap bytes_or_none file);
+  })
+    where
+      unchanged : Unchanged disk (new.log name)
+      unchanged = closed.same.unchanged
+
+      each : (s : ℕ) (c : List ℕ) → (new.log name).synced 0 ≡ Some s → (new.log name).left s c → LeavesLog (log_bytes old name) c
+      each s c synced left = images s c (sym (unchanged.syncs 0) ∙ synced) ((unchanged.lefts s c).0 left)
 
   -- it keeps what it kept
   pub closed_keeps : (failed : Type 0) → KeepsLog (log_bytes old name) disk → KeepsHistory failed old new name
   closed_keeps failed keeps =
       closed_history failed (record { leaves = keeps.leaves; bytes = λ other. inr keeps.bytes }) keeps.content keeps.images
-      (λ dated none. let no = sym (ap is_some none) ∙ keeps.synced dated in cc)
+      (λ dated none. let no = sym (ap is_some none) ∙ keeps.synced dated in cc) (λ other synced. keeps.only)
 
   -- and what was read of it is durable
   pub closed_durable : (log : List ℕ) → KeepsLog log disk → IsDurable new name
@@ -85,8 +133,15 @@ unopened_keeps failed old new name stays = Unopened (record { file = stays.files
 -- what is kept where one thing failed is kept where another did that comes with it
 pub keeps_where : (failed also : Type 0) (old new : RoomView) (name : List ℕ) → (failed → also) → KeepsHistory failed old new name → KeepsHistory also old new name
 keeps_where failed also old new name is (Unopened untouched) = Unopened untouched
-keeps_where failed also old new name is (Opened is_log alone content images unsynced) =
-    Opened is_log (record { leaves = alone.leaves; bytes = λ other. alone.bytes (λ f. other (is f)) }) content images unsynced
+keeps_where failed also old new name is (Opened closed) = Opened (record {
+  is_log = closed.is_log;
+  alone = record { leaves = closed.alone.leaves; bytes = λ other. closed.alone.bytes (λ f. other (is f)) };
+  history = closed.history;
+  images = closed.images;
+  image_history = closed.image_history;
+  unsynced = closed.unsynced;
+  settled = λ other. closed.settled (λ f. other (is f));
+})
 
 -- the same disk is left
 left_same : (o : Opening) (entries more : List Entry) (disk now : DiskView) → SameDisk disk now → IsLeft o entries more disk → IsLeft o entries more now

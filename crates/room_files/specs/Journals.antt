@@ -69,34 +69,43 @@ pub record IsClosedDisk (disk : DiskView) (room : RoomView) (name : List ℕ) : 
   pub is_log : room.has_log name ≡ true
   pub same : SameDisk disk (room.log name)
 
--- The log of that name keeps its history: it was not opened, and is as it was; or it was, and was closed as a log again, and its file
--- is left alone, with the history that it had, and so has each image since the first sync; of a log that tells its moments and has not
--- synced the file is as it was. Where a device failed, the file still has the frames that it had.
+-- a disk has synced since its time began, where it tells its moments
+abbrev pub HasSynced : DiskView → Type 0
+HasSynced disk = disk.dated ≡ true → is_some (disk.synced 0) ≡ true
+
+-- The log of that name was opened, and was closed as a log again. Its file is left alone, with the history that it had, and each image
+-- since the first sync is the same log, with that history; of a log that tells its moments and has not synced the file is as it was.
+-- Unless a device failed, its file is all that a crash may leave of a log that has synced.
+pub record IsClosedAgain (failed : Type 0) (old new : RoomView) (name : List ℕ) : Type 0 where
+  pub is_log : new.has_log name ≡ true
+  pub alone : LeavesAlone failed (log_bytes old name) (log_bytes new name)
+  pub history : (entries : List Entry) → HasHistory entries (log_bytes old name) → HasHistory entries (log_bytes new name)
+  pub images : (s : ℕ) (c : List ℕ) → (new.log name).synced 0 ≡ Some s → (new.log name).left s c → LeavesLog (log_bytes old name) c
+  pub image_history : (entries : List Entry) (s : ℕ) (c : List ℕ) → HasHistory entries (log_bytes old name) → (new.log name).synced 0 ≡ Some s
+      → (new.log name).left s c → HasHistory entries c
+  pub unsynced : (new.log name).dated ≡ true → (new.log name).synced 0 ≡ None → log_bytes new name ≡ log_bytes old name
+  pub settled : (failed → ⊥) → HasSynced (new.log name) → (c : List ℕ) → (new.log name).image c → c ≡ log_bytes new name
+
+-- The log of that name keeps its history: it was not opened, and is as it was; or it was, and was closed as a log again. Where a device
+-- failed, the file still has the frames that it had.
 pub data KeepsHistory (failed : Type 0) (old new : RoomView) (name : List ℕ) : Type 0 where
   Unopened : IsUntouched old new name → KeepsHistory failed old new name
-  Opened : new.has_log name ≡ true
-      → LeavesAlone failed (log_bytes old name) (log_bytes new name)
-      → ((entries : List Entry) → HasHistory entries (log_bytes old name) → HasHistory entries (log_bytes new name))
-      → ((entries : List Entry) (s : ℕ) (c : List ℕ) → HasHistory entries (log_bytes old name) → (new.log name).synced 0 ≡ Some s → (new.log name).left s c
-      → HasHistory entries c)
-      → ((new.log name).dated ≡ true → (new.log name).synced 0 ≡ None → log_bytes new name ≡ log_bytes old name)
-      → KeepsHistory failed old new name
+  Opened : IsClosedAgain failed old new name → KeepsHistory failed old new name
 
 -- A log that was opened is in order, and has the frames that it had. It keeps the history that its bytes had: its content has it,
--- and so has each image since the first sync. What was read is durable: it has synced, where it tells its moments, and its content
+-- and each image since the first sync is the same log. What was read is durable: it has synced, where it tells its moments, and its content
 -- is all that a crash now may leave.
 pub record KeepsLog (log : List ℕ) (disk : DiskView) : Type 0 where
   pub leaves : LeavesLog log (bytes_or_none disk.content)
   pub bytes : bytes_or_none disk.content ≡ in_order log
   pub content : (entries : List Entry) → HasHistory entries log → HasHistory entries (bytes_or_none disk.content)
-  pub images : (entries : List Entry) (s : ℕ) (c : List ℕ) → HasHistory entries log → disk.synced 0 ≡ Some s → disk.left s c
-      → HasHistory entries c
-  pub synced : disk.dated ≡ true → is_some (disk.synced 0) ≡ true
+  pub images : (s : ℕ) (c : List ℕ) → disk.synced 0 ≡ Some s → disk.left s c → LeavesLog log c
+  pub synced : HasSynced disk
   pub only : (c : List ℕ) → disk.image c → c ≡ bytes_or_none disk.content
 
 -- the file of that name is a closed log, and durable: it has synced, where it tells its moments, and its file is all that a crash may
 -- leave
 pub record IsDurable (room : RoomView) (name : List ℕ) : Type 0 where
   pub is_log : room.has_log name ≡ true
-  pub synced : (room.log name).dated ≡ true → is_some ((room.log name).synced 0) ≡ true
+  pub synced : HasSynced (room.log name)
   pub only : (c : List ℕ) → (room.log name).image c → c ≡ log_bytes room name

@@ -30,7 +30,7 @@ pub returns-in_err-log-clause-fault : goal.returns-in_err-log-clause-fault
 returns-in_err-log-clause-fault g c =
     let exit = err_from_is_err_and c.from_residual-in_err-log.result c.from_residual-in_err-log.ensures.1 in
     let synced = c.in_ok-sync.ensures in
-    rw (exit.1, exit.2) (open_cause _ _ _ c.in_err-log.field-0.0 synced.content synced.len synced.crash synced.cause.later c.in_err-log.ensures.fault)
+    rw (exit.1, exit.2) (open_cause _ _ _ c.in_err-log.field-0.0 synced.content synced.len synced.crash synced.durable synced.cause.later c.in_err-log.ensures.fault)
 
 pub returns-clause-synced : goal.returns-clause-synced
 returns-clause-synced g c =

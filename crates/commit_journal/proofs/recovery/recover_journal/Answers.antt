@@ -1,13 +1,13 @@
 use Rattle.std.proofs.Common.{◌+◌, ◌∙◌, ap, take, arith}
 use Rattle.std.specs.Option.{option_map}
-use Rattle.commit_journal.specs.Journal.{SameLog}
-use Rattle.commit_journal.proofs.Logs.{same_self}
+use Rattle.commit_journal.specs.Journal.{LeavesLog}
+use Rattle.commit_journal.proofs.Logs.{leaves_self}
 use Rattle.commit_journal.proofs.Steps.{keeps_unchanged}
 use Rattle.commit_journal.proofs.Recoveries.{journal_recovered, journal_kept, leaves_same, leaves_journal}
 use Rattle.commit_journal.proofs.recovery.recover_journal.Goals as goal
 
 pub returns-in_err-log-clause-crash : goal.returns-in_err-log-clause-crash
-returns-in_err-log-clause-crash g c log told = keeps_unchanged (SameLog log) _ _ log c.requires.only told c.read_log.ensures.read.unchanged (same_self log)
+returns-in_err-log-clause-crash g c log told = keeps_unchanged (LeavesLog log) _ _ log c.requires.only told c.read_log.ensures.read.unchanged (leaves_self log)
 
 pub returns-in_err-cut_behind-clause-crash : goal.returns-in_err-cut_behind-clause-crash
 returns-in_err-cut_behind-clause-crash g c log told =

@@ -1,7 +1,7 @@
 use Rattle.std.proofs.Common.{◌≡◌, ◌∙◌}
 use Rattle.durable_catalogue.specs.declared.fault.OpenFault.TheVariants.{DeviceFault}
 use Rattle.room_files.specs.Journals.{log_bytes}
-use Rattle.room_files.proofs.Journals.{images_keep, content_keeps, unsynced_keeps, opening_keeps, refusal_alone, closed_history}
+use Rattle.room_files.proofs.Journals.{images_keep, content_keeps, unsynced_keeps, opening_keeps, refusal_alone, refusal_settled, closed_history}
 use Rattle.history_logs.proofs.rooms.open_history.Goals as goal
 
 pub returns-in-Ok-open-clause-kept : goal.returns-in-Ok-open-clause-kept
@@ -14,6 +14,7 @@ returns-in-Ok-open-clause-kept g c told =
 
 pub returns-in-Err-clause-keeps : goal.returns-in-Err-clause-keeps
 returns-in-Err-clause-keeps g c told =
+    let law = g.met.R.Log.Disk g.world.𝓛 g.world.𝓜 g.world.𝓡 ((λ s x. x), (λ x. x), (λ x. x), λ x. x) in
     let seen = g.R.Log.Disk.seen in
     let room = g.R.Room.seen in
     let was = seen c.in-Ok.log in
@@ -30,3 +31,5 @@ returns-in-Err-clause-keeps g c told =
     (content_keeps was now log was_told begins refused.crash refused.content)
     (images_keep was now log was_told begins refused.crash)
     (unsynced_keeps was now log was_told begins refused.crash)
+    (refusal_settled was now log was_told begins refused.crash c.in-Err.failed.1 refused.settled
+    (record { after = law.synced_after c.in-Err.failed.0; by_now = law.synced_by_now c.in-Err.failed.0; undated = law.undated_content c.in-Err.failed.0 }))

@@ -1,8 +1,6 @@
-use Rattle.std.proofs.Common.{◌≡◌, ◌∙◌, Some, sym, ap, subst}
-use Rattle.durable_catalogue.proofs.Refused.{recovered_alone, unwritten_alone}
-use Rattle.journal_migration.specs.declared.fault.MigrateFault.TheVariants.{DeviceFault}
-use Rattle.journal_migration.specs.Migrations.{IsUnmigrated, IsMigration}
-use Rattle.journal_migration.proofs.Opened.{opened_alone, is_version, fit, unfit, brought_all, images_all, migrated, unmigrated, unopened, device_words}
+use Rattle.std.proofs.Common.{◌∙◌, sym, ap, subst}
+use Rattle.journal_migration.specs.Migrations.{IsUnmigrated, IsMigration, LeavesRefused}
+use Rattle.journal_migration.proofs.Opened.{opened_alone, is_version, fit, unfit, brought_all, images_all, migrated, unmigrated, unopened, left_unfit, left_unopened}
 use Rattle.journal_migration.proofs.migration.migrate.Goals as goal
 
 pub returns-in-Ok-bring-clause-fit : goal.returns-in-Ok-bring-clause-fit
@@ -70,28 +68,31 @@ returns-in-Ok-clause-fault g c log told =
     unmigrated c.in-Ok.frames journal.place journal.version (seen c.args.new) (seen journal.disk) c.args.limits history c.in-Err-bring.fault c.in-Ok.ensures.recovered (why version) log told
 
 pub returns-in-Ok-clause-left_alone : goal.returns-in-Ok-clause-left_alone
-returns-in-Ok-clause-left_alone g c log now told is_now none =
+returns-in-Ok-clause-left_alone g c log told none =
     let seen = g.D.Disk.seen in
     let journal = c.in-Ok.journal in
     let old = seen c.args.new in
     let mid = seen journal.disk in
     let history = c.args.old.now.core.history in
     let opened = c.in-Ok.ensures in
+    let fault = c.in-Err-bring.fault in
     let alone = rw (c.as_slice.ensures, c.core.ensures.value) at c.bring.ensures.alone in
     let version = is_version history c.in-Ok.frames journal.place journal.version old mid opened.recovered opened.crash log told in
     let no_front = unfit history c.in-Ok.frames journal.place journal.version old mid opened.recovered opened.crash c.args.limits log told none in
-    recovered_alone old mid opened.content c.in-Ok.frames journal.place journal.version opened.recovered (c.in-Err-bring.fault ≡ DeviceFault) log now told
-    (subst (λ j. (seen j.disk).content ≡ Some now) (alone version no_front) (sym (ap (λ d. (seen d).content) c.close-in-Err-bring.ensures) ∙ is_now))
+    subst (λ d. LeavesRefused fault log old (seen d)) (sym c.close-in-Err-bring.ensures)
+    (subst (λ j. LeavesRefused fault log old (seen j.disk)) (sym (alone version no_front))
+    (left_unfit history c.in-Ok.frames journal.place journal.version old mid opened.recovered opened.crash opened.content fault log told))
 
 pub returns-clause-crash : goal.returns-clause-crash
 returns-clause-crash g c was is_history =
     opened_alone c.args.limits c.args.old.now.core.history (g.D.Disk.seen c.args.new) (g.D.Disk.seen c.in-Err.failed.0) c.in-Err.ensures.crash c.in-Err.ensures.content
 
 pub returns-clause-left_alone : goal.returns-clause-left_alone
-returns-clause-left_alone g c log now told is_now none =
+returns-clause-left_alone g c log told none =
     let seen = g.D.Disk.seen in
-    unwritten_alone (seen c.args.new) (seen c.in-Err.failed.0) c.in-Err.ensures.content (c.migrate_fault.result ≡ DeviceFault) c.in-Err.failed.1 c.in-Err.ensures.fault
-    (λ device. c.migrate_fault.ensures ∙ device_words c.in-Err.failed.1 device) log now told is_now
+    let refused = c.in-Err.ensures in
+    subst (λ f. LeavesRefused f log (seen c.args.new) (seen c.in-Err.failed.0)) (sym c.migrate_fault.ensures)
+    (left_unopened (seen c.args.new) (seen c.in-Err.failed.0) c.in-Err.failed.1 refused.crash refused.content refused.fault log told)
 
 pub returns-clause-fault : goal.returns-clause-fault
 returns-clause-fault g c log told =

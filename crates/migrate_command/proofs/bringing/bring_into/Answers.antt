@@ -6,8 +6,9 @@ use Rattle.room_files.specs.Journals.{log_bytes}
 use Rattle.journal_migration.specs.declared.fault.MigrateFault.TheVariants as migrating
 use Rattle.migrate_command.specs.Faults.{fault_of_migrating}
 use Rattle.migrate_command.specs.Bringing.{Newest, Refused}
+use Rattle.room_files.proofs.Journals.{unopened_keeps, keeps_where}
 use Rattle.migrate_command.proofs.Endings.{migrating_device}
-use Rattle.migrate_command.proofs.Rooms.{alone_same, brings_into, all_into, alone_into, images_into, untouched_into, rose_into}
+use Rattle.migrate_command.proofs.Rooms.{brings_into, all_into, alone_into, images_into, untouched_into, rose_into}
 use Rattle.migrate_command.proofs.bringing.bring_into.Goals as goal
 
 -- the archive is of the newest version
@@ -33,8 +34,7 @@ returns-in_default-clause-fault g c =
     let into = c.args.into.now in
     let stays = c.in_default.ensures.failed in
     Refused migrating.DeviceFault (sym c.version.ensures ∙ c.if-version-ne1.false) refl (λ tells. tt)
-    (λ was tells is_history none.
-    alone_same (Device ≡ Device) (log_bytes (room c.args.room.now) into) (log_bytes (room c.open_log.new.self) into) (ap bytes_or_none (stays.files into tt)))
+    (λ was tells is_history none. unopened_keeps (Device ≡ Device) (room c.args.room.now) (room c.open_log.new.self) into stays)
     (λ device. c.in_default.ensures.cause.failed)
 
 -- the history was brought into it
@@ -81,6 +81,7 @@ returns-in-Err-clause-brings g c was tells is_history =
 
 pub returns-in-Err-clause-fault : goal.returns-in-Err-clause-fault
 returns-in-Err-clause-fault g c =
+    let law = g.met.R.Log.Disk g.world.𝓛 g.world.𝓜 g.world.𝓡 ((λ s x. x), (λ x. x), (λ x. x), λ x. x) in
     let disk = g.R.Log.Disk.seen in
     let room = g.R.Room.seen in
     let into = c.args.into.now in
@@ -90,10 +91,14 @@ returns-in-Err-clause-fault g c =
     Refused failed.1 (sym c.version.ensures ∙ c.if-version-ne1.false) told
     (λ tells. c.in-Err.ensures.fault (log_bytes (room c.args.room.now) into) (c.in-Ok.ensures.bytes tells))
     (λ was tells is_history none.
-    alone_into c.args.archive.now.core.history (room c.args.room.now) (room c.close_log-in-Err.new.self) into (disk c.in-Ok.log) (disk failed.0)
-    (c.in-Ok.ensures.bytes tells) (closing.bytes (c.in-Ok.ensures.apart.tells ∙ tells)) (c.in-Err.ensures.crash was is_history)
-    (failed.1 ≡ migrating.DeviceFault) (c.fault_of_migrating.result ≡ Device) (λ device. told ∙ ap fault_of_migrating device)
-    c.in-Err.ensures.left_alone none)
+    let now = room c.close_log-in-Err.new.self in
+    let open_tells = c.in-Ok.ensures.apart.tells ∙ tells in
+    keeps_where (failed.1 ≡ migrating.DeviceFault) (c.fault_of_migrating.result ≡ Device) (room c.args.room.now) now into (λ device. told ∙ ap fault_of_migrating device)
+    (alone_into c.args.archive.now.core.history (room c.args.room.now) now into (disk c.in-Ok.log) (disk failed.0)
+    (c.in-Ok.ensures.bytes tells) (closing.bytes open_tells) (c.in-Err.ensures.crash was is_history)
+    c.in-Ok.ensures.beginning (record { is_log = closing.log open_tells; same = closing.moments open_tells })
+    (record { after = law.synced_after failed.0; by_now = law.synced_by_now failed.0; undated = law.undated_content failed.0 })
+    failed.1 c.in-Err.ensures.left_alone none))
     (λ device.
     rose_into ((room c.args.room.now).log_faults into) ((room c.open_log.new.self).log_faults into) ((room c.close_log-in-Err.new.self).log_faults into)
     (disk c.in-Ok.log).faults (disk failed.0).faults c.in-Ok.ensures.fresh c.in-Ok.ensures.cause.later closing.counted

@@ -1,4 +1,3 @@
-use Rattle.std.proofs.Common.{◌≡◌, None}
 use Rattle.durable_catalogue.specs.Durables.{mark_of, opening}
 use Rattle.durable_catalogue.proofs.Frames.{no_mark_was}
 use Rattle.room_files.proofs.Journals.{closed_to}

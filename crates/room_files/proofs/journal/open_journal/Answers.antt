@@ -1,7 +1,7 @@
 use Rattle.std.proofs.Common.{◌≡◌, ◌∙◌}
 use Rattle.durable_catalogue.specs.declared.fault.OpenFault.TheVariants.{DeviceFault}
 use Rattle.room_files.specs.Journals.{log_bytes}
-use Rattle.room_files.proofs.Journals.{images_keep, content_keeps, unsynced_keeps, refusal_alone, closed_history}
+use Rattle.room_files.proofs.Journals.{images_keep, content_keeps, unsynced_keeps, refusal_alone, refusal_settled, closed_history}
 use Rattle.room_files.proofs.journal.open_journal.Goals as goal
 
 pub returns-in-Err-clause-old_first : goal.returns-in-Err-clause-old_first
@@ -10,6 +10,7 @@ returns-in-Err-clause-old_first g c full told =
 
 pub returns-in-Err-clause-keeps : goal.returns-in-Err-clause-keeps
 returns-in-Err-clause-keeps g c told =
+    let law = g.met.R.Log.Disk g.world.𝓛 g.world.𝓜 g.world.𝓡 ((λ s x. x), (λ x. x), (λ x. x), λ x. x) in
     let seen = g.R.Log.Disk.seen in
     let room = g.R.Room.seen in
     let was = seen c.in-Ok.log in
@@ -26,3 +27,5 @@ returns-in-Err-clause-keeps g c told =
     (content_keeps was now log was_told begins refused.crash refused.content)
     (images_keep was now log was_told begins refused.crash)
     (unsynced_keeps was now log was_told begins refused.crash)
+    (refusal_settled was now log was_told begins refused.crash c.in-Err.failed.1 refused.settled
+    (record { after = law.synced_after c.in-Err.failed.0; by_now = law.synced_by_now c.in-Err.failed.0; undated = law.undated_content c.in-Err.failed.0 }))

@@ -5,8 +5,8 @@ use Rattle.durable_catalogue.specs.Logs.{payloads_of}
 use Rattle.durable_catalogue.specs.Openings.{IsOpening, IsUnloaded, IsUnopened, KeepsContent}
 use Rattle.durable_catalogue.proofs.Opened.{reading, opening_of, either_version, unloaded, unopened}
 use Rattle.durable_catalogue.specs.declared.fault.OpenFault.TheVariants.{DeviceFault}
-use Rattle.durable_catalogue.specs.Refused.{LeavesDiskAlone}
-use Rattle.durable_catalogue.proofs.Refused.{leaves_history, recovered_order, recovered_alone, unwritten_alone}
+use Rattle.durable_catalogue.specs.Refused.{LeavesDiskAlone, LeavesSettled}
+use Rattle.durable_catalogue.proofs.Refused.{leaves_history, recovered_order, recovered_alone, unwritten_alone, recovered_settled, refused_settled}
 use Rattle.durable_catalogue.proofs.archive.Archive.open.Goals as goal
 
 pub returns-in-Ok-load_either-clause-history : goal.returns-in-Ok-load_either-clause-history
@@ -77,3 +77,16 @@ returns-clause-fault g c log told =
 
 pub returns-in-Ok-load_either-clause-only : goal.returns-in-Ok-load_either-clause-only
 returns-in-Ok-load_either-clause-only g c = c.in-Ok.ensures.recovered.settled.only
+
+pub returns-in-Ok-clause-settled : goal.returns-in-Ok-clause-settled
+returns-in-Ok-clause-settled g c =
+    let seen = g.D.Disk.seen in
+    let journal = c.in-Ok.journal in
+    subst (λ d. LeavesSettled (seen c.args.disk) (seen d) c.in-Err-load_either.fault) (sym c.close.ensures)
+    (recovered_settled c.in-Ok.frames journal.place journal.version (seen c.args.disk) (seen journal.disk) c.in-Err-load_either.fault c.in-Ok.ensures.recovered)
+
+pub returns-clause-settled : goal.returns-clause-settled
+returns-clause-settled g c =
+    let seen = g.D.Disk.seen in
+    subst (λ f. LeavesSettled (seen c.args.disk) (seen c.in-Err.failed.0) f) (sym c.open_fault.ensures)
+    (refused_settled (seen c.args.disk) (seen c.in-Err.failed.0) c.in-Err.failed.1 c.in-Err.ensures.fault)

@@ -8,8 +8,8 @@ use Rattle.durable_catalogue.specs.Durables.{IsKept}
 use Rattle.durable_catalogue.specs.Openings.{IsOpening, IsUnloaded, IsUnopened, KeepsContent}
 use Rattle.durable_catalogue.proofs.Opened.{next_follows, was_reading, opened_kept, opening_of, unloaded, unopened, never_full, either_version}
 use Rattle.durable_catalogue.specs.declared.fault.OpenFault.TheVariants.{DeviceFault}
-use Rattle.durable_catalogue.specs.Refused.{LeavesDiskAlone}
-use Rattle.durable_catalogue.proofs.Refused.{leaves_history, recovered_order, recovered_alone, unwritten_alone}
+use Rattle.durable_catalogue.specs.Refused.{LeavesDiskAlone, LeavesSettled}
+use Rattle.durable_catalogue.proofs.Refused.{leaves_history, recovered_order, recovered_alone, unwritten_alone, recovered_settled, refused_settled}
 use Rattle.durable_catalogue.proofs.durable.Durable.open.Goals as goal
 
 pub invariant_of-result : goal.invariant_of-result
@@ -110,3 +110,16 @@ returns-in-Err-clause-fault g c log told =
     let seen = g.D.Disk.seen in
     subst (λ f. IsUnopened c.args.limits log f) (sym c.open_fault.ensures)
     (unopened (seen c.args.disk) (seen c.in-Err.failed.0) c.args.limits c.in-Err.failed.1 c.in-Err.ensures.fault log told)
+
+pub returns-in-Err-load-clause-settled : goal.returns-in-Err-load-clause-settled
+returns-in-Err-load-clause-settled g c =
+    let seen = g.D.Disk.seen in
+    let journal = c.in-Ok.journal in
+    subst (λ d. LeavesSettled (seen c.args.disk) (seen d) c.in-Err-load.fault) (sym c.close.ensures)
+    (recovered_settled c.in-Ok.frames journal.place journal.version (seen c.args.disk) (seen journal.disk) c.in-Err-load.fault c.in-Ok.ensures.recovered)
+
+pub returns-in-Err-clause-settled : goal.returns-in-Err-clause-settled
+returns-in-Err-clause-settled g c =
+    let seen = g.D.Disk.seen in
+    subst (λ f. LeavesSettled (seen c.args.disk) (seen c.in-Err.failed.0) f) (sym c.open_fault.ensures)
+    (refused_settled (seen c.args.disk) (seen c.in-Err.failed.0) c.in-Err.failed.1 c.in-Err.ensures.fault)
