@@ -1,4 +1,4 @@
--- Nothing is linked and nothing waits at a seat where no field stands.
+-- Nothing is linked and nothing waits at a seat of a place that the records tell so, as where no field stands.
 use Rattle.std.proofs.Common.{◌≡◌, ◌∙◌, sym, ap, refl, get_or, [], ◌∷◌, ℕ, ◌<◌, ◌≤◌, arith, Bool, true, false, List, length, Option, Some, None, ◌⊎◌, inl, inr}
 use Rattle.std.specs.Prelude.{◌||◌, slice_get}
 use Rattle.std.specs.Cmp.{unsigned_Decides}
@@ -57,15 +57,14 @@ form_there forms n low = by ((slice_get_cases forms n).1)
     by (inr past) = absurd (omega (arith, low, past.0))
 
 module _ (tables : CatalogueTables) (c : Contents) (distinct : AreDistinct (keys_of c)) (once : IsDistinct same_form tables.forms) (agrees : AgreesWith tables c) (place : Place) (seat : Seat)
-    (at : IsSeatOf (keys_of c) place seat) (none : field_under place (state_in c) ≡ None) where
-  holds_not : (test : Class → KeptField → Bool) → holds_at test (state_in c) place ≡ false
-  holds_not test = ap (λ (o : Option KeptField). option_map_or (test place.class) o false) none
+    (at : IsSeatOf (keys_of c) place seat) where
+  -- a place that is linked to no key has no link
+  pub no_link : ((key : Key) → holds_at (linked_at key) (state_in c) place ≡ false) → c.links seat ≡ None
+  no_link none = unlinked_free (keys_of c) (seen_links c.links) place seat distinct agrees.links_fit at (λ key. agrees.linked key place ∙ none key)
 
-  pub no_link : c.links seat ≡ None
-  no_link = unlinked_free (keys_of c) (seen_links c.links) place seat distinct agrees.links_fit at (λ key. agrees.linked key place ∙ holds_not (linked_at key))
-
-  pub no_wait : c.waits seat ≡ None
-  no_wait = by (c.waits seat) refl
+  -- a place that asks for no form waits for nothing
+  pub no_wait : ((form : Form) → holds_at (asks_at form) (state_in c) place ≡ false) → c.waits seat ≡ None
+  no_wait none = by (c.waits seat) refl
     where
       by : (o : Option Waiting) → c.waits seat ≡ o → o ≡ None
       by None e = refl
@@ -76,8 +75,12 @@ module _ (tables : CatalogueTables) (c : Contents) (distinct : AreDistinct (keys
           let numbered = number_at same_form (eq_by_cmp_equiv form_cmp_total) tables.forms there.form n once there.is in
           let told : asking_by tables.forms (keys_of c) (seen_waits c.waits) there.form place ≡ true =
           ap (λ (m : ℕ). asks m (seen_waits c.waits) (seat_of (keys_of c) place)) (sym numbered.is) ∙ ap (λ (s : Seat). asks n (seen_waits c.waits) s) (sym at.is) ∙ asked in
-          let both : true ≡ false = sym told ∙ (agrees.asking there.form place ∙ holds_not (asks_at there.form)) in
+          let both : true ≡ false = sym told ∙ (agrees.asking there.form place ∙ none there.form) in
           cc
+
+-- no test holds where no field stands
+holds_not : (place : Place) (c : Contents) → field_under place (state_in c) ≡ None → (test : Class → KeptField → Bool) → holds_at test (state_in c) place ≡ false
+holds_not place c none test = ap (λ (o : Option KeptField). option_map_or (test place.class) o false) none
 
 -- no field stands past those of the record
 none_past : (o : Option KeptRecord) (fields field : ℕ) → ((r : KeptRecord) → o ≡ Some r → length r.fields ≤ fields) → fields ≤ field → option_and_then (field_at field) o ≡ None
@@ -91,5 +94,6 @@ free_behind tables c class key number fields distinct once agrees of most = λ f
     let place : Place = record { class = class; key = key; field = field } in
     let at : IsSeatOf (keys_of c) place (seat_in class number field) = record { known = of.known; is = ap (λ (n : ℕ). seat_in class n field) of.is } in
     let none : field_under place (state_in c) ≡ None = none_past (kept_under class key (state_in c)) fields field most high in
-    has_no_row tables.forms (seat_in class number field) c (no_link tables c distinct once agrees place (seat_in class number field) at none)
-    (no_wait tables c distinct once agrees place (seat_in class number field) at none)
+    has_no_row tables.forms (seat_in class number field) c
+    (no_link tables c distinct once agrees place (seat_in class number field) at (λ name. holds_not place c none (linked_at name)))
+    (no_wait tables c distinct once agrees place (seat_in class number field) at (λ form. holds_not place c none (asks_at form)))

@@ -14,3 +14,4 @@ pub mod Wanting
 pub mod Fielded
 pub mod Listing
 pub mod Placed
+pub mod Holding

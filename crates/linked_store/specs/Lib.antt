@@ -1,6 +1,7 @@
 pub mod Contents
 pub mod Fielding
 pub mod Frames
+pub mod Holding
 pub mod Linked
 pub mod Placing
 pub mod Rooms

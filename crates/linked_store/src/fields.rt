@@ -97,6 +97,7 @@ impl LinkedStore {
         ensures err { OnErr result (self.new.state ≡ self.old.state) }
         ensures ahead { IsAhead self.old self.new }
     {
+        self.frame.tables.each_form_has_one_number();
         let position = self.frame.log.len();
         if let Err(error) = self.frame.turn(alloc, seat, field, tie, link, row) {
             go_back(&mut self.frame, position);

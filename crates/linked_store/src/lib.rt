@@ -9,6 +9,7 @@ mod change;
 mod choices;
 mod fields;
 mod frame;
+mod held;
 pub mod laws;
 mod lists;
 mod placing;

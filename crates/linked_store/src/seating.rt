@@ -6,6 +6,7 @@ ghost use Rattle.catalogue_rules.specs.State.{kept_record};
 ghost use Rattle.form_index.specs.Index.{IsInOrder};
 ghost use Rattle.numbered_store.specs.Numbered.{IsNumber};
 ghost use Rattle.linked_store.specs.Frames.{GoesOn, contents};
+ghost use Rattle.linked_store.specs.Holding.{AreAsTold};
 ghost use Rattle.linked_store.specs.Placing.{AreApart, AreFreeFrom, HaveRows, IndexFollows, IsPlaced, IsReseated, StaysInSeats, record_brought};
 
 use crate::frame::Frame;
@@ -38,6 +39,7 @@ impl Frame {
         requires kept { option_map kept_record kept ≡ record_brought (arrival_of item.now) }
         requires ordered { IsInOrder self.old.store.keys.authorities self.old.tables.index }
         requires free { AreFreeFrom self.old.tables.forms item.now.class number fields (contents self.old) }
+        requires told { AreAsTold item.now.class number (contents self.old) }
         requires apart { AreApart rows.items }
         ensures now { OnOk result (IsPlaced number item.now rows.items self.old self.new) }
         ensures goes { GoesOn self.old self.new }
@@ -67,6 +69,7 @@ impl Frame {
     // Takes out what the seats of a record have, where so many fields stand.
     fn clear(&mut self, class: Class, number: u32, fields: u32) -> Result<(), NoMemory>
         requires free { AreFreeFrom self.old.tables.forms class number fields (contents self.old) }
+        requires told { AreAsTold class number (contents self.old) }
         ensures now { OnOk result (IsReseated class number [] self.old self.new) }
         ensures goes { GoesOn self.old self.new }
     {

@@ -4,9 +4,11 @@ ghost use Rattle.catalogue_rules.specs.State.{kept_field};
 ghost use Rattle.numbered_store.specs.Numbered.{SuitsSeat, field_of};
 ghost use Rattle.linked_store.specs.Contents.{ToLink, apply};
 ghost use Rattle.linked_store.specs.Frames.{GoesOn, contents};
+ghost use Rattle.linked_store.specs.Holding.{IsAsTold};
 ghost use Rattle.linked_store.specs.Turns.{HasRows, IsTurned, IsWaiting, without_rows};
 
 use crate::frame::Frame;
+use crate::held::RowHeld;
 use marc_types::{Field, Form, NoMemory, Sequence, Tie};
 use numbering::Seat;
 use std::alloc::Global;
@@ -32,6 +34,7 @@ impl Frame {
     ) -> Result<(), NoMemory>
         requires stands { IsSome (field_of seat self.old.store) }
         requires suits { SuitsSeat seat field self.old.store }
+        requires told { IsAsTold seat (contents self.old) }
         ensures now { OnOk result (IsTurned seat (kept_field field tie) link row self.old self.new) }
         ensures goes { GoesOn self.old self.new }
     {
@@ -40,14 +43,18 @@ impl Frame {
         self.swap(seat, field, tie)
     }
 
-    /// Takes the seat's link out, and all that it waits for.
+    /// Takes the seat's link out, or all that it waits for: what the field there tells.
     pub(crate) fn take_rows(&mut self, seat: Seat) -> Result<(), NoMemory>
+        requires { IsAsTold seat (contents self.old) }
         ensures now { OnOk result (contents self.new ≡ without_rows seat (contents self.old)) }
         ensures goes { GoesOn self.old self.new }
         ensures store { self.new.store ≡ self.old.store }
     {
-        self.unlink(seat)?;
-        self.unwait(seat)
+        match self.row_held(seat) {
+            RowHeld::Link => self.unlink(seat),
+            RowHeld::Waiting => self.unwait(seat),
+            RowHeld::Nothing => Ok(()),
+        }
     }
 
     // Links a seat without rows, and lets it wait.

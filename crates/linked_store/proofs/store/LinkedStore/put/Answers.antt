@@ -11,11 +11,12 @@ use Rattle.numbered_store.proofs.Shelving.{low_number}
 use Rattle.linked_store.specs.Frames.{GoesBack, contents, steps_of}
 use Rattle.linked_store.specs.Linked.{IsAhead, IsNumber, Linked, key_of}
 use Rattle.linked_store.specs.Placing.{AreRowsOf, fields_brought}
-use Rattle.linked_store.specs.Sound.{linked_view}
+use Rattle.linked_store.specs.Sound.{keys_of, linked_view}
 use Rattle.linked_store.proofs.Brought.{number_key}
 use Rattle.linked_store.proofs.Fielded.{ahead_same, can_on, sound_undone, view_undone}
 use Rattle.linked_store.proofs.Fieldless.{free_behind}
 use Rattle.linked_store.proofs.Framed.{steps_long}
+use Rattle.linked_store.proofs.Holding.{all_told}
 use Rattle.linked_store.proofs.Placed.{ahead_placed, known_by_number, sound_placed, state_placed_to}
 use Rattle.linked_store.proofs.store.LinkedStore.put.Goals as goal
 
@@ -44,6 +45,13 @@ place-requires-clause-free c =
     c.each_form_has_one_number.ensures c.self.invariant.now
     (subst (λ (x : Linked). IsNumberOf same_key (keys_in class x.keys) c.args.item.now.key c.args.number) (sym c.self.view_is) of)
     (subst (λ (x : Linked). HasAtMost class c.args.item.now.key c.fields_under-fields.result x.state) (sym c.self.view_is) most)
+
+pub place-requires-clause-told : goal.place-requires-clause-told
+place-requires-clause-told c =
+    let class = c.args.item.now.class in
+    all_told c.self.inside.frame.tables (contents c.self.inside.frame) class c.args.number c.self.invariant.distinct c.each_form_has_one_number.ensures c.self.invariant.now
+    (low_number (keys_in class (keys_of (contents c.self.inside.frame))) c.args.item.now.key c.args.number
+    (subst (λ (x : Linked). IsNumberOf same_key (keys_in class x.keys) c.args.item.now.key c.args.number) (sym c.self.view_is) c.requires.number))
 
 pub place-requires-clause-apart : goal.place-requires-clause-apart
 place-requires-clause-apart c = c.requires.rows.apart

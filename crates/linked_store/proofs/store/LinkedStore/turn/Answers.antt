@@ -1,13 +1,14 @@
 use Rattle.std.proofs.Common.{◌≡◌, ◌∙◌, ap, arith, length, subst, sym}
 use Rattle.catalogue_rules.specs.State.{kept_field}
 use Rattle.linking_laws.specs.Partway.{swapped}
-use Rattle.catalogue_tables.specs.Seam.{place_at}
+use Rattle.catalogue_tables.specs.Seam.{HasKey, place_at}
 use Rattle.linked_store.specs.Fielding.{IsLinkNumber, IsRowFor}
-use Rattle.linked_store.specs.Frames.{GoesBack, steps_of}
+use Rattle.linked_store.specs.Frames.{GoesBack, contents, steps_of}
 use Rattle.linked_store.specs.Linked.{IsAhead, Linked, SuitsSeat}
 use Rattle.linked_store.specs.Sound.{linked_view}
 use Rattle.linked_store.proofs.Fielded.{ahead_same, ahead_turned, can_on, keys_turned, sound_turned, sound_undone, stands_number, state_turned_to, suits_number, view_undone}
 use Rattle.linked_store.proofs.Framed.{steps_long}
+use Rattle.linked_store.proofs.Holding.{as_told}
 use Rattle.linked_store.proofs.store.LinkedStore.turn.Goals as goal
 
 pub turn-requires-clause-stands : goal.turn-requires-clause-stands
@@ -19,6 +20,11 @@ pub turn-requires-clause-suits : goal.turn-requires-clause-suits
 turn-requires-clause-suits c =
     suits_number c.args.seat (kept_field c.args.field c.args.tie) c.self.inside.frame c.self.inside.marked
     (subst (λ (x : Linked). SuitsSeat c.args.seat (kept_field c.args.field c.args.tie) x) (sym c.self.view_is) c.requires.suits)
+
+pub turn-requires-clause-told : goal.turn-requires-clause-told
+turn-requires-clause-told c =
+    as_told c.self.inside.frame.tables (contents c.self.inside.frame) c.self.invariant.distinct c.each_form_has_one_number.ensures c.self.invariant.now c.args.seat
+    (subst (λ (x : Linked). HasKey x.keys c.args.seat) (sym c.self.view_is) c.requires.suits.known)
 
 pub go_back-requires-clause-can : goal.go_back-requires-clause-can
 go_back-requires-clause-can c = can_on c.self.inside.frame c.turn.new.self c.turn.ensures.goes c.self.invariant.can

@@ -1,0 +1,34 @@
+-- Which of the two tables can have a row of a seat: the field that stands there tells.
+use Rattle.std.specs.Prelude.{◌≡◌, ℕ, Option, None, is_some, if◌then◌else◌}
+use Rattle.std.specs.Option.{option_map_or}
+use Rattle.marc_types.specs.declared.key.Class.{Class}
+use Rattle.numbering.specs.declared.seat.Seat.{Seat}
+use Rattle.heading_fields.specs.Tables.{kind_of}
+use Rattle.catalogue_rules.specs.State.{KeptField}
+use Rattle.numbered_store.specs.Numbered.{field_of}
+use Rattle.linked_store.specs.Contents.{Contents}
+use Rattle.linked_store.specs.Placing.{seat_in}
+use Rattle.linked_store.specs.declared.held.RowHeld.{RowHeld}
+use Rattle.linked_store.specs.declared.held.RowHeld.TheVariants.{Link, Waiting, Nothing}
+
+-- a linked field has its link, an unlinked one with a heading's tag can wait, and any other has nothing
+abbrev pub row_held_for : Class → KeptField → RowHeld
+row_held_for class h = if is_some h.tie.key then Link else if is_some (kind_of class h.field) then Waiting else Nothing
+
+-- where no field stands there is nothing
+abbrev pub row_held : Class → Option KeptField → RowHeld
+row_held class field = option_map_or (row_held_for class) field Nothing
+
+-- the seat has no other row than this one
+abbrev pub HasNoOther : RowHeld → Seat → Contents → Type 0
+HasNoOther Link seat c = c.waits seat ≡ None
+HasNoOther Waiting seat c = c.links seat ≡ None
+HasNoOther Nothing seat c = (c.links seat ≡ None) × (c.waits seat ≡ None)
+
+-- the seat has no other row than the one that its field tells
+abbrev pub IsAsTold : Seat → Contents → Type 0
+IsAsTold seat c = HasNoOther (row_held seat.class (field_of seat c.numbered)) seat c
+
+-- the seats of a record's fields have no others
+abbrev pub AreAsTold : Class → ℕ → Contents → Type 0
+AreAsTold class number c = (field : ℕ) → IsAsTold (seat_in class number field) c
