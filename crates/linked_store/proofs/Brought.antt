@@ -24,12 +24,12 @@ use Rattle.catalogue_rules.specs.Settle.{arrival_of}
 use Rattle.iso2709_record.proofs.Lengths.{record_bounds}
 use Rattle.catalogue_rules.specs.State.{KeptField, KeptRecord, kept_record, new_field, new_record, new_tie, tied}
 use Rattle.linked_store.specs.Fielding.{IsRowFor}
-use Rattle.linked_store.specs.Placing.{AreApart, AreRowsOf, IsRowAt, IsWantedAt, fields_brought, noted_rows, row_of_field}
-use Rattle.linked_store.specs.Wanted.{IsWanted}
-use Rattle.linked_store.specs.declared.wanted.Wanted.{Wanted}
+use Rattle.linked_store.specs.Placing.{AreApart, AreRowsOf, IsRowAt, fields_brought, noted_rows, row_of_field}
+use Rattle.linked_store.specs.Turns.{row_lent}
 use Rattle.std.specs.Borrow.{Bor}
-use Rattle.std.specs.Option.{option_copied}
+use Rattle.std.specs.Option.{option_copied, option_map}
 use Rattle.linked_store.specs.declared.seating.FieldRow.{FieldRow}
+use Rattle.linked_store.specs.declared.turns.LentRow.{LentRow}
 use Rattle.linked_store.specs.declared.turns.Row.{Row}
 use Rattle.linked_store.proofs.Agreed.{key_there}
 use Rattle.linked_store.proofs.Seated.{fails, numbers_kept}
@@ -92,36 +92,37 @@ no_rows_yet class keys fields rows none =
     (record { own = λ field low. absurd (omega (arith, low)); past = λ field high. refl; apart = tt })
 
 -- another field's row stays
-other_row : (one : ℕ) (row : Option Row) (field : ℕ) (rows : List FieldRow) → (one == field) ≡ false → row_of_field field (rows ++ noted_rows one row) ≡ row_of_field field rows
+other_row : (one : ℕ) (row : Option LentRow) (field : ℕ) (rows : List FieldRow) → (one == field) ≡ false → row_of_field field (rows ++ noted_rows one row) ≡ row_of_field field rows
 other_row one None field [] apart = refl
-other_row one (Some row) field [] apart = ap (λ b. cond b (Some row) None) apart
-other_row one row field (x ∷ rows) apart = ap (λ (o : Option Row). cond (x.field == field) (Some x.row) o) (other_row one row field rows apart)
+other_row one (Some row) field [] apart = ap (λ b. cond b (Some (row_lent row)) None) apart
+other_row one row field (x ∷ rows) apart = ap (λ (o : Option Row). cond (x.field == field) (Some (row_lent x.row)) o) (other_row one row field rows apart)
 
 -- the row that was noted
-noted_row : (one : ℕ) (row : Option Row) (rows : List FieldRow) → row_of_field one rows ≡ None → row_of_field one (rows ++ noted_rows one row) ≡ row
+noted_row : (one : ℕ) (row : Option LentRow) (rows : List FieldRow) → row_of_field one rows ≡ None → row_of_field one (rows ++ noted_rows one row) ≡ option_map row_lent row
 noted_row one None [] none = refl
-noted_row one (Some row) [] none = ap (λ b. cond b (Some row) None) ((unsigned_Decides one one).1 refl)
+noted_row one (Some row) [] none = ap (λ b. cond b (Some (row_lent row)) None) ((unsigned_Decides one one).1 refl)
 noted_row one row (x ∷ rows) none = by (x.field == one) refl (λ none. noted_row one row rows none)
   where
-    by : (b : Bool) → (x.field == one) ≡ b → (row_of_field one rows ≡ None → row_of_field one (rows ++ noted_rows one row) ≡ row) → cond (x.field == one) (Some x.row) (row_of_field one (rows ++ noted_rows one row)) ≡ row
-    by true e later = let there : Some x.row ≡ None = sym (ap (λ b. cond b (Some x.row) (row_of_field one rows)) e) ∙ none in cc
+    by : (b : Bool) → (x.field == one) ≡ b → (row_of_field one rows ≡ None → row_of_field one (rows ++ noted_rows one row) ≡ option_map row_lent row)
+        → cond (x.field == one) (Some (row_lent x.row)) (row_of_field one (rows ++ noted_rows one row)) ≡ option_map row_lent row
+    by true e later = let there : Some (row_lent x.row) ≡ None = sym (ap (λ b. cond b (Some (row_lent x.row)) (row_of_field one rows)) e) ∙ none in cc
     by false e later =
-        ap (λ b. cond b (Some x.row) (row_of_field one (rows ++ noted_rows one row))) e
-        ∙ later (sym (ap (λ b. cond b (Some x.row) (row_of_field one rows)) e) ∙ none)
+        ap (λ b. cond b (Some (row_lent x.row)) (row_of_field one (rows ++ noted_rows one row))) e
+        ∙ later (sym (ap (λ b. cond b (Some (row_lent x.row)) (row_of_field one rows)) e) ∙ none)
 
 -- no field has two rows then
-apart_noted : (one : ℕ) (row : Option Row) (rows : List FieldRow) → row_of_field one rows ≡ None → AreApart rows → AreApart (rows ++ noted_rows one row)
+apart_noted : (one : ℕ) (row : Option LentRow) (rows : List FieldRow) → row_of_field one rows ≡ None → AreApart rows → AreApart (rows ++ noted_rows one row)
 apart_noted one None [] none apart = tt
 apart_noted one (Some row) [] none apart = (refl, tt)
 apart_noted one row (x ∷ rows) none apart = by (x.field == one) refl (λ none. apart_noted one row rows none apart.1)
   where
     by : (b : Bool) → (x.field == one) ≡ b → (row_of_field one rows ≡ None → AreApart (rows ++ noted_rows one row)) → AreApart (x ∷ (rows ++ noted_rows one row))
-    by true e later = let there : Some x.row ≡ None = sym (ap (λ b. cond b (Some x.row) (row_of_field one rows)) e) ∙ none in cc
+    by true e later = let there : Some (row_lent x.row) ≡ None = sym (ap (λ b. cond b (Some (row_lent x.row)) (row_of_field one rows)) e) ∙ none in cc
     by false e later =
         let back : (one == x.field) ≡ false =
         fails (one == x.field) (λ same. false≢true (sym e ∙ (unsigned_Decides x.field one).1 (sym ((unsigned_Decides one x.field).0 same)))) in (
           other_row one row x.field rows back ∙ apart.0,
-          later (sym (ap (λ b. cond b (Some x.row) (row_of_field one rows)) e) ∙ none),
+          later (sym (ap (λ b. cond b (Some (row_lent x.row)) (row_of_field one rows)) e) ∙ none),
         )
 
 below_last : (field end : ℕ) → field < end + 1 → (end ≡ field → ⊥) → field < end
@@ -131,8 +132,8 @@ below_last field end low apart = at (nat_lt field end) refl
     at true e = ltb-true field end e
     at false e = let high = ltb-false field end e in absurd (apart (omega (arith, high, low)))
 
-pub rows_more : (class : Class) (fields : List Field) (old new : List Key) (end : ℕ) (rows more : List FieldRow) (row : Option Row) → Keeps same_key old new
-    → more ≡ rows ++ noted_rows end row → AreRowsBelow class old fields end rows → IsRowAt class new (slice_get fields end) row → AreRowsBelow class new fields (end + 1) more
+pub rows_more : (class : Class) (fields : List Field) (old new : List Key) (end : ℕ) (rows more : List FieldRow) (row : Option LentRow) → Keeps same_key old new
+    → more ≡ rows ++ noted_rows end row → AreRowsBelow class old fields end rows → IsRowAt class new (slice_get fields end) (option_map row_lent row) → AreRowsBelow class new fields (end + 1) more
 rows_more class fields old new end rows more row keeps noted below is =
     subst (λ (l : List FieldRow). AreRowsBelow class new fields (end + 1) l) (sym noted) (record {
       own = λ field low. by field low (end == field) refl;
@@ -182,21 +183,6 @@ brought_short false fields n low = low
 
 pub brought_few : (e : Entry) → length (fields_brought (arrival_of e)) ≤ 8331
 brought_few e = brought_short (is_deletion e.rec.leader) e.rec.fields 8331 ((record_bounds e.rec.leader e.rec.fields e.rec.valid).0)
-
--- ---- what a field waits for
-
-pub wanted_none : (class : Class) (o : Option Field) (found : Option (Bor Field)) → option_copied found ≡ o → ((f : Bor Field) → found ≡ Some f → ⊥) → IsWantedAt class o None
-wanted_none class o None same none = subst (λ (x : Option Field). IsWantedAt class x None) same refl
-wanted_none class o (Some f) same none = absurd (none f refl)
-
-pub no_row_wanted : (class : Class) (keys : List Key) (o : Option Field) → IsWantedAt class o None → IsRowAt class keys o None
-no_row_wanted class keys None is = refl
-no_row_wanted class keys (Some field) is = is
-
-pub row_wanted : (class : Class) (keys : List Key) (o : Option Field) (wanted : Wanted) (row : Option Row) → IsWantedAt class o (Some wanted)
-    → ((k : Class) (h : KeptField) → IsWanted k h (Some wanted) → IsRowFor k h keys row) → IsRowAt class keys o row
-row_wanted class keys None wanted row is says = cc
-row_wanted class keys (Some field) wanted row is says = says class (new_field field) is
 
 -- ---- a number's key
 

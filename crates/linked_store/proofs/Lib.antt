@@ -15,3 +15,4 @@ pub mod Fielded
 pub mod Listing
 pub mod Placed
 pub mod Holding
+pub mod Lent

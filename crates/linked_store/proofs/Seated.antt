@@ -24,7 +24,7 @@ use Rattle.catalogue_tables.specs.Waiting.{AreNumbersOf}
 use Rattle.linked_store.specs.Contents.{Contents, ToRecord, ToWait, apply, at_seat}
 use Rattle.linked_store.specs.Frames.{FormsKeep, GoesOn, contents}
 use Rattle.linked_store.specs.Placing.{AreApart, AreFreeFrom, HasRow, HaveRows, IndexFollows, IsElsewhere, IsPlaced, IsReseated, StaysAt, StaysInSeats, record_brought, row_of_field, seat_in}
-use Rattle.linked_store.specs.Turns.{IsWaiting, IsWaitingOf, without_rows}
+use Rattle.linked_store.specs.Turns.{IsWaiting, IsWaitingOf, row_lent, without_rows}
 use Rattle.linked_store.specs.declared.frame.Frame.{Frame}
 use Rattle.linked_store.specs.declared.seating.FieldRow.{FieldRow}
 use Rattle.linked_store.specs.declared.turns.Row.{Row}
@@ -225,7 +225,7 @@ module _ (class : Class) (number : ℕ) (whole left : List FieldRow) (one : Fiel
   pub waits_not : (contents now).waits (seat_in class number one.field) ≡ None
   waits_not = no_wait_there now.tables.forms (row_of_field one.field way.rest) (seat_in class number one.field) (contents now) new_field_row (way.own one.field)
 
-  pub seated_more : (next : Frame) → IsWaiting (seat_in class number one.field) (Some one.row) now next → next.store ≡ now.store → GoesOn now next
+  pub seated_more : (next : Frame) → IsWaiting (seat_in class number one.field) (Some (row_lent one.row)) now next → next.store ≡ now.store → GoesOn now next
       → IsSeating class number whole left start next
   seated_more next waits store goes = record {
     rest = one ∷ way.rest;
@@ -240,11 +240,11 @@ module _ (class : Class) (number : ℕ) (whole left : List FieldRow) (one : Fiel
       stays : (other : Seat) → same_seat (seat_in class number one.field) other ≡ false → StaysAt other (contents now) (contents next)
       stays other far = stays_waiting (seat_in class number one.field) other waits.waiting (contents now) (contents next) waits.now far
 
-      here : HasRow next.tables.forms (Some one.row) (seat_in class number one.field) (contents next)
+      here : HasRow next.tables.forms (Some (row_lent one.row)) (seat_in class number one.field) (contents next)
       here = record {
         link = ap (λ (c : Contents). c.links (seat_in class number one.field)) waits.now ∙ (way.own one.field).link;
         waiting =
-            subst (λ (w : Option Waiting). IsWaitingOf next.tables.forms (Some one.row) w)
+            subst (λ (w : Option Waiting). IsWaitingOf next.tables.forms (Some (row_lent one.row)) w)
             (sym (ap (λ (c : Contents). c.waits (seat_in class number one.field)) waits.now
             ∙ gone_at (seat_in class number one.field) waits.waiting (contents now).waits)) waits.is;
       }
@@ -253,10 +253,10 @@ module _ (class : Class) (number : ℕ) (whole left : List FieldRow) (one : Fiel
       by field true e =
           subst (λ (n : ℕ). HasRow next.tables.forms (row_of_field field (one ∷ way.rest)) (seat_in class number n) (contents next)) ((unsigned_Decides one.field field).0 e)
           (subst (λ (r : Option Row). HasRow next.tables.forms r (seat_in class number one.field) (contents next))
-          (sym (ap (λ c. cond c (Some one.row) (row_of_field field way.rest)) e)) here)
+          (sym (ap (λ c. cond c (Some (row_lent one.row)) (row_of_field field way.rest)) e)) here)
       by field false e =
           subst (λ (r : Option Row). HasRow next.tables.forms r (seat_in class number field) (contents next))
-          (sym (ap (λ c. cond c (Some one.row) (row_of_field field way.rest)) e))
+          (sym (ap (λ c. cond c (Some (row_lent one.row)) (row_of_field field way.rest)) e))
           (row_kept now.tables.forms next.tables.forms (row_of_field field way.rest) (seat_in class number field) (contents now) (contents next) goes.rows.forms
           (stays (seat_in class number field) (other_field class number one.field field (λ same. false≢true (sym e ∙ (unsigned_Decides one.field field).1 same))))
           (way.own field))

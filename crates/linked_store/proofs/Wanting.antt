@@ -64,7 +64,7 @@ kind_made : (kind : Kind) (f : Field) → (base_form kind f).kind ≡ kind
 unfolding form_of
 kind_made kind f = refl
 
-kind_by : (f : Field) (o : Option Kind) (base : Form) → Some base ≡ option_map (λ kind. base_form kind f) o → o ≡ Some base.kind
+pub kind_by : (f : Field) (o : Option Kind) (base : Form) → Some base ≡ option_map (λ kind. base_form kind f) o → o ≡ Some base.kind
 kind_by f None base e = cc
 kind_by f (Some kind) base e = let is : base ≡ base_form kind f = cc in ap (λ (k : Kind). Some k) (sym (ap (λ (x : Form). x.kind) is ∙ kind_made kind f))
 

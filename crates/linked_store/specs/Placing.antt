@@ -17,12 +17,11 @@ use Rattle.numbered_store.specs.Numbered.{with_record}
 use Rattle.linked_store.specs.Contents.{Contents}
 use Rattle.linked_store.specs.Fielding.{IsRowFor}
 use Rattle.linked_store.specs.Frames.{contents}
-use Rattle.linked_store.specs.Turns.{IsWaitingOf}
+use Rattle.linked_store.specs.Turns.{IsWaitingOf, row_lent}
 use Rattle.linked_store.specs.declared.frame.Frame.{Frame}
 use Rattle.linked_store.specs.declared.seating.FieldRow.{FieldRow}
+use Rattle.linked_store.specs.declared.turns.LentRow.{LentRow}
 use Rattle.linked_store.specs.declared.turns.Row.{Row}
-use Rattle.linked_store.specs.declared.wanted.Wanted.{Wanted}
-use Rattle.linked_store.specs.Wanted.{IsWanted}
 
 -- the record that an entry brings; a deletion brings none
 abbrev pub record_brought : Arrival → Option KeptRecord
@@ -65,10 +64,10 @@ IsElsewhere class number seat = (field : ℕ) → same_seat (seat_in class numbe
 -- the row of a field, if there is one
 abbrev pub row_of_field : ℕ → List FieldRow → Option Row
 row_of_field field [] = None
-row_of_field field (one ∷ rows) = if one.field == field then Some one.row else row_of_field field rows
+row_of_field field (one ∷ rows) = if one.field == field then Some (row_lent one.row) else row_of_field field rows
 
 -- a field's row as a list
-abbrev pub noted_rows : ℕ → Option Row → List FieldRow
+abbrev pub noted_rows : ℕ → Option LentRow → List FieldRow
 noted_rows field None = []
 noted_rows field (Some row) = (record { field = field; row = row }) ∷ []
 
@@ -117,11 +116,6 @@ pub record IsPlaced (number : ℕ) (e : Entry) (rows : List FieldRow) (old new :
 abbrev pub IsRowAt : Class → List Key → Option Field → Option Row → Type 0
 IsRowAt class keys None row = row ≡ None
 IsRowAt class keys (Some field) row = IsRowFor class (new_field field) keys row
-
--- what a field that comes in waits for; where there is no field, nothing waits
-abbrev pub IsWantedAt : Class → Option Field → Option Wanted → Type 0
-IsWantedAt class None wanted = wanted ≡ None
-IsWantedAt class (Some field) wanted = IsWanted class (new_field field) wanted
 
 -- the rows of these fields, at most one each
 pub record AreRowsOf (class : Class) (keys : List Key) (fields : List Field) (rows : List FieldRow) : Type 0 where

@@ -1,5 +1,6 @@
 -- A seat's rows out and in, and its field exchanged.
 use Rattle.std.specs.Prelude.{◌≡◌, ℕ, List, Option, None, Some}
+use Rattle.std.specs.Option.{option_copied}
 use Rattle.marc_types.specs.declared.form.Form.{Form}
 use Rattle.marc_types.specs.Order.{same_form}
 use Rattle.numbering.specs.declared.seat.Seat.{Seat}
@@ -11,7 +12,12 @@ use Rattle.linked_store.specs.Contents.{Contents, ToLink, ToWait, apply}
 use Rattle.linked_store.specs.Frames.{contents}
 use Rattle.linked_store.specs.Turning.{turned}
 use Rattle.linked_store.specs.declared.frame.Frame.{Frame}
+use Rattle.linked_store.specs.declared.turns.LentRow.{LentRow}
 use Rattle.linked_store.specs.declared.turns.Row.{Row}
+
+-- a row as one of its own
+abbrev pub row_lent : LentRow → Row
+row_lent lent = record { form = lent.form.now; other = option_copied lent.other; keys = lent.keys }
 
 abbrev pub without_rows : Seat → Contents → Contents
 without_rows seat c = apply (ToWait seat None) (apply (ToLink seat None) c)

@@ -50,8 +50,8 @@ impl LinkedStore {
         Ok(Some(number))
     }
 
-    /// What a field waits for, with its keys by their numbers.
-    pub(crate) fn numbered_row(
+    // What a field waits for, with its keys by their numbers.
+    fn numbered_row(
         &mut self,
         alloc: Global,
         wanted: Option<Wanted>,
@@ -67,8 +67,8 @@ impl LinkedStore {
         Ok(Some(Row { form, other, keys }))
     }
 
-    // The numbers of keys.
-    fn numbers(&mut self, alloc: Global, keys: &[Key]) -> Result<Sequence<u32>, NoMemory>
+    /// The numbers of keys.
+    pub(crate) fn numbers(&mut self, alloc: Global, keys: &[Key]) -> Result<Sequence<u32>, NoMemory>
         ensures unchanged { IsUnchanged self.old self.new }
         ensures ok { IfOk result (AreNumbersOf same_key self.new.keys.authorities keys.now) }
     {

@@ -11,6 +11,7 @@ mod fields;
 mod frame;
 mod held;
 pub mod laws;
+mod lending;
 mod lists;
 mod placing;
 mod rows;

@@ -9,13 +9,15 @@ ghost use Rattle.catalogue_rules.specs.State.{kept_record, new_record, new_tie};
 ghost use Rattle.linking_laws.specs.Commits.{placed_by};
 ghost use Rattle.linking_laws.specs.Partway.{HasAtMost};
 ghost use Rattle.linked_store.specs.Linked.{IsAhead, IsNumber, IsUnchanged, key_of};
-ghost use Rattle.linked_store.specs.Placing.{AreRowsOf, IsRowAt, IsWantedAt, fields_brought, noted_rows, record_brought};
+ghost use Rattle.linked_store.specs.Placing.{AreRowsOf, IsRowAt, fields_brought, noted_rows, record_brought};
+ghost use Rattle.linked_store.specs.Turns.{row_lent};
 
 use crate::back::go_back;
+use crate::lending::{LentForms, lent_forms};
 use crate::seating::FieldRow;
 use crate::store::LinkedStore;
-use crate::turns::Row;
-use crate::wanted::{Wanted, wants_of};
+use crate::turns::LentRow;
+use crate::wanted::named;
 use entry_record::Prepared;
 use marc_types::{Class, Field, Kept, Links, NoMemory, Record, Tie, TryCopy};
 use std::alloc::Global;
@@ -42,7 +44,11 @@ impl LinkedStore {
     }
 
     // What the seats of the entry's fields are to wait for.
-    fn rows_for(&mut self, alloc: Global, item: &Prepared) -> Result<Vec<FieldRow>, NoMemory>
+    fn rows_for<'a>(
+        &mut self,
+        alloc: Global,
+        item: &'a Prepared,
+    ) -> Result<Vec<FieldRow<'a>>, NoMemory>
         ensures unchanged { IsUnchanged self.old self.new }
         ensures rows { IfOk result (λ rows.
             AreRowsOf item.now.class self.new.keys.authorities (fields_brought (arrival_of item.now)) rows.items) }
@@ -67,21 +73,27 @@ impl LinkedStore {
         }
     }
 
-    // What the entry's field at a place is to wait for, if there is one.
-    fn row_at(
+    // What the entry's field at a place is to wait for, if there is one: the forms that were made with the entry, and the keys that
+    // the field names.
+    fn row_at<'a>(
         &mut self,
         alloc: Global,
-        item: &Prepared,
+        item: &'a Prepared,
         place: u32,
-    ) -> Result<Option<Row>, NoMemory>
+    ) -> Result<Option<LentRow<'a>>, NoMemory>
         ensures unchanged { IsUnchanged self.old self.new }
-        ensures ok { IfOk result (λ row.
-            IsRowAt item.now.class self.new.keys.authorities (slice_get (fields_brought (arrival_of item.now)) place) row) }
+        ensures ok { IfOk result (λ row. IsRowAt item.now.class self.new.keys.authorities
+            (slice_get (fields_brought (arrival_of item.now)) place) (option_map row_lent row)) }
     {
-        let Some(wanted) = wanted_at(alloc, item, place)? else {
+        let Some(field) = field_at(item, place) else {
             return Ok(None);
         };
-        self.numbered_row(alloc, Some(wanted))
+        let Some(LentForms { form, other }) = lent_forms(item, field, place) else {
+            return Ok(None);
+        };
+        let named = named(alloc, field, &NEW_TIE)?;
+        let keys = self.numbers(alloc, named.as_slice())?;
+        Ok(Some(LentRow { form, other, keys }))
     }
 
     // Puts the record into its place with its rows, or leaves all as it was.
@@ -90,7 +102,7 @@ impl LinkedStore {
         alloc: Global,
         number: u32,
         kept: Option<Kept>,
-        rows: Vec<FieldRow>,
+        rows: Vec<FieldRow<'_>>,
         item: &Prepared,
     ) -> Result<(), NoMemory>
         requires number { IsNumberOf same_key (keys_in item.now.class self.old.keys) item.now.key number }
@@ -112,8 +124,12 @@ impl LinkedStore {
 }
 
 // Notes the row of a field, if it has one.
-fn note_row(rows: &mut Vec<FieldRow>, field: u32, row: Option<Row>) -> Result<(), NoMemory>
-    ensures { OnOk result (rows.new.items ≡ rows.old.items ++ noted_rows field row) }
+fn note_row<'a>(
+    rows: &mut Vec<FieldRow<'a>>,
+    field: u32,
+    row: Option<LentRow<'a>>,
+) -> Result<(), NoMemory>
+    ensures { OnOk result (rows.new.items ≡ rows.old.items ++ noted_rows field row.entry) }
 {
     let Some(row) = row else {
         return Ok(());
@@ -127,16 +143,6 @@ fn places_of(item: &Prepared) -> u32
     ensures { result ≡ length (fields_brought (arrival_of item.now)) }
 {
     brought(item).len() as u32
-}
-
-// What the entry's field at a place waits for; where there is no field, nothing waits.
-fn wanted_at(alloc: Global, item: &Prepared, place: u32) -> Result<Option<Wanted>, NoMemory>
-    ensures { IfOk result (IsWantedAt item.now.class (slice_get (fields_brought (arrival_of item.now)) place)) }
-{
-    let Some(field) = field_at(item, place) else {
-        return Ok(None);
-    };
-    wants_of(alloc, item.entry().class, field, &NEW_TIE)
 }
 
 fn field_at(item: &Prepared, place: u32) -> Option<&Field>

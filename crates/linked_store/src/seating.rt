@@ -10,7 +10,7 @@ ghost use Rattle.linked_store.specs.Holding.{AreAsTold};
 ghost use Rattle.linked_store.specs.Placing.{AreApart, AreFreeFrom, HaveRows, IndexFollows, IsPlaced, IsReseated, StaysInSeats, record_brought};
 
 use crate::frame::Frame;
-use crate::turns::Row;
+use crate::turns::LentRow;
 use entry_record::Prepared;
 use marc_types::{Class, Kept, NoMemory};
 use numbering::Seat;
@@ -18,9 +18,9 @@ use std::alloc::Global;
 
 /// What the seat of a record's field is to wait for.
 #[derive(Drop)]
-pub(crate) struct FieldRow {
+pub(crate) struct FieldRow<'a> {
     pub(crate) field: u32,
-    pub(crate) row: Row,
+    pub(crate) row: LentRow<'a>,
 }
 
 impl Frame {
@@ -32,7 +32,7 @@ impl Frame {
         number: u32,
         fields: u32,
         kept: Option<Kept>,
-        rows: Vec<FieldRow>,
+        rows: Vec<FieldRow<'_>>,
         item: &Prepared,
     ) -> Result<(), NoMemory>
         requires known { IsNumber item.now.class number self.old.store }
@@ -41,7 +41,7 @@ impl Frame {
         requires free { AreFreeFrom self.old.tables.forms item.now.class number fields (contents self.old) }
         requires told { AreAsTold item.now.class number (contents self.old) }
         requires apart { AreApart rows.items }
-        ensures now { OnOk result (IsPlaced number item.now rows.items self.old self.new) }
+        ensures now { OnOk result (IsPlaced number item.now rows.entry.items self.old self.new) }
         ensures goes { GoesOn self.old self.new }
     {
         let class = item.entry().class;
@@ -90,11 +90,11 @@ impl Frame {
         alloc: Global,
         class: Class,
         number: u32,
-        mut rows: Vec<FieldRow>,
+        mut rows: Vec<FieldRow<'_>>,
     ) -> Result<(), NoMemory>
         requires free { HaveRows self.old.tables.forms class number [] (contents self.old) }
         requires apart { AreApart rows.items }
-        ensures now { OnOk result (IsReseated class number rows.items self.old self.new) }
+        ensures now { OnOk result (IsReseated class number rows.entry.items self.old self.new) }
         ensures goes { GoesOn self.old self.new }
     {
         while let Some(one) = rows.pop() {
@@ -103,7 +103,7 @@ impl Frame {
                 number,
                 field: one.field,
             };
-            self.put_row(alloc, seat, Some(one.row))?;
+            self.put_lent(alloc, seat, one.row)?;
         }
         Ok(())
     }

@@ -1,11 +1,11 @@
 //! A field exchanged with all its rows.
-ghost use Rattle.std.specs.Prelude.{◌≡◌, OnOk, IsSome, None};
+ghost use Rattle.std.specs.Prelude.{◌≡◌, OnOk, IsSome, None, Some};
 ghost use Rattle.catalogue_rules.specs.State.{kept_field};
 ghost use Rattle.numbered_store.specs.Numbered.{SuitsSeat, field_of};
 ghost use Rattle.linked_store.specs.Contents.{ToLink, apply};
 ghost use Rattle.linked_store.specs.Frames.{GoesOn, contents};
 ghost use Rattle.linked_store.specs.Holding.{IsAsTold};
-ghost use Rattle.linked_store.specs.Turns.{HasRows, IsTurned, IsWaiting, without_rows};
+ghost use Rattle.linked_store.specs.Turns.{HasRows, IsTurned, IsWaiting, row_lent, without_rows};
 
 use crate::frame::Frame;
 use crate::held::RowHeld;
@@ -18,6 +18,14 @@ use std::alloc::Global;
 pub(crate) struct Row {
     pub(crate) form: Form,
     pub(crate) other: Option<Form>,
+    pub(crate) keys: Sequence<u32>,
+}
+
+/// A row that lends its forms.
+#[derive(Drop)]
+pub(crate) struct LentRow<'a> {
+    pub(crate) form: &'a Form,
+    pub(crate) other: Option<&'a Form>,
     pub(crate) keys: Sequence<u32>,
 }
 
@@ -87,13 +95,7 @@ impl Frame {
         }
     }
 
-    /// Lets a seat that waits for nothing wait for what a row says.
-    pub(crate) fn put_row(
-        &mut self,
-        alloc: Global,
-        seat: Seat,
-        row: Option<Row>,
-    ) -> Result<(), NoMemory>
+    fn put_row(&mut self, alloc: Global, seat: Seat, row: Option<Row>) -> Result<(), NoMemory>
         requires { (contents self.old).waits seat ≡ None }
         ensures now { OnOk result (IsWaiting seat row self.old self.new) }
         ensures goes { GoesOn self.old self.new }
@@ -103,5 +105,21 @@ impl Frame {
             return Ok(());
         };
         self.wait(alloc, seat, &form, other.as_ref(), keys)
+    }
+
+    /// Lets a seat that waits for nothing wait for what a row says.
+    pub(crate) fn put_lent(
+        &mut self,
+        alloc: Global,
+        seat: Seat,
+        row: LentRow<'_>,
+    ) -> Result<(), NoMemory>
+        requires { (contents self.old).waits seat ≡ None }
+        ensures now { OnOk result (IsWaiting seat (Some (row_lent row.entry)) self.old self.new) }
+        ensures goes { GoesOn self.old self.new }
+        ensures store { self.new.store ≡ self.old.store }
+    {
+        let LentRow { form, other, keys } = row;
+        self.wait(alloc, seat, form, other, keys)
     }
 }

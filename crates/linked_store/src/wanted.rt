@@ -76,8 +76,8 @@ fn forms_for(
     })
 }
 
-// Whether the field takes subdivisions, and has one.
-fn is_divided(class: Class, field: &Field) -> bool
+/// Whether the field takes subdivisions, and has one.
+pub(crate) fn is_divided(class: Class, field: &Field) -> bool
     ensures { result ≡ (is_subdividable class (tag_of field.now) && is_subdivided (subfields_of field.now)) }
 {
     takes_subdivisions(field.tag(), class) && has_subdivision(field)
@@ -96,8 +96,8 @@ fn one_or_both(is_whole: bool, form: Form, base: Form) -> Sought
     }
 }
 
-// The keys that a field names, in a `$0` or as the one that it awaits.
-fn named(alloc: Global, field: &Field, tie: &Tie) -> Result<Vec<Key>, NoMemory>
+/// The keys that a field names, in a `$0` or as the one that it awaits.
+pub(crate) fn named(alloc: Global, field: &Field, tie: &Tie) -> Result<Vec<Key>, NoMemory>
     ensures { IfOk result (λ keys. NamesKeys (kept_field field.now tie.now) keys.items) }
 {
     let mut keys = named_in(alloc, field.subfields())?;

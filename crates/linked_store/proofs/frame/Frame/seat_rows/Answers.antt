@@ -7,8 +7,8 @@ use Rattle.linked_store.proofs.frame.Frame.seat_rows.Goals as goal
 pub loop-one-init : goal.loop-one-init
 loop-one-init c = seating c.args.class c.args.number c.args.rows.items c.args.self.now c.requires.free
 
-pub put_row-requires : goal.put_row-requires
-put_row-requires c =
+pub put_lent-requires : goal.put_lent-requires
+put_lent-requires c =
     waits_not c.args.class c.args.number c.args.rows.items c.pop.new.self.items c.in-Some.one c.args.self.now c.loop-one.self
     c.requires.apart
     (subst (λ (l : List FieldRow). IsSeating c.args.class c.args.number c.args.rows.items l c.args.self.now c.loop-one.self) c.in-Some.ensures.items c.loop-one.invariant)
@@ -18,7 +18,7 @@ loop-one-preserved c =
     seated_more c.args.class c.args.number c.args.rows.items c.pop.new.self.items c.in-Some.one c.args.self.now c.loop-one.self
     c.requires.apart
     (subst (λ (l : List FieldRow). IsSeating c.args.class c.args.number c.args.rows.items l c.args.self.now c.loop-one.self) c.in-Some.ensures.items c.loop-one.invariant)
-    c.put_row.new.self c.in_ok-put_row.ensures.now c.put_row.ensures.store c.put_row.ensures.goes
+    c.put_lent.new.self c.in_ok-put_lent.ensures.now c.put_lent.ensures.store c.put_lent.ensures.goes
 
-pub returns-in_err-put_row-clause-goes : goal.returns-in_err-put_row-clause-goes
-returns-in_err-put_row-clause-goes c = goes_then c.args.self.now c.loop-one.self c.put_row.new.self c.loop-one.invariant.goes c.put_row.ensures.goes
+pub returns-in_err-put_lent-clause-goes : goal.returns-in_err-put_lent-clause-goes
+returns-in_err-put_lent-clause-goes c = goes_then c.args.self.now c.loop-one.self c.put_lent.new.self c.loop-one.invariant.goes c.put_lent.ensures.goes
