@@ -45,9 +45,3 @@ pub record Counted : Type 0 where
 pub record CountsEntries (old : Counted) (before entries : List Entry) (payload : List ℕ) (new : Counted) : Type 0 where
   pub holds : Holds old.version before entries payload
   pub extent : HasExtent (before ++ entries) new.extent
-
--- a valid payload is taken behind these entries, and its entries are counted
-pub record Counts (old : Counted) (before : List Entry) (payload : List ℕ) (new : Counted) : Type 0 where
-  pub entries : List Entry
-  pub holds : Holds old.version before entries payload
-  pub extent : HasExtent (before ++ entries) new.extent

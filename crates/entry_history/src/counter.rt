@@ -1,7 +1,7 @@
 //! The reading of a journal's payloads with one of them in memory.
 ghost use Rattle.std.specs.Prelude.{◌≡◌, ◌+◌, ◌^◌, ◌<◌, ◌≤◌, List, [], length, IfOk, OnOk, IfErr, OnErr};
 ghost use Rattle.marc_types.specs.declared.entry.Entry.{Entry as AnyEntry};
-ghost use Rattle.entry_history.specs.Readers.{IsVersion, HasExtent, Counts, CountsEntries, HoldsNone};
+ghost use Rattle.entry_history.specs.Readers.{IsVersion, HasExtent, CountsEntries, HoldsNone};
 
 use crate::EntryFault;
 use crate::extent::Extent;
@@ -42,22 +42,8 @@ impl HistoryCounter {
         }
     }
 
-    /// Takes a journal's next payload. `BadEntry` comes exactly where it isn't valid behind those that were taken. After a
-    /// fault nothing is changed.
-    pub fn take(&mut self, alloc: Global, payload: &[u8]) -> Result<(), EntryFault>
-        requires room { self.old.extent.count + length payload.now < 2 ^ 64 }
-        ensures taken { OnOk result ((before : List AnyEntry) → HasExtent before self.old.extent → Counts self.old before payload.now self.new) }
-        ensures version { self.new.version ≡ self.old.version }
-        ensures few { OnOk result (self.new.extent.count ≤ self.old.extent.count + length payload.now) }
-        ensures bad { IfErr result (λ fault. (before : List AnyEntry) → HasExtent before self.old.extent
-            → HoldsNone self.old.version before payload.now fault) }
-        ensures unchanged { OnErr result (self.new ≡ self.old) }
-    {
-        self.read(alloc, payload)?;
-        Ok(())
-    }
-
-    /// Takes a journal's next payload as `take` does, and hands out its entries.
+    /// Takes a journal's next payload, and hands out its entries. `BadEntry` comes exactly where it isn't valid behind those that were
+    /// taken. After a fault nothing is changed.
     pub fn read(&mut self, alloc: Global, payload: &[u8]) -> Result<Vec<Prepared>, EntryFault>
         requires room { self.old.extent.count + length payload.now < 2 ^ 64 }
         ensures read { IfOk result (λ items. (before : List AnyEntry) → HasExtent before self.old.extent

@@ -1,85 +1,144 @@
 //! The entries of a journal's frames.
-ghost use Rattle.std.specs.Prelude.{◌≡◌, ◌≢◌, ◌≤◌, ◌↔◌, [], length, IsTrue, IfOk, IfErr};
-ghost use Rattle.entry_record.specs.History.{entries_size, IsWithin};
+ghost use Rattle.std.specs.Prelude.{◌≡◌, ◌≢◌, ◌↔◌, ◌++◌, ◌∷◌, ℕ, List, [], length, IsTrue, IfOk, IfErr, OnOk};
+ghost use Rattle.marc_types.specs.declared.entry.Entry.{Entry as AnyEntry};
+ghost use Rattle.entry_record.specs.History.{IsWithin};
 ghost use Rattle.entry_history.specs.Payloads.{IsHistory};
-ghost use Rattle.entry_history.specs.Readers.{IsVersion};
+ghost use Rattle.entry_history.specs.Readers.{IsVersion, HasExtent, CountsEntries};
 ghost use Rattle.durable_catalogue.specs.declared.fault.OpenFault.TheVariants.{DeviceFault, OldVersion, Full};
 ghost use Rattle.durable_catalogue.specs.Logs.{payloads_of};
 ghost use Rattle.durable_catalogue.specs.Openings.{IsUnloaded, IsUnread};
+ghost use Rattle.history_logs.specs.Taking.{IsHandedOn, AreHandedOn, HasLeft, IsUnreadFrame};
 
+use crate::taker::EntryTaker;
 use commit_journal::Frame;
 use durable_catalogue::OpenFault;
-use entry_history::{EntryFault, HistoryReader};
+use entry_history::{EntryFault, HistoryCounter};
 use entry_record::Prepared;
-use marc_types::Limits;
+use marc_types::{Limits, NoMemory};
 use std::alloc::Global;
 
-/// The entries of a journal's frames, in their order.
-fn read_history(alloc: Global, version: u8, frames: &[Frame]) -> Result<Vec<Prepared>, OpenFault>
-    requires { IsVersion version }
-    ensures history { IfOk result (λ items. IsHistory version [] (payloads_of frames.now) items.items) }
-    ensures fault { IfErr result (IsUnread version frames.now) }
+/// The entries of the next frame.
+fn read_frame(
+    alloc: Global,
+    counter: &mut HistoryCounter,
+    frame: &Frame,
+) -> Result<Vec<Prepared>, OpenFault>
+    ensures read { IfOk result (λ items. (before : List AnyEntry) → HasExtent before counter.old.extent
+        → CountsEntries counter.old before items.items frame.now.payload counter.new) }
+    ensures version { counter.new.version ≡ counter.old.version }
+    ensures fault { IfErr result (λ fault. (before : List AnyEntry) → HasExtent before counter.old.extent
+        → IsUnreadFrame counter.old.version before frame.now fault) }
 {
-    let mut reader = HistoryReader::new(alloc, version);
-    for frame in frames {
-        match reader.take(alloc, frame.payload.as_slice()) {
-            Ok(()) => {}
-            Err(EntryFault::BadEntry) => return Err(OpenFault::NotAJournal(frame.gate)),
-            Err(EntryFault::NoMemory) => return Err(OpenFault::NoMemory),
-        }
+    let payload = frame.payload.as_slice();
+    // so many bytes are in no memory
+    if u64::MAX - counter.count() < payload.len() as u64 {
+        return Err(OpenFault::NoMemory);
     }
-    Ok(reader.into_items())
+    match counter.read(alloc, payload) {
+        Ok(items) => Ok(items),
+        Err(EntryFault::BadEntry) => Err(OpenFault::NotAJournal(frame.gate)),
+        Err(EntryFault::NoMemory) => Err(OpenFault::NoMemory),
+    }
 }
 
-/// The entries of a journal's frames, whose version is 1 or 2.
-fn read_either(alloc: Global, version: u8, frames: &[Frame]) -> Result<Vec<Prepared>, OpenFault>
-    ensures history { IsVersion version → IfOk result (λ items. IsHistory version [] (payloads_of frames.now) items.items) }
-    ensures fault { IsVersion version → IfErr result (IsUnread version frames.now) }
+/// What an entry leaves of so many bytes.
+#[tactic(auto, using(crate::proofs::Sizes::left_more, crate::proofs::Sizes::left_passed, crate::proofs::Sizes::passed_more))]
+fn left_behind(left: Option<u64>, item: &Prepared) -> Option<u64>
+    ensures { (bytes : ℕ) (before : List AnyEntry) → HasLeft bytes before left → HasLeft bytes (before ++ item.now ∷ []) result }
+{
+    let size = item.size();
+    match left {
+        Some(left) if size <= left => Some(left - size),
+        _ => None,
+    }
+}
+
+/// Hands entries on, and takes their bytes off from those that are left.
+fn hand_on<T: EntryTaker>(
+    alloc: Global,
+    items: &[Prepared],
+    taker: &mut T,
+    left: &mut Option<u64>,
+) -> Result<(), NoMemory>
+    ensures taken { OnOk result ((before : List AnyEntry) → T.has taker.old before → T.has taker.new (before ++ items.now)) }
+    ensures left { OnOk result ((bytes : ℕ) (before : List AnyEntry) → HasLeft bytes before left.old → HasLeft bytes (before ++ items.now) left.new) }
+{
+    for item in items {
+        taker.take(alloc, item.entry())?;
+        *left = left_behind(*left, item);
+    }
+    Ok(())
+}
+
+/// Whether so many entries, which leave that of the bytes, are within limits.
+#[tactic(auto, using(crate::proofs::Sizes::within_both, crate::proofs::Sizes::within_few, crate::proofs::Sizes::within_short))]
+fn are_within(limits: Limits, count: u64, left: Option<u64>) -> bool
+    ensures { (entries : List AnyEntry) → HasLeft limits.bytes entries left → count ≡ length entries → IsTrue result ↔ IsWithin limits entries }
+{
+    count <= limits.entries && left.is_some()
+}
+
+/// Hands on the entries of a journal's frames in their order, and answers whether they are within the limits. A frame is let go
+/// before the next is read.
+fn take_frames<T: EntryTaker>(
+    alloc: Global,
+    version: u8,
+    frames: Vec<Frame>,
+    limits: Limits,
+    taker: &mut T,
+) -> Result<bool, OpenFault>
+    requires version { IsVersion version }
+    requires none { T.has taker.old [] }
+    ensures taken { IfOk result (λ fits. AreHandedOn (T.has taker.new) (IsHistory version [] (payloads_of frames.items)) limits fits) }
+    ensures fault { IfErr result (IsUnread version frames.items) }
+{
+    let mut counter = HistoryCounter::new(version);
+    let mut left = Some(limits.bytes);
+    for frame in frames {
+        let items = read_frame(alloc, &mut counter, &frame)?;
+        let Ok(()) = hand_on(alloc, items.as_slice(), taker, &mut left) else {
+            return Err(OpenFault::NoMemory);
+        };
+    }
+    Ok(are_within(limits, counter.count(), left))
+}
+
+/// The same of frames whose version is 1 or 2.
+fn take_either<T: EntryTaker>(
+    alloc: Global,
+    version: u8,
+    frames: Vec<Frame>,
+    limits: Limits,
+    taker: &mut T,
+) -> Result<bool, OpenFault>
+    requires none { T.has taker.old [] }
+    ensures taken { IfOk result (λ fits. AreHandedOn (T.has taker.new)
+        (λ entries. IsVersion version → IsHistory version [] (payloads_of frames.items) entries) limits fits) }
+    ensures fault { IsVersion version → IfErr result (IsUnread version frames.items) }
     ensures current { IfErr result (λ fault. fault ≢ OldVersion) }
     ensures unbuilt { IfErr result (λ fault. fault ≢ Full) }
     ensures no_device { IfErr result (λ fault. fault ≢ DeviceFault) }
 {
-    read_history(alloc, version.max(1).min(2), frames)
+    take_frames(alloc, version.max(1).min(2), frames, limits, taker)
 }
 
-#[tactic(auto, using(crate::proofs::Sizes::none_left, crate::proofs::Sizes::left_more, crate::proofs::Sizes::left_passed, crate::proofs::Sizes::left_done))]
-fn are_short(items: &[Prepared], bytes: u64) -> bool
-    ensures { IsTrue result ↔ (entries_size items.now ≤ bytes) }
-{
-    let mut left = bytes;
-    for item in items {
-        if item.size() > left {
-            return false;
-        }
-        left -= item.size();
-    }
-    true
-}
-
-/// Whether a history is within limits.
-#[tactic(auto, using(crate::proofs::Sizes::within_both, crate::proofs::Sizes::within_few, crate::proofs::Sizes::within_short))]
-fn is_within(items: &[Prepared], limits: Limits) -> bool
-    ensures { IsTrue result ↔ IsWithin limits items.now }
-{
-    items.len() as u64 <= limits.entries && are_short(items, limits.bytes)
-}
-
-/// The entries of a journal's frames, where they are within the limits.
-pub(crate) fn read_within(
+/// Hands on the entries of a journal's frames, where they are within the limits.
+pub(crate) fn take_within<T: EntryTaker>(
     alloc: Global,
     version: u8,
-    frames: &[Frame],
+    frames: Vec<Frame>,
     limits: Limits,
-) -> Result<Vec<Prepared>, OpenFault>
-    ensures history { IsVersion version → IfOk result (λ items. IsHistory version [] (payloads_of frames.now) items.items) }
-    ensures within { IfOk result (λ items. IsWithin limits items.items) }
-    ensures fault { IsVersion version → IfErr result (IsUnloaded version frames.now limits) }
+    taker: &mut T,
+) -> Result<(), OpenFault>
+    requires none { T.has taker.old [] }
+    ensures taken { OnOk result (IsHandedOn (T.has taker.new)
+        (λ entries. IsVersion version → IsHistory version [] (payloads_of frames.items) entries) limits) }
+    ensures fault { IsVersion version → IfErr result (IsUnloaded version frames.items limits) }
     ensures no_device { IfErr result (λ fault. fault ≢ DeviceFault) }
     ensures current { IfErr result (λ fault. fault ≢ OldVersion) }
 {
-    let items = read_either(alloc, version, frames)?;
-    if is_within(items.as_slice(), limits) {
-        Ok(items)
+    if take_either(alloc, version, frames, limits, taker)? {
+        Ok(())
     } else {
         Err(OpenFault::Full)
     }

@@ -1,5 +1,5 @@
 //! The history of a log of either version.
-ghost use Rattle.std.specs.Prelude.{◌≡◌, ◌≢◌, ◌≤◌, ℕ, List, [], true, Some, is_some, IfOk, IfErr, MatchResult};
+ghost use Rattle.std.specs.Prelude.{◌≡◌, ◌≢◌, ◌≤◌, ℕ, List, [], true, Some, is_some, IfOk, IfErr, OnOk, MatchResult};
 ghost use Rattle.outside.specs.Disk.{OnlyContent};
 ghost use Rattle.outside.specs.Fault.{Rose};
 ghost use Rattle.durable_catalogue.specs.declared.fault.OpenFault.TheVariants.{DeviceFault, OldVersion};
@@ -7,20 +7,19 @@ ghost use Rattle.durable_catalogue.specs.Faults.{open_fault};
 ghost use Rattle.durable_catalogue.specs.Logs.{HasHistory};
 ghost use Rattle.durable_catalogue.specs.Openings.{IsUnopened, IsOpening, KeepsContent};
 ghost use Rattle.durable_catalogue.specs.Refused.{LeavesDiskAlone, LeavesSettled, IsPutInOrder};
-ghost use Rattle.entry_record.specs.History.{IsWithin};
+ghost use Rattle.history_logs.specs.Taking.{IsHandedOn};
 
-use crate::frames::read_within;
+use crate::frames::take_within;
+use crate::taker::EntryTaker;
 use commit_journal::{Journal, JournalFault};
 use durable_catalogue::OpenFault;
-use entry_record::Prepared;
 use marc_types::Limits;
 use outside::Disk;
 use std::alloc::Global;
 
-/// The entries of a log of version 1 or 2, to which nothing is committed.
+/// A log of version 1 or 2 whose entries were handed on, and to which nothing is committed.
 #[derive(Drop)]
 pub struct HistoryLog<D: Disk> {
-    items: Vec<Prepared>,
     journal: Journal<D>,
 }
 
@@ -36,11 +35,17 @@ fn fault_of(fault: JournalFault) -> OpenFault
 }
 
 impl<D: Disk> HistoryLog<D> {
-    /// Opens a log that a crash may have left, of either version. Of a journal that isn't blank it writes no gate. A fault hands
-    /// the disk back.
-    pub fn open(alloc: Global, disk: D, limits: Limits) -> Result<Self, (D, OpenFault)>
-        ensures history { IfOk result (λ h. (log : List ℕ) → (D.seen disk).content ≡ Some log → HasHistory h.items.items log) }
-        ensures within { IfOk result (λ h. IsWithin limits h.items.items) }
+    /// Opens a log that a crash may have left, of either version, and hands its entries on. Of a journal that isn't blank it writes
+    /// no gate. A fault hands the disk back; any front of the entries was then handed on.
+    pub fn open<T: EntryTaker>(
+        alloc: Global,
+        disk: D,
+        limits: Limits,
+        taker: &mut T,
+    ) -> Result<Self, (D, OpenFault)>
+        requires none { T.has taker.old [] }
+        ensures taken { OnOk result (IsHandedOn (T.has taker.new)
+            (λ entries. (log : List ℕ) → (D.seen disk).content ≡ Some log → HasHistory entries log) limits) }
         ensures crash { MatchResult result (λ h. IsOpening (D.seen disk) (D.seen h.journal.disk)) (λ e. IsOpening (D.seen disk) (D.seen e.0)) }
         ensures content { MatchResult result (λ h. KeepsContent (D.seen disk) (D.seen h.journal.disk))
             (λ e. KeepsContent (D.seen disk) (D.seen e.0)) }
@@ -60,8 +65,8 @@ impl<D: Disk> HistoryLog<D> {
     {
         match Journal::open(alloc, disk) {
             Ok((journal, frames)) => {
-                match read_within(alloc, journal.version(), frames.as_slice(), limits) {
-                    Ok(items) => Ok(HistoryLog { items, journal }),
+                match take_within(alloc, journal.version(), frames.into_vec(), limits, taker) {
+                    Ok(()) => Ok(HistoryLog { journal }),
                     Err(fault) => Err((journal.close(), fault)),
                 }
             }
@@ -72,18 +77,11 @@ impl<D: Disk> HistoryLog<D> {
         }
     }
 
-    /// The entries of the history.
-    pub fn items(&self) -> &[Prepared]
-        ensures { result.now ≡ self.now.items.items }
-    {
-        self.items.as_slice()
-    }
-
     /// Gives the disk back.
     pub fn close(self) -> D
         ensures { result ≡ self.journal.disk }
     {
-        let HistoryLog { journal, .. } = self;
+        let HistoryLog { journal } = self;
         journal.close()
     }
 }

@@ -5,30 +5,34 @@ ghost use Rattle.outside.specs.Room.{AsLog, SameBut};
 ghost use Rattle.durable_catalogue.specs.declared.fault.OpenFault.TheVariants.{DeviceFault, OldVersion};
 ghost use Rattle.durable_catalogue.specs.Logs.{HasHistory};
 ghost use Rattle.durable_catalogue.specs.Openings.{IsUnopened};
-ghost use Rattle.entry_record.specs.History.{IsWithin};
 ghost use Rattle.room_files.specs.Journals.{journal_limits, log_bytes, IsClosedDisk, KeepsHistory, KeepsLog};
+ghost use Rattle.history_logs.specs.Taking.{IsHandedOn};
 
 use crate::log::HistoryLog;
+use crate::taker::EntryTaker;
 use durable_catalogue::OpenFault;
 use outside::Room;
 use room_files::JOURNAL_LIMITS;
 use std::alloc::Global;
 
-/// Opens the file of that name to read its history, of either version. A fault closes it again.
+/// Opens the file of that name, a log of either version, and hands its entries on. A fault closes it again; any front of the entries
+/// was then handed on.
 #[tactic(auto, using(room_files::proofs::Journals::unopened_keeps))]
-pub fn open_history<R: Room>(
+pub fn open_history<R: Room, T: EntryTaker>(
     alloc: Global,
     room: &mut R,
     name: &str,
+    taker: &mut T,
 ) -> Result<HistoryLog<R::Log>, OpenFault>
-    requires { (R.seen room.old).open_as name.now ≡ None }
+    requires free { (R.seen room.old).open_as name.now ≡ None }
+    requires none { T.has taker.old [] }
     ensures apart { SameBut (R.seen room.old) (R.seen room.new) (name.now ∷ []) }
     ensures opened { OnOk result ((R.seen room.new).open_as name.now ≡ Some AsLog) }
     ensures closed { OnErr result ((R.seen room.new).open_as name.now ≡ None) }
 
-    // The entries are the history of the log, within the limits, and the log keeps it.
-    ensures history { IfOk result (λ h. (R.seen room.old).tells ≡ true → HasHistory h.items.items (log_bytes (R.seen room.old) name.now)) }
-    ensures within { IfOk result (λ h. IsWithin journal_limits h.items.items) }
+    // All entries of the log's history were handed on; they are within the limits, and the log keeps them.
+    ensures taken { OnOk result (IsHandedOn (T.has taker.new)
+        (λ entries. (R.seen room.old).tells ≡ true → HasHistory entries (log_bytes (R.seen room.old) name.now)) journal_limits) }
     ensures kept { IfOk result (λ h. (R.seen room.old).tells ≡ true →
         KeepsLog (log_bytes (R.seen room.old) name.now) (R.Log.seen h.journal.disk)) }
 
@@ -44,7 +48,7 @@ pub fn open_history<R: Room>(
     let Ok(log) = room.open_log(name) else {
         return Err(OpenFault::DeviceFault);
     };
-    match HistoryLog::open(alloc, log, JOURNAL_LIMITS) {
+    match HistoryLog::open(alloc, log, JOURNAL_LIMITS, taker) {
         Ok(history) => Ok(history),
         Err(failed) => {
             let (log, fault) = failed;

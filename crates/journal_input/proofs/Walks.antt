@@ -7,7 +7,7 @@ use Rattle.marc_types.specs.declared.entry.Entry.{Entry}
 use Rattle.commit_journal.specs.declared.frame.Frame.{Frame}
 use Rattle.commit_journal.specs.Log.{Walk, walk, closed_at, lost_at, behind}
 use Rattle.entry_history.specs.Payloads.{Holds, IsHistory, NoMore}
-use Rattle.entry_history.specs.Readers.{HasExtent, Counted, Counts}
+use Rattle.entry_history.specs.Readers.{HasExtent, Counted, CountsEntries}
 use Rattle.entry_history.specs.declared.extent.Extent.{Extent}
 use Rattle.entry_history.proofs.Histories.{history_more}
 use Rattle.journal_input.specs.Coming.{Comes, ComesOn}
@@ -89,19 +89,19 @@ taken_none version from bytes window left extent none c =
     record { frames = []; entries = []; on = walks_first window bytes left from c; holds = NoMore []; count_is = refl; extent_is = none }
 
 pub taken_more : (version from place next count : ℕ) (bytes window passed payload : List ℕ) (left after : Option (List ℕ)) (old new : Counted)
-    (t : HasTaken version from bytes old.extent count place window left) → old.version ≡ version → Counts old t.entries payload new
+    (t : HasTaken version from bytes old.extent count place window left) (entries : List Entry) → old.version ≡ version → CountsEntries old t.entries entries payload new
     → WalksOn from bytes (t.frames ++ record { gate = place; payload = payload } ∷ []) next passed after
     → HasTaken version from bytes new.extent (count + 1) next passed after
-taken_more version from place next count bytes window passed payload left after old new t same counts on =
-    let holds : Holds version t.entries counts.entries payload = subst (λ v. Holds v t.entries counts.entries payload) same counts.holds in
-    let more = history_more version [] t.entries counts.entries (payloads_of t.frames) payload t.holds holds in
+taken_more version from place next count bytes window passed payload left after old new t entries same counts on =
+    let holds : Holds version t.entries entries payload = subst (λ v. Holds v t.entries entries payload) same counts.holds in
+    let more = history_more version [] t.entries entries (payloads_of t.frames) payload t.holds holds in
     let count_is = t.count_is in
     let len = length-append t.frames (record { gate = place; payload = payload } ∷ []) in
     record {
       frames = t.frames ++ record { gate = place; payload = payload } ∷ [];
-      entries = t.entries ++ counts.entries;
+      entries = t.entries ++ entries;
       on = on;
-      holds = subst (λ ps. IsHistory version [] ps (t.entries ++ counts.entries)) (sym (payloads_more t.frames (record { gate = place; payload = payload }))) more;
+      holds = subst (λ ps. IsHistory version [] ps (t.entries ++ entries)) (sym (payloads_more t.frames (record { gate = place; payload = payload }))) more;
       count_is = omega (arith, count_is, len);
       extent_is = counts.extent;
     }

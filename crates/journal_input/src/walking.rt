@@ -72,8 +72,8 @@ pub fn take_frames<S: Source>(
             }
             Gate::Lost => return Err(VerifyFault::NotAJournal(place)),
             Gate::Frame(count) => {
-                match counter.take(alloc, payload_in(coming.window(), count)) {
-                    Ok(()) => {}
+                match counter.read(alloc, payload_in(coming.window(), count)) {
+                    Ok(_) => {}
                     Err(EntryFault::NoMemory) => return Err(VerifyFault::NoMemory),
                     Err(EntryFault::BadEntry) => {
                         coming.pass(HEAD_BYTES + count);

@@ -24,6 +24,10 @@ use Rattle.archive_commands.specs.Archives.{WhyUnopened}
 use Rattle.archive_commands.specs.Reads.{EndsReading}
 use Rattle.archive_commands.proofs.Rooms.{part_opened}
 use Rattle.archive_commands.proofs.Histories.{whole_of_any, part_of_any, fitting_history}
+use Rattle.history_logs.specs.Taking.{IsHandedOn}
+use Rattle.match_report.specs.Groups.{Numbered, lines_of, matches_of}
+use Rattle.match_report.specs.Matches.{table_after}
+use Rattle.match_report.proofs.Tables.{lines_are_of_state}
 use Rattle.match_command.specs.Telling.{matches_due, TellsMatches}
 
 -- an opening's fault that is one of reading
@@ -40,6 +44,10 @@ is_device (opening.NotAJournal place) is = cc
 is_device opening.OldVersion is = cc
 is_device opening.Full is = cc
 is_device opening.NoMemory is = cc
+
+-- a table that took a history has the lines that are due of it
+pub due_of_table : (table : List Numbered) (entries : List Entry) → table ≡ table_after entries → lines_of (matches_of table) ≡ matches_due entries
+due_of_table table entries is = ap (λ rows. lines_of (matches_of rows)) is ∙ lines_are_of_state entries
 
 module _ (journal out : List ℕ) (o : Outcome) where
   -- a fault was told, of a journal that was not opened or where memory ran out behind that
@@ -84,6 +92,17 @@ module _ (journal out : List ℕ) (o : Outcome) where
     within = within;
     part = λ tells. part_opened o.old mid o.new journal out (matches_due history) differ opened (part (opened.tells ∙ tells));
   }
+
+  -- the same of a history that a table took
+  pub was_taken : (mid : RoomView) (disk : DiskView) (table : List Numbered)
+      → (t : IsHandedOn (λ entries. table ≡ table_after entries) (λ entries. o.old.tells ≡ true → HasHistory entries (log_bytes o.old journal)) journal_limits)
+      → journal ≢ out → SameBut o.old mid (journal ∷ [])
+      → (mid.tells ≡ true → o.new.file journal ≡ disk.content) → (mid.tells ≡ true → IsClosedDisk disk o.new journal)
+      → (o.old.tells ≡ true → KeepsLog (log_bytes o.old journal) disk)
+      → (mid.tells ≡ true → IsPartWritten (mid.file out) (o.new.file out) (lines_of (matches_of table))) → WasRead t.entries
+  was_taken mid disk table t differ opened file log kept part =
+      was_read mid disk t.entries differ opened file log t.history t.within kept
+      (λ told. subst (IsPartWritten (mid.file out) (o.new.file out)) (due_of_table table t.entries t.taken) (part told))
 
   module _ (history : List Entry) (r : WasRead history) where
     part_is : (entries : List Entry) → o.old.tells ≡ true → HasHistory entries (log_bytes o.old journal)

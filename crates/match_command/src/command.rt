@@ -3,6 +3,7 @@ ghost use Rattle.console_lines.specs.Ends.{outcome};
 ghost use Rattle.outside.specs.Room.{SameBut};
 ghost use Rattle.match_command.specs.Telling.{TellsMatches};
 
+use crate::taking::HistoryMatches;
 use crate::writing::write_history;
 use console_lines::{End, Fault, Unwritten, tell};
 use history_logs::open_history;
@@ -26,11 +27,12 @@ pub fn write_matches<R: Room>(
     ensures ends { TellsMatches journal.now out.now
         (outcome R.seen R.Out.written R.Out.faults room.old room.new console.old console.new result) }
 {
-    let history = match open_history(alloc, room, journal) {
+    let mut taken = HistoryMatches::new(alloc);
+    let history = match open_history(alloc, room, journal, &mut taken) {
         Ok(history) => history,
         Err(fault) => return tell(console, fault_of_opening(fault)),
     };
-    match write_history(alloc, room, journal, out, history) {
+    match write_history(alloc, room, journal, out, &taken.table, history) {
         Ok(()) => End::Done,
         Err(WriteFault::OutputFault) => End::Unwritten(Unwritten::Out),
         Err(WriteFault::NoMemory) => tell(console, Fault::Memory),

@@ -4,4 +4,5 @@
 pub use command::write_matches;
 
 mod command;
+mod taking;
 mod writing;

@@ -1,31 +1,15 @@
-//! The match report of a history, as a file.
+//! The lines of a table of numbers, as a file.
 ghost use Rattle.std.specs.Prelude.{◌≡◌, ◌∷◌, [], true, Some, None, IfOk, IfErr, OnOk};
 ghost use Rattle.outside.specs.Fault.{HasCause, HasWriteCause};
 ghost use Rattle.outside.specs.Room.{AsLog, SameBut};
-ghost use Rattle.catalogue_rules.specs.Settle.{state_of};
 ghost use Rattle.output_files.specs.Outputs.{IsPartWritten};
 ghost use Rattle.room_files.specs.Journals.{IsClosedDisk};
 ghost use Rattle.match_report.specs.Groups.{lines_of, matches_of};
-ghost use Rattle.match_report.specs.Matches.{match_report_of, table_after};
 
-use entry_record::Prepared;
 use history_logs::{HistoryLog, close_history};
-use marc_types::NoMemory;
 use match_report::{Groups, Matches};
 use outside::{Failed, Room, WriteFault};
 use std::alloc::Global;
-
-/// The table after a history.
-#[tactic(auto, unfolding(match_report::specs::Matches::table_after))]
-fn table_of(alloc: Global, items: &[Prepared]) -> Result<Matches, NoMemory>
-    ensures { IfOk result (λ table. table ≡ table_after items.now) }
-{
-    let mut table = Matches::new(alloc);
-    for item in items {
-        table.put(alloc, item.entry())?;
-    }
-    Ok(table)
-}
 
 /// Writes the lines of groups into the file of that name.
 fn write_groups<R: Room>(room: &mut R, name: &str, groups: &Groups<'_>) -> Result<(), Failed>
@@ -77,38 +61,14 @@ fn write_table<R: Room>(
     }
 }
 
-/// Writes the match report of a history into the file of that name.
-#[tactic(auto, using(outside::proofs::Rooms::same_but_itself))]
-fn write_report<R: Room>(
-    alloc: Global,
-    room: &mut R,
-    name: &str,
-    items: &[Prepared],
-) -> Result<(), WriteFault>
-    requires free { (R.seen room.old).open_as name.now ≡ None }
-    ensures apart { SameBut (R.seen room.old) (R.seen room.new) (name.now ∷ []) }
-    ensures closed { (R.seen room.new).open_as name.now ≡ None }
-    ensures cause { HasWriteCause ((R.seen room.old).out_faults name.now) ((R.seen room.new).out_faults name.now) result }
-    ensures memory { IfErr result (λ fault. fault ≡ WriteFault.NoMemory → SameBut (R.seen room.old) (R.seen room.new) []) }
-    ensures bytes { OnOk result ((R.seen room.old).tells ≡ true →
-        (R.seen room.new).file name.now ≡ Some (match_report_of (state_of items.now))) }
-    ensures part { (R.seen room.old).tells ≡ true →
-        IsPartWritten ((R.seen room.old).file name.now) ((R.seen room.new).file name.now) (match_report_of (state_of items.now)) }
-{
-    let table = match table_of(alloc, items) {
-        Ok(table) => table,
-        Err(_) => return Err(WriteFault::NoMemory),
-    };
-    write_table(alloc, room, name, &table)
-}
-
-/// Writes the match report of a log's history into the file `out`, and closes the log.
+/// Writes the lines of a table's groups into the file `out`, and closes the log that the table is of.
 #[tactic(auto, using(outside::proofs::Rooms::same_but_none, outside::proofs::Rooms::same_but_then))]
 pub(crate) fn write_history<R: Room>(
     alloc: Global,
     room: &mut R,
     journal: &str,
     out: &str,
+    table: &Matches,
     history: HistoryLog<R::Log>,
 ) -> Result<(), WriteFault>
     requires opened { (R.seen room.old).open_as journal.now ≡ Some AsLog }
@@ -119,19 +79,19 @@ pub(crate) fn write_history<R: Room>(
     ensures closed { (R.seen room.new).open_as journal.now ≡ None }
     ensures out_closed { (R.seen room.new).open_as out.now ≡ None }
 
-    // The output, as `write_report` leaves it.
+    // The output, as `write_table` leaves it.
     ensures cause { HasWriteCause ((R.seen room.old).out_faults out.now) ((R.seen room.new).out_faults out.now) result }
     ensures memory { IfErr result (λ fault. fault ≡ WriteFault.NoMemory → SameBut (R.seen room.old) (R.seen room.new) (journal.now ∷ [])) }
     ensures bytes { OnOk result ((R.seen room.old).tells ≡ true →
-        (R.seen room.new).file out.now ≡ Some (match_report_of (state_of history.items.items))) }
+        (R.seen room.new).file out.now ≡ Some (lines_of (matches_of table.now))) }
     ensures part { (R.seen room.old).tells ≡ true →
-        IsPartWritten ((R.seen room.old).file out.now) ((R.seen room.new).file out.now) (match_report_of (state_of history.items.items)) }
+        IsPartWritten ((R.seen room.old).file out.now) ((R.seen room.new).file out.now) (lines_of (matches_of table.now)) }
 
     // The log and its file are what the opening left.
     ensures file { (R.seen room.old).tells ≡ true → (R.seen room.new).file journal.now ≡ (R.Log.seen history.journal.disk).content }
     ensures log { (R.seen room.old).tells ≡ true → IsClosedDisk (R.Log.seen history.journal.disk) (R.seen room.new) journal.now }
 {
-    let written = write_report(alloc, room, out, history.items());
+    let written = write_table(alloc, room, out, table);
     close_history(room, journal, history);
     written
 }

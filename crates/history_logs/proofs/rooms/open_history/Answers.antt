@@ -1,8 +1,17 @@
-use Rattle.std.proofs.Common.{◌≡◌, ◌∙◌}
+use Rattle.std.proofs.Common.{◌≡◌, ◌∙◌, ℕ, true, List, Some}
 use Rattle.durable_catalogue.specs.declared.fault.OpenFault.TheVariants.{DeviceFault}
-use Rattle.room_files.specs.Journals.{log_bytes}
+use Rattle.durable_catalogue.specs.Logs.{HasHistory}
+use Rattle.room_files.specs.Journals.{journal_limits, log_bytes}
 use Rattle.room_files.proofs.Journals.{images_keep, content_keeps, unsynced_keeps, opening_keeps, refusal_alone, refusal_settled, closed_history}
+use Rattle.history_logs.proofs.Turns.{is_also}
 use Rattle.history_logs.proofs.rooms.open_history.Goals as goal
+
+pub returns-in-Ok-open-clause-taken : goal.returns-in-Ok-open-clause-taken
+returns-in-Ok-open-clause-taken g c =
+    let log = log_bytes (g.R.Room.seen c.args.room.now) c.args.name.now in
+    is_also (g.T.EntryTaker.has c.open.new.taker) (λ entries. (bytes : List ℕ) → (g.R.Log.Disk.seen c.in-Ok.log).content ≡ Some bytes → HasHistory entries bytes)
+    (λ entries. (g.R.Room.seen c.args.room.now).tells ≡ true → HasHistory entries log) journal_limits
+    (λ entries has told. has log (c.in-Ok.ensures.bytes told)) c.in-Ok-open.ensures.taken
 
 pub returns-in-Ok-open-clause-kept : goal.returns-in-Ok-open-clause-kept
 returns-in-Ok-open-clause-kept g c told =

@@ -52,7 +52,7 @@ gates-preserved g c =
     let filled = c.next_gate.new.coming.window.items in
     let within = subst (GateIn filled) c.in-Frame.is c.in_ok-next_gate.ensures.within in
     let payload = c.payload_in.ensures ∙ ap (λ l. take c.in-Frame.count (drop 5 l)) c.window.ensures in
-    let counts = c.in-Ok.ensures.taken in
+    let counts = c.in-Ok.ensures.read in
     let counted = c.gates.invariant.counted in
     let more = c.in-Ok.ensures.few in
     let taken_len = ap length payload in
@@ -60,11 +60,11 @@ gates-preserved g c =
       taken = λ b comes.
           let taken = c.gates.invariant.taken b comes in
           taken_more c.args.version c.args.coming.now.place c.gates.coming.place c.pass-in-Frame.new.self.place c.gates.frames b c.gates.coming.window.items c.pass-in-Frame.new.self.window.items
-          c.payload_in.result.now _ _ c.gates.counter c.take.new.self taken c.gates.invariant.version (counts taken.entries taken.extent_is)
+          c.payload_in.result.now _ _ c.gates.counter c.read.new.self taken c.in-Ok.field-0.items c.gates.invariant.version (counts taken.entries taken.extent_is)
           (walks_frame _ c.gates.coming.place c.in-Frame.count c.pass-in-Frame.new.self.place b _ filled c.pass-in-Frame.new.self.window.items c.payload_in.result.now taken.frames _ _ _ taken.on
           (λ x come. subst (GateSays x) c.in-Frame.is (c.in_ok-next_gate.ensures.says x come)) c.in_ok-next_gate.ensures.comes c.pass-in-Frame.ensures.comes within
           (omega (arith, place, same)) payload);
-      version = c.take.ensures.version ∙ c.gates.invariant.version;
+      version = c.read.ensures.version ∙ c.gates.invariant.version;
       counted = omega (arith, counted, more, place, same, taken_len, most_taken c.in-Frame.count (drop 5 filled));
       few = omega (arith, few, place, same);
       faults = omega (arith, before, later, source);
@@ -100,8 +100,8 @@ returns-in-Err-clause-unread g c wrong is b comes =
     unread_behind c.args.version c.args.coming.now.place c.pass.new.self.place wrong b c.pass.new.self.window.items _ _ on
     (c.skip_frames.ensures.lost wrong (c.in-Err.is ∙ ap Err (same_fault _ _ is)))
 
-pub take-requires : goal.take-requires
-take-requires g c =
+pub read-requires : goal.read-requires
+read-requires g c =
     let counted = c.gates.invariant.counted in
     let same = c.next_gate.ensures.place in
     let filled = c.next_gate.new.coming.window.items in

@@ -1,9 +1,9 @@
-use Rattle.std.proofs.Common.{◌∙◌, Err, refl, ap, subst, arith}
+use Rattle.std.proofs.Common.{◌∙◌, Some, Err, refl, ap, subst, arith}
 use Rattle.console_lines.specs.Faults.{IsFaultTold, fault_line}
 use Rattle.console_lines.specs.declared.end.End.TheVariants.{Told}
 use Rattle.outside.proofs.Rooms.{same_but_then}
 use Rattle.archive_commands.proofs.Rooms.{closed_opened}
-use Rattle.match_command.proofs.Endings.{tells_fault, was_read, tells_whole, tells_failed, tells_no_memory}
+use Rattle.match_command.proofs.Endings.{due_of_table, tells_fault, was_taken, tells_whole, tells_failed, tells_no_memory}
 use Rattle.match_command.proofs.command.write_matches.Goals as goal
 
 pub returns-in-Err-clause-ends : goal.returns-in-Err-clause-ends
@@ -25,9 +25,10 @@ pub returns-in-Ok-write_history-clause-ends : goal.returns-in-Ok-write_history-c
 returns-in-Ok-write_history-clause-ends g c =
     let w = c.write_history.ensures in
     let a = c.in-Ok.ensures in
-    tells_whole _ _ _ _ (was_read _ _ _ (g.R.Room.seen c.open_history.new.room) (g.R.Log.Disk.seen c.in-Ok.history.journal.disk) _
-    c.requires.differ c.open_history.ensures.apart w.file w.log a.history a.within a.kept w.part)
-    refl (refl, refl) (λ tells. c.in-Ok-write_history.ensures.bytes (c.open_history.ensures.apart.tells ∙ tells))
+    tells_whole _ _ _ _ (was_taken _ _ _ (g.R.Room.seen c.open_history.new.room) (g.R.Log.Disk.seen c.in-Ok.history.journal.disk) c.open_history.new.taker.table a.taken
+    c.requires.differ c.open_history.ensures.apart w.file w.log a.kept w.part)
+    refl (refl, refl) (λ tells. c.in-Ok-write_history.ensures.bytes (c.open_history.ensures.apart.tells ∙ tells)
+    ∙ ap Some (due_of_table c.open_history.new.taker.table a.taken.entries a.taken.taken))
 
 pub returns-in-Err-OutputFault-clause-closed : goal.returns-in-Err-OutputFault-clause-closed
 returns-in-Err-OutputFault-clause-closed g c =
@@ -40,8 +41,8 @@ returns-in-Err-OutputFault-clause-ends g c =
     let a = c.in-Ok.ensures in
     let earlier = c.open_history.ensures.apart.outs c.args.out.now in
     let rose = w.cause.failed (c.in-Err-OutputFault.is ∙ ap Err c.in-Err-OutputFault.field-0-is) in
-    tells_failed _ _ _ _ (was_read _ _ _ (g.R.Room.seen c.open_history.new.room) (g.R.Log.Disk.seen c.in-Ok.history.journal.disk) _
-    c.requires.differ c.open_history.ensures.apart w.file w.log a.history a.within a.kept w.part)
+    tells_failed _ _ _ _ (was_taken _ _ _ (g.R.Room.seen c.open_history.new.room) (g.R.Log.Disk.seen c.in-Ok.history.journal.disk) c.open_history.new.taker.table a.taken
+    c.requires.differ c.open_history.ensures.apart w.file w.log a.kept w.part)
     refl (refl, refl) (omega (arith, earlier, rose))
 
 pub returns-in-Err-NoMemory-clause-closed : goal.returns-in-Err-NoMemory-clause-closed
@@ -53,7 +54,7 @@ pub returns-in-Err-NoMemory-clause-ends : goal.returns-in-Err-NoMemory-clause-en
 returns-in-Err-NoMemory-clause-ends g c =
     let w = c.write_history.ensures in
     let a = c.in-Ok.ensures in
-    tells_no_memory _ _ _ _ (was_read _ _ _ (g.R.Room.seen c.open_history.new.room) (g.R.Log.Disk.seen c.in-Ok.history.journal.disk) _
-    c.requires.differ c.open_history.ensures.apart w.file w.log a.history a.within a.kept w.part)
+    tells_no_memory _ _ _ _ (was_taken _ _ _ (g.R.Room.seen c.open_history.new.room) (g.R.Log.Disk.seen c.in-Ok.history.journal.disk) c.open_history.new.taker.table a.taken
+    c.requires.differ c.open_history.ensures.apart w.file w.log a.kept w.part)
     c.tell-in-Err-NoMemory.ensures.end c.tell-in-Err-NoMemory.ensures.told
     (same_but_then _ _ _ _ c.open_history.ensures.apart (c.in-Err-NoMemory.ensures.memory c.in-Err-NoMemory.field-0-is))

@@ -1,10 +1,9 @@
-use Rattle.std.proofs.Common.{◌≡◌, [], ◌∷◌, subst}
+use Rattle.std.proofs.Common.{◌≡◌, [], ◌∷◌}
 use Rattle.outside.specs.Room.{SameBut}
 use Rattle.outside.specs.declared.fault.WriteFault.TheVariants.{NoMemory}
 use Rattle.outside.proofs.Rooms.{same_but_none, same_but_then}
-use Rattle.output_files.specs.Outputs.{IsPartWritten}
 use Rattle.archive_commands.proofs.Rooms.{part_closed}
-use Rattle.match_command.specs.Telling.{matches_due}
+use Rattle.match_report.specs.Groups.{lines_of, matches_of}
 use Rattle.match_command.proofs.Taken.{if_err_then}
 use Rattle.match_command.proofs.writing.write_history.Goals as goal
 
@@ -12,17 +11,16 @@ pub returns-clause-part : goal.returns-clause-part
 returns-clause-part g c told =
     let seen = g.R.Room.seen in
     let old = seen c.args.room.now in
-    let written = seen c.write_report-written.new.room in
+    let written = seen c.write_table-written.new.room in
     let out = c.args.out.now in
-    part_closed old written (seen c.close_history.new.room) c.args.journal.now out (matches_due c.args.history.items.items)
-    c.requires.opened c.requires.free c.close_history.ensures.apart
-    (subst (λ items. IsPartWritten (old.file out) (written.file out) (matches_due items)) c.items.ensures (c.write_report-written.ensures.part told))
+    part_closed old written (seen c.close_history.new.room) c.args.journal.now out (lines_of (matches_of c.args.table.now))
+    c.requires.opened c.requires.free c.close_history.ensures.apart (c.write_table-written.ensures.part told)
 
 pub returns-clause-memory : goal.returns-clause-memory
 returns-clause-memory g c =
     let seen = g.R.Room.seen in
     let old = seen c.args.room.now in
-    let written = seen c.write_report-written.new.room in
+    let written = seen c.write_table-written.new.room in
     let journal = c.args.journal.now in
     if_err_then _ (λ fault. fault ≡ NoMemory → SameBut old written []) (λ fault. fault ≡ NoMemory → SameBut old (seen c.close_history.new.room) (journal ∷ []))
-    (λ fault so is. same_but_then _ _ _ (journal ∷ []) (same_but_none _ _ (journal ∷ []) (so is)) c.close_history.ensures.apart) c.write_report-written.ensures.memory
+    (λ fault so is. same_but_then _ _ _ (journal ∷ []) (same_but_none _ _ (journal ∷ []) (so is)) c.close_history.ensures.apart) c.write_table-written.ensures.memory

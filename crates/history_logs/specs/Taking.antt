@@ -1,0 +1,37 @@
+-- What is handed on of a history, entry by entry. The rules are this project's own.
+use Rattle.std.specs.Prelude.{◌≡◌, ℕ, ◌+◌, ◌<◌, ◌↔◌, Bool, true, List, Option, Some, None}
+use Rattle.marc_types.specs.declared.entry.Entry.{Entry}
+use Rattle.marc_types.specs.declared.entry.Limits.{Limits}
+use Rattle.commit_journal.specs.declared.frame.Frame.{Frame}
+use Rattle.entry_record.specs.History.{entries_size, IsWithin}
+use Rattle.entry_history.specs.Payloads.{Holds}
+use Rattle.durable_catalogue.specs.declared.fault.OpenFault.{OpenFault}
+use Rattle.durable_catalogue.specs.declared.fault.OpenFault.TheVariants.{DeviceFault, NotAJournal, OldVersion, Full, NoMemory}
+
+-- Entries that are a history, by some property, were handed on, all of them in their order, and are within the limits.
+pub record IsHandedOn (Has IsThat : List Entry → Type 0) (limits : Limits) : Type 0 where
+  pub entries : List Entry
+  pub history : IsThat entries
+  pub within : IsWithin limits entries
+  pub taken : Has entries
+
+-- the same, where the answer is whether they are within the limits
+pub record AreHandedOn (Has IsThat : List Entry → Type 0) (limits : Limits) (fits : Bool) : Type 0 where
+  pub entries : List Entry
+  pub history : IsThat entries
+  pub taken : Has entries
+  pub fits_is : (fits ≡ true) ↔ IsWithin limits entries
+
+-- what is left of so many bytes behind entries; none where those have more
+abbrev pub HasLeft : ℕ → List Entry → Option ℕ → Type 0
+HasLeft bytes entries (Some left) = entries_size entries + left ≡ bytes
+HasLeft bytes entries None = bytes < entries_size entries
+
+-- why a frame behind entries is not read: its payload isn't valid there
+abbrev pub IsUnreadFrame : ℕ → List Entry → Frame → OpenFault → Type 0
+IsUnreadFrame version before frame (NotAJournal place) =
+    (frame.gate ≡ place) × ((entries : List Entry) → Holds version before entries frame.payload → ⊥)
+IsUnreadFrame version before frame NoMemory = Unit {0}
+IsUnreadFrame version before frame OldVersion = ⊥
+IsUnreadFrame version before frame Full = ⊥
+IsUnreadFrame version before frame DeviceFault = ⊥

@@ -1,0 +1,38 @@
+//! The table of a history, which takes entry by entry.
+ghost use Rattle.std.specs.Prelude.{◌≡◌, []};
+ghost use Rattle.match_report.specs.Matches.{table_after};
+
+use history_logs::EntryTaker;
+use marc_types::{Entry, NoMemory};
+use match_report::Matches;
+use std::alloc::Global;
+
+/// The numbers of a history's records.
+#[derive(Drop)]
+pub(crate) struct HistoryMatches {
+    pub table: Matches,
+}
+
+impl HistoryMatches {
+    /// Of no entry.
+    #[tactic(auto, unfolding(match_report::specs::Matches::table_after))]
+    pub fn new(alloc: Global) -> HistoryMatches
+        ensures { result.table ≡ table_after [] }
+    {
+        HistoryMatches {
+            table: Matches::new(alloc),
+        }
+    }
+}
+
+impl EntryTaker for HistoryMatches {
+    ghost use Rattle.std.specs.Prelude.{◌≡◌};
+    ghost use Rattle.match_report.specs.Matches.{table_after};
+
+    ghost has = { λ m entries. m.table ≡ table_after entries };
+
+    #[tactic(auto, using(crate::proofs::Taken::table_behind))]
+    fn take(&mut self, alloc: Global, entry: &Entry) -> Result<(), NoMemory> {
+        self.table.put(alloc, entry)
+    }
+}
