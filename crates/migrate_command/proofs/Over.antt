@@ -6,7 +6,7 @@ use Rattle.std.specs.Coded.{Coded-set, coded_ℕ}
 use Rattle.marc_types.specs.declared.entry.Entry.{Entry}
 use Rattle.outside.specs.Disk.{DiskView}
 use Rattle.outside.specs.Fault.{Rose}
-use Rattle.outside.specs.Room.{RoomView, SameBut, bytes_or_none}
+use Rattle.outside.specs.Room.{RoomView, SameBut}
 use Rattle.outside.proofs.Rooms.{same_but_none, same_but_then}
 use Rattle.commit_journal.specs.Log.{version_of}
 use Rattle.entry_record.specs.History.{IsWithin}

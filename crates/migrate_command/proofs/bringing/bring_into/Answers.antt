@@ -1,5 +1,4 @@
 use Rattle.std.proofs.Common.{◌≡◌, ◌∙◌, [], ◌∷◌, is_some, refl, sym, ap}
-use Rattle.outside.specs.Room.{bytes_or_none}
 use Rattle.outside.proofs.Rooms.{same_but_itself}
 use Rattle.console_lines.specs.declared.fault.Fault.TheVariants.{Device}
 use Rattle.room_files.specs.Journals.{log_bytes}
