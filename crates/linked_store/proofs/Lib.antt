@@ -16,3 +16,4 @@ pub mod Listing
 pub mod Placed
 pub mod Holding
 pub mod Lent
+pub mod Stayed

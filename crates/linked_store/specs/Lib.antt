@@ -7,6 +7,7 @@ pub mod Linked
 pub mod Placing
 pub mod Rooms
 pub mod Sound
+pub mod Staying
 pub mod Turning
 pub mod Turns
 pub mod Wanted

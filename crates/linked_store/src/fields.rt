@@ -32,6 +32,9 @@ impl LinkedStore {
         ensures err { OnErr result (self.new.state ≡ self.old.state) }
         ensures ahead { IsAhead self.old self.new }
     {
+        if self.is_linked_alike(seat, &tie) {
+            return self.exchange_alike(seat, field, tie);
+        }
         let wanted = wants_of(alloc, seat.class, &field, &tie)?;
         let link = self.link_number(alloc, &tie)?;
         let row = self.numbered_row(alloc, wanted)?;

@@ -42,7 +42,8 @@ fn row_held_in(class: Class, kept: &Kept, place: u32) -> RowHeld
     }
 }
 
-fn at<T>(items: &[T], place: u32) -> Option<&T>
+/// What stands at a place, if anything does.
+pub(crate) fn at<T>(items: &[T], place: u32) -> Option<&T>
     ensures { option_copied result ≡ slice_get items.now place }
 {
     items.get(place as usize)

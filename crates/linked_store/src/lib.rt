@@ -17,6 +17,7 @@ mod placing;
 mod rows;
 mod seating;
 mod standings;
+mod staying;
 mod store;
 mod turns;
 mod wanted;
