@@ -45,13 +45,13 @@ returns-in-Err-OutputFault-clause-ends g c =
     c.requires.differ c.open_history.ensures.apart w.file w.log a.kept w.part)
     refl (refl, refl) (omega (arith, earlier, rose))
 
-pub returns-in-Err-NoMemory-clause-closed : goal.returns-in-Err-NoMemory-clause-closed
-returns-in-Err-NoMemory-clause-closed g c =
+pub returns-clause-closed : goal.returns-clause-closed
+returns-clause-closed g c =
     let w = c.write_history.ensures in
     closed_opened _ _ _ _ _ c.open_history.ensures.apart w.apart w.closed w.out_closed c.requires.closed
 
-pub returns-in-Err-NoMemory-clause-ends : goal.returns-in-Err-NoMemory-clause-ends
-returns-in-Err-NoMemory-clause-ends g c =
+pub returns-clause-ends : goal.returns-clause-ends
+returns-clause-ends g c =
     let w = c.write_history.ensures in
     let a = c.in-Ok.ensures in
     tells_no_memory _ _ _ _ (was_taken _ _ _ (g.R.Room.seen c.open_history.new.room) (g.R.Log.Disk.seen c.in-Ok.history.journal.disk) c.open_history.new.taker.table a.taken
