@@ -4,9 +4,9 @@ time of each crate's proof, of its tests' proofs and of its must-fail edits, the
 
     python3 bench/gate/times.py [NAME ..]
 
-The log of `rt ci` tells no times, so the processes of the prover are looked at twice a second: which crate each checks
+The log of `rt ci` tells no times, so the processes of the prover are looked at every two seconds: which crate each checks
 stands among its words, an edit is tried in a folder /tmp/rt-edit.., and a crate's tests are checked with --test. What a
-process does in its last half second is lost. The log itself goes to /tmp/gate.log. Where the run is ended from outside, the
+process does in its last two seconds is lost. The log itself goes to /tmp/gate.log. Where the run is ended from outside, the
 table says what was done until then.
 """
 import os
@@ -29,7 +29,9 @@ def processes():
             folder = os.readlink(f"/proc/{number}/cwd")
             with open(f"/proc/{number}/stat") as file:
                 fields = file.read().rsplit(")", 1)[1].split()
-            yield number, fields[19], words, folder, (int(fields[11]) + int(fields[12])) / TICKS
+            # its own time, and that of the processes which it started and that have ended
+            used = sum(map(int, fields[11:15]))
+            yield number, fields[19], words, folder, used / TICKS
         except (OSError, IndexError):
             continue
 
@@ -51,7 +53,7 @@ def watch(gate, seen):
             if "--crate-name" in words:
                 crate = words[words.index("--crate-name") + 1]
                 seen[number, began] = crate, kind_of(words, folder), seconds
-        time.sleep(0.5)
+        time.sleep(2)
 
 
 def main():
