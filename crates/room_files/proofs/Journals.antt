@@ -5,6 +5,7 @@ use Rattle.marc_types.specs.declared.entry.Entry.{Entry}
 use Rattle.outside.specs.Disk.{DiskView, SameDisk, Unchanged, OnlyContent}
 use Rattle.outside.specs.Room.{RoomView, SameBut, bytes_or_none}
 use Rattle.commit_journal.specs.Journal.{IsSettled, EndsAt, LeavesLog}
+use Rattle.commit_journal.proofs.Logs.{version_two}
 use Rattle.durable_catalogue.specs.Logs.{HasHistory}
 use Rattle.durable_catalogue.specs.Openings.{IsOpening, KeepsContent}
 use Rattle.durable_catalogue.specs.Refused.{LeavesAlone, LeavesDiskAlone, LeavesSettled, IsPutInOrder}
@@ -174,5 +175,6 @@ closed_to room name entries mark o disk place left few settled tells image is_lo
       holds = left.images bytes.0 tells (image bytes.0 bytes.1);
       few = few;
       ended = λ none. let ends = (settled none).ends bytes.0 bytes.1 in subst (λ p. EndsAt p bytes.0) (sym ends.gate) ends;
+      newest = λ none. version_two bytes.0 ((settled none).header bytes.0 bytes.1);
       only = λ none b c told is. (settled none).only b c (sym unchanged.content ∙ told) ((unchanged.images c).0 is);
     }

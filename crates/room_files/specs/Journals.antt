@@ -38,8 +38,8 @@ pub record IsOpenedFrom (room : RoomView) (name : List ℕ) (entries : List Entr
   pub synced : o.dated ≡ true → is_some o.synced ≡ true
 
 -- A catalogue of these entries, with those of a frame that a device failed to take, at most 32, was closed as the log of that name:
--- what a crash may leave of it, and the file. Without a mark the file ends with its first closed gate, and is all that a crash may
--- leave.
+-- what a crash may leave of it, and the file. Without a mark the file ends with its first closed gate, is of version 2, and is all that a
+-- crash may leave.
 pub record IsClosedTo (room : RoomView) (name : List ℕ) (entries : List Entry) (mark : Option (List Entry)) (o : Opening) : Type 0 where
   pub closed : room.has_log name ≡ true
   pub left : IsLeft o entries (marked mark) (room.log name)
@@ -49,6 +49,7 @@ pub record IsClosedTo (room : RoomView) (name : List ℕ) (entries : List Entry)
   pub holds : Holds (length entries) entries (marked mark) bytes
   pub few : length (marked mark) ≤ 32
   pub ended : mark ≡ None → EndsAt (walk_of bytes).place bytes
+  pub newest : mark ≡ None → version_of bytes ≡ 2
   pub only : mark ≡ None → OnlyContent (room.log name)
 
 -- the same of a catalogue as it is seen

@@ -4,7 +4,7 @@ use Rattle.std.specs.Prelude.{All, is_some}
 use Rattle.std.proofs.Math.Logic.{∥∥₁_map}
 use Rattle.marc_types.specs.declared.entry.Entry.{Entry}
 use Rattle.outside.specs.Room.{RoomView, bytes_or_none}
-use Rattle.commit_journal.specs.Log.{walk_of}
+use Rattle.commit_journal.specs.Log.{version_of, walk_of}
 use Rattle.commit_journal.specs.Journal.{EndsAt}
 use Rattle.command_words.specs.declared.library.Library.{Library}
 use Rattle.entry_record.specs.History.{IsMerged, brought_by, with_run, next_run, IsWithin}
@@ -61,6 +61,7 @@ module _ (old new : RoomView) (journal : List ℕ) (libraries : List Library) (b
     is = subst (HasHistory (before ++ added)) (sym (ap bytes_or_none closed.file)) (whole_history (before ++ added) closed.bytes closed.holds);
     images = λ c image. whole_history (before ++ added) c (closed.left.images c (opened.tells tells) image);
     ended = subst (λ b. EndsAt (walk_of b).place b) (sym (ap bytes_or_none closed.file)) (closed.ended refl);
+    newest = subst (λ b. version_of b ≡ 2) (sym (ap bytes_or_none closed.file)) (closed.newest refl);
     synced = λ dated.
         let first = some_of o.synced (opened.synced (sym closed.left.dated ∙ dated)) in
         ap is_some (subst (λ t. (new.log journal).synced t ≡ Some first.0) opened.moment (closed.left.syncs first.0 first.1));

@@ -38,8 +38,9 @@ pub record IsOneHistory (old new : RoomView) (journal : List ℕ) (libraries : L
   pub there : is_some (new.file journal) ≡ true
   pub is : HasHistory (before ++ added) (log_bytes new journal)
   pub images : (c : List ℕ) → (new.log journal).image c → HasHistory (before ++ added) c
-  -- and that nothing stands behind it
+  -- and that nothing stands behind it, and the journal takes more
   pub ended : EndsAt (walk_of (log_bytes new journal)).place (log_bytes new journal)
+  pub newest : version_of (log_bytes new journal) ≡ 2
   -- each image at each moment since the opening's first sync begins with what it was, and is a front of what it is; where the log
   -- tells its moments there was that sync
   pub synced : (new.log journal).dated ≡ true → is_some ((new.log journal).synced 0) ≡ true
