@@ -22,8 +22,8 @@ use Rattle.linking_laws.proofs.Owning.{bibliographic_middle}
 use Rattle.linking_laws.proofs.Staged.{settled_state}
 use Rattle.linking_laws.proofs.Worked.{visits_touched}
 use Rattle.linked_store.specs.Linked.{IsAhead, IsNumber, Linked, key_of, record_at}
-use Rattle.late_linking.specs.OwnFields.{IsOwnSettled, own_visits_of}
-use Rattle.late_linking.specs.declared.counts.HeadingCounts.{HeadingCounts}
+use Rattle.commit_stages.specs.OwnFields.{IsOwnSettled, own_visits_of}
+use Rattle.commit_stages.specs.declared.counts.HeadingCounts.{HeadingCounts}
 use Rattle.commit_stages.specs.Receipts.{AreNumbersOf}
 use Rattle.commit_stages.specs.Stages.{AreCountsBrought, IsBrought}
 use Rattle.commit_stages.proofs.Numbers.{key_numbered_so, own_numbers}

@@ -23,13 +23,13 @@ use Rattle.linking_laws.specs.Weights.{sum_fields}
 use Rattle.linked_store.specs.Linked.{Linked}
 use Rattle.field_settling.specs.Held.{governing_of}
 use Rattle.field_settling.proofs.Headings.{heading_found}
-use Rattle.stage_turns.specs.Turns.{IsCarriedOut}
-use Rattle.stage_turns.proofs.Turning.{ahead_itself}
-use Rattle.choice_settling.proofs.Headed.{heading_proper}
-use Rattle.choice_settling.proofs.Reached.{code_text, number_text}
-use Rattle.heading_change.specs.Carrying.{IsHeadingOf, heading_in}
-use Rattle.late_linking.proofs.Settled.{with_all}
-use Rattle.stage_turns.specs.Noted.{NotesChanges}
+use Rattle.commit_stages.specs.Turns.{IsCarriedOut}
+use Rattle.commit_stages.proofs.Turning.{ahead_itself}
+use Rattle.commit_stages.proofs.Headed.{heading_proper}
+use Rattle.commit_stages.proofs.Reached.{code_text, number_text}
+use Rattle.commit_stages.specs.Carrying.{IsHeadingOf, heading_in}
+use Rattle.commit_stages.proofs.Settled.{with_all}
+use Rattle.commit_stages.specs.Noted.{NotesChanges}
 use Rattle.commit_stages.proofs.Idle.{idle_noted}
 use Rattle.commit_stages.proofs.Parts.{same_state}
 

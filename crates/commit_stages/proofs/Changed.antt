@@ -33,8 +33,8 @@ use Rattle.linking_laws.proofs.Counts.{changed_number}
 use Rattle.linking_laws.proofs.Exchanged.{exchanged_by_stages, exchange_told, exchange_tells}
 use Rattle.linking_laws.proofs.Partial.{class_same}
 use Rattle.linked_store.specs.Linked.{IsAhead, IsNumber, Linked, key_of}
-use Rattle.stage_turns.specs.Noted.{AreNumbersOf, AreRecordsOf, NotesChanges, changes_at, is_record_of, is_seat_of}
-use Rattle.stage_turns.proofs.Turning.{ahead_then}
+use Rattle.commit_stages.specs.Noted.{AreNumbersOf, AreRecordsOf, NotesChanges, changes_at, is_record_of, is_seat_of}
+use Rattle.commit_stages.proofs.Turning.{ahead_then}
 use Rattle.commit_stages.proofs.Numbers.{key_of_known}
 
 -- ---- booleans

@@ -13,14 +13,14 @@ use Rattle.linking_laws.specs.Visits.{drop_visits_by}
 use Rattle.linking_laws.specs.Weights.{sum_fields}
 use Rattle.linking_laws.proofs.Dropped.{drop_ready}
 use Rattle.linked_store.specs.Linked.{Linked}
-use Rattle.stage_turns.specs.Turns.{IsCarriedOut}
-use Rattle.stage_turns.proofs.Turning.{ahead_itself}
-use Rattle.heading_change.specs.Dropping.{dropping_as, ending_visits}
-use Rattle.heading_change.specs.declared.ending.EndingLinks.{EndingLinks}
-use Rattle.stage_turns.specs.Noted.{NotesChanges}
+use Rattle.commit_stages.specs.Turns.{IsCarriedOut}
+use Rattle.commit_stages.proofs.Turning.{ahead_itself}
+use Rattle.commit_stages.specs.Dropping.{dropping_as, ending_visits}
+use Rattle.commit_stages.specs.declared.ending.EndingLinks.{EndingLinks}
+use Rattle.commit_stages.specs.Noted.{NotesChanges}
 use Rattle.commit_stages.specs.Stages.{drop_of, drop_visits_of, dropping_to}
-use Rattle.commit_stages.specs.declared.ending.Ending.{Ending}
-use Rattle.commit_stages.specs.declared.ending.Ending.TheVariants.{Nothing}
+use Rattle.commit_stages.specs.declared.brought.Ending.{Ending}
+use Rattle.commit_stages.specs.declared.brought.Ending.TheVariants.{Nothing}
 use Rattle.commit_stages.proofs.Idle.{idle_noted}
 use Rattle.commit_stages.proofs.Parts.{same_state}
 

@@ -10,7 +10,7 @@ use Rattle.catalogue_rules.specs.Sameness.{same_kept}
 use Rattle.catalogue_rules.specs.State.{KeptField}
 use Rattle.linking_laws.proofs.Sames.{kept_Decides}
 use Rattle.linked_store.specs.Linked.{Linked, field_of}
-use Rattle.stage_turns.specs.Noted.{NotesChanges}
+use Rattle.commit_stages.specs.Noted.{NotesChanges}
 
 or_none : (a : Bool) → a ≡ (a || false)
 or_none true = refl

@@ -12,7 +12,7 @@ use Rattle.catalogue_rules.specs.State.{State, linkable_authorities}
 use Rattle.linking_laws.specs.Commits.{IsCommit, placed_by}
 use Rattle.linking_laws.specs.Receipts.{receipt_by}
 use Rattle.linking_laws.proofs.Counts.{own_counts}
-use Rattle.late_linking.specs.declared.counts.HeadingCounts.{HeadingCounts}
+use Rattle.commit_stages.specs.declared.counts.HeadingCounts.{HeadingCounts}
 use Rattle.commit_stages.specs.Receipts.{AreNumbersOf}
 use Rattle.commit_stages.specs.Stages.{AreCountsBrought}
 

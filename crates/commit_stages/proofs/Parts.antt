@@ -20,11 +20,11 @@ use Rattle.catalogue_rules.specs.Receipt.{Standing, is_ambiguous, is_linked, is_
 use Rattle.catalogue_rules.proofs.States.{fit_entry}
 use Rattle.linking_laws.specs.Middle.{IsMiddle}
 use Rattle.linked_store.specs.Linked.{Linked, key_of}
-use Rattle.stage_turns.proofs.Turning.{ahead_itself}
-use Rattle.late_linking.specs.OwnFields.{HasFieldsAsCame, IsOwnSettled}
-use Rattle.late_linking.proofs.Settled.{with_all}
-use Rattle.late_linking.specs.Counted.{AreCountsOf, count_settled}
-use Rattle.late_linking.specs.declared.counts.HeadingCounts.{HeadingCounts}
+use Rattle.commit_stages.proofs.Turning.{ahead_itself}
+use Rattle.commit_stages.specs.OwnFields.{HasFieldsAsCame, IsOwnSettled}
+use Rattle.commit_stages.proofs.Settled.{with_all}
+use Rattle.commit_stages.specs.Counted.{AreCountsOf, count_settled}
+use Rattle.commit_stages.specs.declared.counts.HeadingCounts.{HeadingCounts}
 use Rattle.commit_stages.specs.Stages.{AreCountsBrought, IsBrought, stand_brought}
 use Rattle.catalogue_rules.specs.Settle.{Arrival, arrival_of, place, settle_field}
 use Rattle.catalogue_rules.specs.State.{KeptField, KeptRecord, Row, State, each_field, each_in_row, linkable_authorities, new_record}
@@ -36,7 +36,7 @@ use Rattle.linking_laws.specs.Stages.{in_own_row, settle_own}
 use Rattle.linked_store.specs.Placing.{record_brought}
 use Rattle.field_settling.specs.Held.{governing_of}
 use Rattle.field_settling.proofs.Headings.{heading_found}
-use Rattle.heading_change.specs.Carrying.{heading_in}
+use Rattle.commit_stages.specs.Carrying.{heading_in}
 
 -- ---- a change that changes nothing
 

@@ -34,11 +34,11 @@ use Rattle.linking_laws.proofs.Staged.{staged_state}
 use Rattle.linking_laws.proofs.Worked.{visits_touched}
 use Rattle.linked_store.specs.Linked.{IsAhead, IsNumber, Linked, key_of, record_at}
 use Rattle.linked_store.specs.Placing.{record_brought}
-use Rattle.stage_turns.specs.Noted.{NotesChanges}
-use Rattle.stage_turns.specs.Turns.{IsCarriedOut}
-use Rattle.late_linking.specs.OwnFields.{IsOwnSettled, own_visits_of}
+use Rattle.commit_stages.specs.Noted.{NotesChanges}
+use Rattle.commit_stages.specs.Turns.{IsCarriedOut}
+use Rattle.commit_stages.specs.OwnFields.{IsOwnSettled, own_visits_of}
 use Rattle.commit_stages.specs.Stages.{IsBrought, drop_of, drop_visits_of, dropping_to, forms_of_brought}
-use Rattle.commit_stages.specs.declared.ending.Ending.{Ending}
+use Rattle.commit_stages.specs.declared.brought.Ending.{Ending}
 use Rattle.commit_stages.proofs.Parts.{stands_placed}
 
 -- ---- numbers of keys on the way

@@ -29,14 +29,14 @@ use Rattle.linking_laws.specs.Waiting.{AreSameForms, forms_of, is_form_among}
 use Rattle.linking_laws.specs.Weights.{sum_fields}
 use Rattle.linked_store.specs.Linked.{IsAhead, IsNumber, Linked, key_of}
 use Rattle.numbered_store.proofs.Shelving.{low_number}
-use Rattle.stage_turns.specs.Noted.{AreRecordsOf, NotesChanges}
-use Rattle.stage_turns.specs.Turns.{IsCarriedOut}
-use Rattle.stage_turns.proofs.Turning.{ahead_then}
-use Rattle.late_linking.specs.OwnFields.{IsOwnSettled, own_visits_of}
-use Rattle.late_linking.specs.declared.counts.HeadingCounts.{HeadingCounts}
+use Rattle.commit_stages.specs.Noted.{AreRecordsOf, NotesChanges}
+use Rattle.commit_stages.specs.Turns.{IsCarriedOut}
+use Rattle.commit_stages.proofs.Turning.{ahead_then}
+use Rattle.commit_stages.specs.OwnFields.{IsOwnSettled, own_visits_of}
+use Rattle.commit_stages.specs.declared.counts.HeadingCounts.{HeadingCounts}
 use Rattle.commit_stages.specs.Receipts.{AreNumbersOf}
 use Rattle.commit_stages.specs.Stages.{AreCountsBrought, IsBrought, drop_of, drop_visits_of, dropping_to, forms_of_brought}
-use Rattle.commit_stages.specs.declared.ending.Ending.{Ending}
+use Rattle.commit_stages.specs.declared.brought.Ending.{Ending}
 use Rattle.commit_stages.proofs.Changed.{IsNoted, changed_count}
 use Rattle.commit_stages.proofs.Numbers.{key_numbered_so, own_numbers}
 use Rattle.commit_stages.proofs.Parts.{key_valid}

@@ -1,2 +1,13 @@
+pub mod Fields
+pub mod Noted
+pub mod Turns
+pub mod Choosing
+pub mod Settled
+pub mod Standing
+pub mod Carrying
+pub mod Dropping
+pub mod Counted
+pub mod OwnFields
+pub mod Unlinked
 pub mod Receipts
 pub mod Stages

@@ -15,10 +15,10 @@ use Rattle.linking_laws.specs.Waiting.{forms_of}
 use Rattle.catalogue_tables.specs.Following.{authority_brought}
 use Rattle.linked_store.specs.Linked.{Linked, record_at}
 use Rattle.linked_store.specs.Placing.{record_brought}
-use Rattle.late_linking.specs.Counted.{count_settled}
-use Rattle.late_linking.specs.declared.counts.HeadingCounts.{HeadingCounts}
-use Rattle.commit_stages.specs.declared.ending.Ending.{Ending}
-use Rattle.commit_stages.specs.declared.ending.Ending.TheVariants.{Nothing, Bases, All}
+use Rattle.commit_stages.specs.Counted.{count_settled}
+use Rattle.commit_stages.specs.declared.counts.HeadingCounts.{HeadingCounts}
+use Rattle.commit_stages.specs.declared.brought.Ending.{Ending}
+use Rattle.commit_stages.specs.declared.brought.Ending.TheVariants.{Nothing, Bases, All}
 
 abbrev pub dropping_to : Ending → Dropping
 dropping_to Nothing = DropNone

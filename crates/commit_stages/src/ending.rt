@@ -1,70 +1,135 @@
-//! The heading that an authority's entry brings, and which links to its key end with it.
-ghost use Rattle.std.specs.Prelude.{◌≡◌, Option, Some};
-ghost use Rattle.std.specs.Option.{option_copied, option_map};
-ghost use Rattle.marc_types.specs.declared.key.Class.TheVariants.{Authority as AnAuthority};
-ghost use Rattle.entry_record.specs.Authority.{Linkable};
-ghost use Rattle.catalogue_rules.specs.Settle.{arrival_of};
-ghost use Rattle.catalogue_tables.specs.Following.{authority_brought};
-ghost use Rattle.linking_laws.specs.Stages.{dropping_by};
-ghost use Rattle.field_settling.specs.Held.{heading_as};
-ghost use Rattle.heading_change.specs.Carrying.{heading_in};
-ghost use Rattle.catalogue_tables.specs.Known.{IsKnownAs};
-ghost use Rattle.commit_stages.specs.Stages.{dropping_to};
+//! What dropping makes of one field: its link ends, or what it awaits is handed on, and then it is given its choice.
+ghost use Rattle.std.specs.Prelude.{◌≡◌, ◌+◌, ◌≤◌, ◌&&◌, IfOk, true, false};
+ghost use Rattle.std.specs.Option.{option_map_or};
+ghost use Rattle.marc_types.specs.Order.{same_key};
+ghost use Rattle.catalogue_rules.specs.Settle.{is_linked_to};
+ghost use Rattle.catalogue_rules.specs.State.{linkable_authorities};
+ghost use Rattle.linking_laws.specs.Middle.{AreAuthoritiesInOrder};
+ghost use Rattle.linking_laws.specs.Tables.{dropped_at};
+ghost use Rattle.linking_laws.specs.Visits.{link_visit};
+ghost use Rattle.commit_stages.specs.Settled.{IsChoiceSettled};
+ghost use Rattle.field_settling.specs.Held.{held_as};
+ghost use Rattle.commit_stages.specs.Fields.{field_as};
+ghost use Rattle.commit_stages.specs.Dropping.{IsChangedTo, drop_ending, ending_visits, successor_to};
 
-use catalogue_tables::KnownAuthority;
-use entry_record::Prepared;
-use field_settling::{Heading, governing};
-use heading_fields::has_subdivision;
+use crate::settling::settle_unlinked;
+use field_settling::{Held, await_key, end_link};
+use linked_store::LinkedStore;
+use marc_types::{Class, Key, NoMemory, Tie, TiedKey};
+use record_store::Steps;
+use crate::visiting::FieldAt;
+use std::alloc::Global;
+use std::sync::ledger::Ledger;
 
-/// Which links to an authority end with its commit.
-#[derive(Clone, Copy, Debug, PartialEq, Eq)]
-pub(crate) enum Ending {
-    Nothing,
-    /// Those by the base.
-    Bases,
-    All,
+/// The links to an authority that its commit ends, and the key that what is linked to it or awaits it is handed on to.
+#[derive(Clone, Copy, Debug)]
+pub(crate) struct EndingLinks<'a> {
+    pub(crate) key: &'a Key,
+    /// Only the links by the base end.
+    pub(crate) only_base: bool,
+    pub(crate) successor: Option<&'a Key>,
 }
 
-/// The heading of the authority that the entry brings, if fields can be linked to it.
-pub(crate) fn brought_heading(item: &Prepared) -> Option<Heading<'_>>
-    requires { item.now.class ≡ AnAuthority }
-    ensures { option_map heading_as result ≡ option_map heading_in (authority_brought (arrival_of item.now)) }
+fn is_key(key: &Key, other: &Option<TiedKey>) -> bool
+    ensures { result ≡ option_map_or (same_key key.now) other.now false }
 {
-    if item.is_deletion() {
-        return None;
-    }
-    match item.established() {
-        Some(_) => governing(&item.entry().rec),
-        None => None,
-    }
-}
-
-/// Which links end once the entry's record is in its place: all where it brings no authority, or one of another kind than the one
-/// that was known; those by the base where its heading has a subdivision.
-pub(crate) fn links_that_end(known: Option<&KnownAuthority>, item: &Prepared) -> Ending
-    requires { item.now.class ≡ AnAuthority }
-    ensures { (before : Option Linkable) → IsKnownAs before (option_copied known.entry)
-        → dropping_to result ≡ dropping_by before (authority_brought (arrival_of item.now)) }
-{
-    let Some(heading) = brought_heading(item) else {
-        return Ending::All;
-    };
-    match known {
-        Some(known) => ending_between(known, heading),
-        None => Ending::Nothing,
+    match other {
+        Some(other) => *key == *other.key(),
+        None => false,
     }
 }
 
-// Which links end where an authority takes another's place.
-fn ending_between(known: &KnownAuthority, heading: Heading<'_>) -> Ending
-    ensures { (before now : Linkable) → known.now.kind ≡ before.kind → heading_as heading.entry ≡ heading_in now
-        → dropping_to result ≡ dropping_by (Some before) (Some now) }
+// Whether a link to the key stays: only the links by the base end, and it is a whole one.
+fn is_spared(links: EndingLinks<'_>, tie: &Tie) -> bool
+    ensures { result ≡ (links.entry.only_base && tie.now.whole) }
 {
-    if known.kind != heading.kind {
-        Ending::All
-    } else if has_subdivision(heading.field) {
-        Ending::Bases
-    } else {
-        Ending::Nothing
+    links.only_base && tie.whole
+}
+
+/// What dropping makes of a field that it looks at; none where that is the same. The field itself has been visited.
+pub(crate) fn dropped_from<L: Ledger>(
+    store: &LinkedStore,
+    alloc: Global,
+    class: Class,
+    at: FieldAt<'_>,
+    links: EndingLinks<'_>,
+    steps: &mut Steps<L>,
+) -> Result<Option<Held>, NoMemory>
+    requires order { AreAuthoritiesInOrder store.now.state }
+    requires to_do { dropped_at links.key.now (successor_to links) class (field_as at) ≡ true }
+    ensures made { IfOk result (IsChangedTo (drop_ending links.entry (linkable_authorities store.now.state)) class (field_as at.entry)) }
+    ensures visits { steps.new + 1 ≤ steps.old + ending_visits links.entry (linkable_authorities store.now.state) class (field_as at.entry) }
+{
+    if is_key(links.key, &at.tie.key) {
+        return without_link(store, alloc, class, at, links, steps);
+    }
+    handed_on(store, alloc, class, at, links, steps)
+}
+
+// A field that is linked to the key, without its link.
+fn without_link<L: Ledger>(
+    store: &LinkedStore,
+    alloc: Global,
+    class: Class,
+    at: FieldAt<'_>,
+    links: EndingLinks<'_>,
+    steps: &mut Steps<L>,
+) -> Result<Option<Held>, NoMemory>
+    requires order { AreAuthoritiesInOrder store.now.state }
+    requires linked { is_linked_to links.key.now (field_as at) ≡ true }
+    ensures made { IfOk result (IsChangedTo (drop_ending links.entry (linkable_authorities store.now.state)) class (field_as at.entry)) }
+    ensures visits { steps.new + 1 ≤ steps.old + ending_visits links.entry (linkable_authorities store.now.state) class (field_as at.entry) }
+{
+    if is_spared(links, at.tie) {
+        return Ok(None);
+    }
+    let ended = end_link(alloc, at.field, at.tie, links.key, links.successor)?;
+    let chosen = with_choice(store, alloc, class, ended, steps)?;
+    Ok(Some(chosen))
+}
+
+// A field that isn't linked to the key: where it awaits the key, it awaits the successor.
+fn handed_on<L: Ledger>(
+    store: &LinkedStore,
+    alloc: Global,
+    class: Class,
+    at: FieldAt<'_>,
+    links: EndingLinks<'_>,
+    steps: &mut Steps<L>,
+) -> Result<Option<Held>, NoMemory>
+    requires order { AreAuthoritiesInOrder store.now.state }
+    requires to_do { dropped_at links.key.now (successor_to links) class (field_as at) ≡ true }
+    requires unlinked { is_linked_to links.key.now (field_as at) ≡ false }
+    ensures made { IfOk result (IsChangedTo (drop_ending links.entry (linkable_authorities store.now.state)) class (field_as at.entry)) }
+    ensures visits { steps.new + 1 ≤ steps.old + ending_visits links.entry (linkable_authorities store.now.state) class (field_as at.entry) }
+{
+    if !is_key(links.key, &at.tie.awaits) {
+        return Ok(None);
+    }
+    match links.successor {
+        Some(successor) => {
+            let handed = await_key(alloc, at.field, at.tie, successor)?;
+            let chosen = with_choice(store, alloc, class, handed, steps)?;
+            Ok(Some(chosen))
+        }
+        None => Ok(None),
+    }
+}
+
+// An unlinked field with its choice.
+fn with_choice<L: Ledger>(
+    store: &LinkedStore,
+    alloc: Global,
+    class: Class,
+    held: Held,
+    steps: &mut Steps<L>,
+) -> Result<Held, NoMemory>
+    requires { AreAuthoritiesInOrder store.now.state }
+    ensures settled { IfOk result (λ made. IsChoiceSettled (linkable_authorities store.now.state) class (held_as held) (held_as made)) }
+    ensures visits { steps.new ≤ steps.old + link_visit (linkable_authorities store.now.state) class (held_as held) }
+{
+    match settle_unlinked(store, alloc, class, &held.field, &held.tie, steps)? {
+        Some(chosen) => Ok(chosen),
+        None => Ok(held),
     }
 }

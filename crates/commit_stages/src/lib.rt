@@ -1,5 +1,8 @@
 //! The commit of an entry over a linked store, stage by stage: the record comes into its place, links that can't stay are dropped, a
 //! changed heading is carried to what is linked, the record's own fields are settled, and then those that wait for the authority.
+//!
+//! A stage goes from seat to seat, in any order. At each it visits the record, makes another field of the one that stands there, and
+//! exchanges it.
 #![tactic(auto)]
 
 pub use changes::Changes;
@@ -7,7 +10,20 @@ pub use commit::commit_entry;
 
 mod authority;
 mod bibliographic;
+mod brought;
+mod carrying;
+mod changed;
 mod changes;
 mod commit;
+mod counts;
+mod dropping;
 mod ending;
+mod exchanging;
+mod noting;
+mod own;
+mod settled;
+mod settling;
 mod stages;
+mod touched;
+mod visiting;
+mod waiting;

@@ -2,8 +2,8 @@ use Rattle.std.proofs.Common.{◌∙◌, ◌++◌, sym, subst, List}
 use Rattle.catalogue_rules.specs.State.{linkable_authorities}
 use Rattle.catalogue_tables.specs.Known.{IsKnownAs}
 use Rattle.numbering.specs.declared.seat.Seat.{Seat}
-use Rattle.stage_turns.specs.Noted.{NotesChanges}
-use Rattle.stage_turns.proofs.Turning.{ahead_itself, ahead_then}
+use Rattle.commit_stages.specs.Noted.{NotesChanges}
+use Rattle.commit_stages.proofs.Turning.{ahead_itself, ahead_then}
 use Rattle.commit_stages.specs.Stages.{drop_of}
 use Rattle.commit_stages.proofs.Whole.{brought_there, carried_so, chosen_so, dropped_so, forms_right, key_now, key_of_class, low, may_drop, number_now, number_of_class, numbers_so, own_found, placed_so, right, settled_so, spent_carrying, spent_choosing, spent_dropping, spent_settling, valid_now, within_four, within_one, within_three, within_two}
 use Rattle.commit_stages.proofs.authority.commit_authority.Goals as goal

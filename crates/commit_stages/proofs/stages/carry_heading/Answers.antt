@@ -1,7 +1,7 @@
 use Rattle.std.proofs.Common.{sym}
 use Rattle.std.proofs.lemmas.Result.{on_ok_weaker}
 use Rattle.catalogue_rules.specs.State.{linkable_authorities}
-use Rattle.stage_turns.proofs.Turning.{ahead_itself}
+use Rattle.commit_stages.proofs.Turning.{ahead_itself}
 use Rattle.commit_stages.proofs.Carried.{brought_heads, carried_noted, carried_steps, nothing_carried, nothing_noted}
 use Rattle.commit_stages.proofs.stages.carry_heading.Goals as goal
 

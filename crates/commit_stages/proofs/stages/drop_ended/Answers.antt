@@ -1,6 +1,6 @@
 use Rattle.std.proofs.Common.{refl, true, false}
-use Rattle.stage_turns.proofs.Turning.{ahead_itself}
-use Rattle.commit_stages.specs.declared.ending.Ending.TheVariants.{Bases, All}
+use Rattle.commit_stages.proofs.Turning.{ahead_itself}
+use Rattle.commit_stages.specs.declared.brought.Ending.TheVariants.{Bases, All}
 use Rattle.commit_stages.proofs.Ended.{dropped_steps, nothing_dropped, nothing_noted}
 use Rattle.commit_stages.proofs.stages.drop_ended.Goals as goal
 

@@ -1,7 +1,7 @@
 use Rattle.std.proofs.Common.{◌∙◌, refl, sym}
 use Rattle.std.proofs.lemmas.Result.{IfOk-weaker}
 use Rattle.catalogue_rules.specs.State.{linkable_authorities}
-use Rattle.stage_turns.proofs.Turning.{ahead_itself}
+use Rattle.commit_stages.proofs.Turning.{ahead_itself}
 use Rattle.commit_stages.proofs.Parts.{counts_brought, deletion_settled}
 use Rattle.commit_stages.proofs.stages.settle_brought.Goals as goal
 

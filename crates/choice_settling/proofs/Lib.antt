@@ -1,4 +1,0 @@
-pub mod Reached
-pub mod Given
-pub mod Headed
-pub mod Standing

@@ -1,0 +1,19 @@
+use Rattle.catalogue_rules.specs.State.{linkable_authorities}
+use Rattle.catalogue_rules.specs.Settle.{settle_field}
+use Rattle.commit_stages.proofs.Ending.{made_suits}
+use Rattle.commit_stages.proofs.Turning.{ahead_itself}
+use Rattle.commit_stages.proofs.Settled.{ordered}
+use Rattle.commit_stages.proofs.own.settle_own_at.Goals as goal
+
+pub returns-in_err-settled-clause-ahead : goal.returns-in_err-settled-clause-ahead
+returns-in_err-settled-clause-ahead g c = ahead_itself c.args.store.now
+
+pub exchange_made-requires-clause-suits : goal.exchange_made-requires-clause-suits
+exchange_made-requires-clause-suits g c =
+    made_suits (settle_field (linkable_authorities c.args.store.now.state)) c.args.seat c.args.store.now c.in_ok-settled.settled.made c.in_ok-settled.ensures.made
+
+pub exchange_made-requires-clause-ordered : goal.exchange_made-requires-clause-ordered
+exchange_made-requires-clause-ordered g c = ordered c.args.store.now.state c.requires.middle
+
+pub returns-clause-ok : goal.returns-clause-ok
+returns-clause-ok g c = c.in_ok-exchange_made.ensures.ok (settle_field (linkable_authorities c.args.store.now.state)) c.in_ok-settled.ensures.made

@@ -1,0 +1,30 @@
+use Rattle.std.proofs.Common.{sym}
+use Rattle.std.proofs.lemmas.Result.{IfOk-weaker}
+use Rattle.catalogue_rules.specs.State.{linkable_authorities}
+use Rattle.commit_stages.specs.Fields.{field_as}
+use Rattle.commit_stages.proofs.Settled.{choice_made, field_there, in_order, turn_costs, unlinked_there}
+use Rattle.commit_stages.proofs.waiting.settled.Goals as goal
+
+pub visit_field-requires : goal.visit_field-requires
+visit_field-requires g c = c.requires.to_do.known
+
+pub settle_unlinked-requires : goal.settle_unlinked-requires
+settle_unlinked-requires g c = in_order c.args.store.now.state c.requires.middle
+
+pub returns-in-Some-clause-made : goal.returns-in-Some-clause-made
+returns-in-Some-clause-made g c =
+    IfOk-weaker c.settle_unlinked.result _ _
+    (choice_made c.args.store.now c.args.seat (field_as c.in-Some.at) c.requires.middle c.requires.to_do.known (sym c.in-Some.ensures.field)
+    (unlinked_there c.args.seat c.args.store.now (field_as c.in-Some.at) c.requires.to_do (sym c.in-Some.ensures.field)) c.in-Some.ensures.proper)
+    c.settle_unlinked.ensures.settled
+
+pub returns-in-Some-clause-visits : goal.returns-in-Some-clause-visits
+returns-in-Some-clause-visits g c =
+    turn_costs c.args.seat c.args.store.now (linkable_authorities c.args.store.now.state) (field_as c.in-Some.at) c.args.steps.now c.visit_field.new.steps c.settle_unlinked.new.steps
+    (sym c.in-Some.ensures.field) c.visit_field.ensures.step c.settle_unlinked.ensures.visits
+
+pub returns-in-None-clause-made : goal.returns-in-None-clause-made
+returns-in-None-clause-made g c = field_there c.args.seat c.args.store.now _ c.requires.to_do c.in-None.ensures.field
+
+pub returns-in-None-clause-visits : goal.returns-in-None-clause-visits
+returns-in-None-clause-visits g c = field_there c.args.seat c.args.store.now _ c.requires.to_do c.in-None.ensures.field

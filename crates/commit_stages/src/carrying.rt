@@ -1,0 +1,123 @@
+//! The heading of an authority carried to all fields that are linked to it.
+ghost use Rattle.std.specs.Prelude.{◌≡◌, ◌+◌, ◌≤◌, IfOk, OnOk, find};
+ghost use Rattle.marc_types.specs.declared.key.Class.TheVariants.{Authority as AnAuthority};
+ghost use Rattle.catalogue_rules.specs.Choice.{has_key};
+ghost use Rattle.catalogue_rules.specs.State.{linkable_authorities};
+ghost use Rattle.linking_laws.specs.Middle.{IsMiddle};
+ghost use Rattle.linking_laws.specs.Stages.{carry_by};
+ghost use Rattle.linking_laws.specs.Tables.{holds_at, linked_at};
+ghost use Rattle.linking_laws.specs.Visits.{carry_visits};
+ghost use Rattle.linking_laws.specs.Weights.{sum_fields};
+ghost use Rattle.linked_store.specs.Linked.{IsAhead, IsNumber, ListsSeats, key_of};
+ghost use Rattle.field_settling.specs.Held.{heading_as};
+ghost use Rattle.commit_stages.specs.Noted.{NotesChanges, noted_with};
+ghost use Rattle.commit_stages.specs.Turns.{IsCarriedOut, IsMadeOf, IsToDo, IsTurned, visits_at};
+ghost use Rattle.commit_stages.specs.Carrying.{IsHeadingOf, carry_heading, linked_visits};
+
+use field_settling::{Heading, Held, link_to};
+use linked_store::LinkedStore;
+use marc_types::{Key, NoMemory};
+use numbering::{Numbering, Seat};
+use record_store::Steps;
+use crate::exchanging::exchange_noted;
+use crate::visiting::visit_field;
+use std::alloc::Global;
+use std::sync::ledger::Ledger;
+
+/// Each field that is linked to the authority is rewritten from its heading. The seats whose field changes are noted. Where memory
+/// ends, the caller can take back what was done.
+pub(crate) fn carry<L: Ledger>(
+    store: &mut LinkedStore,
+    alloc: Global,
+    number: u32,
+    key: &Key,
+    heading: Heading<'_>,
+    noted: &mut Numbering<Seat>,
+    steps: &mut Steps<L>,
+) -> Result<(), NoMemory>
+    requires number { IsNumber AnAuthority number store.old.keys }
+    requires key { key_of AnAuthority number store.old.keys ≡ key.now }
+    requires heading { IsHeadingOf key.now (heading_as heading) (linkable_authorities store.old.state) }
+    requires middle { IsMiddle store.old.state }
+    ensures ok { let all = linkable_authorities store.old.state in
+        OnOk result (IsCarriedOut all (carry_by key.now (find (has_key key.now) all)) store.old store.new) }
+    ensures noted { let all = linkable_authorities store.old.state in
+        OnOk result (NotesChanges (carry_by key.now (find (has_key key.now) all)) store.old noted.old noted.new) }
+    ensures ahead { IsAhead store.old store.new }
+    ensures visits { let authority = find (has_key key.now) (linkable_authorities store.old.state) in
+        steps.new ≤ steps.old + sum_fields (carry_visits key.now authority) store.old.state }
+{
+    let seats = store.linked(alloc, number)?;
+    carry_to(store, alloc, &seats, key, heading, noted, steps)
+}
+
+// The seats are those of all places that are linked to the key.
+fn carry_to<L: Ledger>(
+    store: &mut LinkedStore,
+    alloc: Global,
+    seats: &[Seat],
+    key: &Key,
+    heading: Heading<'_>,
+    noted: &mut Numbering<Seat>,
+    steps: &mut Steps<L>,
+) -> Result<(), NoMemory>
+    requires lists { ListsSeats store.old.keys (holds_at (linked_at key.now) store.old.state) seats.now }
+    requires heading { IsHeadingOf key.now (heading_as heading) (linkable_authorities store.old.state) }
+    requires middle { IsMiddle store.old.state }
+    ensures ok { OnOk result (IsCarriedOut (linkable_authorities store.old.state) (carry_heading key.now (heading_as heading.entry)) store.old store.new) }
+    ensures noted { OnOk result (NotesChanges (carry_heading key.now (heading_as heading.entry)) store.old noted.old noted.new) }
+    ensures ahead { IsAhead store.old store.new }
+    ensures visits { steps.new ≤ steps.old + sum_fields (linked_visits key.now) store.old.state }
+{
+    store.each_key_has_one_number();
+    for seat in seats {
+        carry_at(store, alloc, *seat, key, heading, noted, steps)?;
+    }
+    Ok(())
+}
+
+// One turn.
+fn carry_at<L: Ledger>(
+    store: &mut LinkedStore,
+    alloc: Global,
+    seat: Seat,
+    key: &Key,
+    heading: Heading<'_>,
+    noted: &mut Numbering<Seat>,
+    steps: &mut Steps<L>,
+) -> Result<(), NoMemory>
+    requires to_do { IsToDo (linked_at key.now) seat store.old }
+    requires heading { IsHeadingOf key.now (heading_as heading) (linkable_authorities store.old.state) }
+    requires middle { IsMiddle store.old.state }
+    ensures ok { OnOk result (IsTurned (carry_heading key.now (heading_as heading.entry)) seat store.old store.new) }
+    ensures noted { OnOk result (noted.new ≡ noted_with (carry_heading key.now (heading_as heading.entry)) store.old seat noted.old) }
+    ensures ahead { IsAhead store.old store.new }
+    ensures visits { steps.new ≤ steps.old + visits_at (linked_visits key.now) store.old seat }
+{
+    let made = carried(store, alloc, seat, key, heading, steps)?;
+    exchange_noted(store, alloc, seat, made, noted)
+}
+
+// The field at a seat with the heading carried to it.
+fn carried<L: Ledger>(
+    store: &LinkedStore,
+    alloc: Global,
+    seat: Seat,
+    key: &Key,
+    heading: Heading<'_>,
+    steps: &mut Steps<L>,
+) -> Result<Option<Held>, NoMemory>
+    requires to_do { IsToDo (linked_at key.now) seat store.now }
+    requires heading { IsHeadingOf key.now (heading_as heading) (linkable_authorities store.now.state) }
+    requires middle { IsMiddle store.now.state }
+    ensures made { IfOk result (IsMadeOf (carry_heading key.now (heading_as heading.entry)) seat store.now) }
+    ensures step { steps.new ≡ steps.old + 1 }
+{
+    match visit_field(store, seat, steps) {
+        Some(at) => {
+            let held = link_to(alloc, key, heading, seat.class, at.field, at.tie.whole)?;
+            Ok(Some(held))
+        }
+        None => Ok(None),
+    }
+}

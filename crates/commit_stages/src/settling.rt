@@ -1,0 +1,125 @@
+//! The choice of an unlinked field by the tables, and the field that it makes: a link is written from its authority's record.
+ghost use Rattle.std.specs.Prelude.{◌≡◌, ◌+◌, ◌≤◌, true, None, IfOk, IfSome, option_map};
+ghost use Rattle.std.specs.Option.{option_copied};
+ghost use Rattle.marc_types.specs.Valid.{is_field};
+ghost use Rattle.marc_types.specs.declared.key.Class.TheVariants.{Authority as AnAuthority};
+ghost use Rattle.entry_record.specs.Prepared.{heading_base_form};
+ghost use Rattle.catalogue_rules.specs.State.{kept_field, linkable_authorities};
+ghost use Rattle.field_settling.specs.Held.{heading_as, held_as};
+ghost use Rattle.linking_laws.specs.Middle.{AreAuthoritiesInOrder};
+ghost use Rattle.linking_laws.specs.Visits.{link_visit};
+ghost use Rattle.linked_store.specs.Linked.{IsNumber};
+ghost use Rattle.commit_stages.specs.Choosing.{heading_under, linked_under};
+ghost use Rattle.commit_stages.specs.Settled.{IsChoiceSettledTo};
+ghost use Rattle.commit_stages.specs.Standing.{stands_settled};
+
+use crate::settled::{Settled, Stands};
+use catalogue_tables::{Chosen, heading_form};
+use field_settling::{Heading, Held, governing, link_to};
+use linked_store::LinkedStore;
+use marc_types::{Class, Field, Form, NoMemory, Tie};
+use record_store::Steps;
+use std::alloc::Global;
+use std::sync::ledger::Ledger;
+
+/// What the choice of an unlinked field makes of it, where that is another field. Only a link makes a visit, to the record of its
+/// authority.
+pub(crate) fn settle_unlinked<L: Ledger>(
+    store: &LinkedStore,
+    alloc: Global,
+    class: Class,
+    field: &Field,
+    tie: &Tie,
+    steps: &mut Steps<L>,
+) -> Result<Option<Held>, NoMemory>
+    requires { AreAuthoritiesInOrder store.now.state }
+    ensures settled { IfOk result (IsChoiceSettledTo (linkable_authorities store.now.state) class (kept_field field.now tie.now)) }
+    ensures visits { steps.new ≤ steps.old + link_visit (linkable_authorities store.now.state) class (kept_field field.now tie.now) }
+{
+    let base = heading_form(alloc, class, field)?;
+    let settled = settle_with_standing(store, alloc, class, field, tie, base.as_ref(), steps)?;
+    Ok(settled.made)
+}
+
+/// The same of a field whose base form is given, if it is a heading, and how the field stands then.
+pub(crate) fn settle_with_standing<L: Ledger>(
+    store: &LinkedStore,
+    alloc: Global,
+    class: Class,
+    field: &Field,
+    tie: &Tie,
+    base: Option<&Form>,
+    steps: &mut Steps<L>,
+) -> Result<Settled, NoMemory>
+    requires ordered { AreAuthoritiesInOrder store.now.state }
+    requires base { option_copied base ≡ heading_base_form class field.now }
+    ensures settled { IfOk result (λ settled.
+        IsChoiceSettledTo (linkable_authorities store.now.state) class (kept_field field.now tie.now) settled.made) }
+    ensures stands { tie.now.key ≡ None → IfOk result (λ settled.
+        settled.stands ≡ stands_settled (linkable_authorities store.now.state) class (kept_field field.now tie.now)) }
+    ensures visits { steps.new ≤ steps.old + link_visit (linkable_authorities store.now.state) class (kept_field field.now tie.now) }
+{
+    store.each_authority_has_a_number();
+    let Some(chosen) = store.choose(alloc, class, field, tie, base)? else {
+        return Ok(stays(Stands::NoHeading));
+    };
+    match chosen {
+        Chosen::Link { number, whole } => {
+            let made = link_chosen(store, alloc, number, whole, class, field, steps)?;
+            let stands = Stands::Linked;
+            Ok(Settled { made, stands })
+        }
+        Chosen::Ambiguous => Ok(stays(Stands::Ambiguous)),
+        Chosen::Unlinked => Ok(stays(Stands::Unlinked)),
+    }
+}
+
+// The field is no other than it was.
+fn stays(stands: Stands) -> Settled
+    ensures made { result.made ≡ None }
+    ensures stands { result.stands ≡ stands }
+{
+    Settled { made: None, stands }
+}
+
+// The field linked to the authority under the key that has the number.
+fn link_chosen<L: Ledger>(
+    store: &LinkedStore,
+    alloc: Global,
+    number: u32,
+    whole: bool,
+    class: Class,
+    field: &Field,
+    steps: &mut Steps<L>,
+) -> Result<Option<Held>, NoMemory>
+    requires { IsNumber AnAuthority number store.now.keys }
+    ensures linked { IfOk result (λ made. option_map held_as made ≡ linked_under class field.now whole number store.now) }
+    ensures proper { IfSome (heading_under number store.now) (λ heading. is_field heading.1 ≡ true) }
+    ensures step { steps.new ≡ steps.old + 1 }
+{
+    match visit_heading(store, number, steps) {
+        Some(heading) => {
+            let key = store.key(Class::Authority, number);
+            let held = link_to(alloc, key, heading, class, field, whole)?;
+            Ok(Some(held))
+        }
+        None => Ok(None),
+    }
+}
+
+// The heading of the authority under the key that has the number. Its record is visited for it.
+fn visit_heading<'a, L: Ledger>(
+    store: &'a LinkedStore,
+    number: u32,
+    steps: &mut Steps<L>,
+) -> Option<Heading<'a>>
+    requires { IsNumber AnAuthority number store.now.keys }
+    ensures heading { option_map heading_as result ≡ heading_under number store.now }
+    ensures proper { IfSome (heading_under number store.now) (λ heading. is_field heading.1 ≡ true) }
+    ensures step { steps.new ≡ steps.old + 1 }
+{
+    match store.visit(Class::Authority, number, steps) {
+        Some(kept) => governing(&kept.rec),
+        None => None,
+    }
+}

@@ -1,4 +1,0 @@
-pub mod Settled
-pub mod Choosing
-pub mod InTurn
-pub mod Counting
