@@ -17,17 +17,17 @@ ghost use Rattle.linking_laws.specs.Visits.{touched};
 ghost use Rattle.linked_store.specs.Linked.{IsAhead};
 ghost use Rattle.commit_stages.specs.Receipts.{AreNumbersOf};
 
-use crate::changes::Changes;
 use crate::brought::links_that_end;
+use crate::changed::count_records;
+use crate::changes::Changes;
 use crate::stages::{carry_heading, drop_ended, settle_brought};
+use crate::touched::settle_touched;
 use catalogue_tables::KnownAuthority;
 use entry_record::Prepared;
-use crate::touched::settle_touched;
 use linked_store::LinkedStore;
 use marc_types::{Class, Form, NoMemory, TryCopy};
 use numbering::Numbering;
 use record_store::Steps;
-use crate::changed::count_records;
 use std::alloc::Global;
 use std::sync::ledger::Ledger;
 

@@ -14,13 +14,13 @@ ghost use Rattle.commit_stages.specs.Noted.{NotesChanges, noted_with};
 ghost use Rattle.commit_stages.specs.Turns.{IsCarriedOut, IsMadeOf, IsToDo, IsTurned, visits_at};
 ghost use Rattle.commit_stages.specs.Carrying.{IsHeadingOf, carry_heading, linked_visits};
 
+use crate::exchanging::exchange_noted;
+use crate::visiting::visit_field;
 use field_settling::{Heading, Held, link_to};
 use linked_store::LinkedStore;
 use marc_types::{Key, NoMemory};
 use numbering::{Numbering, Seat};
 use record_store::Steps;
-use crate::exchanging::exchange_noted;
-use crate::visiting::visit_field;
 use std::alloc::Global;
 use std::sync::ledger::Ledger;
 

@@ -12,13 +12,13 @@ ghost use Rattle.commit_stages.specs.Turns.{IsCarriedOut, IsMadeOf, IsToDo, IsTu
 ghost use Rattle.commit_stages.specs.Dropping.{IsDropTurn, drop_ending, dropping_of, ending_visits, successor_to};
 
 use crate::ending::{EndingLinks, dropped_from};
+use crate::exchanging::exchange_noted;
+use crate::visiting::visit_field;
 use field_settling::Held;
 use linked_store::LinkedStore;
 use marc_types::NoMemory;
 use numbering::{Numbering, Seat};
 use record_store::Steps;
-use crate::exchanging::exchange_noted;
-use crate::visiting::visit_field;
 use std::alloc::Global;
 use std::sync::ledger::Ledger;
 

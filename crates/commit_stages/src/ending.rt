@@ -13,11 +13,11 @@ ghost use Rattle.commit_stages.specs.Fields.{field_as};
 ghost use Rattle.commit_stages.specs.Dropping.{IsChangedTo, drop_ending, ending_visits, successor_to};
 
 use crate::settling::settle_unlinked;
+use crate::visiting::FieldAt;
 use field_settling::{Held, await_key, end_link};
 use linked_store::LinkedStore;
 use marc_types::{Class, Key, NoMemory, Tie, TiedKey};
 use record_store::Steps;
-use crate::visiting::FieldAt;
 use std::alloc::Global;
 use std::sync::ledger::Ledger;
 

@@ -15,6 +15,7 @@ ghost use Rattle.commit_stages.specs.Counted.{AreCountsOf};
 ghost use Rattle.commit_stages.specs.OwnFields.{HasFieldsAsCame, IsOwnSettled, own_visits_of};
 
 use crate::counts::{HeadingCounts, counted};
+use crate::exchanging::exchange_made;
 use crate::settled::{Settled, Stands};
 use crate::settling::settle_with_standing;
 use entry_record::Prepared;
@@ -22,7 +23,6 @@ use linked_store::LinkedStore;
 use marc_types::{Class, Field, Form, NoMemory, Tie};
 use numbering::Seat;
 use record_store::Steps;
-use crate::exchanging::exchange_made;
 use std::alloc::Global;
 use std::sync::ledger::Ledger;
 

@@ -18,12 +18,12 @@ ghost use Rattle.commit_stages.specs.Noted.{NotesChanges};
 ghost use Rattle.commit_stages.specs.Stages.{AreCountsBrought, IsBrought, drop_of, drop_visits_of, dropping_to};
 
 use crate::brought::{Ending, brought_heading};
-use entry_record::Prepared;
 use crate::carrying::carry;
+use crate::counts::HeadingCounts;
 use crate::dropping::drop_links;
 use crate::ending::EndingLinks;
-use crate::counts::HeadingCounts;
 use crate::own::settle_own;
+use entry_record::Prepared;
 use linked_store::LinkedStore;
 use marc_types::NoMemory;
 use numbering::{Numbering, Seat};

@@ -8,14 +8,14 @@ ghost use Rattle.commit_stages.specs.Noted.{noted_with};
 ghost use Rattle.commit_stages.specs.Turns.{IsMadeOf, IsToDo, IsTurned, visits_at};
 ghost use Rattle.commit_stages.specs.Unlinked.{has_no_link, turn_visits};
 
+use crate::exchanging::exchange_noted;
 use crate::settling::settle_unlinked;
+use crate::visiting::visit_field;
 use field_settling::Held;
 use linked_store::LinkedStore;
 use marc_types::NoMemory;
 use numbering::{Numbering, Seat};
 use record_store::Steps;
-use crate::exchanging::exchange_noted;
-use crate::visiting::visit_field;
 use std::alloc::Global;
 use std::sync::ledger::Ledger;
 
