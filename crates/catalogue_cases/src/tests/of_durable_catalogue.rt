@@ -28,10 +28,12 @@ fn open(alloc: Global, bytes: &[u8], limits: Limits) -> Result<Durable<MemDisk>,
     }
 }
 
-/// How many entries a log has within limits.
+/// How many entries a log has within limits. The catalogue is closed, since a drop of one is dear to prove.
 fn history_len(alloc: Global, bytes: &[u8], limits: Limits) -> Result<u64, OpenFault> {
     let durable = open(alloc, bytes, limits)?;
-    Ok(durable.core().history_len())
+    let len = durable.core().history_len();
+    let _disk = durable.close(Memory::GivenBack);
+    Ok(len)
 }
 
 /// A batch of one record; what it needs of the batch is said before a catalogue is there.
