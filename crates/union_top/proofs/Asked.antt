@@ -19,9 +19,9 @@ use Rattle.output_files.specs.Outputs as files
 use Rattle.journal_loading.specs.Outcomes.{Fails, IsLoadingFault, NotBegun, Unopened}
 use Rattle.journal_loading.specs.Inputs.{AreLoadable}
 use Rattle.union_top.specs.Commands.{is_alone, Ends}
-use Rattle.union_top.specs.Runs as runs
+use Rattle.loading_commands.specs.Runs as runs
 use Rattle.holdings_command.proofs.Endings.{attaches_unopened}
-use Rattle.union_top.proofs.Ended.{loads_failed, runs_failed, no_memory}
+use Rattle.loading_commands.proofs.Ended.{loads_failed, runs_failed, no_memory}
 
 -- the libraries of a command's files can be loaded into its journal, the first of its names
 pub loadable : (libraries : List Library) (journal : List ℕ) (names : List (List ℕ)) (files : ℕ) → length libraries ≡ files → 1 ≤ files → files ≤ 64

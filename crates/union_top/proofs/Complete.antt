@@ -33,7 +33,8 @@ use Rattle.plain_commands.specs.Totals.{IsWithinLimits}
 use Rattle.journal_loading.specs.Inputs.{IsInputFault}
 use Rattle.match_command.specs.Telling.{TellsMatches}
 use Rattle.holdings_command.specs.Attaching.{EndsAttaching}
-use Rattle.union_top.specs.Commands.{Loads, Runs, Ends, EndsWith}
+use Rattle.union_top.specs.Commands.{Ends, EndsWith}
+use Rattle.loading_commands.specs.Loading.{Loads, Runs}
 use Rattle.union_top.specs.Complete.{Stayed, Around, InputsStayed, IsUnhinderedPass, IsUnhinderedMake, IsUnhinderedReading, IsUnhinderedHoldings, IsUnhinderedLoad, IsUnhinderedRun, IsUnhindered}
 use Rattle.program_help.specs.Telling.{help_text, version_text}
 use Rattle.union_top.proofs.Untroubled.{verify_well, tells_well}

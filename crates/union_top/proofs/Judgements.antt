@@ -13,7 +13,7 @@ use Rattle.file_entries.specs.declared.refused.RefusedItem.{RefusedItem}
 use Rattle.file_entries.proofs.Every.{every_judged}
 use Rattle.durable_catalogue.specs.Logs.{HasHistory}
 use Rattle.room_files.specs.Journals.{journal_limits, log_bytes}
-use Rattle.union_top.specs.Merged.{AreJudged, NoFile, OneFile}
+use Rattle.loading_commands.specs.Merged.{AreJudged, NoFile, OneFile}
 use Rattle.union_top.specs.Complete.{FitsTogether}
 
 record HaveJudgements (room : RoomView) (loader : ℕ) (libraries : List Library) : Type 0 where

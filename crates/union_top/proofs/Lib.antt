@@ -1,10 +1,4 @@
-mod Merging
 mod Migrated
-mod OneHistory
-mod Textual
-mod Written
-mod Missing
-mod Ended
 mod Weights
 mod Made
 mod Crowded

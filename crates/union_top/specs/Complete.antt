@@ -17,7 +17,7 @@ use Rattle.room_files.specs.Journals.{journal_limits, log_bytes}
 use Rattle.archive_commands.specs.Archives.{HasFittingHistory}
 use Rattle.journal_migration.specs.Migrations.{IsFit}
 use Rattle.plain_commands.specs.Totals.{IsWithinLimits}
-use Rattle.union_top.specs.Merged.{AreJudged}
+use Rattle.loading_commands.specs.Merged.{AreJudged}
 
 -- a count of faults did not rise
 abbrev pub Stayed : ℕ → ℕ → Type 0

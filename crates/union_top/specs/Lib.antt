@@ -1,7 +1,2 @@
-pub mod Console
-pub mod Merged
-pub mod Texts
-pub mod Runs
-pub mod Outputs
 pub mod Commands
 pub mod Complete

@@ -8,12 +8,12 @@ ghost use Rattle.union_top.specs.Commands.{is_alone, Ends, EndsWith};
 ghost use Rattle.union_top.specs.Complete.{around, IsUnhindered};
 
 use crate::holding::attach;
-use crate::loading::{load, run_files};
 use archive_commands::{Due, read};
 use command_words::laws::{files_are_named, names_are_apart, numbers_are_bounded};
 use command_words::{Request, Words, libraries, request};
 use console_lines::{End, Fault, tell};
 use journal_verification::verify;
+use loading_commands::{load, run_files};
 use marc_types::NoMemory;
 use match_command::write_matches;
 use migrate_command::migrate_journal;

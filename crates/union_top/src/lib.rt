@@ -5,6 +5,3 @@ pub use command::{is_alone, run, run_alone};
 
 mod command;
 mod holding;
-mod loading;
-mod outputs;
-mod texts;

@@ -7,7 +7,8 @@ use Rattle.console_lines.specs.Ends.{Outcome, outcome}
 use Rattle.console_lines.specs.declared.end.End.TheVariants.{Told}
 use Rattle.console_lines.specs.declared.fault.Fault.TheVariants as fault
 use Rattle.journal_loading.specs.Inputs.{AreLoadable}
-use Rattle.union_top.specs.Commands.{Loads, Runs, Ends}
+use Rattle.union_top.specs.Commands.{Ends}
+use Rattle.loading_commands.specs.Loading.{Loads, Runs}
 use Rattle.union_top.proofs.Asked.{unasked, names_files, loadable}
 use Rattle.union_top.proofs.command.run_loading.Goals as goal
 

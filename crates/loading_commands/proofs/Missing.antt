@@ -12,9 +12,9 @@ use Rattle.console_lines.specs.declared.fault.Fault.TheVariants as fault
 use Rattle.file_entries.specs.declared.refused.RefusedItem.{RefusedItem}
 use Rattle.journal_loading.specs.Outcomes.{IsFileMissing, HasSameHistory}
 use Rattle.journal_loading.proofs.Kept.{loading_keeps}
-use Rattle.union_top.specs.Merged.{AreJudged, NoFile, OneFile}
-use Rattle.union_top.specs.Runs.{IsToldOfLoading, EndsLoad, EndsRun, IsMergedLoad, WhyNotLoad, WhyNotRun}
-use Rattle.union_top.specs.Runs as runs
+use Rattle.loading_commands.specs.Merged.{AreJudged, NoFile, OneFile}
+use Rattle.loading_commands.specs.Runs.{IsToldOfLoading, EndsLoad, EndsRun, IsMergedLoad, WhyNotLoad, WhyNotRun}
+use Rattle.loading_commands.specs.Runs as runs
 
 pub told_of_loading : (why : Fault) → why ≢ fault.Usage → why ≢ fault.OtherHistory → IsToldOfLoading why
 told_of_loading fault.Usage no_usage no_other = absurd (no_usage refl)

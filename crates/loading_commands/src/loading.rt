@@ -7,7 +7,7 @@ ghost use Rattle.command_words.specs.Command.{AreNames};
 ghost use Rattle.console_lines.specs.Ends.{outcome, end_of, IsAllDone, IsUntold, out_unwritten, report_unwritten, console_unwritten};
 ghost use Rattle.outside.specs.Room.{SameBut};
 ghost use Rattle.journal_loading.specs.Inputs.{AreLoadable};
-ghost use Rattle.union_top.specs.Commands.{Loads, Runs};
+ghost use Rattle.loading_commands.specs.Loading.{Loads, Runs};
 
 use crate::outputs::{OutputsFault, write_outputs};
 use crate::texts::{files_text, has_refused};

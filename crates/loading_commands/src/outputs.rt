@@ -1,8 +1,8 @@
 //! The outputs of a run.
 ghost use Rattle.std.specs.Prelude.{◌≡◌, ◌≢◌, [], ◌∷◌, true, None, OnOk, IfErr};
 ghost use Rattle.outside.specs.Room.{SameBut};
-ghost use Rattle.union_top.specs.Outputs.{AreUnwritten};
-ghost use Rattle.union_top.specs.Runs.{AreOutputs};
+ghost use Rattle.loading_commands.specs.Outputs.{AreUnwritten};
+ghost use Rattle.loading_commands.specs.Runs.{AreOutputs};
 
 use catalogue_core::Catalogue;
 use output_files::{write_all_records, write_report_file};

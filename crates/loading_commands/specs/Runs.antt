@@ -16,8 +16,8 @@ use Rattle.console_lines.specs.declared.end.Unwritten.TheVariants as unwritten
 use Rattle.console_lines.specs.declared.fault.Fault.TheVariants.{Usage, Input, Device, NotAJournal, Full, Memory, OldVersion, OtherHistory}
 use Rattle.output_files.specs.Outputs.{IsPartWritten}
 use Rattle.journal_loading.specs.Outcomes.{IsLoadingFault}
-use Rattle.union_top.specs.Merged.{IsOneHistory}
-use Rattle.union_top.specs.Console.{console_of, any_refused}
+use Rattle.loading_commands.specs.Merged.{IsOneHistory}
+use Rattle.loading_commands.specs.Console.{console_of, any_refused}
 
 -- the faults that loading tells: not that words are no command, nor that another journal has another history
 abbrev pub IsToldOfLoading : Fault → Type 0

@@ -23,9 +23,9 @@ use Rattle.loader_workers.specs.declared.result.FileResult.{FileResult}
 use Rattle.parallel_loading.specs.Files.{IsFileLoaded, IsEndOfFile}
 use Rattle.room_files.specs.Journals.{journal_limits}
 use Rattle.journal_loading.specs.Outcomes.{AreLibrariesLoaded, NoLibrary, OneLibrary, ends_so, any_ends, loading_fault}
-use Rattle.union_top.specs.Merged.{AreJudged, NoFile, OneFile}
-use Rattle.union_top.specs.Console.{refused_part, totals_part, any_refused}
-use Rattle.union_top.specs.Texts.{totals_in, refused_text, totals_text, has_refused}
+use Rattle.loading_commands.specs.Merged.{AreJudged, NoFile, OneFile}
+use Rattle.loading_commands.specs.Console.{refused_part, totals_part, any_refused}
+use Rattle.loading_commands.specs.Texts.{totals_in, refused_text, totals_text, has_refused}
 
 faultless : (a b c d : Bool) (w x y z : Fault) → (if a then Some w else if b then Some x else if c then Some y else if d then Some z else None) ≡ None
     → (a ≡ false) × (b ≡ false) × (c ≡ false) × (d ≡ false)

@@ -8,10 +8,10 @@ use Rattle.catalogue_rules.specs.Settle.{state_of}
 use Rattle.catalogue_rules.specs.Output.{export_of, all_keys, report_of}
 use Rattle.command_words.specs.Command.{AreNames}
 use Rattle.output_files.specs.Outputs.{IsPartWritten}
-use Rattle.union_top.specs.Outputs.{AreUnwritten}
-use Rattle.union_top.specs.Runs.{AreOutputs, AreOutAndPart}
-use Rattle.union_top.specs.declared.outputs.OutputsFault.{OutputsFault}
-use Rattle.union_top.specs.declared.outputs.OutputsFault.TheVariants.{OutFault, ReportFault, NoMemory}
+use Rattle.loading_commands.specs.Outputs.{AreUnwritten}
+use Rattle.loading_commands.specs.Runs.{AreOutputs, AreOutAndPart}
+use Rattle.loading_commands.specs.declared.outputs.OutputsFault.{OutputsFault}
+use Rattle.loading_commands.specs.declared.outputs.OutputsFault.TheVariants.{OutFault, ReportFault, NoMemory}
 
 module _ (old new : RoomView) (out report : List ℕ) (entries : List Entry) where
   pub nothing_begun : SameBut old new [] → AreUnwritten old new out report entries NoMemory

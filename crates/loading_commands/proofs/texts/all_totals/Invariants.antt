@@ -1,6 +1,6 @@
 use Rattle.std.proofs.Common.{◌≡◌, ◌++◌, drop, string_bytes}
-use Rattle.union_top.specs.Texts.{totals_text}
-use Rattle.union_top.proofs.texts.all_totals.Given as goal
+use Rattle.loading_commands.specs.Texts.{totals_text}
+use Rattle.loading_commands.proofs.texts.all_totals.Given as goal
 
 abbrev pub invariant-loop-index : goal.invariant-loop-index
 invariant-loop-index l =

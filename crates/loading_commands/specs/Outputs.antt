@@ -6,9 +6,9 @@ use Rattle.outside.specs.Room.{RoomView, SameBut}
 use Rattle.catalogue_rules.specs.Settle.{state_of}
 use Rattle.catalogue_rules.specs.Output.{export_of, all_keys}
 use Rattle.output_files.specs.Outputs.{IsPartWritten}
-use Rattle.union_top.specs.Runs.{AreOutAndPart}
-use Rattle.union_top.specs.declared.outputs.OutputsFault.{OutputsFault}
-use Rattle.union_top.specs.declared.outputs.OutputsFault.TheVariants.{OutFault, ReportFault, NoMemory}
+use Rattle.loading_commands.specs.Runs.{AreOutAndPart}
+use Rattle.loading_commands.specs.declared.outputs.OutputsFault.{OutputsFault}
+use Rattle.loading_commands.specs.declared.outputs.OutputsFault.TheVariants.{OutFault, ReportFault, NoMemory}
 
 -- why the outputs are not written, and what is there then
 pub record AreUnwritten (old new : RoomView) (out report : List ℕ) (entries : List Entry) (fault : OutputsFault) : Type 0 where

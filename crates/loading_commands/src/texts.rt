@@ -1,6 +1,6 @@
 //! The console's lines of a command's files.
 ghost use Rattle.std.specs.Prelude.{◌≡◌, length, nat_lt, IfOk, string_bytes};
-ghost use Rattle.union_top.specs.Texts.{totals_in, refused_text, totals_text, files_text, has_refused};
+ghost use Rattle.loading_commands.specs.Texts.{totals_in, refused_text, totals_text, files_text, has_refused};
 
 use command_words::Library;
 use console_lines::{Sums, Totals, refused_text, totals_text};

@@ -1,6 +1,6 @@
 use Rattle.std.proofs.Common.{Err, ap, ◌∙◌}
-use Rattle.union_top.proofs.Written.{nothing_begun, out_failed, report_rose, report_unbegun}
-use Rattle.union_top.proofs.outputs.write_outputs.Goals as goal
+use Rattle.loading_commands.proofs.Written.{nothing_begun, out_failed, report_rose, report_unbegun}
+use Rattle.loading_commands.proofs.outputs.write_outputs.Goals as goal
 
 pub returns-in-Err-OutputFault-clause-unwritten : goal.returns-in-Err-OutputFault-clause-unwritten
 returns-in-Err-OutputFault-clause-unwritten g c =

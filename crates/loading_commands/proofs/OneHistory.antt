@@ -16,11 +16,11 @@ use Rattle.loader_workers.specs.declared.result.FileResult.{FileResult}
 use Rattle.durable_catalogue.specs.Views.{DurableView}
 use Rattle.room_files.specs.Journals.{journal_limits, IsOpenedFrom, IsClosedTo, IsClosedAs}
 use Rattle.journal_loading.specs.Outcomes.{IsLoadedWhole}
-use Rattle.union_top.specs.Merged.{IsOneHistory}
-use Rattle.union_top.specs.Console.{any_refused, refused_part}
-use Rattle.union_top.specs.Texts.{totals_text, files_text, has_refused}
-use Rattle.union_top.specs.Runs.{IsMergedLoad, told_of}
-use Rattle.union_top.proofs.Merging.{Merges, merges, all_done}
+use Rattle.loading_commands.specs.Merged.{IsOneHistory}
+use Rattle.loading_commands.specs.Console.{any_refused, refused_part}
+use Rattle.loading_commands.specs.Texts.{totals_text, files_text, has_refused}
+use Rattle.loading_commands.specs.Runs.{IsMergedLoad, told_of}
+use Rattle.loading_commands.proofs.Merging.{Merges, merges, all_done}
 
 some_of : {A : Type 0} (o : Option A) → is_some o ≡ true → (x : A) × (o ≡ Some x)
 some_of None is = cc

@@ -4,7 +4,7 @@ use Rattle.std.proofs.lemmas.List.{drop_all}
 use Rattle.command_words.specs.declared.library.Library.{Library}
 use Rattle.console_lines.specs.Lines.{refused_lines, totals_line}
 use Rattle.loader_workers.specs.declared.result.FileResult.{FileResult}
-use Rattle.union_top.specs.Texts.{totals_in, refused_text, totals_text}
+use Rattle.loading_commands.specs.Texts.{totals_in, refused_text, totals_text}
 
 pub drop_get : {A : Type 0} (xs : List A) (n : ℕ) (x : A) → slice_get xs n ≡ Some x → drop n xs ≡ x ∷ drop (n + 1) xs
 drop_get [] n x at = cc

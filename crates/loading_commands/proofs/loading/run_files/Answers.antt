@@ -2,15 +2,15 @@ use Rattle.std.proofs.Common.{rules, IfErr, Err, ◌≡◌, List, length, refl, 
 use Rattle.marc_types.specs.declared.entry.Entry.{Entry}
 use Rattle.outside.proofs.Rooms.{same_but_first, same_but_then}
 use Rattle.durable_catalogue.specs.Views.{durable_view}
-use Rattle.union_top.specs.Outputs.{AreUnwritten}
-use Rattle.union_top.specs.declared.outputs.OutputsFault.{OutputsFault}
-use Rattle.union_top.specs.declared.outputs.OutputsFault.TheVariants as outputs
-use Rattle.union_top.specs.Texts.{files_text, has_refused}
-use Rattle.union_top.specs.Runs.{AreOutputs, NotLoaded, NoMemory}
-use Rattle.union_top.proofs.OneHistory.{merged_by}
-use Rattle.union_top.proofs.Ended.{apart_run, closed_load, closed_run, runs_failed, runs_told, runs_in_out, runs_in_report, why_no_memory, no_memory}
-use Rattle.union_top.proofs.Written.{outputs_are, out_rose, report_rose_too, no_report, in_out, in_report, ran_out}
-use Rattle.union_top.proofs.loading.run_files.Goals as goal
+use Rattle.loading_commands.specs.Outputs.{AreUnwritten}
+use Rattle.loading_commands.specs.declared.outputs.OutputsFault.{OutputsFault}
+use Rattle.loading_commands.specs.declared.outputs.OutputsFault.TheVariants as outputs
+use Rattle.loading_commands.specs.Texts.{files_text, has_refused}
+use Rattle.loading_commands.specs.Runs.{AreOutputs, NotLoaded, NoMemory}
+use Rattle.loading_commands.proofs.OneHistory.{merged_by}
+use Rattle.loading_commands.proofs.Ended.{apart_run, closed_load, closed_run, runs_failed, runs_told, runs_in_out, runs_in_report, why_no_memory, no_memory}
+use Rattle.loading_commands.proofs.Written.{outputs_are, out_rose, report_rose_too, no_report, in_out, in_report, ran_out}
+use Rattle.loading_commands.proofs.loading.run_files.Goals as goal
 
 pub returns-in-Err-clause-ends : goal.returns-in-Err-clause-ends
 returns-in-Err-clause-ends g c =

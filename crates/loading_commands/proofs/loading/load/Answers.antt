@@ -1,11 +1,11 @@
 use Rattle.std.proofs.Common.{length, refl, sym, ap, ◌∙◌}
 use Rattle.durable_catalogue.specs.Views.{durable_view}
 use Rattle.outside.proofs.Rooms.{same_but_then}
-use Rattle.union_top.specs.Texts.{files_text, has_refused}
-use Rattle.union_top.specs.Runs.{NotLoaded, NoMemory}
-use Rattle.union_top.proofs.OneHistory.{merged_by}
-use Rattle.union_top.proofs.Ended.{closed_load, loads_failed, loads_told, no_memory}
-use Rattle.union_top.proofs.loading.load.Goals as goal
+use Rattle.loading_commands.specs.Texts.{files_text, has_refused}
+use Rattle.loading_commands.specs.Runs.{NotLoaded, NoMemory}
+use Rattle.loading_commands.proofs.OneHistory.{merged_by}
+use Rattle.loading_commands.proofs.Ended.{closed_load, loads_failed, loads_told, no_memory}
+use Rattle.loading_commands.proofs.loading.load.Goals as goal
 
 pub returns-in-Err-clause-ends : goal.returns-in-Err-clause-ends
 returns-in-Err-clause-ends g c =

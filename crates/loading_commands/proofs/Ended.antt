@@ -21,11 +21,11 @@ use Rattle.console_lines.proofs.Ends.{told_once, told_not_unwritten, never_told,
 use Rattle.loader_workers.specs.declared.result.FileResult.{FileResult}
 use Rattle.output_files.specs.Outputs.{IsPartWritten}
 use Rattle.journal_loading.specs.Outcomes.{Fails}
-use Rattle.union_top.specs.Texts.{files_text, has_refused}
-use Rattle.union_top.specs.Runs.{EndsLoad, EndsRun, AreOutputs, AreOutAndPart, WhyNotLoad, WhyNotRun, NoMemory, NoMemoryForReport}
-use Rattle.union_top.specs.Commands.{Loads, Runs}
-use Rattle.union_top.proofs.OneHistory.{MergedBy}
-use Rattle.union_top.proofs.Missing.{told_of_loading, loading_untold, running_untold, unloaded_keeps, unrun_keeps}
+use Rattle.loading_commands.specs.Texts.{files_text, has_refused}
+use Rattle.loading_commands.specs.Runs.{EndsLoad, EndsRun, AreOutputs, AreOutAndPart, WhyNotLoad, WhyNotRun, NoMemory, NoMemoryForReport}
+use Rattle.loading_commands.specs.Loading.{Loads, Runs}
+use Rattle.loading_commands.proofs.OneHistory.{MergedBy}
+use Rattle.loading_commands.proofs.Missing.{told_of_loading, loading_untold, running_untold, unloaded_keeps, unrun_keeps}
 
 pub decide_name : {P : Type 0} (a b : List ℕ) → (a ≡ b → P) → (a ≢ b → P) → P
 decide_name {P} a b same other = decided (bytes_eq a b) refl

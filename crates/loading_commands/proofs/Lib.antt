@@ -1,0 +1,6 @@
+mod Merging
+mod OneHistory
+mod Textual
+mod Written
+mod Missing
+pub mod Ended

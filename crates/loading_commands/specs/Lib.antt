@@ -1,0 +1,6 @@
+pub mod Console
+pub mod Merged
+pub mod Texts
+pub mod Runs
+pub mod Outputs
+pub mod Loading
