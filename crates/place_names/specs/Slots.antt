@@ -1,5 +1,5 @@
 -- What stands for a seat: its row, if one does, and room for all its rows, also for those that are taken.
-use Rattle.std.specs.Prelude.{◌≡◌, ℕ, Bool, Option, None, Some, if◌then◌else◌, is_some}
+use Rattle.std.specs.Prelude.{◌≡◌, ℕ, Bool, Option, if◌then◌else◌, is_some}
 use Rattle.marc_types.specs.declared.key.Class.{Class}
 use Rattle.marc_types.specs.declared.key.Class.TheVariants.{Authority, Bibliographic}
 use Rattle.numbering.specs.declared.seat.Seat.{Seat}

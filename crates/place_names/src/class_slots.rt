@@ -51,7 +51,12 @@ impl<R: Drop> ClassSlots<R> {
     }
 
     /// Room for one more row of a field of a record.
-    pub(crate) fn make_room(&mut self, alloc: Global, number: u32, field: u32) -> Result<(), NoMemory>
+    pub(crate) fn make_room(
+        &mut self,
+        alloc: Global,
+        number: u32,
+        field: u32,
+    ) -> Result<(), NoMemory>
         ensures ok { OnOk result
             (IsChangedUnder number field (roomier field) (slot_under self.old.records.items) (slot_under self.new.records.items)) }
         ensures err { OnErr result (IsSameUnder (slot_under self.old.records.items) (slot_under self.new.records.items)) }

@@ -58,7 +58,9 @@ impl<R: Drop> Slots<R> {
     {
         match seat.class {
             Class::Authority => self.authorities.make_room(alloc, seat.number, seat.field)?,
-            Class::Bibliographic => self.bibliographic.make_room(alloc, seat.number, seat.field)?,
+            Class::Bibliographic => self
+                .bibliographic
+                .make_room(alloc, seat.number, seat.field)?,
         }
         Ok(())
     }

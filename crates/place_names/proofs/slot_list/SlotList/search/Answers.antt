@@ -1,6 +1,5 @@
 use Rattle.std.proofs.Common.{rules}
 use Rattle.std.proofs.lemmas.List.Sorted.{answers_always}
-use Rattle.place_names.specs.declared.slot.Slot.{Slot}
 use Rattle.place_names.proofs.SlotLists.{searched}
 use Rattle.place_names.proofs.slot_list.SlotList.search.Goals as goal
 
