@@ -1,5 +1,5 @@
 use Rattle.std.proofs.Common.{◌∙◌, sym, ap, None}
-use Rattle.numbering.specs.Seats.{same_seat, seat_Decides}
+use Rattle.numbering.specs.Seats.{seat_Decides}
 use Rattle.place_names.specs.Slots.{row_at}
 use Rattle.wait_table.specs.declared.waiting.WaitRow.{WaitRow}
 use Rattle.wait_table.specs.Waits.{with_row_back}
