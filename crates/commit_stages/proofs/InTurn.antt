@@ -40,7 +40,7 @@ use Rattle.linked_store.specs.Linked.{IsAhead, IsNumber, Linked, ListsSeats, fie
 use Rattle.commit_stages.specs.Turns.{IsOnTheWay, IsTurned}
 use Rattle.commit_stages.proofs.Turning.{ahead_then, begins, goes_on, map_join}
 use Rattle.commit_stages.specs.OwnFields.{HasFieldsAsCame, IsOwnSettled, own_seat, own_seats, own_visits_of}
-use Rattle.commit_stages.proofs.Settled.{ordered, with_all}
+use Rattle.commit_stages.proofs.SettledFields.{ordered, with_all}
 
 -- ---- the seats of one record
 

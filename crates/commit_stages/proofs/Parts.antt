@@ -22,7 +22,7 @@ use Rattle.linking_laws.specs.Middle.{IsMiddle}
 use Rattle.linked_store.specs.Linked.{Linked, key_of}
 use Rattle.commit_stages.proofs.Turning.{ahead_itself}
 use Rattle.commit_stages.specs.OwnFields.{HasFieldsAsCame, IsOwnSettled}
-use Rattle.commit_stages.proofs.Settled.{with_all}
+use Rattle.commit_stages.proofs.SettledFields.{with_all}
 use Rattle.commit_stages.specs.Counted.{AreCountsOf, count_settled}
 use Rattle.commit_stages.specs.declared.counts.HeadingCounts.{HeadingCounts}
 use Rattle.commit_stages.specs.Stages.{AreCountsBrought, IsBrought, stand_brought}

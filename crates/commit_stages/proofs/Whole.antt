@@ -37,7 +37,7 @@ use Rattle.commit_stages.specs.declared.counts.HeadingCounts.{HeadingCounts}
 use Rattle.commit_stages.specs.Receipts.{AreNumbersOf}
 use Rattle.commit_stages.specs.Stages.{AreCountsBrought, IsBrought, drop_of, drop_visits_of, dropping_to, forms_of_brought}
 use Rattle.commit_stages.specs.declared.brought.Ending.{Ending}
-use Rattle.commit_stages.proofs.Changed.{IsNoted, changed_count}
+use Rattle.commit_stages.proofs.ChangedRecords.{IsNoted, changed_count}
 use Rattle.commit_stages.proofs.Numbers.{key_numbered_so, own_numbers}
 use Rattle.commit_stages.proofs.Parts.{key_valid}
 use Rattle.commit_stages.proofs.Staging.{brought_now, can_drop_now, carried_is, carried_on, carry_cost, carry_noted, carry_within, choose_cost, choose_within, chosen_is, chosen_noted, chosen_on, costs, drop_cost, drop_noted, drop_within, dropped_is, dropped_on, ending_right, key_ahead, number_ahead, own_cost, own_there, own_within, placed_is, same_forms, settled_is, settled_on}

@@ -1,4 +1,4 @@
-ghost use Rattle.std.specs.Prelude.{◌≡◌, [], IfOk};
+ghost use Rattle.std.specs.Prelude.{◌≡◌, ◌↔◌, [], IsTrue, IfOk};
 
 use marc_types::{NoMemory, Sequence};
 use std::alloc::Global;
@@ -38,6 +38,15 @@ impl KeyNumbers {
         Ok(KeyNumbers {
             numbers: Some(numbers),
         })
+    }
+
+    pub fn is_empty(&self) -> bool
+        ensures { IsTrue result ↔ (self.now ≡ []) }
+    {
+        match &self.numbers {
+            None => true,
+            Some(numbers) => numbers.is_empty(),
+        }
     }
 
     pub fn as_slice(&self) -> &[u32]

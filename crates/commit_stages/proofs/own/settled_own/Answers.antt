@@ -1,7 +1,7 @@
 use Rattle.std.proofs.Common.{refl}
 use Rattle.std.proofs.lemmas.Result.{IfOk-weaker}
 use Rattle.catalogue_rules.specs.State.{new_field}
-use Rattle.commit_stages.proofs.Settled.{choice_made, in_order}
+use Rattle.commit_stages.proofs.SettledFields.{choice_made, in_order}
 use Rattle.commit_stages.proofs.own.settled_own.Goals as goal
 
 pub settle_with_standing-requires-clause-ordered : goal.settle_with_standing-requires-clause-ordered

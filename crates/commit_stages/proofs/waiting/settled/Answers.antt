@@ -2,7 +2,7 @@ use Rattle.std.proofs.Common.{sym}
 use Rattle.std.proofs.lemmas.Result.{IfOk-weaker}
 use Rattle.catalogue_rules.specs.State.{linkable_authorities}
 use Rattle.commit_stages.specs.Fields.{field_as}
-use Rattle.commit_stages.proofs.Settled.{choice_made, field_there, in_order, turn_costs, unlinked_there}
+use Rattle.commit_stages.proofs.SettledFields.{choice_made, field_there, in_order, turn_costs, unlinked_there}
 use Rattle.commit_stages.proofs.waiting.settled.Goals as goal
 
 pub visit_field-requires : goal.visit_field-requires
