@@ -64,7 +64,7 @@ fn hand_on<T: EntryTaker>(
     ensures left { OnOk result ((bytes : ℕ) (before : List AnyEntry) → HasLeft bytes before left.old → HasLeft bytes (before ++ items.now) left.new) }
 {
     for item in items {
-        taker.take(alloc, item.entry())?;
+        taker.take(alloc, item)?;
         *left = left_behind(*left, item);
     }
     Ok(())
