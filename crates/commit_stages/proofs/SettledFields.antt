@@ -1,6 +1,6 @@
 -- The choice of an unlinked field is what settling makes of it, and may come to its seat.
 use Rattle.std.proofs.Common.{◌≡◌, ◌∙◌, sym, ap, refl, subst, ℕ, ◌+◌, ◌≤◌, arith, List, Option, Some, None, true, false}
-use Rattle.std.specs.Prelude.{IfSome, not, is_some}
+use Rattle.std.specs.Prelude.{IfSome, not, is_some, if◌then◌else◌}
 use Rattle.std.specs.Borrow.{Bor}
 use Rattle.std.specs.Option.{option_map, option_map_or}
 use Rattle.marc_types.specs.Valid.{is_field, is_record}
@@ -14,7 +14,7 @@ use Rattle.catalogue_rules.specs.Settle.{settle_field, settle_linked, settle_unl
 use Rattle.catalogue_tables.specs.Seam.{HasKey}
 use Rattle.linking_laws.specs.Middle.{AreAuthoritiesInOrder, IsMiddle, IsMiddleWith}
 use Rattle.linking_laws.specs.Partway.{AreOrdered}
-use Rattle.linking_laws.specs.Visits.{link_visit}
+use Rattle.linking_laws.specs.Visits.{link_visit, own_visits}
 use Rattle.linking_laws.proofs.Settling.{settle_either}
 use Rattle.field_settling.specs.Held.{held_as}
 use Rattle.field_settling.specs.declared.held.Held.{Held}
@@ -73,6 +73,15 @@ module _ (seat : Seat) (x : Linked) where
   pub field_there : (A : Type 0) → IsToDo has_no_link seat x → None ≡ field_of seat x → A
   field_there A to_do off =
       let no_way : false ≡ true = ap (λ (o : Option KeptField). option_map_or (has_no_link seat.class) o false) off ∙ to_do.passes in cc
+
+  -- a field without a link that is looked at alone costs what its choice does
+  pub own_costs : (all : List Linkable) (h : KeptField) (before after : ℕ) → field_of seat x ≡ Some h → h.tie.key ≡ None
+      → after ≤ before + link_visit all seat.class h → after ≤ before + visits_at (own_visits all) x seat
+  own_costs all h before after there unlinked rest =
+      let all_of : visits_at (own_visits all) x seat ≡ link_visit all seat.class h =
+      ap {B = ℕ} (λ (o : Option KeptField). option_map_or (own_visits all seat.class) o 0) there
+      ∙ ap {B = ℕ} (λ (o : Option Key). if is_some o then 0 else link_visit all seat.class h) unlinked in
+      omega (arith, rest, all_of)
 
   pub turn_costs : (all : List Linkable) (h : KeptField) (before visited after : ℕ) → field_of seat x ≡ Some h → visited ≡ before + 1
       → after ≤ visited + link_visit all seat.class h → after ≤ before + visits_at (turn_visits all) x seat
