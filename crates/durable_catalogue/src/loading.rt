@@ -27,8 +27,8 @@ pub struct Loaded {
     pub run: u64,
 }
 
-/// The entries of the next frame.
-fn read_frame(
+/// The entries of a journal's next frame, behind those of the frames before it.
+pub fn read_frame(
     alloc: Global,
     counter: &mut HistoryCounter,
     frame: &Frame,
