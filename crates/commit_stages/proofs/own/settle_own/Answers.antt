@@ -35,7 +35,7 @@ loop-place-preserved g c =
     c.loop-place.invariant.0 in (
       own_goes_on c.args.class c.args.number fields c.args.store.now c.args.steps.now c.requires.number c.requires.came c.loop-place.place f.0 c.loop-place.store c.loop-place.steps low f.1
           c.loop-place.invariant.0 c.settle_own_at.new.store c.settle_own_at.new.steps c.in_ok-stands.ensures.ok
-          (own_cost _ _ _ _ c.loop-place.steps c.settle_own_at.new.steps stands c.settle_own_at.ensures.visits),
+          (own_cost _ c.loop-place.store _ _ c.loop-place.steps c.settle_own_at.new.steps stands c.settle_own_at.ensures.visits),
       counts_go_on (linkable_authorities c.args.store.now.state) c.args.class fields c.loop-place.place low f.0 f.1
           c.loop-place.counts c.counted-counts.result c.in_ok-stands.stands c.loop-place.invariant.1
           (c.in_ok-stands.ensures.stands (new_field f.0) stands
@@ -67,7 +67,7 @@ returns-in_err-stands-clause-visits g c =
     own_stands c.args.class c.args.number fields c.args.store.now c.args.steps.now c.requires.number c.requires.came c.loop-place.place f.0 c.loop-place.store c.loop-place.steps low f.1
     c.loop-place.invariant.0 in
     own_visits_stop c.args.class c.args.number fields c.args.store.now c.args.steps.now c.requires.number c.requires.came c.loop-place.place f.0 c.loop-place.store c.loop-place.steps low f.1
-    c.loop-place.invariant.0 c.settle_own_at.new.steps (own_cost _ _ _ _ c.loop-place.steps c.settle_own_at.new.steps stands c.settle_own_at.ensures.visits)
+    c.loop-place.invariant.0 c.settle_own_at.new.steps (own_cost _ c.loop-place.store _ _ c.loop-place.steps c.settle_own_at.new.steps stands c.settle_own_at.ensures.visits)
 
 pub returns-clause-ok : goal.returns-clause-ok
 returns-clause-ok g c =
