@@ -1,3 +1,6 @@
+ghost use Rattle.std.specs.Prelude.{◌≡◌};
+ghost use Rattle.marc_types.specs.declared.key.Class.TheVariants.{Bibliographic as ABibliographic};
+
 use marc_types::Class;
 use numbering::Seat;
 use place_names::{Counts, Slots};
@@ -14,7 +17,9 @@ fn things_stand_as_often_as_they_were_noted(rt: HostRuntime) -> Result<(), Fail>
     Ok(())
 }
 
-fn seat(field: u32) -> Seat {
+fn seat(field: u32) -> Seat
+    ensures { result ≡ record { class = ABibliographic; number = 700; field = field } }
+{
     Seat {
         class: Class::Bibliographic,
         number: 700,
@@ -22,24 +27,20 @@ fn seat(field: u32) -> Seat {
     }
 }
 
+/// A row of a later field comes before that of an earlier one.
 #[test]
+#[tactic(auto, unfolding(numbering::specs::Seats::same_seat))]
 fn each_field_has_its_row(rt: HostRuntime) -> Result<(), Fail> {
     let alloc = rt.alloc();
     let mut slots: Slots<u32> = Slots::new(alloc);
-    for field in [7, 3, 9, 5] {
-        slots.make_room(alloc, seat(field))?;
-        slots.put(seat(field), field);
-    }
-    let authority = Seat {
-        class: Class::Authority,
-        ..seat(7)
-    };
-    assert!(rt; slots.row(authority) == None);
-    for field in [3, 9, 7] {
-        assert!(rt; slots.take(seat(field)) == Some(field));
-        slots.let_go(seat(field));
-    }
-    assert!(rt; slots.row(seat(5)) == Some(&5));
-    assert!(rt; slots.row(seat(3)) == None);
+    let (later, earlier) = (seat(7), seat(3));
+    slots.make_room(alloc, later)?;
+    slots.put(later, 20);
+    slots.make_room(alloc, earlier)?;
+    slots.put(earlier, 30);
+    assert!(rt; slots.take(later) == Some(20));
+    slots.let_go(later);
+    assert!(rt; slots.row(later) == None);
+    assert!(rt; slots.row(earlier) == Some(&30));
     Ok(())
 }
