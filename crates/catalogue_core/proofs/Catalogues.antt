@@ -3,7 +3,8 @@ use Rattle.std.proofs.Common.{◌≡◌, ℕ, zero, suc, ◌+◌, ◌-◌, ◌<�
 use Rattle.std.specs.Prelude.{nat_lt}
 use Rattle.std.specs.List.{sum_by}
 use Rattle.std.proofs.lemmas.Bool.{or_parts, ltb-false, ltb-true, lt-ltb, le-ltb}
-use Rattle.std.proofs.lemmas.List.{take-append-drop, take-append-le, drop-append-le}
+use Rattle.std.specs.declared.snapshot.Snapshot.{Snapshot}
+use Rattle.std.proofs.lemmas.List.{take-append-drop, take-append-le, drop-append-le, length-map, map-append, take-map}
 use Rattle.std.proofs.lemmas.List.Elements.{recursion_from_All, All-from_recursion}
 use Rattle.std.proofs.lemmas.List.Sums.{fold-append, sum_by-append, sum_by-cons}
 use Rattle.std.proofs.Math.Seq.{take-append_seam, drop-append_seam}
@@ -14,12 +15,23 @@ use Rattle.catalogue_rules.specs.Settle.{Arrival, step, state_after, arrival_of,
 use Rattle.entry_record.specs.History.{IsAdmitted, entry_size, entries_size}
 use Rattle.catalogue_rules.specs.Receipt.{receipt_of, receipt}
 use Rattle.catalogue_rules.proofs.Elements.{Each}
-use Rattle.catalogue_core.specs.Catalogues.{Catalogued, all_entries, catalogued, is_full, receipt_with, with_kept, with_staged, without_staged, IsCatalogue}
+use Rattle.catalogue_core.specs.Catalogues.{Catalogued, all_entries, catalogued, is_full, receipt_with, with_kept, with_staged, without_staged, entries_seen, IsCatalogue}
 use Rattle.marc_types.specs.declared.entry.Receipt.{Receipt}
 use Rattle.catalogue_core.specs.Engines.{Engined, empty_engine}
 use Rattle.commit_stages.specs.Receipts.{AreNumbersOf}
 use Rattle.catalogue_core.proofs.Engines.{empty_is}
 use Rattle.commit_stages.specs.declared.changes.Changes.{Changes}
+
+-- ---- what a catalogue keeps for contracts alone
+
+pub seen_many : (kept : List (Snapshot Entry)) → length (entries_seen kept) ≡ length kept
+seen_many kept = length-map kept (λ s. s.value)
+
+pub seen_more : (kept now : List (Snapshot Entry)) (s : Snapshot Entry) (e : Entry) → now ≡ kept ++ s ∷ [] → s.value ≡ e → entries_seen now ≡ entries_seen kept ++ e ∷ []
+seen_more kept now s e put is = ap entries_seen put ∙ map-append (λ x. x.value) kept (s ∷ []) ∙ ap (λ x. entries_seen kept ++ x ∷ []) is
+
+pub seen_front : (kept now : List (Snapshot Entry)) (n : ℕ) → now ≡ take n kept → entries_seen now ≡ take n (entries_seen kept)
+seen_front kept now n put = ap entries_seen put ∙ sym (take-map (λ s. s.value) n kept)
 
 -- ---- both lists are all entries
 

@@ -1,5 +1,6 @@
 -- What clauses see of a catalogue, and what its type keeps.
-use Rattle.std.specs.Prelude.{◌≡◌, ℕ, ◌+◌, ◌≤◌, Bool, true, false, ◌||◌, nat_lt, List, [], ◌∷◌, ◌++◌, length, take, drop, All}
+use Rattle.std.specs.Prelude.{◌≡◌, ℕ, ◌+◌, ◌≤◌, Bool, true, false, ◌||◌, nat_lt, List, [], ◌∷◌, ◌++◌, length, map, take, drop, All}
+use Rattle.std.specs.declared.snapshot.Snapshot.{Snapshot}
 use Rattle.marc_types.specs.declared.entry.Entry.{Entry}
 use Rattle.marc_types.specs.declared.entry.Limits.{Limits}
 use Rattle.marc_types.specs.declared.entry.Receipt.{Receipt}
@@ -53,6 +54,10 @@ receipt_with at changes = record {
   unlinked = changes.unlinked;
   changed_records = changes.changed_records;
 }
+
+-- the entries that a catalogue keeps for contracts alone
+abbrev pub entries_seen : List (Snapshot Entry) → List Entry
+entries_seen kept = map (λ s. s.value) kept
 
 -- so many of the entries are history, and the others are staged
 abbrev pub catalogued : ℕ → List Entry → Limits → Catalogued

@@ -1,6 +1,6 @@
 //! A catalogue: its history, the entries that are staged behind it, and the state behind both.
-ghost use Rattle.std.specs.Prelude.{◌≡◌, ◌+◌, ◌^◌, ◌<◌, ◌≤◌, [], true, false, length, map, All, IfOk, OnOk, IfErr, OnErr, slice_get};
-ghost use Rattle.std.specs.Option.{option_map, option_and_then, option_copied};
+ghost use Rattle.std.specs.Prelude.{◌≡◌, ◌+◌, ◌^◌, ◌<◌, ◌≤◌, [], true, false, length, map, All, IfOk, OnOk, IfErr, OnErr};
+ghost use Rattle.std.specs.Option.{option_map, option_and_then};
 ghost use Rattle.record_store.specs.Store.{field_under, shown_row};
 ghost use Rattle.catalogue_rules.specs.State.{linkable_authorities, rows_of, kept_record};
 ghost use Rattle.entry_record.specs.History.{IsAdmitted, entries_size};
@@ -16,6 +16,7 @@ use marc_types::{Class, Entry, Kept, Key, Limits, NoMemory, Receipt};
 use record_store::Steps;
 use std::alloc::Global;
 use std::marker::Model;
+use std::snapshot::Snapshot;
 use std::sync::ledger::Ledger;
 
 /// Why an entry isn't taken: the catalogue is full, or there is no memory.
@@ -30,7 +31,8 @@ pub enum CoreFault {
 #[derive(Drop)]
 pub struct Catalogue {
     engine: Engine,
-    entries: Vec<Entry>,
+    // for contracts alone: at run time they are a number, and take no memory
+    entries: Vec<Snapshot<Entry>>,
     bytes: u64,
     limits: Limits,
     // how many of the entries are history, and what these count in bytes
@@ -58,13 +60,13 @@ fn receipt_at(at: u64, changes: Changes) -> Receipt
 }
 
 impl Model for Catalogue {
-    ghost use Rattle.catalogue_core.specs.Catalogues.{Catalogued, IsCatalogue, catalogued};
+    ghost use Rattle.catalogue_core.specs.Catalogues.{Catalogued, IsCatalogue, catalogued, entries_seen};
 
     ghost Value = { Catalogued };
 
-    ghost view = { λ c. catalogued c.kept c.entries.items c.limits };
+    ghost view = { λ c. catalogued c.kept (entries_seen c.entries.items) c.limits };
 
-    ghost invariant = { λ c. IsCatalogue c.engine c.kept c.kept_bytes c.entries.items c.bytes c.limits };
+    ghost invariant = { λ c. IsCatalogue c.engine c.kept c.kept_bytes (entries_seen c.entries.items) c.bytes c.limits };
 }
 
 impl Catalogue {
@@ -110,10 +112,11 @@ impl Catalogue {
     {
         let at = self.entries.len() as u64;
         let size = item.size();
+        let entry = Snapshot::of(item.entry());
         // room first: once the state has gone on, nothing can fail
         self.entries.reserve(1)?;
         let changes = self.engine.step(alloc, &item, steps)?;
-        self.entries.push_reserved(item.into_entry());
+        self.entries.push_reserved(entry);
         self.bytes += size;
         Ok(receipt_at(at, changes))
     }
@@ -196,13 +199,6 @@ impl Catalogue {
         ensures { result ≡ entries_size (all_entries self.now) }
     {
         self.bytes
-    }
-
-    /// The entry with so many before it; the staged ones come behind the history.
-    pub fn entry(&self, at: u64) -> Option<&Entry>
-        ensures { option_copied result ≡ slice_get (all_entries self.now) at }
-    {
-        self.entries.get(at as usize)
     }
 
     /// Each entry was admitted.

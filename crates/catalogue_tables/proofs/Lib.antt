@@ -1,3 +1,4 @@
+pub mod Asked
 pub mod Brought
 pub mod Chosens
 pub mod Comings

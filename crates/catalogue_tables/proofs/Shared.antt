@@ -10,16 +10,15 @@ use Rattle.std.specs.Option.{option_map_or, option_to_list}
 use Rattle.std.specs.Ordering.{is_eq, match_ordering}
 use Rattle.std.specs.declared.cmp.Ordering.{Ordering}
 use Rattle.std.specs.declared.cmp.Ordering.TheVariants.{Less, Equal, Greater}
-use Rattle.std.proofs.lemmas.Cmp.{eq_by_cmp_equiv}
 use Rattle.std.proofs.lemmas.List.Folds.{list_any-append, list_any_more}
 use Rattle.marc_types.specs.declared.form.Form.{Form}
 use Rattle.marc_types.specs.declared.key.Key.{Key}
-use Rattle.marc_types.specs.Order.{key_Decides, key_cmp, key_cmp_total, same_form, same_key}
+use Rattle.marc_types.specs.Order.{key_Decides, key_cmp, same_form, same_key}
 use Rattle.numbering.specs.Numbers.{is_known, number_of}
 use Rattle.form_index.specs.Candidates.{IsAnswer}
 use Rattle.form_index.specs.Forms.{Forms}
 use Rattle.form_index.specs.Index.{Indexed, IsInOrder, row_under}
-use Rattle.form_index.specs.Order.{has, key_at}
+use Rattle.form_index.specs.Order.{has}
 use Rattle.form_index.specs.declared.among.Among.TheVariants.{All}
 use Rattle.form_index.specs.declared.candidates.Candidates.{Candidates}
 use Rattle.form_index.specs.declared.candidates.Candidates.TheVariants.{Established, SeeFrom, Nobody}
@@ -29,7 +28,7 @@ use Rattle.catalogue_rules.specs.State.{State, linkable_authorities}
 use Rattle.catalogue_rules.proofs.Elements.{each_anything, find_found}
 use Rattle.linking_laws.specs.Tables.{IndexRow, has_established, index_row, keys_with}
 use Rattle.catalogue_tables.specs.Choosing.{TellsState, number_known}
-use Rattle.catalogue_tables.specs.Following.{HasForms, IsRowFor, TellsAuthorities}
+use Rattle.catalogue_tables.specs.Following.{HasForms, IsRowFor}
 use Rattle.catalogue_tables.specs.Lent.{keys_at, keys_of as keys_numbered}
 use Rattle.catalogue_tables.specs.Rows.{IsBlank, is_headed, rows_among}
 use Rattle.catalogue_tables.specs.Sharing.{AreHeaded, established_in, is_found_under, is_headed_by, is_headed_by_any, keys_crossing, keys_sharing, shown_keys}

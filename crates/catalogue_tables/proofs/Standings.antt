@@ -1,9 +1,9 @@
 -- How a field stands is told by the authorities that its forms may mean.
-use Rattle.std.proofs.Common.{◌≡◌, ◌≢◌, ◌∙◌, sym, ap, refl, subst, arith, ℕ, zero, suc, ◌+◌, ◌<◌, ◌≤◌, Bool, true, false, List, [], ◌∷◌, ◌++◌, length, map, take, get_or, Option, Some, None, unwrap_or, if◌then◌else◌}
-use Rattle.std.specs.Prelude.{◌==◌, filter, filter_map, slice_get}
+use Rattle.std.proofs.Common.{◌≡◌, ◌≢◌, ◌∙◌, sym, ap, refl, subst, arith, ℕ, zero, suc, ◌+◌, ◌<◌, ◌≤◌, Bool, true, false, List, [], ◌∷◌, ◌++◌, length, take, get_or, Option, Some, None, unwrap_or, if◌then◌else◌}
+use Rattle.std.specs.Prelude.{◌==◌, filter, slice_get}
 use Rattle.std.specs.Cmp.{unsigned_Decides}
 use Rattle.std.specs.Option.{option_map, option_map_or, option_or, option_to_list}
-use Rattle.std.specs.List.{AllByRecursion, cons_option}
+use Rattle.std.specs.List.{cons_option}
 use Rattle.marc_types.specs.Fields.{tag_of}
 use Rattle.marc_types.specs.declared.entry.Tie.{Tie}
 use Rattle.marc_types.specs.declared.field.Field.{Field}
@@ -32,13 +32,11 @@ use Rattle.catalogue_tables.specs.Lent.{AreGiven, keys_at, keys_of as keys_numbe
 use Rattle.catalogue_tables.specs.Meant.{AreMeant, numbers_in, standing_among}
 use Rattle.catalogue_tables.specs.Rows.{IsTold, rows_among}
 use Rattle.catalogue_tables.specs.Stands.{field_standing, stands_as}
-use Rattle.catalogue_tables.specs.declared.choosing.Chosen.{Chosen}
 use Rattle.catalogue_tables.specs.declared.choosing.Chosen.TheVariants as chosen
 use Rattle.catalogue_tables.specs.declared.choosing.Taker.{Taker}
 use Rattle.catalogue_tables.specs.declared.standing.Standing.TheVariants as here
 use Rattle.catalogue_tables.proofs.Chosens.{by_no_number, chosen_by_number, kind_made}
 use Rattle.catalogue_tables.proofs.Picked.{keys_among, keys_of, nobody_left, somebody}
-use Rattle.catalogue_tables.proofs.Rowed.{tells_rows}
 
 -- ---- keys of given numbers
 

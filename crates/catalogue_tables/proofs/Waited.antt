@@ -2,6 +2,7 @@
 use Rattle.std.proofs.Common.{◌≡◌, ◌∙◌, sym, ap, refl, ℕ, List, [], ◌∷◌, length, Bool, true, false, cond, Option, Some, None, IfSome}
 use Rattle.std.specs.Prelude.{◌&&◌, ◌||◌, if◌then◌else◌}
 use Rattle.std.specs.List.{IsDistinct, list_any}
+use Rattle.std.specs.Borrow.{Bor}
 use Rattle.std.specs.Cmp.{IsEquivalence}
 use Rattle.std.proofs.lemmas.Cmp.{eq_by_cmp_equiv}
 use Rattle.marc_types.specs.declared.form.Form.{Form}
@@ -17,6 +18,7 @@ use Rattle.wait_table.specs.declared.waiting.Waiting.{Waiting}
 use Rattle.wait_table.specs.declared.waiting.WaitRow.{WaitRow}
 use Rattle.place_names.specs.Listed.{ListsEach}
 use Rattle.linking_laws.specs.Partway.{same_place}
+use Rattle.catalogue_tables.specs.Lent.{shown_forms}
 use Rattle.catalogue_tables.specs.Seam.{HasKey, IsRenumbered, KeyLists, seat_of}
 use Rattle.catalogue_tables.specs.Waiting.{AddsWait, AreNumbersOf, PutsWaitBack, TakesWait, TellsNoWait, TellsWait, WaitsFit, asking_by, asks_known, naming_by, waits_for}
 use Rattle.catalogue_tables.proofs.Seams.{low_in, numbers_alike, told_step, unnamed, within_less, within_step}
@@ -163,6 +165,11 @@ module _ (known : List Form) (keys : KeyLists) (waits : Waits) (fit : WaitsFit (
 
   pub waits_seated : (forms : List Form) (key : ℕ) → waits_for known forms key waits seat ≡ true → HasKey keys seat
   waits_seated forms key g = either_seated key (list_any (asks_known known waits seat) forms) (names key waits seat) (any_seated forms) refl g
+
+-- a test of forms that are lent
+pub any_shown : (passes : Form → Bool) (forms : List (Bor Form)) → list_any (λ (form : Bor Form). passes form.now) forms ≡ list_any passes (shown_forms forms)
+any_shown passes [] = refl
+any_shown passes (form ∷ forms) = ap (λ b. passes form.now || b) (any_shown passes forms)
 
 -- what is noted from no seat on is what waits
 pub all_noted : (known forms : List Form) (key : ℕ) (waits : Waits) (start middle found naming : List Seat) → start ≡ [] → IsDistinct same_seat found

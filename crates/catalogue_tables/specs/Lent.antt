@@ -1,7 +1,9 @@
--- Keys by their numbers.
+-- Keys by their numbers, and forms as they are lent.
 use Rattle.std.specs.Prelude.{ℕ, ◌<◌, List, length, map, filter_map, slice_get}
 use Rattle.std.specs.List.{AllByRecursion}
 use Rattle.marc_types.specs.declared.key.Key.{Key}
+use Rattle.marc_types.specs.declared.form.Form.{Form}
+use Rattle.std.specs.Borrow.{Bor}
 use Rattle.form_index.specs.Order.{key_at}
 
 -- each number is a key's
@@ -15,3 +17,7 @@ keys_of keys numbers = map (key_at keys) numbers
 -- the same, where a number that is no key's has none
 abbrev pub keys_at : List Key → List ℕ → List Key
 keys_at keys numbers = filter_map (slice_get keys) numbers
+
+-- forms as they are lent
+abbrev pub shown_forms : List (Bor Form) → List Form
+shown_forms forms = map (λ form. form.now) forms

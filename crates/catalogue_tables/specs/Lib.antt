@@ -1,3 +1,4 @@
+pub mod Asked
 pub mod Choosing
 pub mod Following
 pub mod Known

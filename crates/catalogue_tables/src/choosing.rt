@@ -38,7 +38,7 @@ pub(crate) struct Taker {
 }
 
 /// The link that a field has to the authority that takes it by number.
-fn link(taker: Taker, class: Class, field: &Field, tie: &Tie) -> Chosen
+pub(crate) fn link(taker: Taker, class: Class, field: &Field, tie: &Tie) -> Chosen
     ensures { result ≡ link_by_taker class (kept_field field.now tie.now) taker }
 {
     let whole = takes_subdivisions(field.tag(), class)
@@ -63,7 +63,7 @@ fn chosen_of(numbers: &[u32], whole: bool) -> Option<Chosen>
     }
 }
 
-fn chosen_among(candidates: Candidates<'_>, whole: bool) -> Option<Chosen>
+pub(crate) fn chosen_among(candidates: Candidates<'_>, whole: bool) -> Option<Chosen>
     ensures { result ≡ chosen_among whole candidates.entry }
 {
     match candidates {

@@ -5,6 +5,7 @@ ghost use Rattle.numbering.specs.Seats.{same_seat};
 ghost use Rattle.numbering.specs.declared.seat.Seat.{Seat as AnySeat};
 ghost use Rattle.place_names.specs.Listed.{ListsEach};
 ghost use Rattle.wait_table.specs.Table.{waits};
+ghost use Rattle.catalogue_tables.specs.Lent.{shown_forms};
 ghost use Rattle.catalogue_tables.specs.Waiting.{asks_known, waits_for};
 
 use crate::tables::CatalogueTables;
@@ -34,10 +35,10 @@ impl CatalogueTables {
     pub fn waiting(
         &self,
         alloc: Global,
-        forms: &[Form],
+        forms: &[&Form],
         key: u32,
     ) -> Result<Numbering<Seat>, NoMemory>
-        ensures { IfOk result (λ seats. ListsEach same_seat (waits_for self.now.forms forms.now key (waits self.now.waits)) seats) }
+        ensures { IfOk result (λ seats. ListsEach same_seat (waits_for self.now.forms (shown_forms forms.now) key (waits self.now.waits)) seats) }
     {
         let mut found = Numbering::new(alloc);
         self.gather_asking(&mut found, alloc, forms)?;
@@ -52,10 +53,10 @@ impl CatalogueTables {
         &self,
         found: &mut Numbering<Seat>,
         alloc: Global,
-        forms: &[Form],
+        forms: &[&Form],
     ) -> Result<(), NoMemory>
         ensures { OnOk result ((s : AnySeat) → list_any (same_seat s) found.new
-            ≡ (list_any (same_seat s) found.old || list_any (asks_known self.now.forms (waits self.now.waits) s) forms.now)) }
+            ≡ (list_any (same_seat s) found.old || list_any (λ form. asks_known self.now.forms (waits self.now.waits) s form.now) forms.now)) }
     {
         for form in forms {
             self.gather_form(found, alloc, form)?;

@@ -20,3 +20,4 @@ mod sharing;
 mod standing;
 mod tables;
 mod waiting;
+mod waiting_choice;

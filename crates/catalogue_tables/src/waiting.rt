@@ -11,7 +11,7 @@ use crate::tables::CatalogueTables;
 use marc_types::{Form, NoMemory, Sequence};
 use numbering::{Numbering, Seat};
 use std::alloc::Global;
-use wait_table::{Asked, WaitRow, Waiting};
+use wait_table::{Asked, KeyNumbers, WaitRow, Waiting};
 
 #[tactic(auto, using(crate::proofs::Seams::keeps_then, crate::proofs::Waited::one_number, crate::proofs::Waited::two_numbers))]
 // The numbers of one form or of two, which get them if they had none.
@@ -52,6 +52,7 @@ impl CatalogueTables {
         ensures err { OnErr result (waits self.new.waits ≡ waits self.old.waits) }
     {
         let forms = asked(&mut self.forms, alloc, form, other)?;
+        let keys = KeyNumbers::new(alloc, keys)?;
         let waiting = Waiting { forms, keys };
         self.waits.add(alloc, WaitRow { seat, waiting })?;
         Ok(())

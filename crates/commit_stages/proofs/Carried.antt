@@ -28,7 +28,7 @@ use Rattle.commit_stages.proofs.Turning.{ahead_itself}
 use Rattle.commit_stages.proofs.Headed.{heading_proper}
 use Rattle.commit_stages.proofs.Reached.{code_text, number_text}
 use Rattle.commit_stages.specs.Carrying.{IsHeadingOf, heading_in}
-use Rattle.commit_stages.proofs.Settled.{with_all}
+use Rattle.commit_stages.proofs.SettledFields.{with_all}
 use Rattle.commit_stages.specs.Noted.{NotesChanges}
 use Rattle.commit_stages.proofs.Idle.{idle_noted}
 use Rattle.commit_stages.proofs.Parts.{same_state}

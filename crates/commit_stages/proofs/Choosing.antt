@@ -29,7 +29,7 @@ use Rattle.commit_stages.specs.Turns.{IsCarriedOut, IsToDo, IsTurned, visits_at}
 use Rattle.commit_stages.proofs.Looping.{IsAt, at_first, at_next, at_to_do, done_at_last, visits_at_last, visits_at_stop}
 use Rattle.commit_stages.proofs.Notes.{noting_last, noting_next}
 use Rattle.commit_stages.specs.Unlinked.{has_no_link, turn_visits}
-use Rattle.commit_stages.proofs.Settled.{unlinked_settled, with_all}
+use Rattle.commit_stages.proofs.SettledFields.{unlinked_settled, with_all}
 
 module _ (forms : List Form) (key : Key) where
   -- what waits isn't linked

@@ -1,24 +1,21 @@
 -- The fields of one record are settled in turn.
-use Rattle.std.proofs.Common.{◌≡◌, ◌∙◌, sym, ap, refl, subst, ℕ, zero, suc, ◌+◌, ◌≤◌, ◌<◌, arith, List, [], ◌∷◌, ◌++◌, map, length, take, get_or, cond, Option, Some, None, Bool, true, false}
+use Rattle.std.proofs.Common.{◌≡◌, ◌∙◌, sym, ap, refl, subst, ℕ, zero, suc, ◌+◌, ◌≤◌, ◌<◌, arith, List, [], ◌∷◌, ◌++◌, map, length, take, get_or, cond, Option, Some, None, Bool, true, false, ◌⊎◌, inl, inr}
 use Rattle.std.specs.Prelude.{◌||◌, nat_le, slice_get, IfSome, if◌then◌else◌}
 use Rattle.std.specs.List.{AllByRecursion, sum_by}
 use Rattle.std.specs.Map.{lookup}
-use Rattle.std.specs.Option.{option_and_then, option_map}
+use Rattle.std.specs.Option.{option_and_then, option_map, option_map_or}
 use Rattle.std.proofs.lemmas.Bool.{and_parts, leb-true}
 use Rattle.std.proofs.lemmas.Cmp.{eq_by_cmp_equiv}
 use Rattle.std.proofs.lemmas.List.{length-map}
 use Rattle.std.proofs.lemmas.List.Sums.{sum_by-cons, sum_by-take-le, sum_by_more}
-use Rattle.std.proofs.lemmas.Option.{slice_get-get_or, slice_get-map}
+use Rattle.std.proofs.lemmas.Option.{slice_get-get_or, slice_get-map, slice_get_cases}
 use Rattle.marc_types.specs.Valid.{is_record}
 use Rattle.marc_types.specs.Order.{place_cmp_total, same_key}
 use Rattle.marc_types.specs.declared.field.Field.{Field}
 use Rattle.marc_types.specs.declared.key.Class.{Class}
 use Rattle.marc_types.specs.declared.key.Key.{Key}
 use Rattle.marc_types.specs.declared.key.Place.{Place}
-use Rattle.marc_types.specs.declared.entry.Entry.{Entry}
-use Rattle.marc_types.specs.declared.form.Form.{Form}
 use Rattle.entry_record.specs.Authority.{Linkable}
-use Rattle.entry_record.specs.Prepared.{field_form_of, heading_base_form}
 use Rattle.numbering.specs.declared.seat.Seat.{Seat}
 use Rattle.form_index.specs.Order.{key_at}
 use Rattle.catalogue_rules.specs.State.{KeptField, KeptRecord, Row, State, fields_of, linkable_authorities, new_field, rows_of}
@@ -37,10 +34,11 @@ use Rattle.linking_laws.proofs.Owning.{own_settled}
 use Rattle.linking_laws.proofs.Settling.{settle_either}
 use Rattle.linking_laws.proofs.Taken.{all_taken, next_own}
 use Rattle.linked_store.specs.Linked.{IsAhead, IsNumber, Linked, ListsSeats, field_of, key_of, record_at}
-use Rattle.commit_stages.specs.Turns.{IsOnTheWay, IsTurned}
+use Rattle.commit_stages.specs.Turns.{IsOnTheWay, IsToDo, IsTurned, visits_at}
+use Rattle.commit_stages.specs.Unlinked.{has_no_link}
 use Rattle.commit_stages.proofs.Turning.{ahead_then, begins, goes_on, map_join}
 use Rattle.commit_stages.specs.OwnFields.{HasFieldsAsCame, IsOwnSettled, own_seat, own_seats, own_visits_of}
-use Rattle.commit_stages.proofs.Settled.{ordered, with_all}
+use Rattle.commit_stages.proofs.SettledFields.{ordered, with_all}
 
 -- ---- the seats of one record
 
@@ -109,16 +107,20 @@ came_at (Some r) fields i f came there =
 some_same : {T : Type 0} (x y : T) → Some x ≡ Some y → x ≡ y
 some_same x y e = cc
 
--- the form that was made with the entry is that of the field at its place
-pub own_form : (e : Entry) (class : Class) (fields : List Field) (i : ℕ) (f : Field) (made : Option Form) → class ≡ e.class → fields ≡ e.rec.fields → i < length fields → f ≡ get_or fields i f
-    → made ≡ field_form_of e i → made ≡ heading_base_form class f
-unfolding field_form_of
-own_form e class fields i f made class_is fields_are low is made_is =
-    let got : slice_get fields i ≡ Some f = slice_get-get_or fields i f low ∙ ap (λ (g : Field). Some g) (sym is) in
-    made_is
-    ∙ ap (λ (l : List Field). option_and_then (heading_base_form e.class) (slice_get l i)) (sym fields_are)
-    ∙ ap (option_and_then (heading_base_form e.class)) got
-    ∙ ap (λ (d : Class). heading_base_form d f) (sym class_is)
+-- a field stands at each place of a record
+pub there_is : (fields : List Field) (i : ℕ) → i < length fields → (f : Field) × (f ≡ get_or fields i f)
+there_is fields i low = by ((slice_get_cases fields i).1)
+  where
+    by : (((f : Field) × (i < length fields) × (slice_get fields i ≡ Some f) × (get_or fields i f ≡ f)) ⊎ ((length fields ≤ i) × (slice_get fields i ≡ None))) → (f : Field) × (f ≡ get_or fields i f)
+    by (inl found) = (found.0, sym found.3)
+    by (inr past) = absurd (omega (arith, low, past.0))
+
+-- what the field at a seat takes
+pub own_cost : (seat : Seat) (x : Linked) (all : List Linkable) (h : KeptField) (before after : ℕ) → field_of seat x ≡ Some h
+    → after ≤ before + visits_at (own_visits all) x seat → after ≤ before + own_visits all seat.class h
+own_cost seat x all h before after there step =
+    let all_of : visits_at (own_visits all) x seat ≡ own_visits all seat.class h = ap {B = ℕ} (λ (o : Option KeptField). option_map_or (own_visits all seat.class) o 0) there in
+    omega (arith, step, all_of)
 
 -- ---- visits
 
@@ -205,6 +207,12 @@ module _ (class : Class) (number : ℕ) (fields : List Field) (old : Linked) (be
         ∙ ap (option_map (changed_among (map (place_at old.keys) (own_seats class number i)) (settle_field all) (place_at old.keys seat)))
         (came_at (record_at class number old) fields i f came got)
         ∙ ap (λ (b : Bool). Some (if b then settle_field all class (new_field f) else new_field f)) off
+
+    pub own_to_do : IsToDo has_no_link seat now
+    own_to_do = record {
+      known = own_known_now;
+      passes = ap (λ (o : Option KeptField). option_map_or (has_no_link class) o false) own_stands;
+    }
 
     sum_on : sum_by (own_visits all class) (take (i + 1) (map new_field fields)) ≡ sum_by (own_visits all class) (take i (map new_field fields)) + own_visits all class (new_field f)
     sum_on =

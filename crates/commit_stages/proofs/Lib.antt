@@ -1,5 +1,5 @@
 pub mod Counting
-pub mod Ending
+pub mod TurnsEnd
 pub mod Looping
 pub mod Notes
 pub mod Reading
@@ -13,13 +13,13 @@ pub mod Standing
 pub mod CarriedField
 pub mod Dropped
 pub mod DroppedField
-pub mod Settled
+pub mod SettledFields
 pub mod Choosing
 pub mod InTurn
 pub mod CountedFields
 pub mod Alone
 pub mod Carried
-pub mod Changed
+pub mod ChangedRecords
 pub mod Ended
 pub mod Idle
 pub mod Numbers

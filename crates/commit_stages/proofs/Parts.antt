@@ -1,8 +1,8 @@
 -- What the stages do where there is nothing to do, and what stands in the place of the committed record.
-use Rattle.std.proofs.Common.{◌≡◌, ◌∙◌, sym, ap, refl, ℕ, Bool, true, false, cond, List, [], ◌∷◌, map, Option, Some, None}
+use Rattle.std.proofs.Common.{◌≡◌, ◌∙◌, sym, ap, refl, subst, ℕ, Bool, true, false, cond, List, [], ◌∷◌, map, Option, Some, None}
 use Rattle.std.specs.Prelude.{◌&&◌, if◌then◌else◌, is_some}
 use Rattle.std.specs.Map.{lookup}
-use Rattle.std.specs.Option.{option_map}
+use Rattle.std.specs.Option.{option_map, option_map_or}
 use Rattle.std.specs.BTreeMap.{insert_entry}
 use Rattle.std.specs.Map.{remove_entry}
 use Rattle.marc_types.specs.Order.{key_cmp, same_key}
@@ -21,13 +21,13 @@ use Rattle.catalogue_rules.proofs.States.{fit_entry}
 use Rattle.linking_laws.specs.Middle.{IsMiddle}
 use Rattle.linked_store.specs.Linked.{Linked, key_of}
 use Rattle.commit_stages.proofs.Turning.{ahead_itself}
-use Rattle.commit_stages.specs.OwnFields.{HasFieldsAsCame, IsOwnSettled}
-use Rattle.commit_stages.proofs.Settled.{with_all}
+use Rattle.commit_stages.specs.OwnFields.{AreAsCame, HasFieldsAsCame, IsOwnSettled, fields_in}
+use Rattle.commit_stages.proofs.SettledFields.{with_all}
 use Rattle.commit_stages.specs.Counted.{AreCountsOf, count_settled}
 use Rattle.commit_stages.specs.declared.counts.HeadingCounts.{HeadingCounts}
 use Rattle.commit_stages.specs.Stages.{AreCountsBrought, IsBrought, stand_brought}
 use Rattle.catalogue_rules.specs.Settle.{Arrival, arrival_of, place, settle_field}
-use Rattle.catalogue_rules.specs.State.{KeptField, KeptRecord, Row, State, each_field, each_in_row, linkable_authorities, new_record}
+use Rattle.catalogue_rules.specs.State.{KeptField, KeptRecord, Row, State, each_field, each_in_row, fields_of, linkable_authorities, new_field, new_record}
 use Rattle.catalogue_rules.specs.Valid.{IsAscending}
 use Rattle.catalogue_tables.specs.Following.{authority_brought}
 use Rattle.numbered_store.specs.Rows.{with_row}
@@ -134,6 +134,20 @@ counts_brought all e class fields fields_are class_is stays counts are =
     record { linked = are.linked ∙ so is_linked; ambiguous = are.ambiguous ∙ so is_ambiguous; unlinked = are.unlinked ∙ so is_unlinked }
 
 -- ---- a record as it came has its fields
+
 pub came_there : (number : ℕ) (e : Entry) (x : Linked) → IsBrought number e x → is_deletion e.rec.leader ≡ false → HasFieldsAsCame e.class number e.rec.fields x
 came_there number e x came stays =
     ap (option_map (λ (r : KeptRecord). r.fields)) (came ∙ ap (λ (b : Bool). if b then None else Some (new_record e.rec.leader e.rec.fields)) stays)
+
+each_new : (fields : List Field) → map (λ (h : KeptField). h.field) (map new_field fields) ≡ fields
+each_new [] = refl
+each_new (f ∷ fields) = ap (λ (l : List Field). f ∷ l) (each_new fields)
+
+pub fields_there : (number : ℕ) (e : Entry) (x : Linked) → IsBrought number e x → is_deletion e.rec.leader ≡ false → fields_in e.class number x ≡ e.rec.fields
+fields_there number e x came stays =
+    ap (λ (o : Option KeptRecord). option_map_or fields_of o []) (came ∙ ap (λ (b : Bool). if b then None else Some (new_record e.rec.leader e.rec.fields)) stays)
+    ∙ each_new e.rec.fields
+
+pub all_came : (number : ℕ) (e : Entry) (x : Linked) → IsBrought number e x → is_deletion e.rec.leader ≡ false → AreAsCame e.class number x
+all_came number e x came stays =
+    subst (λ (l : List Field). HasFieldsAsCame e.class number l x) (sym (fields_there number e x came stays)) (came_there number e x came stays)

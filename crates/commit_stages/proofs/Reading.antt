@@ -1,7 +1,7 @@
 -- A field and its tie, read at one place of a kept record, and that the record is one.
 use Rattle.std.proofs.Common.{◌≡◌, ◌∙◌, sym, ap, refl, subst, ℕ, zero, suc, List, [], ◌∷◌, Option, Some, None, true}
 use Rattle.std.specs.Prelude.{slice_get, IfSome}
-use Rattle.std.specs.Option.{option_map}
+use Rattle.std.specs.Option.{option_map, option_map_or}
 use Rattle.marc_types.specs.Valid.{is_record}
 use Rattle.marc_types.specs.declared.field.Field.{Field}
 use Rattle.marc_types.specs.declared.entry.Tie.{Tie}
@@ -28,6 +28,14 @@ tied_off kept i off = sym (no_field kept.rec.fields kept.links i (sym off))
 tie_off : (kept : Kept) (i : ℕ) → slice_get kept.links i ≡ None → slice_get (kept_record kept).fields i ≡ None
 unfolding kept_record
 tie_off kept i off = no_tie kept.rec.fields kept.links i off
+
+-- the fields of the record that was found, and of none
+pub fields_read : (kept : Kept) (o : Option KeptRecord) → Some (kept_record kept) ≡ o → kept.rec.fields ≡ option_map_or fields_of o []
+unfolding kept_record
+fields_read kept o e = sym (joined_fields kept.rec.fields kept.links kept.tied) ∙ ap (λ (p : Option KeptRecord). option_map_or fields_of p []) e
+
+pub none_read : (o : Option KeptRecord) → None ≡ o → [] ≡ option_map_or fields_of o []
+none_read o e = ap (λ (p : Option KeptRecord). option_map_or fields_of p []) e
 
 pub tied_read : (kept : Kept) (i : ℕ) (f : Field) (t : Option Tie) → Some f ≡ slice_get kept.rec.fields i → t ≡ slice_get kept.links i
     → option_map (kept_field f) t ≡ slice_get (kept_record kept).fields i

@@ -1,6 +1,7 @@
 -- An authority's commit as the code goes: what holds behind each stage, and what it has cost.
 use Rattle.std.proofs.Common.{◌≡◌, ◌∙◌, sym, ap, refl, subst, ℕ, ◌+◌, ◌≤◌, arith, true, List, [], ◌++◌, Option}
 use Rattle.std.specs.Prelude.{IsSome, find}
+use Rattle.std.specs.Borrow.{Bor}
 use Rattle.std.specs.Option.{option_map_or}
 use Rattle.marc_types.specs.Order.{same_key}
 use Rattle.marc_types.specs.declared.entry.Entry.{Entry}
@@ -17,6 +18,7 @@ use Rattle.catalogue_rules.specs.Settle.{Arrival, arrival_of, step}
 use Rattle.catalogue_rules.specs.State.{State, linkable_authorities}
 use Rattle.catalogue_tables.specs.Following.{authority_brought}
 use Rattle.catalogue_tables.specs.Known.{IsKnownAs}
+use Rattle.catalogue_tables.specs.Lent.{shown_forms}
 use Rattle.catalogue_tables.specs.Seam.{AreDistinct, keys_in}
 use Rattle.catalogue_tables.specs.declared.known.KnownAuthority.{KnownAuthority}
 use Rattle.linking_laws.specs.Changes.{state_carried, state_dropped, state_own_settled}
@@ -37,7 +39,7 @@ use Rattle.commit_stages.specs.declared.counts.HeadingCounts.{HeadingCounts}
 use Rattle.commit_stages.specs.Receipts.{AreNumbersOf}
 use Rattle.commit_stages.specs.Stages.{AreCountsBrought, IsBrought, drop_of, drop_visits_of, dropping_to, forms_of_brought}
 use Rattle.commit_stages.specs.declared.brought.Ending.{Ending}
-use Rattle.commit_stages.proofs.Changed.{IsNoted, changed_count}
+use Rattle.commit_stages.proofs.ChangedRecords.{IsNoted, changed_count}
 use Rattle.commit_stages.proofs.Numbers.{key_numbered_so, own_numbers}
 use Rattle.commit_stages.proofs.Parts.{key_valid}
 use Rattle.commit_stages.proofs.Staging.{brought_now, can_drop_now, carried_is, carried_on, carry_cost, carry_noted, carry_within, choose_cost, choose_within, chosen_is, chosen_noted, chosen_on, costs, drop_cost, drop_noted, drop_within, dropped_is, dropped_on, ending_right, key_ahead, number_ahead, own_cost, own_there, own_within, placed_is, same_forms, settled_is, settled_on}
@@ -85,10 +87,17 @@ module _ (x0 : Linked) (e : Entry) (c : IsCommit Authority x0.state e) (number :
       → ((before : Option Linkable) → IsKnownAs before known → dropping_to ending ≡ dropping_by before (authority_brought a)) → dropping_to ending ≡ dropping_of s e
   right known ending is ends = ending_right s e c ending (ends (find (has_key e.key) (linkable_authorities s)) (known_as known is))
 
-  pub forms_right : (known : Option KnownAuthority) (old new : List Form) → IsKnownAs (find (has_key (key_of Authority number x0.keys)) (linkable_authorities s)) known
+  forms_right : (known : Option KnownAuthority) (old new : List Form) → IsKnownAs (find (has_key (key_of Authority number x0.keys)) (linkable_authorities s)) known
       → ((before : Option Linkable) → IsKnownAs before known → (form : Form) → is_form_among old form ≡ is_form_among (option_map_or forms_of before []) form) → new ≡ forms_of_brought a
       → AreSameForms (old ++ new) (forms_of_commit s e)
   forms_right known old new is found brought = same_forms s e c old new (found (find (has_key e.key) (linkable_authorities s)) (known_as known is)) brought
+
+  -- the same of a list that lends them
+  pub forms_lent : (known : Option KnownAuthority) (old : List Form) (lent : List (Bor Form)) → IsKnownAs (find (has_key (key_of Authority number x0.keys)) (linkable_authorities s)) known
+      → ((before : Option Linkable) → IsKnownAs before known → (form : Form) → is_form_among old form ≡ is_form_among (option_map_or forms_of before []) form)
+      → shown_forms lent ≡ old ++ forms_of_brought a → AreSameForms (shown_forms lent) (forms_of_commit s e)
+  forms_lent known old lent is found lends =
+      subst (λ (l : List Form). AreSameForms l (forms_of_commit s e)) (sym lends) (forms_right known old (forms_of_brought a) is found refl)
 
   -- ---- behind each stage
 

@@ -1,13 +1,13 @@
 -- The fields of the record that was committed, which are settled in turn.
 use Rattle.std.specs.Prelude.{◌≡◌, ℕ, zero, suc, List, [], ◌∷◌, ◌++◌, map, Some}
 use Rattle.std.specs.List.{sum_by}
-use Rattle.std.specs.Option.{option_map}
+use Rattle.std.specs.Option.{option_map, option_map_or}
 use Rattle.marc_types.specs.declared.field.Field.{Field}
 use Rattle.marc_types.specs.declared.key.Class.{Class}
 use Rattle.marc_types.specs.declared.key.Key.{Key}
 use Rattle.entry_record.specs.Authority.{Linkable}
 use Rattle.numbering.specs.declared.seat.Seat.{Seat}
-use Rattle.catalogue_rules.specs.State.{KeptRecord, State, new_field, rows_of}
+use Rattle.catalogue_rules.specs.State.{KeptRecord, State, fields_of, new_field, rows_of}
 use Rattle.linking_laws.specs.Middle.{IsMiddleWith}
 use Rattle.linking_laws.specs.Stages.{settle_own}
 use Rattle.linking_laws.specs.Visits.{own_row_visits}
@@ -16,6 +16,14 @@ use Rattle.linked_store.specs.Linked.{IsAhead, Linked, record_at}
 -- the record under the key that has the number has these fields as they came: with no link, and nothing awaited
 abbrev pub HasFieldsAsCame : Class → ℕ → List Field → Linked → Type 0
 HasFieldsAsCame class number fields x = option_map (λ (r : KeptRecord). r.fields) (record_at class number x) ≡ Some (map new_field fields)
+
+-- the fields of the record under the key that has the number; none where there is no record
+abbrev pub fields_in : Class → ℕ → Linked → List Field
+fields_in class number x = option_map_or fields_of (record_at class number x) []
+
+-- that record has its fields as they came
+abbrev pub AreAsCame : Class → ℕ → Linked → Type 0
+AreAsCame class number x = HasFieldsAsCame class number (fields_in class number x) x
 
 -- a seat of the record under the key that has the number
 abbrev pub own_seat : Class → ℕ → ℕ → Seat

@@ -5,6 +5,7 @@ ghost use Rattle.marc_types.specs.declared.form.Form.{Form as AnyForm};
 ghost use Rattle.entry_record.specs.Authority.{Linkable};
 ghost use Rattle.linking_laws.specs.Waiting.{forms_of, is_form_among};
 ghost use Rattle.catalogue_tables.specs.Known.{IsKnownAs};
+ghost use Rattle.catalogue_tables.specs.Lent.{shown_forms};
 ghost use Rattle.commit_stages.specs.Stages.{forms_of_brought};
 ghost use Rattle.marc_types.specs.Order.{same_key};
 ghost use Rattle.marc_types.specs.declared.key.Class.TheVariants.{Authority as AnAuthority};
@@ -25,7 +26,7 @@ use crate::touched::settle_touched;
 use catalogue_tables::KnownAuthority;
 use entry_record::Prepared;
 use linked_store::LinkedStore;
-use marc_types::{Class, Form, NoMemory, TryCopy};
+use marc_types::{Class, Form, NoMemory};
 use numbering::Numbering;
 use record_store::Steps;
 use std::alloc::Global;
@@ -55,16 +56,8 @@ pub(crate) fn commit_authority<L: Ledger>(
     drop_ended(store, alloc, number, item, ending, &mut noted, steps)?;
     carry_heading(store, alloc, number, item, &mut noted, steps)?;
     let counts = settle_brought(store, alloc, number, item, steps)?;
-    let forms = brought_forms(alloc, item)?;
-    settle_touched(
-        store,
-        alloc,
-        number,
-        known_forms(&known),
-        &forms,
-        &mut noted,
-        steps,
-    )?;
+    let forms = forms_then_and_now(alloc, known_forms(&known), item)?;
+    settle_touched(store, alloc, number, &forms, &mut noted, steps)?;
     store.each_key_has_one_number();
     let changed_records = count_records(alloc, &noted, Class::Authority, number)?;
     Ok(Changes {
@@ -75,27 +68,41 @@ pub(crate) fn commit_authority<L: Ledger>(
     })
 }
 
-// The forms under which the authority is found that the entry brings; none where no field can be linked to it.
-fn brought_forms(alloc: Global, item: &Prepared) -> Result<Vec<Form>, NoMemory>
+// The forms under which the authority was found, and those that the entry brings, lent.
+fn forms_then_and_now<'a>(
+    alloc: Global,
+    known: &'a [Form],
+    item: &'a Prepared,
+) -> Result<Vec<&'a Form>, NoMemory>
     requires { item.now.class ≡ AnAuthority }
-    ensures { IfOk result (λ forms. forms.items ≡ forms_of_brought (arrival_of item.now)) }
+    ensures { IfOk result (λ forms. shown_forms forms.items ≡ known.now ++ forms_of_brought (arrival_of item.now)) }
 {
     let mut forms = Vec::new(alloc);
-    if item.is_deletion() {
-        return Ok(forms);
-    }
-    if let Some(form) = item.established() {
-        forms.push(form.copy(alloc)?)?;
-        add_forms(&mut forms, alloc, item.see_from().as_slice())?;
-    }
+    lend(&mut forms, known)?;
+    lend_brought(&mut forms, item)?;
     Ok(forms)
 }
 
-fn add_forms(forms: &mut Vec<Form>, alloc: Global, more: &[Form]) -> Result<(), NoMemory>
-    ensures { OnOk result (forms.new.items ≡ forms.old.items ++ more.now) }
+// The forms under which the authority is found that the entry brings; none where no field can be linked to it.
+fn lend_brought<'a>(forms: &mut Vec<&'a Form>, item: &'a Prepared) -> Result<(), NoMemory>
+    requires { item.now.class ≡ AnAuthority }
+    ensures { OnOk result (shown_forms forms.new.items ≡ shown_forms forms.old.items ++ forms_of_brought (arrival_of item.now)) }
+{
+    if item.is_deletion() {
+        return Ok(());
+    }
+    if let Some(form) = item.established() {
+        forms.push(form)?;
+        lend(forms, item.see_from().as_slice())?;
+    }
+    Ok(())
+}
+
+fn lend<'a>(forms: &mut Vec<&'a Form>, more: &'a [Form]) -> Result<(), NoMemory>
+    ensures { OnOk result (shown_forms forms.new.items ≡ shown_forms forms.old.items ++ more.now) }
 {
     for form in more {
-        forms.push(form.copy(alloc)?)?;
+        forms.push(form)?;
     }
     Ok(())
 }

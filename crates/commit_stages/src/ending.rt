@@ -12,7 +12,7 @@ ghost use Rattle.field_settling.specs.Held.{held_as};
 ghost use Rattle.commit_stages.specs.Fields.{field_as};
 ghost use Rattle.commit_stages.specs.Dropping.{IsChangedTo, drop_ending, ending_visits, successor_to};
 
-use crate::settling::settle_unlinked;
+use crate::settling::settle_made;
 use crate::visiting::FieldAt;
 use field_settling::{Held, await_key, end_link};
 use linked_store::LinkedStore;
@@ -116,7 +116,7 @@ fn handed_on<L: Ledger>(
     }
 }
 
-// An unlinked field with its choice.
+// An unlinked field, which stands nowhere yet, with its choice.
 fn with_choice<L: Ledger>(
     store: &LinkedStore,
     alloc: Global,
@@ -128,7 +128,11 @@ fn with_choice<L: Ledger>(
     ensures settled { IfOk result (λ made. IsChoiceSettled (linkable_authorities store.now.state) class (held_as held) (held_as made)) }
     ensures visits { steps.new ≤ steps.old + link_visit (linkable_authorities store.now.state) class (held_as held) }
 {
-    match settle_unlinked(store, alloc, class, &held.field, &held.tie, steps)? {
+    let at = FieldAt {
+        field: &held.field,
+        tie: &held.tie,
+    };
+    match settle_made(store, alloc, class, at, steps)? {
         Some(chosen) => Ok(chosen),
         None => Ok(held),
     }

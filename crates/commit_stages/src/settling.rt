@@ -1,71 +1,112 @@
 //! The choice of an unlinked field by the tables, and the field that it makes: a link is written from its authority's record.
-ghost use Rattle.std.specs.Prelude.{◌≡◌, ◌+◌, ◌≤◌, true, None, IfOk, IfSome, option_map};
-ghost use Rattle.std.specs.Option.{option_copied};
+ghost use Rattle.std.specs.Prelude.{◌≡◌, ◌+◌, ◌≤◌, true, None, Some, IfOk, IfSome, option_map};
 ghost use Rattle.marc_types.specs.Valid.{is_field};
 ghost use Rattle.marc_types.specs.declared.key.Class.TheVariants.{Authority as AnAuthority};
-ghost use Rattle.entry_record.specs.Prepared.{heading_base_form};
-ghost use Rattle.catalogue_rules.specs.State.{kept_field, linkable_authorities};
+ghost use Rattle.catalogue_rules.specs.State.{linkable_authorities};
+ghost use Rattle.catalogue_tables.specs.Choosing.{chosen_for, heading_choice};
+ghost use Rattle.catalogue_tables.specs.Seam.{HasKey};
 ghost use Rattle.field_settling.specs.Held.{heading_as, held_as};
 ghost use Rattle.linking_laws.specs.Middle.{AreAuthoritiesInOrder};
 ghost use Rattle.linking_laws.specs.Visits.{link_visit};
-ghost use Rattle.linked_store.specs.Linked.{IsNumber};
+ghost use Rattle.linked_store.specs.Linked.{IsNumber, field_of};
 ghost use Rattle.commit_stages.specs.Choosing.{heading_under, linked_under};
+ghost use Rattle.commit_stages.specs.Fields.{field_as};
 ghost use Rattle.commit_stages.specs.Settled.{IsChoiceSettledTo};
 ghost use Rattle.commit_stages.specs.Standing.{stands_settled};
 
 use crate::settled::{Settled, Stands};
+use crate::visiting::FieldAt;
 use catalogue_tables::{Chosen, heading_form};
 use field_settling::{Heading, Held, governing, link_to};
 use linked_store::LinkedStore;
-use marc_types::{Class, Field, Form, NoMemory, Tie};
+use marc_types::{Class, Field, NoMemory};
+use numbering::Seat;
 use record_store::Steps;
 use std::alloc::Global;
 use std::sync::ledger::Ledger;
 
-/// What the choice of an unlinked field makes of it, where that is another field. Only a link makes a visit, to the record of its
-/// authority.
+/// What the choice of the unlinked field that stands at a seat makes of it, where that is another field. Only a link makes a visit, to
+/// the record of its authority.
 pub(crate) fn settle_unlinked<L: Ledger>(
     store: &LinkedStore,
     alloc: Global,
-    class: Class,
-    field: &Field,
-    tie: &Tie,
+    seat: Seat,
+    at: FieldAt<'_>,
     steps: &mut Steps<L>,
 ) -> Result<Option<Held>, NoMemory>
-    requires { AreAuthoritiesInOrder store.now.state }
-    ensures settled { IfOk result (IsChoiceSettledTo (linkable_authorities store.now.state) class (kept_field field.now tie.now)) }
-    ensures visits { steps.new ≤ steps.old + link_visit (linkable_authorities store.now.state) class (kept_field field.now tie.now) }
+    requires ordered { AreAuthoritiesInOrder store.now.state }
+    requires known { HasKey store.now.keys seat }
+    requires stands { field_of seat store.now ≡ Some (field_as at) }
+    requires unlinked { (field_as at).tie.key ≡ None }
+    ensures settled { IfOk result (IsChoiceSettledTo (linkable_authorities store.now.state) seat.class (field_as at.entry)) }
+    ensures visits { steps.new ≤ steps.old + link_visit (linkable_authorities store.now.state) seat.class (field_as at.entry) }
 {
-    let base = heading_form(alloc, class, field)?;
-    let settled = settle_with_standing(store, alloc, class, field, tie, base.as_ref(), steps)?;
+    let settled = settle_with_standing(store, alloc, seat, at, steps)?;
     Ok(settled.made)
 }
 
-/// The same of a field whose base form is given, if it is a heading, and how the field stands then.
+/// The same, and how the field stands then.
 pub(crate) fn settle_with_standing<L: Ledger>(
     store: &LinkedStore,
     alloc: Global,
-    class: Class,
-    field: &Field,
-    tie: &Tie,
-    base: Option<&Form>,
+    seat: Seat,
+    at: FieldAt<'_>,
     steps: &mut Steps<L>,
 ) -> Result<Settled, NoMemory>
     requires ordered { AreAuthoritiesInOrder store.now.state }
-    requires base { option_copied base ≡ heading_base_form class field.now }
-    ensures settled { IfOk result (λ settled.
-        IsChoiceSettledTo (linkable_authorities store.now.state) class (kept_field field.now tie.now) settled.made) }
-    ensures stands { tie.now.key ≡ None → IfOk result (λ settled.
-        settled.stands ≡ stands_settled (linkable_authorities store.now.state) class (kept_field field.now tie.now)) }
-    ensures visits { steps.new ≤ steps.old + link_visit (linkable_authorities store.now.state) class (kept_field field.now tie.now) }
+    requires known { HasKey store.now.keys seat }
+    requires stands { field_of seat store.now ≡ Some (field_as at) }
+    requires unlinked { (field_as at).tie.key ≡ None }
+    ensures settled { IfOk result (λ settled. IsChoiceSettledTo (linkable_authorities store.now.state) seat.class (field_as at.entry) settled.made) }
+    ensures stands { IfOk result (λ settled. settled.stands ≡ stands_settled (linkable_authorities store.now.state) seat.class (field_as at.entry)) }
+    ensures visits { steps.new ≤ steps.old + link_visit (linkable_authorities store.now.state) seat.class (field_as at.entry) }
+{
+    let chosen = store.choose_at(alloc, seat, at.field, at.tie)?;
+    settle_chosen(store, alloc, seat.class, at, chosen, steps)
+}
+
+/// What the choice of an unlinked field that stands nowhere yet makes of it, where that is another field: by its forms, which are made
+/// for it.
+pub(crate) fn settle_made<L: Ledger>(
+    store: &LinkedStore,
+    alloc: Global,
+    class: Class,
+    at: FieldAt<'_>,
+    steps: &mut Steps<L>,
+) -> Result<Option<Held>, NoMemory>
+    requires { AreAuthoritiesInOrder store.now.state }
+    ensures settled { IfOk result (IsChoiceSettledTo (linkable_authorities store.now.state) class (field_as at.entry)) }
+    ensures visits { steps.new ≤ steps.old + link_visit (linkable_authorities store.now.state) class (field_as at.entry) }
+{
+    let base = heading_form(alloc, class, at.field)?;
+    let chosen = store.choose(alloc, class, at.field, at.tie, base.as_ref())?;
+    let settled = settle_chosen(store, alloc, class, at, chosen, steps)?;
+    Ok(settled.made)
+}
+
+// What its choice makes of an unlinked field, and how it stands then.
+fn settle_chosen<L: Ledger>(
+    store: &LinkedStore,
+    alloc: Global,
+    class: Class,
+    at: FieldAt<'_>,
+    chosen: Option<Chosen>,
+    steps: &mut Steps<L>,
+) -> Result<Settled, NoMemory>
+    requires ordered { AreAuthoritiesInOrder store.now.state }
+    requires chosen { chosen ≡ option_map (chosen_for store.now.keys.authorities) (heading_choice (linkable_authorities store.now.state) class (field_as at)) }
+    ensures settled { IfOk result (λ settled. IsChoiceSettledTo (linkable_authorities store.now.state) class (field_as at.entry) settled.made) }
+    ensures stands { (field_as at.entry).tie.key ≡ None → IfOk result (λ settled.
+        settled.stands ≡ stands_settled (linkable_authorities store.now.state) class (field_as at.entry)) }
+    ensures visits { steps.new ≤ steps.old + link_visit (linkable_authorities store.now.state) class (field_as at.entry) }
 {
     store.each_authority_has_a_number();
-    let Some(chosen) = store.choose(alloc, class, field, tie, base)? else {
+    let Some(choice) = chosen else {
         return Ok(stays(Stands::NoHeading));
     };
-    match chosen {
+    match choice {
         Chosen::Link { number, whole } => {
-            let made = link_chosen(store, alloc, number, whole, class, field, steps)?;
+            let made = link_chosen(store, alloc, number, whole, class, at.field, steps)?;
             let stands = Stands::Linked;
             Ok(Settled { made, stands })
         }

@@ -132,5 +132,6 @@ pub(crate) fn settle_brought<L: Ledger>(
             unlinked: 0,
         });
     }
-    settle_own(store, alloc, number, item, steps)
+    let class = item.entry().class;
+    settle_own(store, alloc, class, number, steps)
 }

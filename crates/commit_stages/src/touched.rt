@@ -1,8 +1,9 @@
 //! The fields that wait for an authority, or for one of the forms under which it was or is found, are given their choice.
-ghost use Rattle.std.specs.Prelude.{◌≡◌, ◌+◌, ◌≤◌, ◌++◌, true, IfOk, OnOk};
+ghost use Rattle.std.specs.Prelude.{◌≡◌, ◌+◌, ◌≤◌, true, OnOk};
 ghost use Rattle.marc_types.specs.declared.key.Class.TheVariants.{Authority as AnAuthority};
 ghost use Rattle.entry_record.specs.Authority.{is_valid_key};
 ghost use Rattle.catalogue_rules.specs.State.{linkable_authorities};
+ghost use Rattle.catalogue_tables.specs.Lent.{shown_forms};
 ghost use Rattle.linking_laws.specs.Middle.{IsMiddle};
 ghost use Rattle.linking_laws.specs.Stages.{choose_field};
 ghost use Rattle.linking_laws.specs.Visits.{choose_visits};
@@ -13,20 +14,18 @@ ghost use Rattle.commit_stages.specs.Turns.{IsCarriedOut};
 
 use crate::waiting::settle_at;
 use linked_store::LinkedStore;
-use marc_types::{Form, NoMemory, TryCopy};
+use marc_types::{Form, NoMemory};
 use numbering::{Numbering, Seat};
 use record_store::Steps;
 use std::alloc::Global;
 use std::sync::ledger::Ledger;
 
-/// Each field that waits for the authority, or for a form under which it was found before or is found now, is given its choice.
-/// The seats whose field changes are noted.
+/// Each field that waits for the authority, or for one of the forms, is given its choice. The seats whose field changes are noted.
 pub(crate) fn settle_touched<L: Ledger>(
     store: &mut LinkedStore,
     alloc: Global,
     number: u32,
-    old_forms: &[Form],
-    new_forms: &[Form],
+    forms: &[&Form],
     noted: &mut Numbering<Seat>,
     steps: &mut Steps<L>,
 ) -> Result<(), NoMemory>
@@ -34,55 +33,12 @@ pub(crate) fn settle_touched<L: Ledger>(
     requires valid { is_valid_key (key_of AnAuthority number store.old.keys) ≡ true }
     requires middle { IsMiddle store.old.state }
     ensures ok { let all = linkable_authorities store.old.state in let key = key_of AnAuthority number store.old.keys in
-        OnOk result (IsCarriedOut all (choose_field all (old_forms.now ++ new_forms.now) key) store.old store.new) }
+        OnOk result (IsCarriedOut all (choose_field all (shown_forms forms.now) key) store.old store.new) }
     ensures noted { let all = linkable_authorities store.old.state in let key = key_of AnAuthority number store.old.keys in
-        OnOk result (NotesChanges (choose_field all (old_forms.now ++ new_forms.now) key) store.old noted.old noted.new) }
+        OnOk result (NotesChanges (choose_field all (shown_forms forms.now) key) store.old noted.old noted.new) }
     ensures ahead { IsAhead store.old store.new }
     ensures visits { let all = linkable_authorities store.old.state in let key = key_of AnAuthority number store.old.keys in
-        steps.new ≤ steps.old + sum_fields (choose_visits all (old_forms.now ++ new_forms.now) key) store.old.state }
-{
-    let forms = joined(alloc, old_forms, new_forms)?;
-    settle_waiting(store, alloc, number, forms.as_slice(), noted, steps)
-}
-
-// The forms of both lists.
-fn joined(alloc: Global, first: &[Form], second: &[Form]) -> Result<Vec<Form>, NoMemory>
-    ensures { IfOk result (λ forms. forms.items ≡ first.now ++ second.now) }
-{
-    let mut forms = Vec::new(alloc);
-    append(&mut forms, alloc, first)?;
-    append(&mut forms, alloc, second)?;
-    Ok(forms)
-}
-
-fn append(forms: &mut Vec<Form>, alloc: Global, more: &[Form]) -> Result<(), NoMemory>
-    ensures { OnOk result (forms.new.items ≡ forms.old.items ++ more.now) }
-{
-    for form in more {
-        forms.push(form.copy(alloc)?)?;
-    }
-    Ok(())
-}
-
-// The same for one list of forms.
-fn settle_waiting<L: Ledger>(
-    store: &mut LinkedStore,
-    alloc: Global,
-    number: u32,
-    forms: &[Form],
-    noted: &mut Numbering<Seat>,
-    steps: &mut Steps<L>,
-) -> Result<(), NoMemory>
-    requires number { IsNumber AnAuthority number store.old.keys }
-    requires valid { is_valid_key (key_of AnAuthority number store.old.keys) ≡ true }
-    requires middle { IsMiddle store.old.state }
-    ensures ok { let all = linkable_authorities store.old.state in
-        OnOk result (IsCarriedOut all (choose_field all forms.now (key_of AnAuthority number store.old.keys)) store.old store.new) }
-    ensures noted { let all = linkable_authorities store.old.state in
-        OnOk result (NotesChanges (choose_field all forms.now (key_of AnAuthority number store.old.keys)) store.old noted.old noted.new) }
-    ensures ahead { IsAhead store.old store.new }
-    ensures visits { let all = linkable_authorities store.old.state in
-        steps.new ≤ steps.old + sum_fields (choose_visits all forms.now (key_of AnAuthority number store.old.keys)) store.old.state }
+        steps.new ≤ steps.old + sum_fields (choose_visits all (shown_forms forms.now) key) store.old.state }
 {
     store.each_key_has_one_number();
     let seats = store.waiting(alloc, forms, number)?;

@@ -51,7 +51,7 @@ fn settled<L: Ledger>(
     ensures visits { steps.new ≤ steps.old + visits_at (turn_visits (linkable_authorities store.now.state)) store.now seat }
 {
     match visit_field(store, seat, steps) {
-        Some(at) => settle_unlinked(store, alloc, seat.class, at.field, at.tie, steps),
+        Some(at) => settle_unlinked(store, alloc, seat, at, steps),
         None => Ok(None),
     }
 }

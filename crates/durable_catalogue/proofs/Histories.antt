@@ -77,11 +77,5 @@ batch_held before (e ∷ es) run follows some batch each all =
       entries_are = each;
     }
 
--- the run of the last entry
-pub last_entry : (entries : List Entry) (i : ℕ) (e : Entry) → i + 1 ≡ length entries → e ≡ get_or entries i e → last_run entries ≡ e.run
-last_entry entries i e end is =
-    let split : entries ≡ take i entries ++ e ∷ [] = sym (take_all (i + 1) entries (omega (arith, end))) ∙ take_more entries i e (omega (arith, end)) ∙ ap (λ x. take i entries ++ x ∷ []) (sym is) in
-    ap last_run split ∙ run_behind e.run (take i entries) (e ∷ []) (omega arith) (All-cons (λ x. x.run ≡ e.run) e [] refl (All-nil (λ x. x.run ≡ e.run)))
-
 pub bounded_behind_none : (version : ℕ) (payloads : List (List ℕ)) (all : List Entry) → version ≡ 2 → IsHistory version [] payloads all → last_run all ≤ length all
 bounded_behind_none version payloads all newest holds = runs_bounded version newest holds (omega arith)

@@ -1,19 +1,26 @@
 -- The loading of a journal's frames.
-use Rattle.std.proofs.Common.{◌≡◌, ℕ, ◌+◌, ◌<◌, ◌≤◌, true, false, ◌||◌, nat_lt, List, [], ◌∷◌, ◌++◌, length, take, drop, map, get_or, refl, sym, ap, subst, ◌∙◌, arith, length-append, take-append-drop}
+use Rattle.std.proofs.Common.{◌≡◌, ℕ, ◌+◌, ◌-◌, ◌<◌, ◌≤◌, true, false, ◌||◌, nat_lt, List, [], ◌∷◌, ◌++◌, length, take, drop, map, get_or, Option, Some, None, refl, sym, ap, subst, ◌∙◌, arith, append_assoc, length-append, take-append-drop}
+use Rattle.std.specs.Prelude.{slice_get, IfSome}
 use Rattle.std.proofs.lemmas.List.{append-nil, map-append, drop_more, take_more, take_all}
 use Rattle.std.proofs.lemmas.List.Sums.{sum_by-append, sum_by-cons}
-use Rattle.std.proofs.lemmas.Bool.{or_parts, ltb-false}
+use Rattle.std.proofs.lemmas.Option.{none-some, slice_get_within, slice_get-get_or, get_or_from_slice_get}
 use Rattle.std.proofs.lemmas.Bool.Decides.{nat_tests}
 use Rattle.marc_types.specs.declared.entry.Entry.{Entry}
 use Rattle.marc_types.specs.declared.entry.Limits.{Limits}
 use Rattle.commit_journal.specs.declared.frame.Frame.{Frame}
-use Rattle.entry_record.specs.History.{entry_size, entries_size, IsWithin}
-use Rattle.catalogue_core.specs.Catalogues.{Catalogued, is_full, with_entry}
+use Rattle.entry_record.specs.History.{entry_size, entries_size, last_run, IsWithin}
+use Rattle.catalogue_core.specs.Catalogues.{Catalogued, all_entries, is_full, IsDue, with_entry}
+use Rattle.catalogue_core.specs.declared.catalogue.CoreFault.{CoreFault}
+use Rattle.catalogue_core.specs.declared.catalogue.CoreFault.TheVariants as commit
 use Rattle.entry_history.specs.Payloads.{Holds, IsHistory, NoMore}
-use Rattle.entry_history.specs.Readers.{Taken, Takes}
+use Rattle.entry_history.specs.Readers.{Taken, Takes, Counted, HasExtent, CountsEntries, IsVersion}
+use Rattle.durable_catalogue.specs.declared.fault.OpenFault.{OpenFault}
+use Rattle.durable_catalogue.specs.declared.fault.OpenFault.TheVariants.{DeviceFault, NotAJournal, OldVersion, Full, NoMemory}
+use Rattle.durable_catalogue.specs.Loading.{IsUnreadFrame, IsUncommitted, IsBuilt, IsLoaded}
 use Rattle.durable_catalogue.specs.Logs.{payloads_of}
-use Rattle.durable_catalogue.specs.Openings.{IsBadFrame, catalogue_of}
-use Rattle.durable_catalogue.proofs.Histories.{one_behind}
+use Rattle.durable_catalogue.specs.Openings.{IsBadFrame, IsUnread, catalogue_of}
+use Rattle.durable_catalogue.proofs.Histories.{one_behind, bounded_behind_none}
+use Rattle.durable_catalogue.proofs.Within.{all_kept}
 
 -- so many frames are read
 pub record AreRead (version : ℕ) (frames : List Frame) (count : ℕ) (taken : Taken) : Type 0 where
@@ -51,13 +58,15 @@ module _ (version : ℕ) (frames : List Frame) (count : ℕ) (frame : Frame) (wi
 pub all_read : (version : ℕ) (frames : List Frame) (count : ℕ) (taken : Taken) → length frames ≤ count → AreRead version frames count taken → IsHistory version [] (payloads_of frames) taken.entries
 all_read version frames count taken whole read = subst (λ fs. IsHistory version [] (payloads_of fs) taken.entries) (take_all count frames whole) read.history
 
--- entries that are committed one after the other
-pub record AreBuilt (limits : Limits) (entries : List Entry) (core : Catalogued) : Type 0 where
-  pub core_is : core ≡ catalogue_of limits entries
-  pub within : IsWithin limits entries
+-- entries that are committed one behind the other
+pub none_committed : (core : Catalogued) → core.staged ≡ [] → core ≡ catalogue_of core.limits (core.history ++ [])
+none_committed core unstaged =
+    ap (λ es. record core { staged = es }) unstaged ∙ ap (λ es. catalogue_of core.limits es) (sym (append-nil core.history))
 
-pub none_built : (limits : Limits) → AreBuilt limits [] (catalogue_of limits [])
-none_built limits = record { core_is = refl; within = record { count = omega arith; size = omega arith } }
+pub one_committed : (limits : Limits) (before items : List Entry) (core now : Catalogued) (e : Entry) → core ≡ catalogue_of limits (before ++ items) → now ≡ with_entry core e
+    → now ≡ catalogue_of limits (before ++ (items ++ e ∷ []))
+one_committed limits before items core now e is adds =
+    adds ∙ ap (λ c. with_entry c e) is ∙ ap (λ es. catalogue_of limits es) (append_assoc before items (e ∷ []))
 
 size_behind : (xs ys : List Entry) → entries_size (xs ++ ys) ≡ entries_size xs + entries_size ys
 size_behind xs ys = sum_by-append entry_size xs ys
@@ -70,35 +79,98 @@ test_of : (limits : Limits) (entries : List Entry) (core : Catalogued) (e : Entr
 test_of limits entries core e is =
     ap (λ c. is_full c e) is ∙ ap (λ es. nat_lt limits.entries (length es + 1) || nat_lt limits.bytes (entries_size es + entry_size e)) (append-nil entries)
 
-pub one_built : (limits : Limits) (entries : List Entry) (core now : Catalogued) (e : Entry) → AreBuilt limits entries core → now ≡ with_entry core e → is_full core e ≡ false
-    → AreBuilt limits (entries ++ e ∷ []) now
-one_built limits entries core now e built adds room =
-    let parts = or_parts (nat_lt limits.entries (length entries + 1)) (nat_lt limits.bytes (entries_size entries + entry_size e)) (sym (test_of limits entries core e built.core_is) ∙ room) in
-    let count = ltb-false limits.entries (length entries + 1) parts.0 in
-    let size = ltb-false limits.bytes (entries_size entries + entry_size e) parts.1 in
-    record {
-      core_is = adds ∙ ap (λ c. with_entry c e) built.core_is;
-      within = record {
-        count = omega (arith, count, length-append entries (e ∷ []));
-        size = omega (arith, size, size_behind entries (e ∷ []), size_first e []);
-      };
-    }
-
-pub one_passes : (limits : Limits) (items entries : List Entry) (core : Catalogued) (e : Entry) → AreBuilt limits entries core → entries ≡ take (length entries) items → length entries < length items
-    → e ≡ get_or items (length entries) e → is_full core e ≡ true → IsWithin limits items → ⊥
-one_passes limits items entries core e built front within is full fits =
-    let n = length entries in
-    let rest : List Entry = drop (n + 1) items in
-    let split : items ≡ entries ++ e ∷ rest =
-    sym (take-append-drop n items) ∙ ap (λ xs. xs ++ drop n items) (sym front) ∙ ap (λ xs. entries ++ xs) (drop_more items n e within ∙ ap (λ x. x ∷ rest) (sym is)) in
-    let count : n + 1 ≤ limits.entries = omega (arith, fits.count, ap length split, length-append entries (e ∷ rest)) in
-    let size : entries_size entries + entry_size e ≤ limits.bytes = omega (arith, fits.size, ap entries_size split, size_behind entries (e ∷ rest), size_first e rest) in
-    let first : nat_lt limits.entries (n + 1) ≡ false = grind (arith, nat_tests) in
+-- an entry that doesn't fit, whatever stands behind it
+passed_with : (limits : Limits) (entries rest : List Entry) (core : Catalogued) (e : Entry) → core ≡ catalogue_of limits entries → is_full core e ≡ true
+    → IsWithin limits (entries ++ e ∷ rest) → ⊥
+passed_with limits entries rest core e is full fits =
+    let count : length entries + 1 ≤ limits.entries = omega (arith, fits.count, length-append entries (e ∷ rest)) in
+    let size : entries_size entries + entry_size e ≤ limits.bytes = omega (arith, fits.size, size_behind entries (e ∷ rest), size_first e rest) in
+    let first : nat_lt limits.entries (length entries + 1) ≡ false = grind (arith, nat_tests) in
     let second : nat_lt limits.bytes (entries_size entries + entry_size e) ≡ false = grind (arith, nat_tests) in
-    let none : (nat_lt limits.entries (n + 1) || nat_lt limits.bytes (entries_size entries + entry_size e)) ≡ false = rw (first, second) refl in
-    let some = sym (test_of limits entries core e built.core_is) ∙ full in
+    let none : (nat_lt limits.entries (length entries + 1) || nat_lt limits.bytes (entries_size entries + entry_size e)) ≡ false = rw (first, second) refl in
+    let some = sym (test_of limits entries core e is) ∙ full in
     cc
+
+one_passes : (limits : Limits) (before all items : List Entry) (core : Catalogued) (e : Entry) → core ≡ catalogue_of limits (before ++ items) → items ≡ take (length items) all
+    → length items < length all → e ≡ get_or all (length items) e → is_full core e ≡ true → IsWithin limits (before ++ all) → ⊥
+one_passes limits before all items core e is front within at full fits =
+    let n = length items in
+    let rest : List Entry = drop (n + 1) all in
+    let split : all ≡ items ++ e ∷ rest =
+    sym (take-append-drop n all) ∙ ap (λ xs. xs ++ drop n all) (sym front) ∙ ap (λ xs. items ++ xs) (drop_more all n e within ∙ ap (λ x. x ∷ rest) (sym at)) in
+    passed_with limits (before ++ items) rest core e is full
+    (subst (IsWithin limits) (ap (λ xs. before ++ xs) split ∙ sym (append_assoc before items (e ∷ rest))) fits)
+
+pub uncommitted : (limits : Limits) (before all items : List Entry) (core : Catalogued) (e : Entry) (fault : CoreFault) → core ≡ catalogue_of limits (before ++ items)
+    → items ≡ take (length items) all → length items < length all → e ≡ get_or all (length items) e → IsDue (is_full core e) fault → IsUncommitted limits (before ++ all) fault
+uncommitted limits before all items core e commit.Full is front within at full = one_passes limits before all items core e is front within at full
+uncommitted limits before all items core e commit.NoMemory is front within at room = tt
 
 pub map_same : (xs : List Entry) → map (λ x. x) xs ≡ xs
 map_same [] = refl
 map_same (x ∷ xs) = ap (λ ys. x ∷ ys) (map_same xs)
+
+-- what is made of entries, and of more behind them
+pub unstaged_built : (limits : Limits) (entries : List Entry) (core : Option Catalogued) → IsBuilt limits entries core → IfSome core (λ c. c.staged ≡ [])
+unstaged_built limits entries None passed = tt
+unstaged_built limits entries (Some core) built = ap (λ c. c.staged) built.0
+
+-- the entries of so many frames were read, and this is made of them
+pub record AreBuilt (version : ℕ) (frames : List Frame) (limits : Limits) (count : ℕ) (counter : Counted) (core : Option Catalogued) : Type 0 where
+  pub entries : List Entry
+  pub read : AreRead version frames count (record { version = version; entries = entries })
+  pub version_is : counter.version ≡ version
+  pub extent : HasExtent entries counter.extent
+  pub built : IsBuilt limits entries core
+
+pub none_built : (version : ℕ) (frames : List Frame) (limits : Limits) (counter : Counted) (core : Option Catalogued) → counter.version ≡ version → HasExtent [] counter.extent
+    → IsBuilt limits [] core → AreBuilt version frames limits 0 counter core
+none_built version frames limits counter core version_is extent built = record {
+  entries = [];
+  read = none_read version frames;
+  version_is = version_is;
+  extent = extent;
+  built = built;
+}
+
+module _ (version : ℕ) (frames : List Frame) (limits : Limits) (count : ℕ) (frame : Frame) (within : count < length frames) (is : frame ≡ get_or frames count frame)
+    (counter : Counted) (core : Option Catalogued) (b : AreBuilt version frames limits count counter core) where
+  pub one_built : (items : List Entry) (now : Counted) (made : Option Catalogued) (next : ℕ) → next ≡ count + 1 → CountsEntries counter b.entries items frame.payload now
+      → now.version ≡ counter.version → IsBuilt limits (b.entries ++ items) made → AreBuilt version frames limits next now made
+  one_built items now made next more counts same built = record {
+    entries = b.entries ++ items;
+    read = subst (λ n. AreRead version frames n (record { version = version; entries = b.entries ++ items })) (sym more)
+        (one_read version frames count frame within is (record { version = version; entries = b.entries }) b.read frame.payload
+        (record { version = version; entries = b.entries ++ items }) refl
+        (record { entries = items; holds = subst (λ v. Holds v b.entries items frame.payload) b.version_is counts.holds; new_is = refl }));
+    version_is = same ∙ b.version_is;
+    extent = counts.extent;
+    built = built;
+  }
+
+  pub unread : (fault : OpenFault) → IsUnreadFrame counter.version b.entries frame fault → IsUnread version frames fault
+  unread (NotAJournal place) h =
+      subst (IsBadFrame version frames) h.0
+      (bad_frame version frames count frame within is (record { version = version; entries = b.entries }) b.read frame.payload refl
+      (λ entries holds. h.1 entries (subst (λ v. Holds v b.entries entries frame.payload) (sym b.version_is) holds)))
+  unread NoMemory h = tt
+  unread OldVersion h = h
+  unread Full h = h
+  unread DeviceFault h = h
+
+pub all_built : (version : ℕ) (frames : List Frame) (limits : Limits) (count : ℕ) (counter : Counted) (core : Option Catalogued) → length frames ≤ count
+    → AreBuilt version frames limits count counter core → IsLoaded (IsHistory version [] (payloads_of frames)) limits core counter.extent.last_run
+all_built version frames limits count counter core whole b = record {
+  entries = b.entries;
+  history = all_read version frames count (record { version = version; entries = b.entries }) whole b.read;
+  built = b.built;
+  last = b.extent.last_is;
+}
+
+-- the runs of a history that was loaded are no greater than the number of its entries
+pub bounded_built : (version : ℕ) (payloads : List (List ℕ)) (limits : Limits) (made : Option Catalogued) (core : Catalogued) (run : ℕ) → version ≡ 2 → made ≡ Some core
+    → IsLoaded (λ entries. IsVersion version → IsHistory version [] payloads entries) limits made run → last_run core.history ≤ length core.history
+bounded_built version payloads limits made core run two is loaded =
+    let either : IsVersion version = record { first = omega (arith, two); last = omega (arith, two) } in
+    let built : IsBuilt limits loaded.entries (Some core) = subst (IsBuilt limits loaded.entries) is loaded.built in
+    subst (λ es. last_run es ≤ length es) (sym (ap (λ c. c.history) built.0)) (bounded_behind_none version payloads loaded.entries two (loaded.history either))

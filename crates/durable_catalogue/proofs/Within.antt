@@ -4,7 +4,7 @@ use Rattle.marc_types.specs.declared.entry.Limits.{Limits}
 use Rattle.entry_record.specs.History.{entries_size, IsWithin}
 use Rattle.catalogue_core.specs.Catalogues.{Catalogued, all_entries}
 
-all_kept : (core : Catalogued) → core.staged ≡ [] → all_entries core ≡ core.history
+pub all_kept : (core : Catalogued) → core.staged ≡ [] → all_entries core ≡ core.history
 all_kept core none = ap (λ staged. core.history ++ staged) none ∙ append-nil core.history
 
 pub within_limits : (core : Catalogued) (limits : Limits) → core.staged ≡ [] → core.limits ≡ limits → length (all_entries core) ≤ core.limits.entries

@@ -3,6 +3,7 @@ pub mod Durables
 pub mod Faults
 pub mod Images
 pub mod Lasting
+pub mod Loading
 pub mod Logs
 pub mod Openings
 pub mod Questions

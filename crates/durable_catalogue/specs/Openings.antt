@@ -68,11 +68,3 @@ IsUnread version frames NoMemory = Unit {0}
 IsUnread version frames OldVersion = ⊥
 IsUnread version frames Full = ⊥
 IsUnread version frames DeviceFault = ⊥
-
--- why a catalogue of these entries is not made: they pass the limits
-abbrev pub IsUnbuilt : Limits → List Entry → OpenFault → Type 0
-IsUnbuilt limits entries Full = IsWithin limits entries → ⊥
-IsUnbuilt limits entries NoMemory = Unit {0}
-IsUnbuilt limits entries (NotAJournal place) = ⊥
-IsUnbuilt limits entries OldVersion = ⊥
-IsUnbuilt limits entries DeviceFault = ⊥

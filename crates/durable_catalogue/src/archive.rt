@@ -53,7 +53,7 @@ impl<D: Disk> Archive<D> {
     {
         match Journal::open(alloc, disk) {
             Ok((journal, frames)) => {
-                match load_either(alloc, journal.version(), frames.as_slice(), limits) {
+                match load_either(alloc, journal.version(), frames.into_vec(), limits) {
                     Ok(core) => Ok(Archive { core, journal }),
                     Err(fault) => Err((journal.close(), fault)),
                 }

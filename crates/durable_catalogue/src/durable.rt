@@ -114,7 +114,7 @@ impl<D: Disk> Durable<D> {
         match Journal::open(alloc, disk) {
             Ok((journal, frames)) => {
                 let first = Snapshot::of(&journal);
-                match load(alloc, journal.version(), frames.as_slice(), limits) {
+                match load(alloc, journal.version(), frames.into_vec(), limits) {
                     Ok(loaded) => {
                         let Loaded { core, run } = loaded;
                         let opened = core.history_len();

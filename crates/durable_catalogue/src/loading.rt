@@ -1,19 +1,20 @@
 //! The catalogue that a journal's frames hold.
-ghost use Rattle.std.specs.Prelude.{◌≡◌, ◌≢◌, ◌≤◌, ◌<◌, ◌^◌, [], length, IfOk, IfErr, OnOk};
+ghost use Rattle.std.specs.Prelude.{◌≡◌, ◌≢◌, ◌<◌, ◌≤◌, ◌++◌, List, [], length, IfSome, IfOk, IfErr, OnOk};
+ghost use Rattle.marc_types.specs.declared.entry.Entry.{Entry as AnyEntry};
 ghost use Rattle.entry_record.specs.History.{last_run, next_run, IsWithin};
 ghost use Rattle.entry_history.specs.Payloads.{IsHistory};
-ghost use Rattle.entry_history.specs.Readers.{IsVersion};
+ghost use Rattle.entry_history.specs.Readers.{IsVersion, HasExtent, CountsEntries};
 ghost use Rattle.durable_catalogue.specs.declared.fault.OpenFault.TheVariants.{DeviceFault, OldVersion, Full};
-ghost use Rattle.catalogue_core.specs.Catalogues.{Catalogued};
+ghost use Rattle.durable_catalogue.specs.Loading.{IsUnreadFrame, IsUncommitted, IsBuilt, IsLoaded};
 ghost use Rattle.durable_catalogue.specs.Logs.{payloads_of};
-ghost use Rattle.durable_catalogue.specs.Openings.{IsUnloaded, IsUnread, IsUnbuilt, catalogue_of};
+ghost use Rattle.durable_catalogue.specs.Openings.{IsUnloaded, IsUnread, catalogue_of};
 
 use crate::OpenFault;
 use catalogue_core::{Catalogue, CoreFault};
 use commit_journal::Frame;
-use entry_history::{EntryFault, HistoryReader};
+use entry_history::{EntryFault, HistoryCounter};
 use entry_record::Prepared;
-use marc_types::Limits;
+use marc_types::{Limits, NoMemory};
 use record_store::Steps;
 use std::alloc::Global;
 use std::marker::Brand;
@@ -26,110 +27,211 @@ pub struct Loaded {
     pub run: u64,
 }
 
-/// The entries of a journal's frames, in their order.
-fn read_history(alloc: Global, version: u8, frames: &[Frame]) -> Result<Vec<Prepared>, OpenFault>
-    requires { IsVersion version }
-    ensures history { IfOk result (λ items. IsHistory version [] (payloads_of frames.now) items.items) }
-    ensures fault { IfErr result (IsUnread version frames.now) }
+/// The entries of a journal's next frame, behind those of the frames before it.
+pub fn read_frame(
+    alloc: Global,
+    counter: &mut HistoryCounter,
+    frame: &Frame,
+) -> Result<Vec<Prepared>, OpenFault>
+    ensures read { IfOk result (λ items. (before : List AnyEntry) → HasExtent before counter.old.extent
+        → CountsEntries counter.old before items.items frame.now.payload counter.new) }
+    ensures version { counter.new.version ≡ counter.old.version }
+    ensures fault { IfErr result (λ fault. (before : List AnyEntry) → HasExtent before counter.old.extent
+        → IsUnreadFrame counter.old.version before frame.now fault) }
 {
-    let mut reader = HistoryReader::new(alloc, version);
-    for frame in frames {
-        match reader.take(alloc, frame.payload.as_slice()) {
-            Ok(()) => {}
-            Err(EntryFault::BadEntry) => return Err(OpenFault::NotAJournal(frame.gate)),
-            Err(EntryFault::NoMemory) => return Err(OpenFault::NoMemory),
-        }
+    let payload = frame.payload.as_slice();
+    // so many bytes are in no memory
+    if u64::MAX - counter.count() < payload.len() as u64 {
+        return Err(OpenFault::NoMemory);
     }
-    Ok(reader.into_items())
-}
-
-/// The run of what is committed behind a history.
-fn run_behind(items: &[Prepared]) -> u64
-    requires bounded { last_run items.now ≤ length items.now }
-    requires few { length items.now < 2 ^ 63 }
-    ensures { result ≡ next_run items.now }
-{
-    match items {
-        [.., last] => last.entry().run + 1,
-        [] => 1,
+    match counter.read(alloc, payload) {
+        Ok(items) => Ok(items),
+        Err(EntryFault::BadEntry) => Err(OpenFault::NotAJournal(frame.gate)),
+        Err(EntryFault::NoMemory) => Err(OpenFault::NoMemory),
     }
 }
 
-fn build<L: Ledger>(
+/// Commits entries one behind the other, up to the first that passes the limits.
+fn commit_each<L: Ledger>(
+    core: &mut Catalogue,
     alloc: Global,
     items: Vec<Prepared>,
+    steps: &mut Steps<L>,
+) -> Result<(), CoreFault>
+    requires { core.old.staged ≡ [] }
+    ensures core { OnOk result (core.new ≡ catalogue_of core.old.limits (core.old.history ++ items.items)) }
+    ensures within { OnOk result (IsWithin core.old.limits (core.old.history ++ items.items)) }
+    ensures fault { IfErr result (IsUncommitted core.old.limits (core.old.history ++ items.items)) }
+{
+    for item in items {
+        core.commit(alloc, item, steps)?;
+    }
+    core.is_within_limits();
+    Ok(())
+}
+
+/// What is made of the entries so far.
+#[derive(Drop)]
+struct Building {
+    // None once they pass the limits.
+    core: Option<Catalogue>,
+}
+
+impl Building {
+    fn new(alloc: Global, limits: Limits) -> Building
+        ensures { IsBuilt limits [] result.core }
+    {
+        Building {
+            core: Some(Catalogue::empty(alloc, limits)),
+        }
+    }
+
+    /// Commits the entries of the next frame. Once some pass the limits, all that come are dropped.
+    fn take<L: Ledger>(
+        &mut self,
+        alloc: Global,
+        items: Vec<Prepared>,
+        steps: &mut Steps<L>,
+    ) -> Result<(), NoMemory>
+        requires { IfSome self.old.core (λ core. core.staged ≡ []) }
+        ensures { OnOk result ((limits : Limits) (before : List AnyEntry) → IsBuilt limits before self.old.core
+            → IsBuilt limits (before ++ items.items) self.new.core) }
+    {
+        let Some(core) = &mut self.core else {
+            return Ok(());
+        };
+        match commit_each(core, alloc, items, steps) {
+            Ok(()) => Ok(()),
+            Err(CoreFault::Full) => {
+                self.core = None;
+                Ok(())
+            }
+            Err(CoreFault::NoMemory) => Err(NoMemory),
+        }
+    }
+}
+
+/// What is made of a journal's frames: the catalogue of their entries, or none, where these pass the limits, and the run of the last
+/// entry, or 0.
+#[derive(Drop)]
+struct Built {
+    core: Option<Catalogue>,
+    last_run: u64,
+}
+
+/// Makes a catalogue of a journal's frames. A frame's entries are committed, and it is let go, before the next is read. Once the limits
+/// are passed the others are still read: a bad one decides first.
+fn build<L: Ledger>(
+    alloc: Global,
+    version: u8,
+    frames: Vec<Frame>,
     limits: Limits,
     blank: Blank,
-) -> Result<Catalogue, OpenFault>
+) -> Result<Built, OpenFault>
+    requires version { IsVersion version }
     requires name { blank.name ≡ L.name }
     requires parts { blank.parts ≡ L.parts }
     requires shared { 0 < blank.parts }
-    ensures core { IfOk result (λ core. core ≡ catalogue_of limits items.items) }
-    ensures within { OnOk result (IsWithin limits items.items) }
-    ensures fault { IfErr result (IsUnbuilt limits items.items) }
+    ensures loaded { IfOk result (λ built. IsLoaded (IsHistory version [] (payloads_of frames.items)) limits built.core built.last_run) }
+    ensures fault { IfErr result (IsUnread version frames.items) }
 {
-    let mut core = Catalogue::empty(alloc, limits);
+    let mut counter = HistoryCounter::new(version);
+    let mut building = Building::new(alloc, limits);
     let mut steps = Steps::<L>::new(blank);
-    for item in items {
-        match core.commit(alloc, item, &mut steps) {
-            Ok(_) => {}
-            Err(CoreFault::Full) => return Err(OpenFault::Full),
-            Err(CoreFault::NoMemory) => return Err(OpenFault::NoMemory),
-        }
+    for frame in frames {
+        let items = read_frame(alloc, &mut counter, &frame)?;
+        let Ok(()) = building.take(alloc, items, &mut steps) else {
+            return Err(OpenFault::NoMemory);
+        };
     }
-    Ok(core)
+    let last_run = counter.last_run();
+    Ok(Built {
+        core: building.core,
+        last_run,
+    })
 }
 
-/// The entries of a journal's frames, whose version is 1 or 2.
-fn read_either(alloc: Global, version: u8, frames: &[Frame]) -> Result<Vec<Prepared>, OpenFault>
-    ensures history { IsVersion version → IfOk result (λ items. IsHistory version [] (payloads_of frames.now) items.items) }
-    ensures fault { IsVersion version → IfErr result (IsUnread version frames.now) }
+/// The same of frames whose version is 1 or 2.
+fn build_either(
+    alloc: Global,
+    version: u8,
+    frames: Vec<Frame>,
+    limits: Limits,
+) -> Result<Built, OpenFault>
+    ensures loaded { IfOk result (λ built. IsLoaded (λ entries. IsVersion version → IsHistory version [] (payloads_of frames.items) entries)
+        limits built.core built.last_run) }
+    ensures fault { IsVersion version → IfErr result (IsUnread version frames.items) }
     ensures current { IfErr result (λ fault. fault ≢ OldVersion) }
     ensures unbuilt { IfErr result (λ fault. fault ≢ Full) }
     ensures no_device { IfErr result (λ fault. fault ≢ DeviceFault) }
 {
-    read_history(alloc, version.max(1).min(2), frames)
-}
-
-/// The catalogue whose history the frames of a journal of version 2 hold. An old version is answered before a full one.
-pub fn load(
-    alloc: Global,
-    version: u8,
-    frames: &[Frame],
-    limits: Limits,
-) -> Result<Loaded, OpenFault>
-    ensures history { IfOk result (λ l. IsHistory 2 [] (payloads_of frames.now) l.core.history) }
-    ensures version { OnOk result (version ≡ 2) }
-    ensures core { IfOk result (λ l. l.core ≡ catalogue_of limits l.core.history) }
-    ensures within { IfOk result (λ l. IsWithin limits l.core.history) }
-    ensures run { IfOk result (λ l. l.run ≡ next_run l.core.history) }
-    ensures fault { IsVersion version → IfErr result (IsUnloaded version frames.now limits) }
-    ensures old_first { IfErr result (λ fault. fault ≡ Full → version ≡ 2) }
-    ensures no_device { IfErr result (λ fault. fault ≢ DeviceFault) }
-{
-    let items = read_either(alloc, version, frames)?;
-    if version != 2 {
-        return Err(OpenFault::OldVersion);
-    }
-    let run = run_behind(items.as_slice());
-    let core = build::<Brand>(alloc, items, limits, Blank::new(1))?;
-    Ok(Loaded { core, run })
+    build::<Brand>(alloc, version.max(1).min(2), frames, limits, Blank::new(1))
 }
 
 /// The catalogue whose history the frames of a journal of either version hold.
 pub fn load_either(
     alloc: Global,
     version: u8,
-    frames: &[Frame],
+    frames: Vec<Frame>,
     limits: Limits,
 ) -> Result<Catalogue, OpenFault>
-    ensures history { IsVersion version → IfOk result (λ core. IsHistory version [] (payloads_of frames.now) core.history) }
+    ensures history { IsVersion version → IfOk result (λ core. IsHistory version [] (payloads_of frames.items) core.history) }
     ensures core { IfOk result (λ core. core ≡ catalogue_of limits core.history) }
     ensures within { IfOk result (λ core. IsWithin limits core.history) }
-    ensures fault { IsVersion version → IfErr result (IsUnloaded version frames.now limits) }
+    ensures fault { IsVersion version → IfErr result (IsUnloaded version frames.items limits) }
     ensures no_device { IfErr result (λ fault. fault ≢ DeviceFault) }
     ensures current { IfErr result (λ fault. fault ≢ OldVersion) }
 {
-    let items = read_either(alloc, version, frames)?;
-    build::<Brand>(alloc, items, limits, Blank::new(1))
+    let Built { core, .. } = build_either(alloc, version, frames, limits)?;
+    match core {
+        Some(core) => Ok(core),
+        None => Err(OpenFault::Full),
+    }
+}
+
+/// The run of what is committed behind a catalogue's history, whose last entry has that run.
+fn run_behind(core: &Catalogue, last: u64) -> u64
+    requires unstaged { core.now.staged ≡ [] }
+    requires last { last ≡ last_run core.now.history }
+    requires bounded { last_run core.now.history ≤ length core.now.history }
+    ensures { result ≡ next_run core.now.history }
+{
+    // so many entries are in no memory that this passes 64 bits
+    let _few = core.history_len();
+    last + 1
+}
+
+/// The catalogue whose history the frames of a journal of version 2 hold. An old version is answered before a full one.
+pub fn load(
+    alloc: Global,
+    version: u8,
+    frames: Vec<Frame>,
+    limits: Limits,
+) -> Result<Loaded, OpenFault>
+    ensures history { IfOk result (λ l. IsHistory 2 [] (payloads_of frames.items) l.core.history) }
+    ensures version { OnOk result (version ≡ 2) }
+    ensures core { IfOk result (λ l. l.core ≡ catalogue_of limits l.core.history) }
+    ensures within { IfOk result (λ l. IsWithin limits l.core.history) }
+    ensures run { IfOk result (λ l. l.run ≡ next_run l.core.history) }
+    ensures fault { IsVersion version → IfErr result (IsUnloaded version frames.items limits) }
+    ensures old_first { IfErr result (λ fault. fault ≡ Full → version ≡ 2) }
+    ensures no_device { IfErr result (λ fault. fault ≢ DeviceFault) }
+{
+    if version != 2 {
+        // all payloads are read first; no entry fits these limits, so none is committed
+        let none = Limits {
+            entries: 0,
+            bytes: 0,
+        };
+        build_either(alloc, version, frames, none)?;
+        return Err(OpenFault::OldVersion);
+    }
+    let Built { core, last_run } = build_either(alloc, version, frames, limits)?;
+    match core {
+        Some(core) => {
+            let run = run_behind(&core, last_run);
+            Ok(Loaded { core, run })
+        }
+        None => Err(OpenFault::Full),
+    }
 }

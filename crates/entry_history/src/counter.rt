@@ -65,4 +65,11 @@ impl HistoryCounter {
     {
         self.extent.count
     }
+
+    /// The run of the last entry of the payloads that were taken, or 0.
+    pub fn last_run(&self) -> u64
+        ensures { result ≡ self.now.extent.last_run }
+    {
+        self.extent.last_run
+    }
 }

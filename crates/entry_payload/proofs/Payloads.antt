@@ -1,12 +1,11 @@
 -- The payload of one entry, and what is read back of it.
-use Rattle.std.proofs.Common.{◌≡◌, ◌∙◌, ℕ, zero, suc, ◌+◌, ◌≤◌, ◌<◌, List, [], ◌∷◌, ◌++◌, length, refl, sym, ap, subst, arith, append_assoc}
-use Rattle.std.proofs.lemmas.List.{append-nil}
+use Rattle.std.proofs.Common.{◌≡◌, ◌∙◌, ℕ, zero, suc, ◌≤◌, List, [], ◌∷◌, ◌++◌, length, refl, sym, ap, arith, append_assoc}
 use Rattle.std.specs.Int.{w32, w64, to_be_bytes}
 use Rattle.std.specs.List.{All}
 use Rattle.iso2709_record.proofs.Spelled.{parts_same}
 use Rattle.marc_types.specs.declared.entry.Entry.{Entry}
 use Rattle.entry_record.specs.Payload.{payload_head, entry_bytes, payload_bytes, payload_of}
-use Rattle.entry_history.specs.Payloads.{IsEntry, IsOf, CanFollow, HoldsNow, Holds, Newer}
+use Rattle.entry_history.specs.Payloads.{IsEntry, IsOf, CanFollow, Holds, Newer}
 use Rattle.entry_history.proofs.Spelled.{long_once, short_once, entry_once}
 use Rattle.entry_history.proofs.Histories.{holds_once}
 use Rattle.entry_history.proofs.Batches.{length-alone, entry_bounded}

@@ -1,1 +1,1 @@
--- No definitions of its own: they stand in `entry_record` and `entry_history`.
+pub mod Payloads

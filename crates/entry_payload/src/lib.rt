@@ -1,7 +1,7 @@
-//! From an entry that a catalogue took back to the payload that a journal keeps of it.
+//! Entries as the payloads that a journal keeps of them.
 #![tactic(auto)]
 
-pub use payload::{is_same, payload_of};
+pub use payload::EntryPayload;
 
 pub mod laws;
 mod payload;

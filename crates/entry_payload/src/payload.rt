@@ -1,71 +1,32 @@
-//! The payload of one entry.
-ghost use Rattle.std.specs.Prelude.{◌≡◌, ◌≤◌, ◌↔◌, ◌++◌, length, IsTrue, IfOk, OnOk};
-ghost use Rattle.iso2709_record.specs.Written.{fits};
-ghost use Rattle.entry_record.specs.History.{IsAdmitted};
-ghost use Rattle.entry_record.specs.Payload.{payload_head, entry_bytes, payload_of};
+//! An entry of which its payload alone is kept.
+ghost use Rattle.std.specs.Prelude.{◌≡◌, ◌≤◌, ◌↔◌, length, IsTrue, IfOk};
+ghost use Rattle.entry_record.specs.Payload.{payload_of};
+ghost use Rattle.entry_history.specs.Payloads.{IsEntry};
 
 use crate::laws::can_stand_in_a_payload;
 use entry_record::Prepared;
-use iso2709_record::{encode_into, encoded_len};
 use marc_types::{Entry, NoMemory};
 use outside::Bytes;
 use std::alloc::Global;
+use std::marker::Model;
+use std::snapshot::Snapshot;
 
-/// What stands before the entry besides the library code: the run, the loader, the code's length and the count.
-const HEAD_LEN: u64 = 14;
-
-/// What an entry has besides its written record: the ordinal, and the record's length.
-const ENTRY_LEN: u64 = 12;
-
-/// Appends what a payload of one entry has before the entry.
-#[tactic(auto, unfolding(entry_record::specs::Payload::payload_head))]
-fn append_head(out: &mut Vec<u8>, run: u64, loader: u32, library: &[u8]) -> Result<(), NoMemory>
-    requires { length library.now ≤ 16 }
-    ensures { OnOk result (out.new.items ≡ out.old.items ++ payload_head run loader library.now 1) }
-{
-    out.extend_from_slice(&run.to_be_bytes())?;
-    out.extend_from_slice(&loader.to_be_bytes())?;
-    out.push(library.len() as u8)?;
-    out.extend_from_slice(library)?;
-    out.push(1)?;
-    Ok(())
+/// An entry as the payload of a journal's frame that holds it alone, in memory of exactly its length. Contracts see it as the entry.
+#[derive(Drop)]
+pub struct EntryPayload {
+    entry: Snapshot<Entry>,
+    payload: Bytes,
 }
 
-/// Appends an entry.
-#[tactic(auto, unfolding(entry_record::specs::Payload::entry_bytes), using(entry_record::proofs::Written::fitting_length))]
-fn append_entry(alloc: Global, out: &mut Vec<u8>, entry: &Entry) -> Result<(), NoMemory>
-    requires { IsTrue (fits entry.now.rec.fields) }
-    ensures { OnOk result (out.new.items ≡ out.old.items ++ entry_bytes entry.now) }
-{
-    let len = encoded_len(&entry.rec) as u32;
-    out.extend_from_slice(&entry.ordinal.to_be_bytes())?;
-    out.extend_from_slice(&len.to_be_bytes())?;
-    encode_into(alloc, &entry.rec, out)?;
-    Ok(())
-}
+impl Model for EntryPayload {
+    ghost use Rattle.marc_types.specs.declared.entry.Entry.{Entry};
+    ghost use Rattle.entry_payload.specs.Payloads.{IsPayload};
 
-/// The payload of one entry, in memory of exactly its length.
-#[tactic(auto, unfolding(entry_record::specs::Payload::payload_bytes), using(entry_record::proofs::Written::fitting_length, entry_record::proofs::Admitted::admitted_fits, entry_record::proofs::Admitted::admitted_library))]
-fn write(alloc: Global, entry: &Entry) -> Result<Vec<u8>, NoMemory>
-    requires { IsAdmitted entry.now }
-    ensures { IfOk result (λ payload. payload.items ≡ payload_of entry.now) }
-{
-    let library = entry.library.as_bytes();
-    let len = HEAD_LEN + library.len() as u64 + ENTRY_LEN + encoded_len(&entry.rec);
-    let mut out = Vec::with_capacity(alloc, len as usize)?;
-    append_head(&mut out, entry.run, entry.loader, library)?;
-    append_entry(alloc, &mut out, entry)?;
-    Ok(out)
-}
+    ghost Value = { Entry };
 
-/// The payload of a journal's frame that holds this entry alone. At want of memory nothing has changed.
-pub fn payload_of(alloc: Global, entry: &Entry) -> Result<Bytes, NoMemory>
-    requires { IsAdmitted entry.now }
-    ensures value { IfOk result (λ payload. payload ≡ payload_of entry.now) }
-    ensures some { IfOk result (λ payload. 1 ≤ length payload) }
-    ensures most { IfOk result (λ payload. length payload ≤ 100041) }
-{
-    Ok(Bytes::from_vec(write(alloc, entry)?))
+    ghost view = { λ p. p.entry.value };
+
+    ghost invariant = { λ p. IsPayload p.entry.value p.payload };
 }
 
 fn are_equal(one: &[u8], other: &[u8]) -> bool
@@ -74,13 +35,34 @@ fn are_equal(one: &[u8], other: &[u8]) -> bool
     one == other
 }
 
-/// Whether an entry is that of an item, by their payloads.
-pub fn is_same(alloc: Global, entry: &Entry, item: &Prepared) -> Result<bool, NoMemory>
-    requires { IsAdmitted entry.now }
-    ensures { IfOk result (λ same. IsTrue same ↔ (entry.now ≡ item.now)) }
-{
-    can_stand_in_a_payload(entry);
-    can_stand_in_a_payload(item.entry());
-    let payload = payload_of(alloc, entry)?;
-    Ok(are_equal(payload.as_slice(), item.payload()))
+impl EntryPayload {
+    /// That of a prepared entry.
+    pub fn of(alloc: Global, item: &Prepared) -> Result<Self, NoMemory>
+        ensures { IfOk result (λ made. made ≡ item.now) }
+    {
+        can_stand_in_a_payload(item.entry());
+        let payload = Vec::from_slice(alloc, item.payload())?;
+        Ok(EntryPayload {
+            entry: Snapshot::of(item.entry()),
+            payload: Bytes::from_vec(payload),
+        })
+    }
+
+    /// The payload, of 1 to 100,041 bytes. The entry can stand in one.
+    pub fn payload(&self) -> &[u8]
+        ensures value { result.now ≡ payload_of self.now }
+        ensures some { 1 ≤ length result.now }
+        ensures most { length result.now ≤ 100041 }
+        ensures entry { IsEntry self.now }
+    {
+        self.payload.as_slice()
+    }
+
+    /// Whether it is that of this item's entry.
+    pub fn is_of(&self, item: &Prepared) -> bool
+        ensures { IsTrue result ↔ (self.now ≡ item.now) }
+    {
+        can_stand_in_a_payload(item.entry());
+        are_equal(self.payload(), item.payload())
+    }
 }

@@ -12,7 +12,8 @@ use Rattle.durable_catalogue.specs.declared.fault.OpenFault.TheVariants.{DeviceF
 use Rattle.durable_catalogue.specs.Logs.{payloads_of}
 use Rattle.durable_catalogue.specs.Openings.{IsBadFrame, IsUnread}
 use Rattle.durable_catalogue.proofs.Loads.{AreRead, none_read, one_read, bad_frame, all_read}
-use Rattle.history_logs.specs.Taking.{IsHandedOn, AreHandedOn, HasLeft, IsUnreadFrame}
+use Rattle.durable_catalogue.specs.Loading.{IsUnreadFrame}
+use Rattle.history_logs.specs.Taking.{IsHandedOn, AreHandedOn, HasLeft}
 
 -- so many items are taken behind the entries before them
 pub behind_more : (before items : List Entry) (count : ℕ) (item : Entry) → count < length items → item ≡ get_or items count item →

@@ -26,12 +26,3 @@ pub record AreHandedOn (Has IsThat : List Entry → Type 0) (limits : Limits) (f
 abbrev pub HasLeft : ℕ → List Entry → Option ℕ → Type 0
 HasLeft bytes entries (Some left) = entries_size entries + left ≡ bytes
 HasLeft bytes entries None = bytes < entries_size entries
-
--- why a frame behind entries is not read: its payload isn't valid there
-abbrev pub IsUnreadFrame : ℕ → List Entry → Frame → OpenFault → Type 0
-IsUnreadFrame version before frame (NotAJournal place) =
-    (frame.gate ≡ place) × ((entries : List Entry) → Holds version before entries frame.payload → ⊥)
-IsUnreadFrame version before frame NoMemory = Unit {0}
-IsUnreadFrame version before frame OldVersion = ⊥
-IsUnreadFrame version before frame Full = ⊥
-IsUnreadFrame version before frame DeviceFault = ⊥

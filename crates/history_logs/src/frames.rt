@@ -3,43 +3,19 @@ ghost use Rattle.std.specs.Prelude.{◌≡◌, ◌≢◌, ◌↔◌, ◌++◌, �
 ghost use Rattle.marc_types.specs.declared.entry.Entry.{Entry as AnyEntry};
 ghost use Rattle.entry_record.specs.History.{IsWithin};
 ghost use Rattle.entry_history.specs.Payloads.{IsHistory};
-ghost use Rattle.entry_history.specs.Readers.{IsVersion, HasExtent, CountsEntries};
+ghost use Rattle.entry_history.specs.Readers.{IsVersion};
 ghost use Rattle.durable_catalogue.specs.declared.fault.OpenFault.TheVariants.{DeviceFault, OldVersion, Full};
 ghost use Rattle.durable_catalogue.specs.Logs.{payloads_of};
 ghost use Rattle.durable_catalogue.specs.Openings.{IsUnloaded, IsUnread};
-ghost use Rattle.history_logs.specs.Taking.{IsHandedOn, AreHandedOn, HasLeft, IsUnreadFrame};
+ghost use Rattle.history_logs.specs.Taking.{IsHandedOn, AreHandedOn, HasLeft};
 
 use crate::taker::EntryTaker;
 use commit_journal::Frame;
-use durable_catalogue::OpenFault;
-use entry_history::{EntryFault, HistoryCounter};
+use durable_catalogue::{OpenFault, read_frame};
+use entry_history::HistoryCounter;
 use entry_record::Prepared;
 use marc_types::{Limits, NoMemory};
 use std::alloc::Global;
-
-/// The entries of the next frame.
-fn read_frame(
-    alloc: Global,
-    counter: &mut HistoryCounter,
-    frame: &Frame,
-) -> Result<Vec<Prepared>, OpenFault>
-    ensures read { IfOk result (λ items. (before : List AnyEntry) → HasExtent before counter.old.extent
-        → CountsEntries counter.old before items.items frame.now.payload counter.new) }
-    ensures version { counter.new.version ≡ counter.old.version }
-    ensures fault { IfErr result (λ fault. (before : List AnyEntry) → HasExtent before counter.old.extent
-        → IsUnreadFrame counter.old.version before frame.now fault) }
-{
-    let payload = frame.payload.as_slice();
-    // so many bytes are in no memory
-    if u64::MAX - counter.count() < payload.len() as u64 {
-        return Err(OpenFault::NoMemory);
-    }
-    match counter.read(alloc, payload) {
-        Ok(items) => Ok(items),
-        Err(EntryFault::BadEntry) => Err(OpenFault::NotAJournal(frame.gate)),
-        Err(EntryFault::NoMemory) => Err(OpenFault::NoMemory),
-    }
-}
 
 /// What an entry leaves of so many bytes.
 #[tactic(auto, using(crate::proofs::Sizes::left_more, crate::proofs::Sizes::left_passed, crate::proofs::Sizes::passed_more))]
@@ -64,7 +40,7 @@ fn hand_on<T: EntryTaker>(
     ensures left { OnOk result ((bytes : ℕ) (before : List AnyEntry) → HasLeft bytes before left.old → HasLeft bytes (before ++ items.now) left.new) }
 {
     for item in items {
-        taker.take(alloc, item.entry())?;
+        taker.take(alloc, item)?;
         *left = left_behind(*left, item);
     }
     Ok(())

@@ -2,6 +2,7 @@
 ghost use Rattle.std.specs.Prelude.{◌≡◌, ◌≢◌, ◌≤◌, ℕ, List, [], true, Some, is_some, IfOk, IfErr, OnOk, MatchResult};
 ghost use Rattle.outside.specs.Disk.{OnlyContent};
 ghost use Rattle.outside.specs.Fault.{Rose};
+ghost use Rattle.commit_journal.specs.Log.{version_of};
 ghost use Rattle.durable_catalogue.specs.declared.fault.OpenFault.TheVariants.{DeviceFault, OldVersion};
 ghost use Rattle.durable_catalogue.specs.Faults.{open_fault};
 ghost use Rattle.durable_catalogue.specs.Logs.{HasHistory};
@@ -46,6 +47,7 @@ impl<D: Disk> HistoryLog<D> {
         requires none { T.has taker.old [] }
         ensures taken { OnOk result (IsHandedOn (T.has taker.new)
             (λ entries. (log : List ℕ) → (D.seen disk).content ≡ Some log → HasHistory entries log) limits) }
+        ensures version { IfOk result (λ h. (log : List ℕ) → (D.seen disk).content ≡ Some log → version_of log ≡ h.journal.version) }
         ensures crash { MatchResult result (λ h. IsOpening (D.seen disk) (D.seen h.journal.disk)) (λ e. IsOpening (D.seen disk) (D.seen e.0)) }
         ensures content { MatchResult result (λ h. KeepsContent (D.seen disk) (D.seen h.journal.disk))
             (λ e. KeepsContent (D.seen disk) (D.seen e.0)) }
@@ -75,6 +77,13 @@ impl<D: Disk> HistoryLog<D> {
                 Err((disk, fault_of(fault)))
             }
         }
+    }
+
+    /// The version of the log; 2 where it was blank.
+    pub fn version(&self) -> u8
+        ensures { result ≡ self.now.journal.version }
+    {
+        self.journal.version()
     }
 
     /// Gives the disk back.

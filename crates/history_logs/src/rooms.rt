@@ -2,6 +2,7 @@
 ghost use Rattle.std.specs.Prelude.{◌≡◌, ◌≢◌, true, Some, None, IfOk, IfErr, OnOk, OnErr, ◌∷◌, []};
 ghost use Rattle.outside.specs.Fault.{Rose};
 ghost use Rattle.outside.specs.Room.{AsLog, SameBut};
+ghost use Rattle.commit_journal.specs.Log.{version_of};
 ghost use Rattle.durable_catalogue.specs.declared.fault.OpenFault.TheVariants.{DeviceFault, OldVersion};
 ghost use Rattle.durable_catalogue.specs.Logs.{HasHistory};
 ghost use Rattle.durable_catalogue.specs.Openings.{IsUnopened};
@@ -33,6 +34,7 @@ pub fn open_history<R: Room, T: EntryTaker>(
     // All entries of the log's history were handed on; they are within the limits, and the log keeps them.
     ensures taken { OnOk result (IsHandedOn (T.has taker.new)
         (λ entries. (R.seen room.old).tells ≡ true → HasHistory entries (log_bytes (R.seen room.old) name.now)) journal_limits) }
+    ensures version { IfOk result (λ h. (R.seen room.old).tells ≡ true → version_of (log_bytes (R.seen room.old) name.now) ≡ h.journal.version) }
     ensures kept { IfOk result (λ h. (R.seen room.old).tells ≡ true →
         KeepsLog (log_bytes (R.seen room.old) name.now) (R.Log.seen h.journal.disk)) }
 

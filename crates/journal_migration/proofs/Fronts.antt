@@ -1,15 +1,13 @@
 -- The entries with which a history begins, one after the other.
-use Rattle.std.proofs.Common.{◌≡◌, ◌⊎◌, inl, inr, ℕ, ◌+◌, ◌<◌, ◌≤◌, List, [], ◌∷◌, ◌++◌, length, take, drop, get_or, slice_get, Some, None, refl, sym, ap, subst, ◌∙◌, arith, length-append, take-append-drop}
+use Rattle.std.proofs.Common.{◌≡◌, ℕ, ◌+◌, ◌-◌, ◌<◌, ◌≤◌, List, [], ◌∷◌, ◌++◌, length, take, drop, get_or, slice_get, Some, None, refl, sym, ap, subst, ◌∙◌, arith, length-append, take-append-drop}
 use Rattle.std.proofs.Math.Seq.{take-append_seam}
-use Rattle.std.proofs.lemmas.List.{take_more, take_all, get_or_append_left, append-nil}
+use Rattle.std.proofs.lemmas.List.{take_more, take_all, get_or_append_left, get_or-drop, length-drop}
 use Rattle.std.proofs.lemmas.List.Sums.{sum_by-append, sum_by-cons, sum_by-take-le}
-use Rattle.std.proofs.lemmas.Option.{get_or_from_slice_get, slice_get_within, slice_get-get_or, slice_get_cases, none-some}
+use Rattle.std.proofs.lemmas.Option.{get_or_from_slice_get, slice_get_within, slice_get-get_or, none-some}
 use Rattle.marc_types.specs.declared.entry.Entry.{Entry}
 use Rattle.marc_types.specs.declared.entry.Limits.{Limits}
 use Rattle.commit_journal.specs.declared.frame.Frame.{Frame}
-use Rattle.std.specs.List.{All}
-use Rattle.entry_record.specs.History.{IsAdmitted, entry_size, entries_size}
-use Rattle.catalogue_core.specs.Catalogues.{Catalogued, all_entries}
+use Rattle.entry_record.specs.History.{entry_size, entries_size, IsWithin}
 use Rattle.entry_history.specs.Payloads.{IsHistory}
 use Rattle.entry_history.proofs.Histories.{history_once}
 use Rattle.durable_catalogue.specs.Logs.{payloads_of}
@@ -64,11 +62,11 @@ has_other history items at e item within is there other begins =
 
 -- the entries of frames, with which a history begins
 pub front_held : (version : ℕ) (frames : List Frame) (limits : Limits) (history items : List Entry) → IsHistory version [] (payloads_of frames) items
-    → AreWithin limits history items → Begins history items → HoldsFront version frames limits history (length items)
-front_held version frames limits history items holds within begins = record {
+    → IsWithin limits history → IsWithin limits items → Begins history items → HoldsFront version frames limits history (length items)
+front_held version frames limits history items holds old new begins = record {
   entries = items;
   holds = holds;
-  within = within;
+  within = record { old_within = old; new_within = new };
   front = sym (take-append_seam items begins.0) ∙ ap (λ xs. take (length items) xs) begins.1;
   most = omega (arith, ap length begins.1, length-append items begins.0);
 }
@@ -76,26 +74,28 @@ front_held version frames limits history items holds within begins = record {
 pub front_most : (history items : List Entry) → Begins history items → length items ≤ length history
 front_most history items begins = omega (arith, ap length begins.1, length-append items begins.0)
 
--- the entry there, where nothing is staged
-pub there_is : (core : Catalogued) (at : ℕ) (e item : Entry) → core.staged ≡ [] → Some e ≡ slice_get (all_entries core) at → e ≡ item → slice_get core.history at ≡ Some item
-there_is core at e item unstaged there same =
-    ap (λ es. slice_get es at) (sym (append-nil core.history) ∙ ap (λ es. core.history ++ es) (sym unstaged)) ∙ sym there ∙ ap Some same
+-- the entry there
+pub there_is : (history : List Entry) (at : ℕ) (e item : Entry) → at < length history → e ≡ get_or history at e → e ≡ item → slice_get history at ≡ Some item
+there_is history at e item within is same = slice_get-get_or history at e within ∙ ap Some (sym is ∙ same)
 
-pub admitted_at : (entries : List Entry) (at : ℕ) (e : Entry) → All IsAdmitted entries → Some e ≡ slice_get entries at → IsAdmitted e
-admitted_at entries at e all there =
-    subst IsAdmitted (get_or_from_slice_get entries at e e (sym there)) (all at e (slice_get_within entries at e (sym there)))
+-- what a history has behind so many
+abbrev behind : ℕ → List Entry → List Entry
+behind count history = take (length history - count) (drop count history)
 
--- no entry there, where nothing is staged
-pub ends_there : (core : Catalogued) (at : ℕ) → core.staged ≡ [] → None ≡ slice_get (all_entries core) at → length core.history ≤ at
-ends_there core at unstaged none = decided (slice_get_cases core.history at).1
-  where
-    none_there : slice_get core.history at ≡ None
-    none_there = ap (λ es. slice_get es at) (sym (append-nil core.history) ∙ ap (λ es. core.history ++ es) (sym unstaged)) ∙ sym none
+all_behind : (history : List Entry) (count : ℕ) → behind count history ≡ drop count history
+all_behind history count = let long = length-drop count history in take_all (length history - count) (drop count history) (omega (arith, long))
 
-    decided : ((x : Entry) × (at < length core.history) × (slice_get core.history at ≡ Some x) × (get_or core.history at x ≡ x))
-        ⊎ ((length core.history ≤ at) × (slice_get core.history at ≡ None)) → length core.history ≤ at
-    decided (inl s) = absurd (none-some s.0 (sym none_there ∙ s.2))
-    decided (inr s) = s.0
+pub there_behind : (history : List Entry) (count at : ℕ) (e : Entry) → at < length (behind count history) → e ≡ get_or (behind count history) at e
+    → slice_get history (count + at) ≡ Some e
+there_behind history count at e within is =
+    let all = all_behind history count in
+    let long = length-drop count history in
+    there_is history (count + at) e e (omega (arith, within, long, ap length all))
+    (is ∙ ap (λ xs. get_or xs at e) all ∙ get_or-drop count history at e) refl
+
+pub ends_behind : (history : List Entry) (count at : ℕ) → length (behind count history) ≤ at → length history ≤ count + at
+ends_behind history count at past =
+    let all = all_behind history count in let long = length-drop count history in omega (arith, past, long, ap length all)
 
 -- frames hold one front
 pub front_is : (version : ℕ) (frames : List Frame) (limits : Limits) (history : List Entry) (count : ℕ) (entries : List Entry)

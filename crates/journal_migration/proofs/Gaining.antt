@@ -1,5 +1,6 @@
 -- A journal that gains the rest of a history.
-use Rattle.std.proofs.Common.{◌≡◌, ◌⊎◌, inl, inr, ℕ, ◌+◌, ◌≤◌, List, [], ◌∷◌, length, take, drop, slice_get, Some, is_some, refl, sym, ap, subst, ◌∙◌, arith, Bool, false}
+use Rattle.std.proofs.Common.{◌≡◌, ◌⊎◌, inl, inr, ℕ, ◌+◌, ◌≤◌, List, [], ◌∷◌, length, take, drop, slice_get, Some, is_some, refl, sym, ap, subst, ◌∙◌, arith, Bool, false, Result, Ok, Err}
+use Rattle.std.specs.Prelude.{OnOk}
 use Rattle.std.proofs.lemmas.List.{take_all}
 use Rattle.std.proofs.Math.Logic.{∥∥₁_map}
 use Rattle.marc_types.specs.declared.entry.Entry.{Entry}
@@ -21,6 +22,11 @@ use Rattle.journal_migration.specs.Migrations.{IsAmid, Before, framed_lengths}
 use Rattle.journal_migration.specs.Fronts.{EachFollows, Brings, BringsRest, HasGained, HasBrought, HasOneMoreOrNot, TriesEntry, AddsEntry}
 use Rattle.journal_migration.proofs.Amid.{framed_append, entry_within, one_more, split_at, amid_either, amid_where}
 use Rattle.journal_migration.proofs.Following.{follows_at}
+
+-- what follows from three facts about a success
+pub on_ok_three : {T E : Type 0} {P Q S U : Type 0} (r : Result T E) → (P → Q → S → U) → OnOk r P → OnOk r Q → OnOk r S → OnOk r U
+on_ok_three (Ok x) f p q s = f p q s
+on_ok_three (Err e) f p q s = tt
 
 -- nothing happens to a disk
 pub continues_self : (disk : DiskView) → Continues disk disk

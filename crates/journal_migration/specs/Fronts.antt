@@ -3,7 +3,6 @@ use Rattle.std.specs.Prelude.{◌≡◌, ◌≢◌, ◌⊎◌, ℕ, ◌+◌, ◌
 use Rattle.marc_types.specs.declared.entry.Entry.{Entry}
 use Rattle.marc_types.specs.declared.entry.Limits.{Limits}
 use Rattle.outside.specs.Disk.{DiskView, LeavesOnly}
-use Rattle.outside.specs.Fault.{Rose}
 use Rattle.commit_journal.specs.declared.frame.Frame.{Frame}
 use Rattle.commit_journal.specs.Log.{version_of}
 use Rattle.entry_history.specs.Payloads.{CanFollow, IsHistory}
@@ -95,12 +94,3 @@ TriesEntry e old new = (log : List ℕ) (before : List Entry) → old.content �
 abbrev pub AddsEntry : Entry → DiskView → DiskView → Type 0
 AddsEntry e old new = (log now : List ℕ) (before : List Entry) → old.content ≡ Some log → HasHistory before log → CanFollow before e.run
     → new.content ≡ Some now → HasGained before (before ++ e ∷ []) log now
-
--- why a journal was not appended to: a device failed, whose count rose, or there was no memory
-abbrev pub IsUnappended : ℕ → ℕ → MigrateFault → Type 0
-IsUnappended before now DeviceFault = Rose before now
-IsUnappended before now NoMemory = Unit {0}
-IsUnappended before now (NotAJournal place) = ⊥
-IsUnappended before now OldVersion = ⊥
-IsUnappended before now Full = ⊥
-IsUnappended before now NotPrefix = ⊥

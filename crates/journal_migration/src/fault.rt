@@ -18,7 +18,7 @@ pub enum MigrateFault {
     NotAJournal(u64),
     /// The new journal is of version 1, to which nothing is appended.
     OldVersion,
-    /// One of the two histories passes the limits.
+    /// The new journal's history passes the limits.
     Full,
     /// The old history doesn't begin with that of the new journal.
     NotPrefix,
@@ -31,7 +31,7 @@ impl fmt::Display for MigrateFault {
             MigrateFault::DeviceFault => f.write_str("the new journal's disk failed"),
             MigrateFault::NotAJournal(place) => write!(f, "not a journal at byte {place}"),
             MigrateFault::OldVersion => f.write_str("a journal of version 1"),
-            MigrateFault::Full => f.write_str("a history passes the limits"),
+            MigrateFault::Full => f.write_str("the new journal's history passes the limits"),
             MigrateFault::NotPrefix => f.write_str("the new journal has another history"),
             MigrateFault::NoMemory => f.write_str("out of memory"),
         }

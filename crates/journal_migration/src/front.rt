@@ -1,20 +1,19 @@
 //! What a journal has of a history already.
 ghost use Rattle.std.specs.Prelude.{◌≡◌, ◌≢◌, ◌≤◌, ◌↔◌, [], length, IsTrue, IfOk, IfErr, OnOk};
-ghost use Rattle.entry_record.specs.History.{entries_size};
+ghost use Rattle.entry_record.specs.History.{entries_size, IsWithin};
 ghost use Rattle.entry_history.specs.Payloads.{IsHistory};
 ghost use Rattle.entry_history.specs.Readers.{IsVersion};
 ghost use Rattle.durable_catalogue.specs.Logs.{payloads_of};
 ghost use Rattle.journal_migration.specs.Fronts.{HoldsFront, HoldNoFront, IsUnread};
-ghost use Rattle.journal_migration.specs.Migrations.{Begins, AreWithin};
+ghost use Rattle.journal_migration.specs.Migrations.{Begins};
 ghost use Rattle.journal_migration.specs.declared.fault.MigrateFault.TheVariants.{DeviceFault};
 
 use crate::MigrateFault;
-use catalogue_core::Catalogue;
 use commit_journal::Frame;
 use entry_history::{EntryFault, HistoryReader};
-use entry_payload::is_same;
+use entry_payload::EntryPayload;
 use entry_record::Prepared;
-use marc_types::{Limits, NoMemory};
+use marc_types::Limits;
 use std::alloc::Global;
 
 /// The entries of a journal's frames, in their order.
@@ -57,32 +56,26 @@ fn has_room(items: &[Prepared], bytes: u64) -> bool
     true
 }
 
-/// Whether both histories are within the limits.
-fn are_within(core: &Catalogue, items: &[Prepared], limits: &Limits) -> bool
-    requires { core.now.staged ≡ [] }
-    ensures { IsTrue result ↔ AreWithin limits.now core.now.history items.now }
+/// Whether entries are within the limits.
+fn are_within(items: &[Prepared], limits: &Limits) -> bool
+    ensures { IsTrue result ↔ IsWithin limits.now items.now }
 {
-    core.history_len() <= limits.entries
-        && core.bytes() <= limits.bytes
-        && items.len() as u64 <= limits.entries
-        && has_room(items, limits.bytes)
+    items.len() as u64 <= limits.entries && has_room(items, limits.bytes)
 }
 
 /// Whether a history begins with the entries of these items.
-fn begins(alloc: Global, core: &Catalogue, items: &[Prepared]) -> Result<bool, NoMemory>
-    requires { core.now.staged ≡ [] }
-    ensures { IfOk result (λ begins. IsTrue begins ↔ Begins core.now.history items.now) }
+fn begins(history: &[EntryPayload], items: &[Prepared]) -> bool
+    ensures { IsTrue result ↔ Begins history.now items.now }
 {
-    core.each_was_admitted();
     for (at, item) in items.iter().enumerate() {
-        let Some(entry) = core.entry(at as u64) else {
-            return Ok(false);
+        let Some(entry) = history.get(at) else {
+            return false;
         };
-        if !is_same(alloc, entry, item)? {
-            return Ok(false);
+        if !entry.is_of(item) {
+            return false;
         }
     }
-    Ok(true)
+    true
 }
 
 /// How many entries of a history the frames of a journal hold, which hold nothing else.
@@ -90,25 +83,25 @@ pub fn front_of(
     alloc: Global,
     version: u8,
     frames: &[Frame],
-    core: &Catalogue,
+    history: &[EntryPayload],
     limits: &Limits,
-) -> Result<u64, MigrateFault>
-    requires { core.now.staged ≡ [] }
-    ensures front { IsVersion version → IfOk result (HoldsFront version frames.now limits.now core.now.history) }
-    ensures within { IfOk result (λ count. count ≤ length core.now.history) }
+) -> Result<usize, MigrateFault>
+    requires { IsWithin limits.now history.now }
+    ensures front { IsVersion version → IfOk result (HoldsFront version frames.now limits.now history.now) }
+    ensures within { IfOk result (λ count. count ≤ length history.now) }
     ensures version { OnOk result (version ≡ 2) }
-    ensures fault { IsVersion version → IfErr result (HoldNoFront version frames.now limits.now core.now.history) }
+    ensures fault { IsVersion version → IfErr result (HoldNoFront version frames.now limits.now history.now) }
     ensures no_device { IfErr result (λ fault. fault ≢ DeviceFault) }
 {
     let items = read_either(alloc, version, frames)?;
     if version != 2 {
         return Err(MigrateFault::OldVersion);
     }
-    if !are_within(core, items.as_slice(), limits) {
+    if !are_within(items.as_slice(), limits) {
         return Err(MigrateFault::Full);
     }
-    if !begins(alloc, core, items.as_slice())? {
+    if !begins(history, items.as_slice()) {
         return Err(MigrateFault::NotPrefix);
     }
-    Ok(items.len() as u64)
+    Ok(items.len())
 }

@@ -2,9 +2,11 @@
 #![tactic(auto)]
 
 pub use fault::MigrateFault;
+pub use history::HistoryEntries;
 pub use migration::migrate;
 
 mod bringing;
 mod fault;
 mod front;
+mod history;
 mod migration;

@@ -14,9 +14,9 @@ use std::alloc::Global;
 /// Links of seats to authorities. A seat is linked to one authority at most.
 #[derive(Drop)]
 pub struct LinkTable {
-    slots: Slots<Seat, u32>,
+    slots: Slots<u32>,
     names: Counts<Seat>,
-    ghost sound: { LinksAgree (row_at same_seat slots.slots) (rooms_at same_seat slots.slots) (times same_seat names.groups.items) },
+    ghost sound: { LinksAgree (row_at slots) (rooms_at slots) (times same_seat names.groups.items) },
 }
 
 #[tactic(auto, unfolding(crate::specs::Table::links))]
@@ -57,7 +57,7 @@ impl LinkTable {
         ensures ok { OnOk result (links self.new ≡ more_taken link.now (links self.old)) }
         ensures err { OnErr result (links self.new ≡ links self.old) }
     {
-        self.slots.make_room(link.seat)?;
+        self.slots.make_room(alloc, link.seat)?;
         if let Err(error) = self.names.note(alloc, link.number, link.seat) {
             self.slots.let_go(link.seat);
             return Err(error);

@@ -1,6 +1,6 @@
 -- The tables agree with the records once a field and its rows are exchanged, and while keys and forms get numbers.
 use Rattle.std.proofs.Common.{◌≡◌, ◌∙◌, sym, ap, refl, subst, ℕ, ◌<◌, Bool, true, false, cond, List, length, Option, Some, None, if◌then◌else◌, inl}
-use Rattle.std.specs.Prelude.{slice_get}
+use Rattle.std.specs.Prelude.{◌||◌, nat_eq, slice_get}
 use Rattle.std.specs.Option.{option_map, option_map_or}
 use Rattle.std.proofs.lemmas.Option.{slice_get-get_or}
 use Rattle.marc_types.specs.declared.form.Form.{Form}
@@ -19,7 +19,9 @@ use Rattle.record_store.specs.Store.{field_under, with_rows}
 use Rattle.numbered_store.specs.Numbered.{Numbered, keys_in as keys_by, with_field_of}
 use Rattle.numbered_store.specs.Rows.{with_row_field}
 use Rattle.link_table.specs.Links.{is_linked, leads_to}
-use Rattle.wait_table.specs.Waits.{asks, asks_form, names, names_key}
+use Rattle.wait_table.specs.Waits.{Waits, asks, asks_form, forms_of, has, names, names_key}
+use Rattle.wait_table.specs.declared.waiting.Asked.{Asked}
+use Rattle.wait_table.specs.declared.waiting.Asked.TheVariants.{One, Two}
 use Rattle.wait_table.specs.declared.waiting.Waiting.{Waiting}
 use Rattle.linking_laws.specs.Partway.{AreOrdered, IsSteady, same_place, swapped}
 use Rattle.linking_laws.specs.Tables.{asks_at, holds_at, linked_at}
@@ -34,11 +36,13 @@ use Rattle.catalogue_tables.specs.declared.tables.CatalogueTables.{CatalogueTabl
 use Rattle.catalogue_tables.proofs.Followed.{tells_kept}
 use Rattle.linked_store.specs.Frames.{FormsKeep}
 use Rattle.std.specs.List.{IsDistinct}
-use Rattle.catalogue_tables.specs.Seam.{AreDistinct, HasKey, IsRenumbered, IsSeatOf, KeyLists, KeysKeep, keys_in, place_at, told}
+use Rattle.catalogue_tables.specs.Seam.{AreDistinct, HasKey, IsRenumbered, IsWithin, IsSeatOf, KeyLists, KeysKeep, keys_in, place_at, told}
+use Rattle.catalogue_tables.specs.Asked.{first_of}
 use Rattle.catalogue_tables.specs.Told.{linked_by}
 use Rattle.catalogue_tables.specs.Waiting.{WaitsFit, asking_by, naming_by}
 use Rattle.catalogue_tables.proofs.Seams.{seat_back, told_stays, told_step, within_kept, within_step}
 use Rattle.linked_store.specs.Contents.{Contents, at_seat}
+use Rattle.linked_store.specs.Leading.{leading_by, leads, leads_at, leads_form}
 use Rattle.linked_store.specs.Sound.{AgreesWith, key_lists, keys_of, seen_links, seen_waits, state_in}
 use Rattle.linked_store.specs.Turning.{IsLinkOf, IsWaitOf, turned}
 
@@ -130,6 +134,25 @@ cond_names : (n : ℕ) (b : Bool) (x y : Option Waiting) → names_key n (cond b
 cond_names n true x y = refl
 cond_names n false x y = refl
 
+cond_first : (n : ℕ) (b : Bool) (x y : Option Waiting) → leads_form n (cond b x y) ≡ cond b (leads_form n x) (leads_form n y)
+cond_first n true x y = refl
+cond_first n false x y = refl
+
+-- the form that is asked for first is asked for
+pub first_asked : (n : ℕ) (o : Option Waiting) → leads_form n o ≡ true → asks_form n o ≡ true
+first_asked n None e = e
+first_asked n (Some waiting) e = by waiting.forms e
+  where
+    by : (asked : Asked) → nat_eq (first_of asked) n ≡ true → has (forms_of asked) n ≡ true
+    by (One form) e = ap (λ b. b || false) e
+    by (Two form base) e = ap (λ b. b || (nat_eq base n || false)) e
+
+pub within_first : (names : ℕ) (keys : KeyLists) (waits : Waits) → IsWithin names keys (λ n s. asks n waits s) → IsWithin names keys (λ n s. leads n waits s)
+within_first names keys waits fit = record {
+  named = λ n s e. fit.named n s (first_asked n (waits.waiting s) e);
+  seated = λ n s e. fit.seated n s (first_asked n (waits.waiting s) e);
+}
+
 -- keys keep their own numbers
 pub keys_keep : (keys : KeyLists) → KeysKeep keys keys
 keys_keep keys = record { authorities = keeps_itself same_key keys.authorities; bibliographic = keeps_itself same_key keys.bibliographic }
@@ -143,6 +166,10 @@ module _ (keys : KeyLists) (p : Place) (seat : Seat) (at : IsSeatOf keys p seat)
       IsRenumbered seat (λ n. asks_form n waiting) (λ n s. asks n (seen_waits waits) s) (λ n s. asks n (seen_waits (at_seat seat waiting waits)) s)
   asks_step waits waiting n s = cond_asks n (same_seat seat s) waiting (waits s)
 
+  leads_step : (waits : Seat → Option Waiting) (waiting : Option Waiting) →
+      IsRenumbered seat (λ n. leads_form n waiting) (λ n s. leads n (seen_waits waits) s) (λ n s. leads n (seen_waits (at_seat seat waiting waits)) s)
+  leads_step waits waiting n s = cond_first n (same_seat seat s) waiting (waits s)
+
   names_step : (waits : Seat → Option Waiting) (waiting : Option Waiting) →
       IsRenumbered seat (λ n. names_key n waiting) (λ n s. names n (seen_waits waits) s) (λ n s. names n (seen_waits (at_seat seat waiting waits)) s)
   names_step waits waiting n s = cond_names n (same_seat seat s) waiting (waits s)
@@ -151,6 +178,11 @@ module _ (keys : KeyLists) (p : Place) (seat : Seat) (at : IsSeatOf keys p seat)
   asking_stays : (old new : List Form) (waits : Seat → Option Waiting) → Keeps same_form old new → WaitsFit (length old) keys (seen_waits waits) → (form : Form) (q : Place)
       → asking_by new keys (seen_waits waits) form q ≡ asking_by old keys (seen_waits waits) form q
   asking_stays old new waits keeps fit form q = told_stays same_form old new keys keys (λ n s. asks n (seen_waits waits) s) fit.asking keeps (keys_keep keys) form q
+
+  leading_stays : (old new : List Form) (waits : Seat → Option Waiting) → Keeps same_form old new → WaitsFit (length old) keys (seen_waits waits) → (form : Form) (q : Place)
+      → leading_by new keys (seen_waits waits) form q ≡ leading_by old keys (seen_waits waits) form q
+  leading_stays old new waits keeps fit form q =
+      told_stays same_form old new keys keys (λ n s. leads n (seen_waits waits) s) (within_first (length old) keys (seen_waits waits) fit.asking) keeps (keys_keep keys) form q
 
 pub agrees_turned : (old new : CatalogueTables) (seat : Seat) (was h : KeptField) (link : Option ℕ) (waiting : Option Waiting) (c : Contents) → AreDistinct (keys_of c) → HasKey (keys_of c) seat
     → field_under (place_at (keys_of c) seat) (state_in c) ≡ Some was → (seat.class ≡ Authority → IsSteady was h) → FormsKeep old new → IsLinkOf (keys_of c).authorities h link → IsWaitOf new.forms (keys_of c).authorities seat.class h waiting
@@ -192,6 +224,13 @@ agrees_turned old new seat was h link waiting c distinct low there steady rows i
           ∙ ap (λ b. cond (same_place p q) b (asking_by new.forms keys (seen_waits c.waits) form q)) (is_wait.asks form))
           (asking_stays keys p seat at old.forms new.forms c.waits rows.forms agrees.waits_fit form q ∙ agrees.asking form q)
           ∙ ap (λ (s : State). holds_at (asks_at form) s q) (sym state);
+      leading = λ form q.
+          exchanged (leads_at form) p q was h (state_in c) (leading_by new.forms keys (seen_waits (at_seat seat waiting c.waits)) form q) (leading_by new.forms keys (seen_waits c.waits) form q) there
+          (told_step same_form new.forms keys (λ n s. leads n (seen_waits c.waits) s) (λ n s. leads n (seen_waits (at_seat seat waiting c.waits)) s) (λ n. leads_form n waiting) p seat at
+          (leads_step keys p seat at c.waits waiting) form q
+          ∙ ap (λ b. cond (same_place p q) b (leading_by new.forms keys (seen_waits c.waits) form q)) (is_wait.leads form))
+          (leading_stays keys p seat at old.forms new.forms c.waits rows.forms agrees.waits_fit form q ∙ agrees.leading form q)
+          ∙ ap (λ (s : State). holds_at (leads_at form) s q) (sym state);
       naming = λ key q valid.
           exchanged (waits_for_key key) p q was h (state_in c) (naming_by keys (seen_waits (at_seat seat waiting c.waits)) key q) (naming_by keys (seen_waits c.waits) key q) there
           (told_step same_key keys.authorities keys (λ n s. names n (seen_waits c.waits) s) (λ n s. names n (seen_waits (at_seat seat waiting c.waits)) s) (λ n. names_key n waiting) p seat at
@@ -223,6 +262,10 @@ agrees_grown old new c d rows distinct keep index links waits state agrees =
           told_stays same_key (keys_of c).authorities (keys_of d).authorities (keys_of c) (keys_of d) (λ n s. is_linked n (seen_links c.links) s) agrees.links_fit keep.authorities keep key q ∙ agrees.linked key q;
       asking = λ form q.
           told_stays same_form old.forms new.forms (keys_of c) (keys_of d) (λ n s. asks n (seen_waits c.waits) s) agrees.waits_fit.asking rows.forms keep form q ∙ agrees.asking form q;
+      leading = λ form q.
+          told_stays same_form old.forms new.forms (keys_of c) (keys_of d) (λ n s. leads n (seen_waits c.waits) s)
+          (within_first (length old.forms) (keys_of c) (seen_waits c.waits) agrees.waits_fit.asking) rows.forms keep form q
+          ∙ agrees.leading form q;
       naming = λ key q valid.
           told_stays same_key (keys_of c).authorities (keys_of d).authorities (keys_of c) (keys_of d) (λ n s. names n (seen_waits c.waits) s) agrees.waits_fit.naming keep.authorities keep key q ∙ agrees.naming key q valid;
     }

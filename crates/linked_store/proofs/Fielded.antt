@@ -17,10 +17,13 @@ use Rattle.catalogue_rules.specs.State.{KeptField, KeptRecord}
 use Rattle.catalogue_rules.specs.Receipt.{kept_under}
 use Rattle.record_store.specs.Store.{StaysRecord, field_at, field_under}
 use Rattle.numbered_store.specs.Numbered.{Numbered, SuitsSeat as SuitsByNumber, field_of as field_by_number}
-use Rattle.wait_table.specs.Waits.{has}
+use Rattle.wait_table.specs.Waits.{forms_of, has}
+use Rattle.wait_table.specs.declared.waiting.Asked.{Asked}
+use Rattle.wait_table.specs.declared.waiting.Asked.TheVariants.{One, Two}
 use Rattle.wait_table.specs.declared.waiting.Waiting.{Waiting}
 use Rattle.linking_laws.specs.Partway.{IsSteady, swapped}
 use mathlib.Core.Bool.{false≢true}
+use Rattle.catalogue_tables.specs.Asked.{first_of}
 use Rattle.catalogue_tables.specs.Seam.{HasKey, KeyLists, place_at}
 use Rattle.catalogue_tables.specs.Waiting.{AreNumbersOf, one_or_two}
 use Rattle.catalogue_tables.proofs.Seams.{keeps_then, numbers_alike, numbers_low}
@@ -37,6 +40,7 @@ use Rattle.linked_store.specs.declared.turns.Row.{Row}
 use Rattle.linked_store.proofs.Agreed.{agrees_turned, keys_keep, state_turned}
 use Rattle.linked_store.proofs.Framed.{forms_same, rows_then}
 use Rattle.linked_store.proofs.Keyed.{record_there}
+use Rattle.linked_store.proofs.Wanting.{leading_one}
 use Rattle.linked_store.proofs.Sounding.{mark_stays, now_undone, same_view, sound_on, sound_same, start_stays, steps_undone}
 
 -- ---- links and rows in numbers are those of the field
@@ -58,10 +62,23 @@ link_of keys h link is = by h.tie.key link refl is
       low = λ m f. nat_low n m f (subst (λ k. k < length keys) (sym is.is) (number_below same_key keys own is.known));
     }
 
+-- the first form's number comes first
+first_numbered : (forms : List Form) (form : Form) (other : Option Form) (asked : Asked) → forms_of asked ≡ map (number_of same_form forms) (one_or_two form other)
+    → first_of asked ≡ number_of same_form forms form
+first_numbered forms form None (One n) are = cc
+first_numbered forms form None (Two n m) are = cc
+first_numbered forms form (Some other) (One n) are = cc
+first_numbered forms form (Some other) (Two n m) are = cc
+
+first_known : (forms : List Form) (form : Form) (other : Option Form) → AllByRecursion (λ t. is_known same_form forms t ≡ true) (one_or_two form other) → is_known same_form forms form ≡ true
+first_known forms form None known = known.0
+first_known forms form (Some other) known = known.0
+
 pub wait_of : (forms : List Form) (keys : List Key) (class : Class) (h : KeptField) (row : Option Row) (waiting : Option Waiting) → IsRowFor class h keys row → IsWaitingOf forms row waiting
     → IsWaitOf forms keys class h waiting
 wait_of forms keys class h None None wants is = record {
   asks = λ form. wants.asking form;
+  leads = λ form. wants.leading form;
   names = λ key valid. wants.naming key valid;
   low_forms = λ n e. absurd (false≢true e);
   low_keys = λ n e. absurd (false≢true e);
@@ -72,6 +89,10 @@ wait_of forms keys class h (Some row) (Some waiting) says is = record {
   asks = λ form.
       ap (λ (ns : List ℕ). has ns (number_of same_form forms form)) is.asked.are
       ∙ numbers_alike same_form (eq_by_cmp_equiv form_cmp_total) forms (one_or_two row.form row.other) form is.asked.known ∙ says.wants.asking form;
+  leads = λ form.
+      ap (λ (m : ℕ). nat_eq m (number_of same_form forms form)) (first_numbered forms row.form row.other waiting.forms is.asked.are)
+      ∙ alike same_form (eq_by_cmp_equiv form_cmp_total) forms row.form form (first_known forms row.form row.other is.asked.known)
+      ∙ (eq_by_cmp_equiv form_cmp_total).symm row.form form ∙ sym (leading_one form row.form row.other) ∙ says.wants.leading form;
   names = λ key valid.
       ap (λ (ns : List ℕ). has ns (number_of same_key keys key)) (is.keys ∙ says.numbers.are)
       ∙ numbers_alike same_key (eq_by_cmp_equiv key_cmp_total) keys says.named key says.numbers.known ∙ says.wants.naming key valid;

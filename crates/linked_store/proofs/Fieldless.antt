@@ -45,11 +45,11 @@ asks_first (Two form base) = ap (λ b. b || has_base) ((unsigned_Decides form fo
     has_base = has (base ∷ []) form
 
 -- the form that has a number
-record HasForm (forms : List Form) (n : ℕ) : Type 0 where
-  form : Form
-  is : slice_get forms n ≡ Some form
+pub record HasForm (forms : List Form) (n : ℕ) : Type 0 where
+  pub form : Form
+  pub is : slice_get forms n ≡ Some form
 
-form_there : (forms : List Form) (n : ℕ) → n < length forms → HasForm forms n
+pub form_there : (forms : List Form) (n : ℕ) → n < length forms → HasForm forms n
 form_there forms n low = by ((slice_get_cases forms n).1)
   where
     by : (((form : Form) × (n < length forms) × (slice_get forms n ≡ Some form) × (get_or forms n form ≡ form)) ⊎ ((length forms ≤ n) × (slice_get forms n ≡ None))) → HasForm forms n

@@ -25,6 +25,7 @@ use mathlib.Core.Bool.{false≢true}
 use Rattle.form_index.specs.Order.{key_at}
 use Rattle.catalogue_tables.specs.Seam.{AreDistinct, HasKey, IsWithin, KeyLists, KeysKeep, keys_in, place_at}
 use Rattle.linked_store.specs.Contents.{CanGoBack, Contents, HaveRooms, Step, apply_back, step_of}
+use Rattle.linked_store.specs.Leading.{leads_at}
 use Rattle.linked_store.specs.Frames.{contents, links_in, steps_of, waits_in}
 use Rattle.linked_store.specs.Linked.{IsNumber, IsUnchanged, KeysGrow, empty_linked, key_of}
 use Rattle.linked_store.specs.Sound.{AgreesWith, IsSound, at_start, key_lists, keys_of, linked_view, state_in}
@@ -132,6 +133,7 @@ agrees_nothing tables order = record {
   waits_fit = record { asking = within_none (length tables.forms) (keys_of nothing); naming = within_none 0 (keys_of nothing) };
   linked = λ key p. holds_nowhere (linked_at key) p;
   asking = λ form p. holds_nowhere (asks_at form) p;
+  leading = λ form p. holds_nowhere (leads_at form) p;
   naming = λ key p valid. holds_nowhere (waits_for_key key) p;
 }
 

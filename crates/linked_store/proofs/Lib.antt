@@ -17,3 +17,4 @@ pub mod Placed
 pub mod Holding
 pub mod Lent
 pub mod Stayed
+pub mod Rowed

@@ -24,7 +24,7 @@ use Rattle.entry_record.specs.Authority.{is_bare, is_valid_key}
 use Rattle.entry_record.specs.Identity.{is_deletion}
 use Rattle.catalogue_rules.specs.Receipt.{is_committed, kept_under, same_class}
 use Rattle.catalogue_rules.specs.Settle.{Arrival, arrival_of, place}
-use Rattle.catalogue_rules.specs.State.{KeptField, Row as StateRow, State, linkable_authorities, new_field, new_record, rows_of}
+use Rattle.catalogue_rules.specs.State.{KeptField, KeptRecord, Row as StateRow, State, linkable_authorities, new_field, new_record, rows_of}
 use Rattle.catalogue_rules.specs.Valid.{IsRow}
 use Rattle.catalogue_rules.proofs.Rows.{ascend_place, each_place}
 use Rattle.catalogue_rules.proofs.States.{IsFitArrival, fit_entry}
@@ -46,6 +46,7 @@ use Rattle.linking_laws.specs.Partway.{AreOrdered}
 use Rattle.linking_laws.specs.Tables.{Agree, Tables, asks_at, holds_at, index_row, linked_at}
 use Rattle.linking_laws.specs.Visits.{waits_for_key}
 use Rattle.linking_laws.proofs.Agreeing.{agree_placed}
+use Rattle.linking_laws.proofs.Counts.{kept_placed as others_placed}
 use Rattle.linking_laws.proofs.Partial.{place_is}
 use Rattle.catalogue_tables.specs.Following.{TellsAuthorities}
 use Rattle.catalogue_tables.specs.Seam.{AreDistinct, HasKey, IsWithin, KeyLists, keys_in, seat_of}
@@ -56,6 +57,7 @@ use Rattle.catalogue_tables.proofs.Followed.{tells_kept}
 use Rattle.catalogue_tables.proofs.Seams.{key_numbered, seat_alike, told_stays, within_kept}
 use Rattle.linked_store.specs.Contents.{Contents}
 use Rattle.linked_store.specs.Frames.{FormsKeep, GoesOn, contents}
+use Rattle.linked_store.specs.Leading.{leading_by, leads, leads_at, leads_form}
 use Rattle.linked_store.specs.Linked.{IsAhead}
 use Rattle.linking_laws.specs.Commits.{placed_by}
 use Rattle.linked_store.specs.Placing.{AreRowsOf, IndexFollows, IsElsewhere, IsPlaced, IsRowAt, fields_brought, record_brought, row_of_field, seat_in}
@@ -64,7 +66,7 @@ use Rattle.linked_store.specs.Turns.{IsWaitingOf}
 use Rattle.linked_store.specs.declared.frame.Frame.{Frame}
 use Rattle.linked_store.specs.declared.seating.FieldRow.{FieldRow}
 use Rattle.linked_store.specs.declared.turns.Row.{Row}
-use Rattle.linked_store.proofs.Agreed.{key_there, keys_alike, keys_keep}
+use Rattle.linked_store.proofs.Agreed.{key_there, keys_alike, keys_keep, within_first}
 use Rattle.linked_store.proofs.Fielded.{ahead_turned, wait_of}
 use Rattle.linked_store.proofs.Sounding.{sound_on}
 use Rattle.linked_store.proofs.Brought.{number_key}
@@ -154,6 +156,13 @@ module _ (forms : List Form) (keys : List Key) (k : Class) (o : Option Field) (r
       by : (o : Option Field) → IsRowAt k keys o row → asks_form (number_of same_form forms form) waiting ≡ option_map_or (asks_at form k) (option_map new_field o) false
       by None none = ap (asks_form (number_of same_form forms form)) (no_field forms row waiting none is_wait)
       by (Some field) is = (wait_of forms keys k (new_field field) row waiting is is_wait).asks form
+
+  leads_own : (form : Form) → leads_form (number_of same_form forms form) waiting ≡ option_map_or (leads_at form k) (option_map new_field o) false
+  leads_own form = by o is_row
+    where
+      by : (o : Option Field) → IsRowAt k keys o row → leads_form (number_of same_form forms form) waiting ≡ option_map_or (leads_at form k) (option_map new_field o) false
+      by None none = ap (leads_form (number_of same_form forms form)) (no_field forms row waiting none is_wait)
+      by (Some field) is = (wait_of forms keys k (new_field field) row waiting is is_wait).leads form
 
   names_own : (key : Key) → is_valid_key key ≡ true → names_key (number_of same_key keys key) waiting ≡ option_map_or (waits_for_key key k) (option_map new_field o) false
   names_own key valid = by o is_row
@@ -245,6 +254,19 @@ module _ (keys : KeyLists) (a : Arrival) (s : State) (number : ℕ) (of : IsNumb
             subst (λ (p : Place). after (seat_of keys p) ≡ holds_at test (placed_in a.class a s) p) (its_place q e) (ap after (own_seat q.field) ∙ at_own q.field)
         by false e = others (seat_of keys q) (elsewhere q e)
 
+-- ---- a test once a record is in its place
+
+placed_holds : (test : Class → KeptField → Bool) (a : Arrival) (s : State) (q : Place) (b : Bool) → is_committed a q.class q.key ≡ b
+    → (if b then holds_at test (placed_in a.class a s) q else holds_at test s q) ≡ holds_at test (placed_in a.class a s) q
+placed_holds test a s q true e = refl
+placed_holds test a s q false e =
+    sym (ap (λ (o : Option KeptRecord). option_map_or (test q.class) (option_and_then (field_at q.field) o) false) (others_placed a.class q.class a s q.key refl e))
+
+placed_row : (test : Class → KeptField → Bool) (a : Arrival) (s : State) (q : Place) (after before : Bool)
+    → after ≡ (if is_committed a q.class q.key then holds_at test (placed_in a.class a s) q else before) → before ≡ holds_at test s q → after ≡ holds_at test (placed_in a.class a s) q
+placed_row test a s q after before new was =
+    new ∙ ap (λ (b : Bool). if is_committed a q.class q.key then holds_at test (placed_in a.class a s) q else b) was ∙ placed_holds test a s q (is_committed a q.class q.key) refl
+
 -- ---- the whole
 
 seat_back_number : (keys : KeyLists) → AreDistinct keys → (seat : Seat) → HasKey keys seat → IsNumberOf same_key (keys_in seat.class keys) (key_at (keys_in seat.class keys) seat.number) seat.number
@@ -331,6 +353,23 @@ module _ (f g : Frame) (number : ℕ) (e : Entry) (rows : List FieldRow) (distin
       (λ j. asks_own g.tables.forms keys.authorities e.class (slice_get (fields_brought a) j) (row_of_field j rows) ((contents g).waits (seat_in e.class number j)) (rows_are.own j)
       (is.own j).waiting form)
       (λ seat far. ap (asks_form n) (wait_stays seat far)) q
+
+  leading_then : (form : Form) (q : Place) → leading_by g.tables.forms keys (seen_waits (contents g).waits) form q
+      ≡ (if is_committed a q.class q.key then holds_at (leads_at form) now q else leading_by g.tables.forms keys (seen_waits (contents f).waits) form q)
+  leading_then form q =
+      let n = number_of same_form g.tables.forms form in
+      says keys a before number of agrees.ordered (leads n (seen_waits (contents f).waits)) (leads n (seen_waits (contents g).waits)) (leads_at form)
+      (λ j. leads_own g.tables.forms keys.authorities e.class (slice_get (fields_brought a) j) (row_of_field j rows) ((contents g).waits (seat_in e.class number j)) (rows_are.own j)
+      (is.own j).waiting form)
+      (λ seat far. ap (leads_form n) (wait_stays seat far)) q
+
+  leading_now : (form : Form) (q : Place) → leading_by g.tables.forms keys (seen_waits (contents g).waits) form q ≡ holds_at (leads_at form) now q
+  leading_now form q =
+      placed_row (leads_at form) a before q (leading_by g.tables.forms keys (seen_waits (contents g).waits) form q)
+      (leading_by g.tables.forms keys (seen_waits (contents f).waits) form q) (leading_then form q)
+      (told_stays same_form f.tables.forms g.tables.forms keys keys (λ n s. leads n (seen_waits (contents f).waits) s)
+      (within_first (length f.tables.forms) keys (seen_waits (contents f).waits) agrees.waits_fit.asking) forms.forms (keys_keep keys) form q
+      ∙ agrees.leading form q)
 
   naming_then : (name : Key) (q : Place) → is_valid_key name ≡ true → naming_by keys (seen_waits (contents g).waits) name q
       ≡ (if is_committed a q.class q.key then holds_at (waits_for_key name) now q else naming_by keys (seen_waits (contents f).waits) name q)
@@ -421,6 +460,7 @@ module _ (f g : Frame) (number : ℕ) (e : Entry) (rows : List FieldRow) (distin
         waits_fit = record { asking = asks_fit; naming = names_fit };
         linked = λ name q. both_agree.linked name q;
         asking = λ form q. both_agree.asking form q;
+        leading = λ form q. leading_now form q;
         naming = λ name q valid. both_agree.naming name q valid;
       })
 

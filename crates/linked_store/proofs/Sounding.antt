@@ -362,6 +362,7 @@ agrees_held tables c d held agrees =
       waits_fit = agrees.waits_fit;
       linked = agrees.linked;
       asking = agrees.asking;
+      leading = agrees.leading;
       naming = agrees.naming;
     })
 

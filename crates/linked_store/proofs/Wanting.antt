@@ -23,7 +23,9 @@ use Rattle.catalogue_rules.specs.State.{KeptField}
 use Rattle.catalogue_tables.specs.Choosing.{key_named}
 use Rattle.linking_laws.specs.Waiting.{asked_forms, is_form_among, names_key}
 use Rattle.linking_laws.proofs.Naming.{naming_is}
+use Rattle.linked_store.specs.Leading.{is_leading}
 use Rattle.linked_store.specs.Turning.{Wants}
+use Rattle.catalogue_tables.specs.Waiting.{one_or_two}
 use Rattle.linked_store.specs.Wanted.{AsksFor, NamesKeys, forms_sought, sought_by}
 use Rattle.linked_store.specs.declared.wanted.Sought.{Sought}
 
@@ -32,6 +34,7 @@ use Rattle.linked_store.specs.declared.wanted.Sought.{Sought}
 pub wants_linked : (class : Class) (h : KeptField) → is_some h.tie.key ≡ true → Wants class h [] []
 wants_linked class h linked = record {
   asking = λ form. sym (ap (λ (b : Bool). if b then false else option_map_or (λ kind. is_form_among (asked_forms class kind h) form) (heading_kind class h.field) false) linked);
+  leading = λ form. sym (ap (λ (b : Bool). if b then false else option_map_or (λ kind. same_form form (full_form kind class h.field)) (heading_kind class h.field) false) linked);
   naming = λ key valid. sym (ap (λ (b : Bool). not b && (is_heading_field class h.field && names_key key h)) linked);
 }
 
@@ -54,6 +57,9 @@ wants_plain class h none =
       asking = λ form.
           never (is_some h.tie.key)
           ∙ sym (ap (λ (o : Option Kind). if is_some h.tie.key then false else option_map_or (λ k. is_form_among (asked_forms class k h) form) o false) kind);
+      leading = λ form.
+          never (is_some h.tie.key)
+          ∙ sym (ap (λ (o : Option Kind). if is_some h.tie.key then false else option_map_or (λ k. same_form form (full_form k class h.field)) o false) kind);
       naming = λ key valid.
           never_and (is_some h.tie.key) (names_key key h) ∙ sym (ap (λ (o : Option Kind). not (is_some h.tie.key) && (is_some o && names_key key h)) kind);
     }
@@ -74,15 +80,23 @@ base_by class f base e =
     let same : Some base ≡ Some (base_form base.kind f) = e ∙ ap (option_map (λ k. base_form k f)) kind in
     cc
 
+pub leading_one : (form one : Form) (other : Option Form) → is_leading (one_or_two one other) form ≡ same_form form one
+leading_one form one None = refl
+leading_one form one (Some other) = refl
+
 pub wants_heading : (class : Class) (h : KeptField) (base : Form) (sought : Sought) (keys : List Key) → is_some h.tie.key ≡ false → Some base ≡ heading_base_form class h.field
     → AsksFor class base.kind h sought → NamesKeys h keys → Wants class h (forms_sought sought) keys
 wants_heading class h base sought keys unlinked made asks names =
     let kind : heading_kind class h.field ≡ Some base.kind = kind_by h.field (heading_kind class h.field) base made in
     record {
       asking = λ form.
-          asks form
+          asks.asks form
           ∙ sym (ap (λ (b : Bool). if b then false else option_map_or (λ k. is_form_among (asked_forms class k h) form) (heading_kind class h.field) false) unlinked
           ∙ ap (λ (o : Option Kind). option_map_or (λ k. is_form_among (asked_forms class k h) form) o false) kind);
+      leading = λ form.
+          leading_one form sought.form sought.other ∙ ap (same_form form) asks.full_first
+          ∙ sym (ap (λ (b : Bool). if b then false else option_map_or (λ k. same_form form (full_form k class h.field)) (heading_kind class h.field) false) unlinked
+          ∙ ap (λ (o : Option Kind). option_map_or (λ k. same_form form (full_form k class h.field)) o false) kind);
       naming = λ key valid.
           names key valid
           ∙ sym (ap (λ (b : Bool). not b && (is_heading_field class h.field && names_key key h)) unlinked ∙ ap (λ (o : Option Kind). is_some o && names_key key h) kind);
@@ -111,14 +125,23 @@ undivided_full kind class f h = by (is_subdividable class (tag_of f)) (full_eith
 among_is : (class : Class) (kind : Kind) (h : KeptField) (forms : List Form) → asked_forms class kind h ≡ forms → (form : Form) → is_form_among forms form ≡ is_form_among (asked_forms class kind h) form
 among_is class kind h forms is form = ap (λ (l : List Form). is_form_among l form) (sym is)
 
+abbrev AsksAs : Class → Kind → KeptField → Sought → Type 0
+AsksAs class kind h sought = (form : Form) → is_form_among (forms_sought sought) form ≡ is_form_among (asked_forms class kind h) form
+
+base_is_full : (class : Class) (kind : Kind) (f : Field) → (is_subdividable class (tag_of f) && is_subdivided (subfields_of f)) ≡ false → base_form kind f ≡ full_form kind class f
+base_is_full class kind f off =
+    sym (ap (λ b. unwrap_or (if b then Some (full_form kind class f) else None) (base_form kind f)) off) ∙ full_either kind class f
+
 pub asks_undivided : (class : Class) (kind : Kind) (h : KeptField) (base : Form) → base ≡ base_form kind h.field
     → (is_subdividable class (tag_of h.field) && is_subdivided (subfields_of h.field)) ≡ false → (h.tie.whole ≡ true → is_subdividable class (tag_of h.field) ≡ true)
     → AsksFor class kind h (record { form = base; other = None })
-asks_undivided class kind h base is off tied =
-    by (is_subdividable class (tag_of h.field)) (is_subdivided (subfields_of h.field)) h.tie.whole refl refl refl off tied
+asks_undivided class kind h base is off tied = record {
+  asks = by (is_subdividable class (tag_of h.field)) (is_subdivided (subfields_of h.field)) h.tie.whole refl refl refl off tied;
+  full_first = is ∙ base_is_full class kind h.field off;
+}
   where
     by : (takes divided is_whole : Bool) → is_subdividable class (tag_of h.field) ≡ takes → is_subdivided (subfields_of h.field) ≡ divided → h.tie.whole ≡ is_whole
-        → (takes && divided) ≡ false → (is_whole ≡ true → takes ≡ true) → AsksFor class kind h (record { form = base; other = None })
+        → (takes && divided) ≡ false → (is_whole ≡ true → takes ≡ true) → AsksAs class kind h (record { form = base; other = None })
     by true true w t d e off tied = cc
     by true false true t d e off tied = λ form.
         ap (λ (x : Form). same_form form x || false) (is ∙ undivided_full kind class h.field d) ∙ among_is class kind h (full_form kind class h.field ∷ []) (asked_by class kind h true false true t d e) form
@@ -141,11 +164,13 @@ kept_once full base form false e = refl
 
 pub asks_divided : (class : Class) (kind : Kind) (h : KeptField) (full base : Form) → full ≡ full_form kind class h.field → base ≡ base_form kind h.field
     → (is_subdividable class (tag_of h.field) && is_subdivided (subfields_of h.field)) ≡ true → AsksFor class kind h (sought_by h.tie.whole full base)
-asks_divided class kind h full base full_is base_is on =
-    by (is_subdividable class (tag_of h.field)) (is_subdivided (subfields_of h.field)) h.tie.whole refl refl refl on
+asks_divided class kind h full base full_is base_is on = record {
+  asks = by (is_subdividable class (tag_of h.field)) (is_subdivided (subfields_of h.field)) h.tie.whole refl refl refl on;
+  full_first = full_is;
+}
   where
     by : (takes divided is_whole : Bool) → is_subdividable class (tag_of h.field) ≡ takes → is_subdivided (subfields_of h.field) ≡ divided → h.tie.whole ≡ is_whole
-        → (takes && divided) ≡ true → AsksFor class kind h (sought_by is_whole full base)
+        → (takes && divided) ≡ true → AsksAs class kind h (sought_by is_whole full base)
     by true true true t d e on = λ form.
         ap (λ (x : Form). same_form form x || false) full_is ∙ among_is class kind h (full_form kind class h.field ∷ []) (asked_by class kind h true true true t d e) form
     by true true false t d e on = λ form.

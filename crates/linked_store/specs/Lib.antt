@@ -2,6 +2,7 @@ pub mod Contents
 pub mod Fielding
 pub mod Frames
 pub mod Holding
+pub mod Leading
 pub mod Lending
 pub mod Linked
 pub mod Placing

@@ -20,6 +20,7 @@ use Rattle.catalogue_tables.specs.Told.{LinksFit, linked_by}
 use Rattle.catalogue_tables.specs.Waiting.{WaitsFit, asking_by, naming_by}
 use Rattle.linked_store.specs.Contents.{CanGoBack, Contents, apply_back}
 use Rattle.linked_store.specs.Frames.{IsRoomy, contents, steps_of}
+use Rattle.linked_store.specs.Leading.{leading_by, leads_at}
 use Rattle.linked_store.specs.Linked.{Linked}
 use Rattle.linked_store.specs.declared.frame.Frame.{Frame}
 
@@ -40,7 +41,7 @@ abbrev pub seen_waits : (Seat → Option Waiting) → Waits
 seen_waits waits = record { waiting = waits; taken = λ seat. 0; taken_forms = λ n seat. 0; taken_keys = λ n seat. 0 }
 
 -- The records stand in key order. The index tells of the linkable authorities, and the other tables say of each key, form and
--- place what the state says, within the numbers that were given.
+-- place what the state says, within the numbers that were given. The first form of a row is the field's full form.
 pub record AgreesWith (tables : CatalogueTables) (c : Contents) : Type 0 where
   pub ordered : AreOrdered (state_in c)
   pub told : TellsAuthorities tables.forms (keys_of c).authorities c.index (linkable_authorities (state_in c))
@@ -48,6 +49,7 @@ pub record AgreesWith (tables : CatalogueTables) (c : Contents) : Type 0 where
   pub waits_fit : WaitsFit (length tables.forms) (keys_of c) (seen_waits c.waits)
   pub linked : (key : Key) (p : Place) → linked_by (keys_of c) (seen_links c.links) key p ≡ holds_at (linked_at key) (state_in c) p
   pub asking : (form : Form) (p : Place) → asking_by tables.forms (keys_of c) (seen_waits c.waits) form p ≡ holds_at (asks_at form) (state_in c) p
+  pub leading : (form : Form) (p : Place) → leading_by tables.forms (keys_of c) (seen_waits c.waits) form p ≡ holds_at (leads_at form) (state_in c) p
   pub naming : (key : Key) (p : Place) → is_valid_key key ≡ true →
       naming_by (keys_of c) (seen_waits c.waits) key p ≡ holds_at (waits_for_key key) (state_in c) p
 

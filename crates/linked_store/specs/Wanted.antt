@@ -6,7 +6,7 @@ use Rattle.marc_types.specs.declared.form.Kind.{Kind}
 use Rattle.marc_types.specs.declared.key.Class.{Class}
 use Rattle.marc_types.specs.declared.key.Key.{Key}
 use Rattle.marc_types.specs.Order.{same_key}
-use Rattle.entry_record.specs.Authority.{is_valid_key}
+use Rattle.entry_record.specs.Authority.{full_form, is_valid_key}
 use Rattle.catalogue_rules.specs.State.{KeptField}
 use Rattle.catalogue_tables.specs.Waiting.{one_or_two}
 use Rattle.linking_laws.specs.Waiting.{asked_forms, is_form_among, names_key}
@@ -17,9 +17,10 @@ use Rattle.linked_store.specs.declared.wanted.Wanted.{Wanted}
 abbrev pub forms_sought : Sought → List Form
 forms_sought sought = one_or_two sought.form sought.other
 
--- the forms by which a field of a kind is looked up
-abbrev pub AsksFor : Class → Kind → KeptField → Sought → Type 0
-AsksFor class kind h sought = (form : Form) → is_form_among (forms_sought sought) form ≡ is_form_among (asked_forms class kind h) form
+-- the forms by which a field of a kind is looked up, its full form first
+pub record AsksFor (class : Class) (kind : Kind) (h : KeptField) (sought : Sought) : Type 0 where
+  pub asks : (form : Form) → is_form_among (forms_sought sought) form ≡ is_form_among (asked_forms class kind h) form
+  pub full_first : sought.form ≡ full_form kind class h.field
 
 -- the proper keys that a field names
 abbrev pub NamesKeys : KeptField → List Key → Type 0

@@ -1,5 +1,5 @@
 //! What a field is to be linked to, and what is known of an authority.
-ghost use Rattle.std.specs.Prelude.{◌≡◌, ◌<◌, length, find, IfOk};
+ghost use Rattle.std.specs.Prelude.{◌≡◌, ◌<◌, length, find, IfOk, None, Some};
 ghost use Rattle.std.specs.Option.{option_copied, option_map};
 ghost use Rattle.marc_types.specs.declared.key.Class.TheVariants.{Authority as AnAuthority};
 ghost use Rattle.entry_record.specs.Prepared.{heading_base_form};
@@ -7,12 +7,14 @@ ghost use Rattle.catalogue_rules.specs.Choice.{has_key};
 ghost use Rattle.catalogue_rules.specs.State.{kept_field, linkable_authorities};
 ghost use Rattle.catalogue_tables.specs.Choosing.{chosen_for, heading_choice};
 ghost use Rattle.catalogue_tables.specs.Known.{IsKnownAs};
+ghost use Rattle.catalogue_tables.specs.Seam.{HasKey};
 ghost use Rattle.linking_laws.specs.Middle.{AreAuthoritiesInOrder};
-ghost use Rattle.linked_store.specs.Linked.{IsNumber, key_of};
+ghost use Rattle.linked_store.specs.Linked.{IsNumber, field_of, key_of};
 
 use crate::store::LinkedStore;
 use catalogue_tables::{Chosen, KnownAuthority};
 use marc_types::{Class, Field, Form, NoMemory, Tie};
+use numbering::Seat;
 use std::alloc::Global;
 
 impl LinkedStore {
@@ -35,6 +37,27 @@ impl LinkedStore {
         self.frame
             .tables
             .choose_field(alloc, keys, class, field, tie, base)
+    }
+
+    /// What the unlinked field that stands at a seat is to be linked to, if it is a heading: by the numbers of its row, so that none of
+    /// its forms is made or looked up. It visits no record, and takes memory for the keys alone that the field names.
+    pub fn choose_at(
+        &self,
+        alloc: Global,
+        seat: Seat,
+        field: &Field,
+        tie: &Tie,
+    ) -> Result<Option<Chosen>, NoMemory>
+        requires ordered { AreAuthoritiesInOrder self.now.state }
+        requires known { HasKey self.now.keys seat }
+        requires stands { field_of seat self.now ≡ Some (kept_field field.now tie.now) }
+        requires unlinked { tie.now.key ≡ None }
+        ensures { IfOk result (λ chosen. chosen ≡ option_map (chosen_for self.now.keys.authorities)
+            (heading_choice (linkable_authorities self.now.state) seat.class (kept_field field.now tie.now))) }
+    {
+        self.frame.tables.each_form_has_one_number();
+        let keys = self.frame.store.keys(Class::Authority);
+        self.frame.tables.choose_at(alloc, keys, seat, field, tie)
     }
 
     /// The kind and the forms of the authority under the key that has the number, if fields can be linked to it. It visits no record.

@@ -7,6 +7,7 @@ ghost use Rattle.numbering.specs.Seats.{same_seat};
 ghost use Rattle.numbering.specs.declared.seat.Seat.{Seat as AnySeat};
 ghost use Rattle.marc_types.specs.declared.key.Class.TheVariants.{Authority as AnAuthority};
 ghost use Rattle.entry_record.specs.Authority.{is_valid_key};
+ghost use Rattle.catalogue_tables.specs.Lent.{shown_forms};
 ghost use Rattle.linking_laws.specs.Tables.{dropped_at, holds_at, linked_at};
 ghost use Rattle.linking_laws.specs.Waiting.{is_waiting_for};
 ghost use Rattle.linked_store.specs.Linked.{IsNumber, ListsSeats, key_of};
@@ -27,11 +28,11 @@ impl LinkedStore {
     }
 
     /// The seats of all places that wait for one of the forms or for the key, each once, in any order.
-    pub fn waiting(&self, alloc: Global, forms: &[Form], number: u32) -> Result<Seats, NoMemory>
+    pub fn waiting(&self, alloc: Global, forms: &[&Form], number: u32) -> Result<Seats, NoMemory>
         requires known { IsNumber AnAuthority number self.now.keys }
         requires valid { is_valid_key (key_of AnAuthority number self.now.keys) ≡ true }
         ensures { IfOk result (λ seats.
-            ListsSeats self.now.keys (holds_at (is_waiting_for forms.now (key_of AnAuthority number self.now.keys)) self.now.state) seats.items) }
+            ListsSeats self.now.keys (holds_at (is_waiting_for (shown_forms forms.now) (key_of AnAuthority number self.now.keys)) self.now.state) seats.items) }
     {
         let found = self.frame.tables.waiting(alloc, forms, number)?;
         let seats = in_turn(alloc, &found)?;

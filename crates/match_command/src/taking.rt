@@ -2,8 +2,9 @@
 ghost use Rattle.std.specs.Prelude.{◌≡◌, []};
 ghost use Rattle.match_report.specs.Matches.{table_after};
 
+use entry_record::Prepared;
 use history_logs::EntryTaker;
-use marc_types::{Entry, NoMemory};
+use marc_types::NoMemory;
 use match_report::Matches;
 use std::alloc::Global;
 
@@ -32,7 +33,7 @@ impl EntryTaker for HistoryMatches {
     ghost has = { λ m entries. m.table ≡ table_after entries };
 
     #[tactic(auto, using(crate::proofs::Taken::table_behind))]
-    fn take(&mut self, alloc: Global, entry: &Entry) -> Result<(), NoMemory> {
-        self.table.put(alloc, entry)
+    fn take(&mut self, alloc: Global, item: &Prepared) -> Result<(), NoMemory> {
+        self.table.put(alloc, item.entry())
     }
 }

@@ -1,7 +1,6 @@
 -- How a log's history came into another, or why it didn't, from the steps that were taken.
 use Rattle.std.proofs.Common.{◌≡◌, ◌≢◌, ◌∙◌, inl, inr, ℕ, true, List, [], ◌∷◌, ◌++◌, length, Result, Ok, Err, refl, sym, ap, subst, arith}
 use Rattle.std.proofs.Math.Logic.{∥∥₁_elim, ∥∥₁_prop}
-use Rattle.std.proofs.lemmas.List.{append-nil}
 use Rattle.std.specs.Coded.{Coded-set, coded_ℕ}
 use Rattle.marc_types.specs.declared.entry.Entry.{Entry}
 use Rattle.outside.specs.Disk.{DiskView}
@@ -12,7 +11,6 @@ use Rattle.commit_journal.specs.Log.{version_of}
 use Rattle.entry_record.specs.History.{IsWithin}
 use Rattle.entry_history.specs.Payloads.{IsHistory}
 use Rattle.entry_history.proofs.Histories.{history_once}
-use Rattle.catalogue_core.specs.Catalogues.{Catalogued, all_entries}
 use Rattle.durable_catalogue.specs.Logs.{payloads_of, IsLogOf, HasHistory}
 use Rattle.durable_catalogue.specs.Openings.{IsUnopened}
 use Rattle.durable_catalogue.specs.declared.fault.OpenFault.{OpenFault}
@@ -48,12 +46,6 @@ reading_once entries others log is also =
     history_once (version_of log) [] entries others (payloads_of is.frames) is.holds
     (subst (λ frames. IsHistory (version_of log) [] (payloads_of frames) others) same also.holds)
 
--- the length of an archive's history, with nothing staged
-pub history_counted : (count : ℕ) (core archived : Catalogued) → count ≡ length (all_entries core) → core.staged ≡ [] → core ≡ archived
-    → count ≡ length archived.history
-history_counted count core archived is unstaged same =
-    is ∙ ap (λ es. length (core.history ++ es)) unstaged ∙ ap length (append-nil core.history) ∙ ap (λ (k : Catalogued). length k.history) same
-
 -- the old log was not opened
 module _ (from into : List ℕ) (differ : into ≢ from) (old opened : RoomView) (apart : SameBut old opened (from ∷ [])) where
   other_untouched : IsUntouched old opened into
@@ -83,7 +75,7 @@ module _ (from into : List ℕ) (differ : into ≢ from) (old opened : RoomView)
         durable = λ count entries ok. absurd (ok_not_err result count fault ok is);
       }
 
--- it was opened, the history of its archive was brought into the new one or not, and it was closed again
+-- it was opened, its history was brought into the new one or not, and it was closed again
 module _ (from into : List ℕ) (differ : into ≢ from) (old opened brought closed : RoomView) (disk : DiskView) (history : List Entry) (version : ℕ)
     (first : SameBut old opened (from ∷ [])) (second : SameBut opened brought (into ∷ [])) (last : SameBut brought closed (from ∷ []))
     (has : old.tells ≡ true → HasHistory history (log_bytes old from)) (named : old.tells ≡ true → version_of (log_bytes old from) ≡ version)
@@ -93,19 +85,19 @@ module _ (from into : List ℕ) (differ : into ≢ from) (old opened brought clo
   first_bytes : log_bytes opened into ≡ log_bytes old into
   first_bytes = bytes_first history old opened brought closed from into differ first last
 
-  -- any history of the old log is the archive's
+  -- any history of the old log is this one
   of_any : (entries : List Entry) (P : List Entry → Type 0) → old.tells ≡ true → HasHistory entries (log_bytes old from) → P history → ∥ P entries ∥₁
   of_any entries P tells also so =
       ∥∥₁_elim also ∥∥₁_prop (λ (is : IsLogOf entries (log_bytes old from)). ∥∥₁_elim (has tells) ∥∥₁_prop (λ (too : IsLogOf history (log_bytes old from)).
       ∣ subst P (reading_once history entries (log_bytes old from) too is) so ∣₁))
 
-  -- what isn't fit for any history of the old log isn't for the archive's
+  -- what isn't fit for any history of the old log isn't for this one
   unfit_any : (entries : List Entry) (log : List ℕ) → old.tells ≡ true → HasHistory entries (log_bytes old from) → IsUnfit journal_limits entries log
       → IsUnfit journal_limits history log
   unfit_any entries log tells also none front fit =
       ∥∥₁_elim (of_any entries (λ es. IsFit journal_limits es front log) tells also fit) ⊥_prop (λ (it : IsFit journal_limits entries front log). none front it)
 
-  -- what has the archive's history has any that the old log has
+  -- what has this history has any that the old log has
   has_any : (entries : List Entry) (bytes : List ℕ) → old.tells ≡ true → HasHistory entries (log_bytes old from) → HasHistory history bytes → HasHistory entries bytes
   has_any entries bytes tells also so =
       ∥∥₁_elim (of_any entries (λ es. HasHistory es bytes) tells also so) ∥∥₁_prop (λ (it : HasHistory entries bytes). it)

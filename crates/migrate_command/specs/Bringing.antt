@@ -14,14 +14,14 @@ use Rattle.journal_migration.specs.Migrations.{IsFit, IsUnfit, IsUnmigrated, IsB
 use Rattle.migrate_command.specs.Faults.{fault_of_migrating}
 use Rattle.migrate_command.specs.Migrates.{BringsInto, HasInEachImage, WhyNotFrom, WhyNotInto}
 
--- the history of an archive of version 1 was brought into the log of that name
+-- the history of a log of version 1 was brought into the log of that name
 pub record IsBroughtInto (history : List Entry) (version : ℕ) (old new : RoomView) (into : List ℕ) : Type 0 where
   pub oldest : version ≡ 1
   pub fit : old.tells ≡ true → (entries : List Entry) × IsFit journal_limits history entries (log_bytes old into)
   pub all : (was : List ℕ) → old.tells ≡ true → HasHistory history was → IsBrought history (log_bytes new into)
   pub durable : (was : List ℕ) → old.tells ≡ true → HasHistory history was → HasInEachImage history new into
 
--- it wasn't: the archive is of the newest version, and nothing was opened; or the new log doesn't take it, and keeps what it has where
+-- it wasn't: the log is of the newest version, and nothing was opened; or the new log doesn't take it, and keeps what it has where
 -- it is not fit for that
 pub data IsUnbrought (history : List Entry) (version : ℕ) (old new : RoomView) (into : List ℕ) (fault : Fault) : Type 0 where
   Newest : fault ≡ OldVersion → (version ≡ 1 → ⊥) → SameBut old new [] → IsUnbrought history version old new into fault

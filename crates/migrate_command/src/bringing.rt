@@ -1,40 +1,46 @@
 //! The history of a journal of version 1 is brought into the journal of another name.
 ghost use Rattle.std.specs.Prelude.{◌≡◌, ◌≢◌, ℕ, List, [], ◌∷◌, true, None, IfErr, OnOk};
 ghost use Rattle.outside.specs.Room.{SameBut};
+ghost use Rattle.entry_record.specs.History.{IsWithin};
 ghost use Rattle.durable_catalogue.specs.Logs.{HasHistory};
+ghost use Rattle.room_files.specs.Journals.{journal_limits};
 ghost use Rattle.migrate_command.specs.Bringing.{IsBroughtInto, IsUnbrought, IsBroughtOver};
 ghost use Rattle.migrate_command.specs.Migrates.{BringsInto};
 
 use crate::fault::fault_of_migrating;
 use console_lines::Fault;
-use durable_catalogue::Archive;
-use journal_migration::migrate;
+use entry_payload::EntryPayload;
+use history_logs::{close_history, open_history};
+use journal_migration::{HistoryEntries, migrate};
 use outside::Room;
-use room_files::{JOURNAL_LIMITS, close_archive, fault_of_opening, open_archive};
+use room_files::{JOURNAL_LIMITS, fault_of_opening};
 use std::alloc::Global;
 
-/// Brings an archive's history into the file of that name. An archive of the newest version is refused before that is opened.
+/// Brings the history of a log of that version into the file of that name. A log of the newest version is refused before that is
+/// opened.
 fn bring_into<R: Room>(
     alloc: Global,
     room: &mut R,
-    archive: &Archive<R::Log>,
+    version: u8,
+    history: &[EntryPayload],
     into: &str,
 ) -> Result<(), Fault>
-    requires { (R.seen room.old).open_as into.now ≡ None }
+    requires free { (R.seen room.old).open_as into.now ≡ None }
+    requires within { IsWithin journal_limits history.now }
     ensures apart { SameBut (R.seen room.old) (R.seen room.new) (into.now ∷ []) }
     ensures closed { (R.seen room.new).open_as into.now ≡ None }
-    ensures brings { (was : List ℕ) → (R.seen room.old).tells ≡ true → HasHistory archive.now.core.history was →
-        BringsInto archive.now.core.history (R.seen room.old) (R.seen room.new) into.now }
-    ensures brought { OnOk result (IsBroughtInto archive.now.core.history archive.now.journal.version (R.seen room.old) (R.seen room.new) into.now) }
-    ensures fault { IfErr result (IsUnbrought archive.now.core.history archive.now.journal.version (R.seen room.old) (R.seen room.new) into.now) }
+    ensures brings { (was : List ℕ) → (R.seen room.old).tells ≡ true → HasHistory history.now was →
+        BringsInto history.now (R.seen room.old) (R.seen room.new) into.now }
+    ensures brought { OnOk result (IsBroughtInto history.now version (R.seen room.old) (R.seen room.new) into.now) }
+    ensures fault { IfErr result (IsUnbrought history.now version (R.seen room.old) (R.seen room.new) into.now) }
 {
-    if archive.version() != 1 {
+    if version != 1 {
         return Err(Fault::OldVersion);
     }
     let Ok(log) = room.open_log(into) else {
         return Err(Fault::Device);
     };
-    match migrate(alloc, archive, log, JOURNAL_LIMITS) {
+    match migrate(alloc, history, log, JOURNAL_LIMITS) {
         Ok(log) => {
             room.close_log(into, log);
             Ok(())
@@ -60,13 +66,15 @@ pub fn bring_over<R: Room>(
     ensures apart { SameBut (R.seen room.old) (R.seen room.new) (from.now ∷ into.now ∷ []) }
     ensures over { IsBroughtOver from.now into.now (R.seen room.old) (R.seen room.new) result }
 {
-    let archive = match open_archive(alloc, room, from) {
-        Ok(archive) => archive,
+    let mut taken = HistoryEntries::new(alloc);
+    let log = match open_history(alloc, room, from, &mut taken) {
+        Ok(log) => log,
         Err(fault) => return Err(fault_of_opening(fault)),
     };
-    let count = archive.core().history_len();
-    let brought = bring_into(alloc, room, &archive, into);
-    close_archive(room, from, archive);
+    let history = taken.as_slice();
+    let count = history.len() as u64;
+    let brought = bring_into(alloc, room, log.version(), history, into);
+    close_history(room, from, log);
     match brought {
         Ok(()) => Ok(count),
         Err(fault) => Err(fault),

@@ -18,6 +18,8 @@ use Rattle.form_index.specs.contracts.listings.Headings as Headings
 use Rattle.form_index.specs.contracts.listings.Listings as Listings
 use Rattle.form_index.specs.contracts.row.RowForms as RowForms
 use Rattle.form_index.specs.contracts.index.FormIndex as FormIndex
+use Rattle.wait_table.specs.contracts.key_numbers.KeyNumbers as KeyNumbers
+use Rattle.wait_table.specs.contracts.waiting.Waiting as Waiting
 use Rattle.wait_table.specs.contracts.table.WaitTable as WaitTable
 use Rattle.link_table.specs.contracts.table.LinkTable as LinkTable
 use Rattle.catalogue_tables.specs.contracts.tables.CatalogueTables as CatalogueTables
@@ -73,8 +75,14 @@ index_send = search (row_send, listings_send, sendable, crosses) depth 40 fits 2
 links_send : IsSend (LinkTable.the_field).row
 links_send = search (sendable, crosses, maps.crosses) depth 40 fits 20000
 
+key_numbers_send : IsSend KeyNumbers.the_row
+key_numbers_send = search (sendable, crosses) depth 40 fits 20000
+
+waiting_send : IsSend Waiting.the_row
+waiting_send = search (key_numbers_send, sendable, crosses) depth 40 fits 20000
+
 waits_send : IsSend (WaitTable.the_field).row
-waits_send = search (sendable, crosses, maps.crosses) depth 40 fits 20000
+waits_send = search (waiting_send, sendable, crosses, maps.crosses) depth 40 fits 20000
 
 tables_send : IsSend (CatalogueTables.the_field).row
 tables_send = search (form_send, numbering_send, index_send, waits_send, links_send, sendable) depth 40 fits 20000

@@ -3,3 +3,4 @@ pub mod Errors
 pub mod Lefts
 pub mod Listings
 pub mod Rows
+pub mod SlotLists

@@ -1,26 +1,39 @@
--- The slot of a thing: its row, if one stands, and room for all its rows, also for those that are taken.
-use Rattle.std.specs.Prelude.{ℕ, Bool, Option, None, Some, if◌then◌else◌, is_some}
-use Rattle.std.specs.HashMap.{HashMap, get}
-use Rattle.place_names.specs.declared.slots.Slot.{Slot}
+-- What stands for a seat: its row, if one does, and room for all its rows, also for those that are taken.
+use Rattle.std.specs.Prelude.{◌≡◌, ℕ, Bool, Option, if◌then◌else◌, is_some}
+use Rattle.marc_types.specs.declared.key.Class.{Class}
+use Rattle.marc_types.specs.declared.key.Class.TheVariants.{Authority, Bibliographic}
+use Rattle.numbering.specs.declared.seat.Seat.{Seat}
+use Rattle.numbering.specs.Seats.{same_seat}
+use Rattle.place_names.specs.declared.slot.Slot.{Slot}
+use Rattle.place_names.specs.declared.slots.Slots.{Slots}
+use Rattle.place_names.specs.Slot.{row_in, rooms_in}
+use Rattle.place_names.specs.RecordSlots.{slot_under}
 
--- the row in a slot that may be none
-abbrev pub row_in : {R : Type 0} → Option (Slot R) → Option R
-row_in None = None
-row_in (Some slot) = slot.row
+-- what stands for the class
+abbrev pub of_class : {A : Type 0} → A → A → Class → A
+of_class authority bibliographic Authority = authority
+of_class authority bibliographic Bibliographic = bibliographic
 
--- how many rows have room there
-abbrev pub rooms_in : {R : Type 0} → Option (Slot R) → ℕ
-rooms_in None = 0
-rooms_in (Some slot) = slot.rooms
+module _ {R : Type 0} where
+  -- the slot of a seat
+  abbrev pub slot_at : Slots R → Seat → Option (Slot R)
+  slot_at slots seat =
+      of_class (slot_under slots.authorities.records.items) (slot_under slots.bibliographic.records.items) seat.class seat.number seat.field
 
-module _ {P R S : Type 0} (same : P → P → Bool) where
-  -- the row that stands for the thing
-  abbrev pub row_at : HashMap P (Slot R) S → P → Option R
-  row_at slots thing = row_in (get same slots thing)
+  -- the row that stands for the seat
+  abbrev pub row_at : Slots R → Seat → Option R
+  row_at slots seat = row_in (slot_at slots seat)
 
-  -- how many rows of the thing there are, standing or taken
-  abbrev pub rooms_at : HashMap P (Slot R) S → P → ℕ
-  rooms_at slots thing = rooms_in (get same slots thing)
+  -- how many rows of the seat there are, standing or taken
+  abbrev pub rooms_at : Slots R → Seat → ℕ
+  rooms_at slots seat = rooms_in (slot_at slots seat)
+
+  -- one seat's slot is changed, and no other
+  abbrev pub IsChangedAt : Seat → (Option (Slot R) → Option (Slot R)) → (old new : Slots R) → Type 0
+  IsChangedAt one change old new = (seat : Seat) → slot_at new seat ≡ (if same_seat one seat then change (slot_at old seat) else slot_at old seat)
+
+  abbrev pub IsSameAt : (old new : Slots R) → Type 0
+  IsSameAt old new = (seat : Seat) → slot_at new seat ≡ slot_at old seat
 
 -- one where there is a row
 abbrev pub standing : {R : Type 0} → Option R → ℕ

@@ -7,6 +7,10 @@ pub use counts::Counts;
 pub use group::Group;
 pub use slots::Slots;
 
+mod class_slots;
 mod counts;
 mod group;
+mod record_slots;
+mod slot;
+mod slot_list;
 mod slots;

@@ -1,96 +1,114 @@
 ghost use Rattle.std.specs.Prelude.{◌≡◌, if◌then◌else◌, ◌+◌, ◌-◌, ◌≤◌, OnOk, OnErr, Option, option_copied, Some, None};
-ghost use Rattle.place_names.specs.Slots.{row_at, rooms_at, standing, put};
+ghost use Rattle.numbering.specs.declared.seat.Seat.{Seat as ASeat};
+ghost use Rattle.numbering.specs.Seats.{same_seat};
+ghost use Rattle.place_names.specs.Slot.{exchanged, let_go, roomier};
 
-use marc_types::NoMemory;
+use crate::class_slots::ClassSlots;
+use marc_types::{Class, NoMemory};
+use numbering::Seat;
 use std::alloc::Global;
-use std::collections::HashMap;
-use std::hash::Hash;
 
-/// For each thing at most one row, and room for all rows of it that exist: for the one that stands and for those that are taken.
+/// For each seat at most one row, and room for all rows of it that exist: for the one that stands and for those that are taken.
 #[derive(Drop)]
-pub struct Slots<P: Eq + Hash, R> {
-    slots: HashMap<P, Slot<R>>,
+pub struct Slots<R> {
+    authorities: ClassSlots<R>,
+    bibliographic: ClassSlots<R>,
 }
 
-#[derive(Drop)]
-struct Slot<R> {
-    row: Option<R>,
-    rooms: u32,
-}
+#[tactic(auto, unfolding(numbering::specs::Seats::same_seat))]
+impl<R: Drop> Slots<R> {
+    ghost use Rattle.place_names.specs.Slots.{IsChangedAt, IsSameAt, row_at, rooms_at, slot_at, standing, put};
 
-impl<P: Eq + Hash + Copy, R: Drop> Slots<P, R> {
-    /// Nothing has a row or room for one.
-    pub fn new(alloc: Global) -> Slots<P, R>
-        ensures rows { (p : P) → row_at P.eq result.slots p ≡ None }
-        ensures rooms { (p : P) → rooms_at P.eq result.slots p ≡ 0 }
+    /// No seat has a row or room for one.
+    pub fn new(alloc: Global) -> Slots<R>
+        ensures rows { (seat : ASeat) → row_at result seat ≡ None }
+        ensures rooms { (seat : ASeat) → rooms_at result seat ≡ 0 }
     {
         Slots {
-            slots: HashMap::new(alloc),
+            authorities: ClassSlots::new(alloc),
+            bibliographic: ClassSlots::new(alloc),
         }
     }
 
-    /// The row that stands for the thing.
-    pub fn row(&self, thing: P) -> Option<&R>
-        ensures { option_copied result ≡ row_at P.eq self.now.slots thing }
+    /// The row that stands for the seat.
+    pub fn row(&self, seat: Seat) -> Option<&R>
+        ensures { option_copied result ≡ row_at self.now seat }
     {
-        let slot = self.slots.get(&thing)?;
-        slot.row.as_ref()
+        match seat.class {
+            Class::Authority => self.authorities.row(seat.number, seat.field),
+            Class::Bibliographic => self.bibliographic.row(seat.number, seat.field),
+        }
     }
 
-    /// Room for one more row of the thing. `NoMemory` leaves all as it was.
-    pub fn make_room(&mut self, thing: P) -> Result<(), NoMemory>
-        ensures rows { (p : P) → row_at P.eq self.new.slots p ≡ row_at P.eq self.old.slots p }
-        ensures ok { OnOk result ((p : P) → rooms_at P.eq self.new.slots p ≡ rooms_at P.eq self.old.slots p + (if P.eq thing p then 1 else 0)) }
-        ensures err { OnErr result ((p : P) → rooms_at P.eq self.new.slots p ≡ rooms_at P.eq self.old.slots p) }
+    // Puts this row, or none, in place of the one that stands for the seat, and gives that.
+    fn exchange(&mut self, seat: Seat, row: Option<R>) -> Option<R>
+        ensures before { result ≡ row_at self.old seat }
+        ensures now { IsChangedAt seat (exchanged row) self.old self.new }
     {
-        if let Some(slot) = self.slots.get_mut(&thing) {
-            if slot.rooms == u32::MAX {
-                return Err(NoMemory);
-            }
-            slot.rooms += 1;
-            return Ok(());
+        match seat.class {
+            Class::Authority => self.authorities.exchange(seat.number, seat.field, row),
+            Class::Bibliographic => self.bibliographic.exchange(seat.number, seat.field, row),
         }
-        let slot = Slot {
-            row: None,
-            rooms: 1,
-        };
-        self.slots.insert(thing, slot)?;
+    }
+
+    // Room for one more row of the seat.
+    fn add_room(&mut self, alloc: Global, seat: Seat) -> Result<(), NoMemory>
+        ensures ok { OnOk result (IsChangedAt seat (roomier seat.field) self.old self.new) }
+        ensures err { OnErr result (IsSameAt self.old self.new) }
+    {
+        match seat.class {
+            Class::Authority => self.authorities.make_room(alloc, seat.number, seat.field)?,
+            Class::Bibliographic => self
+                .bibliographic
+                .make_room(alloc, seat.number, seat.field)?,
+        }
         Ok(())
     }
 
-    /// Takes the thing's row out. Its room stays.
-    pub fn take(&mut self, thing: P) -> Option<R>
-        ensures row { result ≡ row_at P.eq self.old.slots thing }
-        ensures rows { (p : P) → row_at P.eq self.new.slots p ≡ put P.eq thing None (row_at P.eq self.old.slots) p }
-        ensures rooms { (p : P) → rooms_at P.eq self.new.slots p ≡ rooms_at P.eq self.old.slots p }
+    // Gives up the room of a row of the seat.
+    fn lose_room(&mut self, seat: Seat)
+        ensures { IsChangedAt seat let_go self.old self.new }
     {
-        let slot = self.slots.get_mut(&thing)?;
-        slot.row.take()
-    }
-
-    /// Puts a row into the thing's room.
-    pub fn put(&mut self, thing: P, row: R)
-        requires { 1 ≤ rooms_at P.eq self.old.slots thing }
-        ensures rows { (p : P) → row_at P.eq self.new.slots p ≡ put P.eq thing (Some row) (row_at P.eq self.old.slots) p }
-        ensures rooms { (p : P) → rooms_at P.eq self.new.slots p ≡ rooms_at P.eq self.old.slots p }
-    {
-        if let Some(slot) = self.slots.get_mut(&thing) {
-            slot.row = Some(row);
+        match seat.class {
+            Class::Authority => self.authorities.let_go(seat.number, seat.field),
+            Class::Bibliographic => self.bibliographic.let_go(seat.number, seat.field),
         }
     }
 
-    /// Gives up the room of a row of the thing that was taken.
-    pub fn let_go(&mut self, thing: P)
-        requires { standing (row_at P.eq self.old.slots thing) + 1 ≤ rooms_at P.eq self.old.slots thing }
-        ensures rows { (p : P) → row_at P.eq self.new.slots p ≡ row_at P.eq self.old.slots p }
-        ensures rooms { (p : P) → rooms_at P.eq self.new.slots p ≡ rooms_at P.eq self.old.slots p - (if P.eq thing p then 1 else 0) }
+    /// Room for one more row of the seat. `NoMemory` leaves all as it was.
+    pub fn make_room(&mut self, alloc: Global, seat: Seat) -> Result<(), NoMemory>
+        ensures rows { (s : ASeat) → row_at self.new s ≡ row_at self.old s }
+        ensures ok { OnOk result ((s : ASeat) → rooms_at self.new s ≡ rooms_at self.old s + (if same_seat seat s then 1 else 0)) }
+        ensures err { OnErr result ((s : ASeat) → rooms_at self.new s ≡ rooms_at self.old s) }
     {
-        if let Some(slot) = self.slots.get_mut(&thing) {
-            if slot.rooms > 1 {
-                slot.rooms -= 1;
-                return;
-            }
-        }
-        self.slots.remove(&thing);
+        self.add_room(alloc, seat)?;
+        Ok(())
+    }
+
+    /// Takes the seat's row out. Its room stays.
+    pub fn take(&mut self, seat: Seat) -> Option<R>
+        ensures row { result ≡ row_at self.old seat }
+        ensures rows { (s : ASeat) → row_at self.new s ≡ put same_seat seat None (row_at self.old) s }
+        ensures rooms { (s : ASeat) → rooms_at self.new s ≡ rooms_at self.old s }
+    {
+        self.exchange(seat, None)
+    }
+
+    /// Puts a row into the seat's room.
+    pub fn put(&mut self, seat: Seat, row: R)
+        requires { 1 ≤ rooms_at self.old seat }
+        ensures rows { (s : ASeat) → row_at self.new s ≡ put same_seat seat (Some row) (row_at self.old) s }
+        ensures rooms { (s : ASeat) → rooms_at self.new s ≡ rooms_at self.old s }
+    {
+        self.exchange(seat, Some(row));
+    }
+
+    /// Gives up the room of a row of the seat that was taken.
+    pub fn let_go(&mut self, seat: Seat)
+        requires { standing (row_at self.old seat) + 1 ≤ rooms_at self.old seat }
+        ensures rows { (s : ASeat) → row_at self.new s ≡ row_at self.old s }
+        ensures rooms { (s : ASeat) → rooms_at self.new s ≡ rooms_at self.old s - (if same_seat seat s then 1 else 0) }
+    {
+        self.lose_room(seat);
     }
 }

@@ -1,3 +1,4 @@
+pub mod KeyNumbers
 pub mod Waits
 pub mod Sound
 pub mod Table

@@ -15,10 +15,10 @@ use std::alloc::Global;
 /// What each seat waits for, and which seats wait for a form or for a key.
 #[derive(Drop)]
 pub struct WaitTable {
-    slots: Slots<Seat, Waiting>,
+    slots: Slots<Waiting>,
     forms: Counts<Seat>,
     keys: Counts<Seat>,
-    ghost sound: { WaitsAgree (row_at same_seat slots.slots) (rooms_at same_seat slots.slots) (times same_seat forms.groups.items)
+    ghost sound: { WaitsAgree (row_at slots) (rooms_at slots) (times same_seat forms.groups.items)
         (times same_seat keys.groups.items) },
 }
 
@@ -90,7 +90,7 @@ impl WaitTable {
         ensures ok { OnOk result (waits self.new ≡ more_taken row.now (waits self.old)) }
         ensures err { OnErr result (waits self.new ≡ waits self.old) }
     {
-        self.slots.make_room(row.seat)?;
+        self.slots.make_room(alloc, row.seat)?;
         let asked = row.waiting.forms;
         if let Err(error) = note_forms(&mut self.forms, alloc, asked, row.seat) {
             self.slots.let_go(row.seat);

@@ -1,7 +1,7 @@
 ghost use Rattle.std.specs.Prelude.{◌≡◌};
 ghost use Rattle.wait_table.specs.Waits.{forms_of, has};
 
-use marc_types::Sequence;
+use crate::KeyNumbers;
 use numbering::Seat;
 
 /// The numbers of the forms that a field asks for: of its form, and where it has subdivisions of its base form too.
@@ -15,7 +15,7 @@ pub enum Asked {
 #[derive(Debug, Drop)]
 pub struct Waiting {
     pub forms: Asked,
-    pub keys: Sequence<u32>,
+    pub keys: KeyNumbers,
 }
 
 /// A row of the table.

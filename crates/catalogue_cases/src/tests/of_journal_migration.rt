@@ -1,5 +1,5 @@
-use durable_catalogue::Archive;
-use journal_migration::{MigrateFault, migrate};
+use history_logs::HistoryLog;
+use journal_migration::{HistoryEntries, MigrateFault, migrate};
 use marc_types::Limits;
 use outside_mem::MemDisk;
 use std::alloc::Global;
@@ -24,10 +24,11 @@ fn disk(alloc: Global, bytes: &[u8]) -> Result<MemDisk, MigrateFault> {
 
 /// The bytes of a log into which the history of another was brought.
 fn migrated(alloc: Global, old: &[u8], new: &[u8]) -> Result<MemDisk, MigrateFault> {
-    let Ok(archive) = Archive::open(alloc, disk(alloc, old)?, LIMITS) else {
+    let mut history = HistoryEntries::new(alloc);
+    if HistoryLog::open(alloc, disk(alloc, old)?, LIMITS, &mut history).is_err() {
         return Err(MigrateFault::NoMemory);
-    };
-    match migrate(alloc, &archive, disk(alloc, new)?, LIMITS) {
+    }
+    match migrate(alloc, history.as_slice(), disk(alloc, new)?, LIMITS) {
         Ok(disk) => Ok(disk),
         Err((_disk, fault)) => Err(fault),
     }

@@ -1,4 +1,4 @@
-use entry_payload::{is_same, payload_of};
+use entry_payload::EntryPayload;
 use marc_types::{Text, can_be_code};
 use reading::prepare;
 use std::test::Fail;
@@ -13,12 +13,11 @@ fn an_entry_has_its_payload(rt: HostRuntime) -> Result<(), Fail> {
     let library = Text::from_str(rt.alloc(), "DLC")?;
     assert!(rt; can_be_code(library.as_bytes()));
     let mut item = prepare(rt.alloc(), TWAIN, &library, 0, 1)?;
-    let entry = prepare(rt.alloc(), TWAIN, &library, 0, 1)?.into_entry();
-    let payload = payload_of(rt.alloc(), &entry)?;
-    assert_eq!(rt; payload.len(), 187);
-    assert!(rt; payload.as_slice() == item.payload());
-    assert!(rt; is_same(rt.alloc(), &entry, &item)?);
+    let entry = EntryPayload::of(rt.alloc(), &item)?;
+    assert_eq!(rt; entry.payload().len(), 187);
+    assert!(rt; entry.payload() == item.payload());
+    assert!(rt; entry.is_of(&item));
     item.set_run(1);
-    assert!(rt; !is_same(rt.alloc(), &entry, &item)?);
+    assert!(rt; !entry.is_of(&item));
     Ok(())
 }

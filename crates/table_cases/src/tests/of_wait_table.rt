@@ -5,7 +5,7 @@ use marc_types::{Class, NoMemory, Sequence};
 use numbering::Seat;
 use std::alloc::Global;
 use std::test::Fail;
-use wait_table::{Asked, WaitRow, WaitTable, Waiting};
+use wait_table::{Asked, KeyNumbers, WaitRow, WaitTable, Waiting};
 
 // A row that comes and goes leaves the table as it was, also where another row of the seat is taken.
 fn visit(table: &mut WaitTable, alloc: Global, row: WaitRow) -> Result<(), NoMemory>
@@ -30,11 +30,11 @@ fn a_row_comes_back_after_another(rt: HostRuntime) -> Result<(), Fail> {
     };
     let waiting = Waiting {
         forms: Asked::Two(1, 2),
-        keys: Sequence::from_vec(vec![in alloc; 5, 6, 7]?),
+        keys: KeyNumbers::new(alloc, Sequence::from_vec(vec![in alloc; 5, 6, 7]?))?,
     };
     let other = Waiting {
         forms: Asked::One(3),
-        keys: Sequence::from_vec(Vec::new(alloc)),
+        keys: KeyNumbers::none(),
     };
     let mut table = WaitTable::new(alloc);
     table.add(alloc, WaitRow { seat, waiting })?;

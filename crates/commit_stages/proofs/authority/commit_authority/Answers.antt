@@ -1,11 +1,12 @@
-use Rattle.std.proofs.Common.{◌∙◌, ◌++◌, sym, subst, List}
+use Rattle.std.proofs.Common.{◌∙◌, ap, sym, subst, List}
 use Rattle.catalogue_rules.specs.State.{linkable_authorities}
 use Rattle.catalogue_tables.specs.Known.{IsKnownAs}
+use Rattle.catalogue_tables.specs.Lent.{shown_forms}
 use Rattle.numbering.specs.declared.seat.Seat.{Seat}
 use Rattle.commit_stages.specs.Noted.{NotesChanges}
 use Rattle.commit_stages.proofs.Turning.{ahead_itself, ahead_then}
 use Rattle.commit_stages.specs.Stages.{drop_of}
-use Rattle.commit_stages.proofs.Whole.{brought_there, carried_so, chosen_so, dropped_so, forms_right, key_now, key_of_class, low, may_drop, number_now, number_of_class, numbers_so, own_found, placed_so, right, settled_so, spent_carrying, spent_choosing, spent_dropping, spent_settling, valid_now, within_four, within_one, within_three, within_two}
+use Rattle.commit_stages.proofs.Whole.{brought_there, carried_so, chosen_so, dropped_so, forms_lent, key_now, key_of_class, low, may_drop, number_now, number_of_class, numbers_so, own_found, placed_so, right, settled_so, spent_carrying, spent_choosing, spent_dropping, spent_settling, valid_now, within_four, within_one, within_three, within_two}
 use Rattle.commit_stages.proofs.authority.commit_authority.Goals as goal
 
 pub known_authority-requires : goal.known_authority-requires
@@ -148,11 +149,11 @@ returns-in_err-settle_touched-clause-visits g c =
     let at2 = dropped_so c.args.store.now c.args.item.now c.requires.commit c.args.number c.requires.number c.place.new.self c.drop_ended.new.store c.links_that_end-ending.result at1 ends c.in_ok-drop_ended.ensures.ok in
     let at3 = carried_so c.args.store.now c.args.item.now c.requires.commit c.args.number c.requires.number c.drop_ended.new.store c.carry_heading.new.store at2 c.in_ok-carry_heading.ensures.ok in
     let at4 = settled_so c.args.store.now c.args.item.now c.requires.commit c.args.number c.requires.number c.carry_heading.new.store c.settle_brought.new.store at3 c.in_ok-counts.ensures.ok in
-    let fs = forms_right c.args.store.now c.args.item.now c.requires.commit c.args.number c.requires.number c.in_ok-known.known c.known_forms.result.now c.deref.result.now c.in_ok-known.ensures c.known_forms.ensures (c.deref.ensures.value ∙ c.in_ok-forms.ensures) in
+    let fs = forms_lent c.args.store.now c.args.item.now c.requires.commit c.args.number c.requires.number c.in_ok-known.known c.known_forms.result.now c.deref.result.now c.in_ok-known.ensures c.known_forms.ensures (ap shown_forms c.deref.ensures.value ∙ c.in_ok-forms.ensures) in
     let s1 = spent_dropping c.args.store.now c.args.item.now c.requires.commit c.args.number c.requires.number c.place.new.self c.links_that_end-ending.result c.args.steps.now c.drop_ended.new.steps at1 ends c.drop_ended.ensures.visits in
     let s2 = spent_carrying c.args.store.now c.args.item.now c.requires.commit c.args.number c.requires.number c.drop_ended.new.store c.drop_ended.new.steps c.carry_heading.new.steps at2 c.carry_heading.ensures.visits in
     let s3 = spent_settling c.args.store.now c.args.item.now c.requires.commit c.args.number c.requires.number c.carry_heading.new.store c.carry_heading.new.steps c.settle_brought.new.steps at3 c.settle_brought.ensures.visits in
-    let s4 = spent_choosing c.args.store.now c.args.item.now c.requires.commit c.args.number c.requires.number (c.known_forms.result.now ++ c.deref.result.now) c.settle_brought.new.store c.settle_brought.new.steps c.settle_touched.new.steps at4 fs c.settle_touched.ensures.visits in
+    let s4 = spent_choosing c.args.store.now c.args.item.now c.requires.commit c.args.number c.requires.number (shown_forms c.deref.result.now) c.settle_brought.new.store c.settle_brought.new.steps c.settle_touched.new.steps at4 fs c.settle_touched.ensures.visits in
     within_four c.args.store.now c.args.item.now c.requires.commit c.args.number c.requires.number c.args.steps.now c.drop_ended.new.steps c.carry_heading.new.steps c.settle_brought.new.steps c.settle_touched.new.steps s1 s2 s3 s4
 
 pub returns-in_err-changed_records-clause-ahead : goal.returns-in_err-changed_records-clause-ahead
@@ -172,11 +173,11 @@ returns-in_err-changed_records-clause-visits g c =
     let at2 = dropped_so c.args.store.now c.args.item.now c.requires.commit c.args.number c.requires.number c.place.new.self c.drop_ended.new.store c.links_that_end-ending.result at1 ends c.in_ok-drop_ended.ensures.ok in
     let at3 = carried_so c.args.store.now c.args.item.now c.requires.commit c.args.number c.requires.number c.drop_ended.new.store c.carry_heading.new.store at2 c.in_ok-carry_heading.ensures.ok in
     let at4 = settled_so c.args.store.now c.args.item.now c.requires.commit c.args.number c.requires.number c.carry_heading.new.store c.settle_brought.new.store at3 c.in_ok-counts.ensures.ok in
-    let fs = forms_right c.args.store.now c.args.item.now c.requires.commit c.args.number c.requires.number c.in_ok-known.known c.known_forms.result.now c.deref.result.now c.in_ok-known.ensures c.known_forms.ensures (c.deref.ensures.value ∙ c.in_ok-forms.ensures) in
+    let fs = forms_lent c.args.store.now c.args.item.now c.requires.commit c.args.number c.requires.number c.in_ok-known.known c.known_forms.result.now c.deref.result.now c.in_ok-known.ensures c.known_forms.ensures (ap shown_forms c.deref.ensures.value ∙ c.in_ok-forms.ensures) in
     let s1 = spent_dropping c.args.store.now c.args.item.now c.requires.commit c.args.number c.requires.number c.place.new.self c.links_that_end-ending.result c.args.steps.now c.drop_ended.new.steps at1 ends c.drop_ended.ensures.visits in
     let s2 = spent_carrying c.args.store.now c.args.item.now c.requires.commit c.args.number c.requires.number c.drop_ended.new.store c.drop_ended.new.steps c.carry_heading.new.steps at2 c.carry_heading.ensures.visits in
     let s3 = spent_settling c.args.store.now c.args.item.now c.requires.commit c.args.number c.requires.number c.carry_heading.new.store c.carry_heading.new.steps c.settle_brought.new.steps at3 c.settle_brought.ensures.visits in
-    let s4 = spent_choosing c.args.store.now c.args.item.now c.requires.commit c.args.number c.requires.number (c.known_forms.result.now ++ c.deref.result.now) c.settle_brought.new.store c.settle_brought.new.steps c.settle_touched.new.steps at4 fs c.settle_touched.ensures.visits in
+    let s4 = spent_choosing c.args.store.now c.args.item.now c.requires.commit c.args.number c.requires.number (shown_forms c.deref.result.now) c.settle_brought.new.store c.settle_brought.new.steps c.settle_touched.new.steps at4 fs c.settle_touched.ensures.visits in
     within_four c.args.store.now c.args.item.now c.requires.commit c.args.number c.requires.number c.args.steps.now c.drop_ended.new.steps c.carry_heading.new.steps c.settle_brought.new.steps c.settle_touched.new.steps s1 s2 s3 s4
 
 pub returns-clause-state : goal.returns-clause-state
@@ -186,8 +187,8 @@ returns-clause-state g c =
     let at2 = dropped_so c.args.store.now c.args.item.now c.requires.commit c.args.number c.requires.number c.place.new.self c.drop_ended.new.store c.links_that_end-ending.result at1 ends c.in_ok-drop_ended.ensures.ok in
     let at3 = carried_so c.args.store.now c.args.item.now c.requires.commit c.args.number c.requires.number c.drop_ended.new.store c.carry_heading.new.store at2 c.in_ok-carry_heading.ensures.ok in
     let at4 = settled_so c.args.store.now c.args.item.now c.requires.commit c.args.number c.requires.number c.carry_heading.new.store c.settle_brought.new.store at3 c.in_ok-counts.ensures.ok in
-    let fs = forms_right c.args.store.now c.args.item.now c.requires.commit c.args.number c.requires.number c.in_ok-known.known c.known_forms.result.now c.deref.result.now c.in_ok-known.ensures c.known_forms.ensures (c.deref.ensures.value ∙ c.in_ok-forms.ensures) in
-    chosen_so c.args.store.now c.args.item.now c.requires.commit c.args.number c.requires.number (c.known_forms.result.now ++ c.deref.result.now) c.settle_brought.new.store c.settle_touched.new.store at4 fs c.in_ok-settle_touched.ensures.ok
+    let fs = forms_lent c.args.store.now c.args.item.now c.requires.commit c.args.number c.requires.number c.in_ok-known.known c.known_forms.result.now c.deref.result.now c.in_ok-known.ensures c.known_forms.ensures (ap shown_forms c.deref.ensures.value ∙ c.in_ok-forms.ensures) in
+    chosen_so c.args.store.now c.args.item.now c.requires.commit c.args.number c.requires.number (shown_forms c.deref.result.now) c.settle_brought.new.store c.settle_touched.new.store at4 fs c.in_ok-settle_touched.ensures.ok
 
 pub returns-clause-changes : goal.returns-clause-changes
 returns-clause-changes g c =
@@ -196,8 +197,8 @@ returns-clause-changes g c =
     let at2 = dropped_so c.args.store.now c.args.item.now c.requires.commit c.args.number c.requires.number c.place.new.self c.drop_ended.new.store c.links_that_end-ending.result at1 ends c.in_ok-drop_ended.ensures.ok in
     let at3 = carried_so c.args.store.now c.args.item.now c.requires.commit c.args.number c.requires.number c.drop_ended.new.store c.carry_heading.new.store at2 c.in_ok-carry_heading.ensures.ok in
     let at4 = settled_so c.args.store.now c.args.item.now c.requires.commit c.args.number c.requires.number c.carry_heading.new.store c.settle_brought.new.store at3 c.in_ok-counts.ensures.ok in
-    let fs = forms_right c.args.store.now c.args.item.now c.requires.commit c.args.number c.requires.number c.in_ok-known.known c.known_forms.result.now c.deref.result.now c.in_ok-known.ensures c.known_forms.ensures (c.deref.ensures.value ∙ c.in_ok-forms.ensures) in
-    numbers_so c.args.store.now c.args.item.now c.requires.commit c.args.number c.requires.number c.place.new.self c.drop_ended.new.store c.carry_heading.new.store c.settle_brought.new.store c.settle_touched.new.store c.drop_ended.new.noted c.carry_heading.new.noted c.settle_touched.new.noted (c.known_forms.result.now ++ c.deref.result.now) c.links_that_end-ending.result c.in_ok-counts.counts c.in_ok-changed_records.changed_records
+    let fs = forms_lent c.args.store.now c.args.item.now c.requires.commit c.args.number c.requires.number c.in_ok-known.known c.known_forms.result.now c.deref.result.now c.in_ok-known.ensures c.known_forms.ensures (ap shown_forms c.deref.ensures.value ∙ c.in_ok-forms.ensures) in
+    numbers_so c.args.store.now c.args.item.now c.requires.commit c.args.number c.requires.number c.place.new.self c.drop_ended.new.store c.carry_heading.new.store c.settle_brought.new.store c.settle_touched.new.store c.drop_ended.new.noted c.carry_heading.new.noted c.settle_touched.new.noted (shown_forms c.deref.result.now) c.links_that_end-ending.result c.in_ok-counts.counts c.in_ok-changed_records.changed_records
     at1 at2 at3 at4 c.drop_ended.ensures.ahead c.carry_heading.ensures.ahead c.settle_brought.ensures.ahead c.settle_touched.ensures.ahead ends fs
     (subst (λ (seats : List Seat). NotesChanges (drop_of c.links_that_end-ending.result c.args.item.now (linkable_authorities c.place.new.self.state)) c.place.new.self seats c.drop_ended.new.noted) c.new-noted.ensures c.in_ok-drop_ended.ensures.noted) c.in_ok-carry_heading.ensures.noted c.in_ok-settle_touched.ensures.noted c.in_ok-changed_records.ensures
     c.each_key_has_one_number.ensures c.each_record_has_a_number.ensures c.in_ok-counts.ensures.counts
@@ -219,9 +220,9 @@ returns-clause-visits g c =
     let at2 = dropped_so c.args.store.now c.args.item.now c.requires.commit c.args.number c.requires.number c.place.new.self c.drop_ended.new.store c.links_that_end-ending.result at1 ends c.in_ok-drop_ended.ensures.ok in
     let at3 = carried_so c.args.store.now c.args.item.now c.requires.commit c.args.number c.requires.number c.drop_ended.new.store c.carry_heading.new.store at2 c.in_ok-carry_heading.ensures.ok in
     let at4 = settled_so c.args.store.now c.args.item.now c.requires.commit c.args.number c.requires.number c.carry_heading.new.store c.settle_brought.new.store at3 c.in_ok-counts.ensures.ok in
-    let fs = forms_right c.args.store.now c.args.item.now c.requires.commit c.args.number c.requires.number c.in_ok-known.known c.known_forms.result.now c.deref.result.now c.in_ok-known.ensures c.known_forms.ensures (c.deref.ensures.value ∙ c.in_ok-forms.ensures) in
+    let fs = forms_lent c.args.store.now c.args.item.now c.requires.commit c.args.number c.requires.number c.in_ok-known.known c.known_forms.result.now c.deref.result.now c.in_ok-known.ensures c.known_forms.ensures (ap shown_forms c.deref.ensures.value ∙ c.in_ok-forms.ensures) in
     let s1 = spent_dropping c.args.store.now c.args.item.now c.requires.commit c.args.number c.requires.number c.place.new.self c.links_that_end-ending.result c.args.steps.now c.drop_ended.new.steps at1 ends c.drop_ended.ensures.visits in
     let s2 = spent_carrying c.args.store.now c.args.item.now c.requires.commit c.args.number c.requires.number c.drop_ended.new.store c.drop_ended.new.steps c.carry_heading.new.steps at2 c.carry_heading.ensures.visits in
     let s3 = spent_settling c.args.store.now c.args.item.now c.requires.commit c.args.number c.requires.number c.carry_heading.new.store c.carry_heading.new.steps c.settle_brought.new.steps at3 c.settle_brought.ensures.visits in
-    let s4 = spent_choosing c.args.store.now c.args.item.now c.requires.commit c.args.number c.requires.number (c.known_forms.result.now ++ c.deref.result.now) c.settle_brought.new.store c.settle_brought.new.steps c.settle_touched.new.steps at4 fs c.settle_touched.ensures.visits in
+    let s4 = spent_choosing c.args.store.now c.args.item.now c.requires.commit c.args.number c.requires.number (shown_forms c.deref.result.now) c.settle_brought.new.store c.settle_brought.new.steps c.settle_touched.new.steps at4 fs c.settle_touched.ensures.visits in
     within_four c.args.store.now c.args.item.now c.requires.commit c.args.number c.requires.number c.args.steps.now c.drop_ended.new.steps c.carry_heading.new.steps c.settle_brought.new.steps c.settle_touched.new.steps s1 s2 s3 s4

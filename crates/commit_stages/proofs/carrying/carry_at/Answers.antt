@@ -1,6 +1,6 @@
 use Rattle.std.proofs.lemmas.Result.{on_ok_weaker}
 use Rattle.field_settling.specs.Held.{heading_as}
-use Rattle.commit_stages.proofs.Ending.{made_suits}
+use Rattle.commit_stages.proofs.TurnsEnd.{made_suits}
 use Rattle.commit_stages.proofs.Turning.{ahead_itself}
 use Rattle.commit_stages.specs.Carrying.{carry_heading}
 use Rattle.commit_stages.proofs.CarriedField.{one_visit}

@@ -1,6 +1,6 @@
 use Rattle.std.proofs.lemmas.Result.{on_ok_weaker}
 use Rattle.catalogue_rules.specs.State.{linkable_authorities}
-use Rattle.commit_stages.proofs.Ending.{made_suits}
+use Rattle.commit_stages.proofs.TurnsEnd.{made_suits}
 use Rattle.commit_stages.proofs.Turning.{ahead_itself}
 use Rattle.commit_stages.specs.Dropping.{drop_ending, dropping_of}
 use Rattle.commit_stages.proofs.Dropped.{turn_ordered}

@@ -3,7 +3,7 @@ use Rattle.std.proofs.lemmas.Result.{on_ok_weaker}
 use Rattle.field_settling.specs.Held.{held_as}
 use Rattle.field_settling.specs.declared.held.Held.{Held}
 use Rattle.commit_stages.specs.Turns.{IsMadeOf}
-use Rattle.commit_stages.proofs.Ending.{left_turned, made_turned}
+use Rattle.commit_stages.proofs.TurnsEnd.{left_turned, made_turned}
 use Rattle.commit_stages.proofs.Turning.{ahead_itself}
 use Rattle.commit_stages.proofs.exchanging.exchange_made.Goals as goal
 

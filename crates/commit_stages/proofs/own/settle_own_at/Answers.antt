@@ -1,8 +1,8 @@
 use Rattle.catalogue_rules.specs.State.{linkable_authorities}
 use Rattle.catalogue_rules.specs.Settle.{settle_field}
-use Rattle.commit_stages.proofs.Ending.{made_suits}
+use Rattle.commit_stages.proofs.TurnsEnd.{made_suits}
 use Rattle.commit_stages.proofs.Turning.{ahead_itself}
-use Rattle.commit_stages.proofs.Settled.{ordered}
+use Rattle.commit_stages.proofs.SettledFields.{ordered}
 use Rattle.commit_stages.proofs.own.settle_own_at.Goals as goal
 
 pub returns-in_err-settled-clause-ahead : goal.returns-in_err-settled-clause-ahead

@@ -2,14 +2,24 @@ use Rattle.std.proofs.Common.{sym}
 use Rattle.std.proofs.lemmas.Result.{IfOk-weaker}
 use Rattle.catalogue_rules.specs.State.{linkable_authorities}
 use Rattle.commit_stages.specs.Fields.{field_as}
-use Rattle.commit_stages.proofs.Settled.{choice_made, field_there, in_order, turn_costs, unlinked_there}
+use Rattle.commit_stages.proofs.SettledFields.{choice_made, field_there, in_order, turn_costs, unlinked_there}
 use Rattle.commit_stages.proofs.waiting.settled.Goals as goal
 
 pub visit_field-requires : goal.visit_field-requires
 visit_field-requires g c = c.requires.to_do.known
 
-pub settle_unlinked-requires : goal.settle_unlinked-requires
-settle_unlinked-requires g c = in_order c.args.store.now.state c.requires.middle
+pub settle_unlinked-requires-clause-ordered : goal.settle_unlinked-requires-clause-ordered
+settle_unlinked-requires-clause-ordered g c = in_order c.args.store.now.state c.requires.middle
+
+pub settle_unlinked-requires-clause-known : goal.settle_unlinked-requires-clause-known
+settle_unlinked-requires-clause-known g c = c.requires.to_do.known
+
+pub settle_unlinked-requires-clause-stands : goal.settle_unlinked-requires-clause-stands
+settle_unlinked-requires-clause-stands g c = sym c.in-Some.ensures.field
+
+pub settle_unlinked-requires-clause-unlinked : goal.settle_unlinked-requires-clause-unlinked
+settle_unlinked-requires-clause-unlinked g c =
+    unlinked_there c.args.seat c.args.store.now (field_as c.in-Some.at) c.requires.to_do (sym c.in-Some.ensures.field)
 
 pub returns-in-Some-clause-made : goal.returns-in-Some-clause-made
 returns-in-Some-clause-made g c =

@@ -1,8 +1,9 @@
+use Rattle.std.proofs.Common.{length}
 use Rattle.durable_catalogue.proofs.Loads.{AreBuilt}
 use Rattle.durable_catalogue.proofs.loading.build.Given as goal
 
-abbrev pub invariant-loop-item : goal.invariant-loop-item
-invariant-loop-item g l =
-    (goal.iterator-loop-item g).can_next l.item-iterator ×
-    (goal.iterator-loop-item g).is_finite l.item-iterator ×
-    AreBuilt l.fn.limits l.yielded l.core
+abbrev pub invariant-loop-frame : goal.invariant-loop-frame
+invariant-loop-frame g l =
+    (goal.iterator-loop-frame g).can_next l.frame-iterator ×
+    (goal.iterator-loop-frame g).is_finite l.frame-iterator ×
+    AreBuilt l.version l.fn.frames.items l.fn.limits (length l.yielded) l.counter l.building.core

@@ -1,4 +1,4 @@
-use Rattle.std.proofs.Common.{List, [], ◌∷◌, take, ◌++◌, ap, subst, ◌∙◌}
+use Rattle.std.proofs.Common.{List, [], ◌∷◌, take, ◌++◌, subst}
 use Rattle.std.proofs.lemmas.List.{take_all}
 use Rattle.marc_types.specs.declared.entry.Entry.{Entry}
 use Rattle.history_logs.specs.Taking.{HasLeft}
@@ -12,7 +12,7 @@ loop-item-preserved g c =
     let so_far = c.loop-item.invariant in
     record {
       taken = λ before has.
-          subst (g.T.EntryTaker.has c.take.new.self) (ap (λ e. (before ++ take count items) ++ e ∷ []) c.entry.ensures.value ∙ behind_more before items count c.item-item.result c.loop-item-test.true c.item-item.is)
+          subst (g.T.EntryTaker.has c.take.new.self) (behind_more before items count c.item-item.result c.loop-item-test.true c.item-item.is)
           (c.in_ok-take.ensures.taken (before ++ take count items) (so_far.taken before has));
       left = λ bytes before fits.
           subst (λ entries. HasLeft bytes entries c.left_behind.result) (behind_more before items count c.item-item.result c.loop-item-test.true c.item-item.is)

@@ -11,8 +11,8 @@ returns-in_err-count-clause-brings g c entries version held =
     let journal = c.args.journal.now in
     let settled = journal.settled c.requires.whole in
     brings_none (seen journal.disk) settled.only (g.met.D.Disk.only_now journal.disk)
-    (MayGain journal.version c.args.limits.now c.args.core.now.history entries)
-    (λ may. settled_newest journal.place journal.version (seen journal.disk) settled may.newest) c.args.core.now.history entries
+    (MayGain journal.version c.args.limits.now c.args.history.now entries)
+    (λ may. settled_newest journal.place journal.version (seen journal.disk) settled may.newest) c.args.history.now entries
 
 pub returns-in_err-count-clause-fault : goal.returns-in_err-count-clause-fault
 returns-in_err-count-clause-fault g c version =
@@ -29,7 +29,7 @@ pub returns-clause-brings : goal.returns-clause-brings
 returns-clause-brings g c entries version held =
     let seen = g.D.Disk.seen in
     let journal = c.args.journal.now in
-    let history = c.args.core.now.history in
+    let history = c.args.history.now in
     let front = rw c.version.ensures at c.in_ok-count.ensures.front in
     let newest : journal.version ≡ 2 = sym c.version.ensures ∙ c.in_ok-count.ensures.version in
     brings_where (MayGain journal.version c.args.limits.now history entries) history entries (seen journal.disk) (seen c.bring_rest.new.journal.disk)
@@ -41,7 +41,7 @@ pub returns-clause-brought : goal.returns-clause-brought
 returns-clause-brought g c =
     let seen = g.D.Disk.seen in
     let journal = c.args.journal.now in
-    let history = c.args.core.now.history in
+    let history = c.args.history.now in
     let front = rw c.version.ensures at c.in_ok-count.ensures.front in
     on_ok_weaker c.bring_rest.result (λ brought entries version held.
     subst (λ es. HasBrought history es history (seen journal.disk) (seen c.bring_rest.new.journal.disk))

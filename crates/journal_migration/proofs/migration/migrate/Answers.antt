@@ -7,8 +7,8 @@ pub returns-in-Ok-bring-clause-fit : goal.returns-in-Ok-bring-clause-fit
 returns-in-Ok-bring-clause-fit g c log told =
     let seen = g.D.Disk.seen in
     let journal = c.in-Ok.journal in
-    let front = rw (c.as_slice.ensures, c.core.ensures.value) at c.in-Ok-bring.ensures.front in
-    fit c.args.old.now.core.history c.in-Ok.frames journal.place journal.version (seen c.args.new) (seen journal.disk) c.in-Ok.ensures.recovered c.in-Ok.ensures.crash
+    let front = rw c.as_slice.ensures at c.in-Ok-bring.ensures.front in
+    fit c.args.history.now c.in-Ok.frames journal.place journal.version (seen c.args.new) (seen journal.disk) c.in-Ok.ensures.recovered c.in-Ok.ensures.crash
     c.args.limits c.in-Ok-bring.ensures.version front log told
 
 pub returns-in-Ok-bring-clause-all : goal.returns-in-Ok-bring-clause-all
@@ -16,9 +16,9 @@ returns-in-Ok-bring-clause-all g c was bytes is_history told image =
     let seen = g.D.Disk.seen in
     let journal = c.in-Ok.journal in
     let new = c.bring.new.journal.disk in
-    let front = rw (c.as_slice.ensures, c.core.ensures.value) at c.in-Ok-bring.ensures.front in
-    let brought = rw (c.as_slice.ensures, c.core.ensures.value) at c.in-Ok-bring.ensures.brought in
-    images_all c.args.old.now.core.history c.in-Ok.frames journal.place journal.version (seen c.args.new) (seen journal.disk) c.in-Ok.ensures.recovered c.in-Ok.ensures.crash
+    let front = rw c.as_slice.ensures at c.in-Ok-bring.ensures.front in
+    let brought = rw c.as_slice.ensures at c.in-Ok-bring.ensures.brought in
+    images_all c.args.history.now c.in-Ok.frames journal.place journal.version (seen c.args.new) (seen journal.disk) c.in-Ok.ensures.recovered c.in-Ok.ensures.crash
     c.in-Ok.ensures.content (seen new) c.bring.ensures.continues was is_history (g.met.D.Disk.content_is_image new) c.args.limits c.in-Ok-bring.ensures.version front brought
     c.bring.new.journal.place c.bring.new.journal.version (c.bring.new.journal.settled c.in-Ok-bring.ensures.whole) c.in-Ok-bring.ensures.newest bytes told (subst (λ d. (seen d).image bytes) c.close.ensures image)
 
@@ -27,9 +27,9 @@ returns-in-Ok-bring-clause-content g c was bytes is_history is_now =
     let seen = g.D.Disk.seen in
     let journal = c.in-Ok.journal in
     let new = c.bring.new.journal.disk in
-    let front = rw (c.as_slice.ensures, c.core.ensures.value) at c.in-Ok-bring.ensures.front in
-    let brought = rw (c.as_slice.ensures, c.core.ensures.value) at c.in-Ok-bring.ensures.brought in
-    brought_all c.args.old.now.core.history c.in-Ok.frames journal.place journal.version (seen c.args.new) (seen journal.disk) c.in-Ok.ensures.recovered c.in-Ok.ensures.crash
+    let front = rw c.as_slice.ensures at c.in-Ok-bring.ensures.front in
+    let brought = rw c.as_slice.ensures at c.in-Ok-bring.ensures.brought in
+    brought_all c.args.history.now c.in-Ok.frames journal.place journal.version (seen c.args.new) (seen journal.disk) c.in-Ok.ensures.recovered c.in-Ok.ensures.crash
     c.in-Ok.ensures.content (seen new) c.bring.ensures.continues was is_history (g.met.D.Disk.content_is_image new) c.args.limits c.in-Ok-bring.ensures.version front brought
     c.bring.new.journal.place c.bring.new.journal.version (c.bring.new.journal.settled c.in-Ok-bring.ensures.whole) c.in-Ok-bring.ensures.newest
     bytes (sym (ap (λ d. (seen d).content) c.close.ensures) ∙ is_now)
@@ -39,8 +39,8 @@ returns-in-Ok-bring-clause-crash g c was is_history =
     let seen = g.D.Disk.seen in
     let journal = c.in-Ok.journal in
     let new = c.bring.new.journal.disk in
-    let history = c.args.old.now.core.history in
-    let brings = rw (c.as_slice.ensures, c.core.ensures.value) at c.bring.ensures.brings in
+    let history = c.args.history.now in
+    let brings = rw c.as_slice.ensures at c.bring.ensures.brings in
     subst (λ d. IsMigration c.args.limits history (seen c.args.new) (seen d)) (sym c.close.ensures)
     (migrated history c.in-Ok.frames journal.place journal.version (seen c.args.new) (seen journal.disk) c.in-Ok.ensures.recovered c.in-Ok.ensures.crash
     c.in-Ok.ensures.content (seen new) c.bring.ensures.continues was is_history (g.met.D.Disk.content_is_image new) c.args.limits brings
@@ -51,8 +51,8 @@ returns-in-Ok-clause-crash g c was is_history =
     let seen = g.D.Disk.seen in
     let journal = c.in-Ok.journal in
     let new = c.bring.new.journal.disk in
-    let history = c.args.old.now.core.history in
-    let brings = rw (c.as_slice.ensures, c.core.ensures.value) at c.bring.ensures.brings in
+    let history = c.args.history.now in
+    let brings = rw c.as_slice.ensures at c.bring.ensures.brings in
     subst (λ d. IsMigration c.args.limits history (seen c.args.new) (seen d)) (sym c.close-in-Err-bring.ensures)
     (migrated history c.in-Ok.frames journal.place journal.version (seen c.args.new) (seen journal.disk) c.in-Ok.ensures.recovered c.in-Ok.ensures.crash
     c.in-Ok.ensures.content (seen new) c.bring.ensures.continues was is_history (g.met.D.Disk.content_is_image new) c.args.limits brings
@@ -62,8 +62,8 @@ pub returns-in-Ok-clause-fault : goal.returns-in-Ok-clause-fault
 returns-in-Ok-clause-fault g c log told =
     let seen = g.D.Disk.seen in
     let journal = c.in-Ok.journal in
-    let history = c.args.old.now.core.history in
-    let why = rw (c.as_slice.ensures, c.core.ensures.value) at c.in-Err-bring.ensures.fault in
+    let history = c.args.history.now in
+    let why = rw c.as_slice.ensures at c.in-Err-bring.ensures.fault in
     let version = is_version history c.in-Ok.frames journal.place journal.version (seen c.args.new) (seen journal.disk) c.in-Ok.ensures.recovered c.in-Ok.ensures.crash log told in
     unmigrated c.in-Ok.frames journal.place journal.version (seen c.args.new) (seen journal.disk) c.args.limits history c.in-Err-bring.fault c.in-Ok.ensures.recovered (why version) log told
 
@@ -73,10 +73,10 @@ returns-in-Ok-clause-left_alone g c log told none =
     let journal = c.in-Ok.journal in
     let old = seen c.args.new in
     let mid = seen journal.disk in
-    let history = c.args.old.now.core.history in
+    let history = c.args.history.now in
     let opened = c.in-Ok.ensures in
     let fault = c.in-Err-bring.fault in
-    let alone = rw (c.as_slice.ensures, c.core.ensures.value) at c.bring.ensures.alone in
+    let alone = rw c.as_slice.ensures at c.bring.ensures.alone in
     let version = is_version history c.in-Ok.frames journal.place journal.version old mid opened.recovered opened.crash log told in
     let no_front = unfit history c.in-Ok.frames journal.place journal.version old mid opened.recovered opened.crash c.args.limits log told none in
     subst (λ d. LeavesRefused fault log old (seen d)) (sym c.close-in-Err-bring.ensures)
@@ -85,7 +85,7 @@ returns-in-Ok-clause-left_alone g c log told none =
 
 pub returns-clause-crash : goal.returns-clause-crash
 returns-clause-crash g c was is_history =
-    opened_alone c.args.limits c.args.old.now.core.history (g.D.Disk.seen c.args.new) (g.D.Disk.seen c.in-Err.failed.0) c.in-Err.ensures.crash c.in-Err.ensures.content
+    opened_alone c.args.limits c.args.history.now (g.D.Disk.seen c.args.new) (g.D.Disk.seen c.in-Err.failed.0) c.in-Err.ensures.crash c.in-Err.ensures.content
 
 pub returns-clause-left_alone : goal.returns-clause-left_alone
 returns-clause-left_alone g c log told none =
@@ -97,6 +97,6 @@ returns-clause-left_alone g c log told none =
 pub returns-clause-fault : goal.returns-clause-fault
 returns-clause-fault g c log told =
     let seen = g.D.Disk.seen in
-    let history = c.args.old.now.core.history in
+    let history = c.args.history.now in
     subst (λ f. IsUnmigrated c.args.limits history log f) (sym c.migrate_fault.ensures)
     (unopened (seen c.args.new) (seen c.in-Err.failed.0) c.args.limits history c.in-Err.failed.1 c.in-Err.ensures.fault log told)

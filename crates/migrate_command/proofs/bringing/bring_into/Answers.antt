@@ -10,18 +10,18 @@ use Rattle.migrate_command.proofs.Endings.{migrating_device}
 use Rattle.migrate_command.proofs.Rooms.{brings_into, all_into, alone_into, images_into, untouched_into, rose_into}
 use Rattle.migrate_command.proofs.bringing.bring_into.Goals as goal
 
--- the archive is of the newest version
+-- the log is of the newest version
 pub returns-then-version-ne1-clause-apart : goal.returns-then-version-ne1-clause-apart
 returns-then-version-ne1-clause-apart g c = same_but_itself (g.R.Room.seen c.args.room.now) (c.args.into.now ∷ [])
 
 pub returns-then-version-ne1-clause-brings : goal.returns-then-version-ne1-clause-brings
 returns-then-version-ne1-clause-brings g c was tells is_history =
     let room = g.R.Room.seen c.args.room.now in
-    untouched_into c.args.archive.now.core.history room room c.args.into.now (same_but_itself room [])
+    untouched_into c.args.history.now room room c.args.into.now (same_but_itself room [])
 
 pub returns-then-version-ne1-clause-fault : goal.returns-then-version-ne1-clause-fault
 returns-then-version-ne1-clause-fault g c =
-    Newest refl (λ one. c.if-version-ne1.true (c.version.ensures ∙ one)) (same_but_itself (g.R.Room.seen c.args.room.now) [])
+    Newest refl c.if-version-ne1.true (same_but_itself (g.R.Room.seen c.args.room.now) [])
 
 -- the new log was not opened
 pub returns-in_default-clause-brings : goal.returns-in_default-clause-brings
@@ -32,7 +32,7 @@ returns-in_default-clause-fault g c =
     let room = g.R.Room.seen in
     let into = c.args.into.now in
     let stays = c.in_default.ensures.failed in
-    Refused migrating.DeviceFault (sym c.version.ensures ∙ c.if-version-ne1.false) refl (λ tells. tt)
+    Refused migrating.DeviceFault c.if-version-ne1.false refl (λ tells. tt)
     (λ was tells is_history none. unopened_keeps (Device ≡ Device) (room c.args.room.now) (room c.open_log.new.self) into stays)
     (λ device. c.in_default.ensures.cause.failed)
 
@@ -43,7 +43,7 @@ returns-in-Ok-migrate-clause-brings g c was tells is_history =
     let room = g.R.Room.seen in
     let open_tells = c.in-Ok.ensures.apart.tells ∙ tells in
     let closing = c.close_log.ensures in
-    brings_into c.args.archive.now.core.history (room c.args.room.now) (room c.close_log.new.self) c.args.into.now (disk c.in-Ok.log) (disk c.in-Ok-migrate.log)
+    brings_into c.args.history.now (room c.args.room.now) (room c.close_log.new.self) c.args.into.now (disk c.in-Ok.log) (disk c.in-Ok-migrate.log)
     (c.in-Ok.ensures.bytes tells) (closing.bytes open_tells) (c.in-Ok-migrate.ensures.crash was is_history)
     c.in-Ok.ensures.beginning (closing.log open_tells) (closing.moments open_tells)
 
@@ -51,11 +51,11 @@ pub returns-in-Ok-migrate-clause-brought : goal.returns-in-Ok-migrate-clause-bro
 returns-in-Ok-migrate-clause-brought g c =
     let disk = g.R.Log.Disk.seen in
     let room = g.R.Room.seen in
-    let history = c.args.archive.now.core.history in
+    let history = c.args.history.now in
     let into = c.args.into.now in
     let migrated = c.in-Ok-migrate.ensures in
     let closing = c.close_log.ensures in record {
-      oldest = sym c.version.ensures ∙ c.if-version-ne1.false;
+      oldest = c.if-version-ne1.false;
       fit = λ tells. migrated.fit (log_bytes (room c.args.room.now) into) (c.in-Ok.ensures.bytes tells);
       all = λ was tells is_history.
           all_into history (room c.args.room.now) (room c.close_log.new.self) into (disk c.in-Ok.log) (disk c.in-Ok-migrate.log)
@@ -74,7 +74,7 @@ returns-in-Err-clause-brings g c was tells is_history =
     let room = g.R.Room.seen in
     let open_tells = c.in-Ok.ensures.apart.tells ∙ tells in
     let closing = c.close_log-in-Err.ensures in
-    brings_into c.args.archive.now.core.history (room c.args.room.now) (room c.close_log-in-Err.new.self) c.args.into.now (disk c.in-Ok.log) (disk c.in-Err.failed.0)
+    brings_into c.args.history.now (room c.args.room.now) (room c.close_log-in-Err.new.self) c.args.into.now (disk c.in-Ok.log) (disk c.in-Err.failed.0)
     (c.in-Ok.ensures.bytes tells) (closing.bytes open_tells) (c.in-Err.ensures.crash was is_history)
     c.in-Ok.ensures.beginning (closing.log open_tells) (closing.moments open_tells)
 
@@ -87,13 +87,13 @@ returns-in-Err-clause-fault g c =
     let failed = c.in-Err.failed in
     let told = c.fault_of_migrating.ensures in
     let closing = c.close_log-in-Err.ensures in
-    Refused failed.1 (sym c.version.ensures ∙ c.if-version-ne1.false) told
+    Refused failed.1 c.if-version-ne1.false told
     (λ tells. c.in-Err.ensures.fault (log_bytes (room c.args.room.now) into) (c.in-Ok.ensures.bytes tells))
     (λ was tells is_history none.
     let now = room c.close_log-in-Err.new.self in
     let open_tells = c.in-Ok.ensures.apart.tells ∙ tells in
     keeps_where (failed.1 ≡ migrating.DeviceFault) (c.fault_of_migrating.result ≡ Device) (room c.args.room.now) now into (λ device. told ∙ ap fault_of_migrating device)
-    (alone_into c.args.archive.now.core.history (room c.args.room.now) now into (disk c.in-Ok.log) (disk failed.0)
+    (alone_into c.args.history.now (room c.args.room.now) now into (disk c.in-Ok.log) (disk failed.0)
     (c.in-Ok.ensures.bytes tells) (closing.bytes open_tells) (c.in-Err.ensures.crash was is_history)
     c.in-Ok.ensures.beginning (record { is_log = closing.log open_tells; same = closing.moments open_tells })
     (record { after = law.synced_after failed.0; by_now = law.synced_by_now failed.0; undated = law.undated_content failed.0 })

@@ -1,8 +1,8 @@
 use Rattle.std.proofs.Common.{◌-◌, ◌<◌, ◌≤◌, ℕ, length, ap, ◌∙◌, arith}
 use Rattle.std.specs.Prelude.{nat_lt}
 use Rattle.std.proofs.lemmas.Bool.{le-leb}
-use Rattle.catalogue_core.specs.Catalogues.{Catalogued, is_full}
-use Rattle.catalogue_core.proofs.Catalogues.{full_count, full_size}
+use Rattle.catalogue_core.specs.Catalogues.{Catalogued, entries_seen, is_full}
+use Rattle.catalogue_core.proofs.Catalogues.{seen_many, full_count, full_size}
 use Rattle.catalogue_core.proofs.catalogue.Catalogue.is_full.Goals as goal
 
 pub overflow_sub-result : goal.overflow_sub-result
@@ -13,17 +13,19 @@ returns-then-len-self c =
     let k = c.self.inside in
     let size = k.entries.ok.0 in
     let len = c.len.ensures in
-    let many : k.limits.entries ≤ length k.entries.items = omega (arith, size, len, c.if-len-self.true) in
+    let all = entries_seen k.entries.items in
+    let many : k.limits.entries ≤ length all = omega (arith, size, len, seen_many k.entries.items, c.if-len-self.true) in
     le-leb k.limits.entries c.len.result c.if-len-self.true
-    ∙ full_count k.kept k.entries.items k.limits c.args.item.now many
-    ∙ ap (λ (all : Catalogued). is_full all c.args.item.now) c.self.view_is
+    ∙ full_count k.kept all k.limits c.args.item.now many
+    ∙ ap (λ (x : Catalogued). is_full x c.args.item.now) c.self.view_is
 
 pub returns-else-len-self : goal.returns-else-len-self
 returns-else-len-self c =
     let k = c.self.inside in
     let size = k.entries.ok.0 in
     let len = c.len.ensures in
-    let few : length k.entries.items < k.limits.entries = omega (arith, size, len, c.if-len-self.false) in
+    let all = entries_seen k.entries.items in
+    let few : length all < k.limits.entries = omega (arith, size, len, seen_many k.entries.items, c.if-len-self.false) in
     ap (λ (n : ℕ). nat_lt (k.limits.bytes - k.bytes) n) c.size.ensures
-    ∙ full_size k.engine k.kept k.kept_bytes k.entries.items k.bytes k.limits c.args.item.now c.self.invariant few
-    ∙ ap (λ (all : Catalogued). is_full all c.args.item.now) c.self.view_is
+    ∙ full_size k.engine k.kept k.kept_bytes all k.bytes k.limits c.args.item.now c.self.invariant few
+    ∙ ap (λ (x : Catalogued). is_full x c.args.item.now) c.self.view_is

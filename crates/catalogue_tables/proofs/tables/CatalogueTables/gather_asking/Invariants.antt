@@ -10,4 +10,4 @@ use Rattle.catalogue_tables.proofs.tables.CatalogueTables.gather_asking.Given as
 abbrev pub invariant-loop-form : goal.invariant-loop-form
 invariant-loop-form l =
     (s : Seat) → list_any (same_seat s) l.found
-    ≡ (list_any (same_seat s) l.fn.found || list_any (asks_known l.self.forms (waits l.self.waits) s) (take l.form-index l.forms))
+    ≡ (list_any (same_seat s) l.fn.found || list_any (λ form. asks_known l.self.forms (waits l.self.waits) s form.now) (take l.form-index l.forms))

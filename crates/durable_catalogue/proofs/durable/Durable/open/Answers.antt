@@ -20,7 +20,7 @@ invariant_of-result g c =
     let history = c.in-Ok-load.loaded.core.history in
     let two = sym c.version.ensures ∙ done.version in
     let recovered = subst (λ v. IsRecovered c.in-Ok.frames journal.place v (seen c.args.disk) (seen journal.disk)) two c.in-Ok.ensures.recovered in
-    let holds = subst (λ fs. IsHistory 2 [] (payloads_of fs) history) c.as_slice.ensures done.history in
+    let holds = subst (λ fs. IsHistory 2 [] (payloads_of fs) history) c.into_vec.ensures done.history in
     let unstaged = ap (λ core. core.staged) done.core in
     let opened = c.history_len-opened.ensures.value ∙ ap (λ es. length (history ++ es)) unstaged ∙ ap length (append-nil history) in
     let kept = opened_kept c.in-Ok.frames journal.place (seen c.args.disk) (seen journal.disk) history recovered c.in-Ok.ensures.crash holds c.in-Ok.ensures.later in
@@ -45,7 +45,7 @@ returns-in-Ok-load-clause-history g c log told =
     let history = c.in-Ok-load.loaded.core.history in
     let two = sym c.version.ensures ∙ done.version in
     let recovered = subst (λ v. IsRecovered c.in-Ok.frames journal.place v (seen c.args.disk) (seen journal.disk)) two c.in-Ok.ensures.recovered in
-    let holds = subst (λ fs. IsHistory 2 [] (payloads_of fs) history) c.as_slice.ensures done.history in
+    let holds = subst (λ fs. IsHistory 2 [] (payloads_of fs) history) c.into_vec.ensures done.history in
     ∣ was_reading c.in-Ok.frames journal.place (seen c.args.disk) (seen journal.disk) history recovered c.in-Ok.ensures.crash holds log told ∣₁
 
 pub returns-in-Ok-load-clause-crash : goal.returns-in-Ok-load-clause-crash
@@ -83,7 +83,7 @@ returns-in-Err-load-clause-fault g c log told =
     let journal = c.in-Ok.journal in
     let fault = c.in-Err-load.fault in
     let version = subst IsVersion (c.in-Ok.ensures.recovered.named log told ∙ sym c.version.ensures) (either_version log) in
-    let why = subst (λ v. IsUnloaded v c.in-Ok.frames c.args.limits fault) c.version.ensures (subst (λ fs. IsUnloaded c.version.result fs c.args.limits fault) c.as_slice.ensures (c.in-Err-load.ensures.fault version)) in
+    let why = subst (λ v. IsUnloaded v c.in-Ok.frames c.args.limits fault) c.version.ensures (subst (λ fs. IsUnloaded c.version.result fs c.args.limits fault) c.into_vec.ensures (c.in-Err-load.ensures.fault version)) in
     unloaded c.in-Ok.frames journal.place journal.version (seen c.args.disk) (seen journal.disk) c.args.limits fault c.in-Ok.ensures.recovered why log told
 
 pub returns-in-Err-load-clause-old_first : goal.returns-in-Err-load-clause-old_first

@@ -1,5 +1,5 @@
 use Rattle.std.proofs.Common.{◌∙◌, sym, ap, None}
-use Rattle.numbering.specs.Seats.{same_seat, seat_Decides}
+use Rattle.numbering.specs.Seats.{seat_Decides}
 use Rattle.place_names.specs.Slots.{row_at}
 use Rattle.wait_table.specs.declared.waiting.WaitRow.{WaitRow}
 use Rattle.wait_table.specs.Waits.{with_row_back}
@@ -15,7 +15,7 @@ pub returns-in_default-clause-none : goal.returns-in_default-clause-none
 unfolding waits
 returns-in_default-clause-none c =
     seen_as _ _
-    (λ seat. c.take.ensures.rows seat ∙ put_same seat_Decides c.args.seat None (row_at same_seat c.args.self.now.slots.slots) (sym c.take.ensures.row ∙ c.in_default.is) seat)
+    (λ seat. c.take.ensures.rows seat ∙ put_same seat_Decides c.args.seat None (row_at c.args.self.now.slots) (sym c.take.ensures.row ∙ c.in_default.is) seat)
     c.take.ensures.rooms
 
 pub returns-clause-some : goal.returns-clause-some
@@ -30,7 +30,7 @@ returns-clause-taken c =
 
 pub returns-clause-free : goal.returns-clause-free
 unfolding waits
-returns-clause-free c = c.take.ensures.rows c.args.seat ∙ put_here seat_Decides c.args.seat None (row_at same_seat c.args.self.now.slots.slots)
+returns-clause-free c = c.take.ensures.rows c.args.seat ∙ put_here seat_Decides c.args.seat None (row_at c.args.self.now.slots)
 
 pub returns-clause-undone : goal.returns-clause-undone
 unfolding waits

@@ -1,0 +1,6 @@
+-- The numbers of keys that may be none.
+use Rattle.std.specs.Prelude.{ℕ, List, [], Option, None, Some, Box}
+
+abbrev pub numbers_in : {A : Type 0} → Option (Box (List ℕ) A) → List ℕ
+numbers_in None = []
+numbers_in (Some numbers) = numbers.value
