@@ -7,9 +7,9 @@ use Rattle.marc_types.specs.declared.key.Key.{Key}
 use Rattle.marc_types.specs.declared.form.Form.{Form}
 use Rattle.marc_types.specs.declared.entry.Entry.{Entry}
 use Rattle.std.specs.Prelude.{Option}
-use Rattle.entry_record.specs.History.{IsAdmitted, in_run, with_run}
+use Rattle.entry_record.specs.History.{in_run, with_run}
 use Rattle.entry_record.specs.Payload.{payload_head, entry_bytes, payload_bytes, payload_of}
-use Rattle.entry_record.specs.Prepared.{IsPreparation}
+use Rattle.entry_record.specs.Prepared.{IsPrepared}
 use Rattle.entry_record.proofs.Readings.{length-payload}
 use Rattle.entry_record.specs.declared.headings.HeadingForms.{HeadingForms}
 
@@ -43,8 +43,8 @@ unfolding payload_bytes entry_bytes
 run_written run e = payload_in_run e.run run e.loader e.library (e ∷ [])
 
 pub run_prepared : (run : ℕ) (e : Entry) (established : Option Form) (see_from : List Form) (headings : List (Option HeadingForms)) (successor : Option Key) (payload now : List ℕ)
-    → IsPreparation e established see_from headings successor payload → now ≡ to_be_bytes w64 run ++ drop 8 payload
-    → IsPreparation (in_run run e) established see_from headings successor now
+    → IsPrepared e established see_from headings successor payload → now ≡ to_be_bytes w64 run ++ drop 8 payload
+    → IsPrepared (in_run run e) established see_from headings successor now
 run_prepared run e established see_from headings successor payload now is written = record {
   admitted = record {
     ordinal = is.admitted.ordinal;

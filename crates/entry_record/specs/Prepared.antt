@@ -1,6 +1,7 @@
 -- What a catalogue asks of an entry: the forms of its authority and of its heading fields, and its successor.
-use Rattle.std.specs.Prelude.{◌≡◌, ℕ, List, [], map, slice_get, Option, None, option_and_then}
+use Rattle.std.specs.Prelude.{◌≡◌, ℕ, Bool, true, not, List, [], map, slice_get, Option, None, option_and_then}
 use Rattle.std.specs.Option.{option_map, option_map_or}
+use Rattle.marc_types.specs.Fields.{subfields_of}
 use Rattle.marc_types.specs.declared.field.Field.{Field}
 use Rattle.marc_types.specs.declared.key.Class.{Class}
 use Rattle.marc_types.specs.declared.key.Class.TheVariants.{Authority, Bibliographic}
@@ -8,8 +9,9 @@ use Rattle.marc_types.specs.declared.key.Key.{Key}
 use Rattle.marc_types.specs.declared.form.Form.{Form}
 use Rattle.marc_types.specs.declared.entry.Entry.{Entry}
 use Rattle.marc_types.specs.declared.record.Record.{Record}
-use Rattle.entry_record.specs.Identity.{class_of, key_of}
-use Rattle.entry_record.specs.Authority.{Linkable, linkable_of, base_form, full_form, heading_kind, successor_of}
+use Rattle.heading_fields.specs.Parts.{is_subdivided}
+use Rattle.entry_record.specs.Identity.{class_of, is_deletion, key_of}
+use Rattle.entry_record.specs.Authority.{Linkable, linkable_of, base_form, full_form, heading_kind, heading_of, successor_of}
 use Rattle.entry_record.specs.History.{IsAdmitted}
 use Rattle.entry_record.specs.Headings.{heading_forms}
 use Rattle.entry_record.specs.Payload.{payload_of}
@@ -56,6 +58,10 @@ full_form_of e place = option_and_then (heading_full_form e.class) (slice_get e.
 abbrev pub entry_successor : Entry → Option Key
 entry_successor e = successor_of e.rec.leader e.key e.rec.fields
 
+-- the heading of an authority's fields has no subdivision
+abbrev pub has_bare_heading : List Field → Bool
+has_bare_heading fields = option_map_or (λ f. not (is_subdivided (subfields_of f))) (heading_of fields) true
+
 -- the entry that a loader brings: its file's piece of that ordinal, in no run yet
 abbrev pub new_entry : List ℕ → ℕ → ℕ → Record → Entry
 new_entry library loader ordinal rec = record {
@@ -69,10 +75,22 @@ new_entry library loader ordinal rec = record {
 }
 
 -- an admitted entry, and beside it what it comes to
-pub record IsPreparation (e : Entry) (established : Option Form) (see_from : List Form) (headings : List (Option HeadingForms)) (successor : Option Key) (payload : List ℕ) : Type 0 where
+pub record IsPrepared (e : Entry) (established : Option Form) (see_from : List Form) (headings : List (Option HeadingForms)) (successor : Option Key) (payload : List ℕ) : Type 0 where
   pub admitted : IsAdmitted e
   pub established_is : established ≡ established_of e
   pub see_from_is : see_from ≡ see_from_of e
   pub headings_are : headings ≡ map (heading_forms e.class) e.rec.fields
   pub successor_is : successor ≡ entry_successor e
   pub payload_is : payload ≡ payload_of e
+
+-- what is kept of an admitted entry once its record is elsewhere
+pub record IsPreparation (e : Entry) (class : Class) (key : Key) (deletes bare : Bool) (established : Option Form) (see_from : List Form) (headings : List (Option HeadingForms)) (successor : Option Key) : Type 0 where
+  pub admitted : IsAdmitted e
+  pub class_is : class ≡ e.class
+  pub key_is : key ≡ e.key
+  pub deletes_is : deletes ≡ is_deletion e.rec.leader
+  pub bare_is : bare ≡ has_bare_heading e.rec.fields
+  pub established_is : established ≡ established_of e
+  pub see_from_is : see_from ≡ see_from_of e
+  pub headings_are : headings ≡ map (heading_forms e.class) e.rec.fields
+  pub successor_is : successor ≡ entry_successor e

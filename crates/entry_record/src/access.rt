@@ -3,13 +3,13 @@ ghost use Rattle.std.specs.Prelude.{◌≡◌, ◌≤◌, ◌++◌, [], ◌∷�
 ghost use Rattle.marc_types.specs.Valid.{field_size, fields_size, subfields_size};
 ghost use Rattle.marc_types.specs.declared.key.Key.{Key};
 ghost use Rattle.entry_record.specs.Authority.{is_short_in_full, linkable_of, see_from_forms};
-ghost use Rattle.entry_record.specs.Prepared.{authority_in};
+ghost use Rattle.entry_record.specs.Prepared.{authority_in, has_bare_heading};
 ghost use Rattle.entry_record.specs.Access.{IsAccessTo};
 ghost use Rattle.entry_record.specs.Headings.{filled_full_form, established_form, is_tracing_tag};
 
 use crate::admission::{LONGEST_HEADING, heading, is_see_from};
 use crate::headings::{forms_of_kind, is_divided};
-use heading_fields::{authority_kind, full, heading_len};
+use heading_fields::{authority_kind, full, has_subdivision, heading_len};
 use marc_types::{Class, Field, Form, Forms, Kind, NoMemory, Subfield};
 use std::alloc::Global;
 
@@ -144,5 +144,15 @@ pub(crate) fn access_of(alloc: Global, fields: &[Field], class: Class) -> Result
     match class {
         Class::Authority => authority_access(alloc, fields),
         Class::Bibliographic => Ok(no_access(alloc)),
+    }
+}
+
+/// Whether the heading of an authority record has no subdivision.
+pub(crate) fn has_bare_heading(fields: &[Field]) -> bool
+    ensures { result ≡ has_bare_heading fields.now }
+{
+    match heading(fields) {
+        Some(field) => !has_subdivision(field),
+        None => true,
     }
 }

@@ -1,5 +1,6 @@
 //! The forms of a record's heading fields, each made once.
-ghost use Rattle.std.specs.Prelude.{◌≡◌, IfOk, Some, map, unwrap_or};
+ghost use Rattle.std.specs.Prelude.{◌≡◌, IfOk, Some, map, option_and_then, slice_get, unwrap_or};
+ghost use Rattle.std.specs.Option.{option_copied};
 ghost use Rattle.entry_record.specs.Headings.{is_divided, divided_form, filled_forms, heading_forms};
 
 use heading_fields::{controlled, full, has_subdivision, heading_kind, takes_subdivisions};
@@ -41,6 +42,16 @@ impl TryCopy for HeadingForms {
             base: self.base.copy(alloc)?,
             divided: self.divided.copy(alloc)?,
         })
+    }
+}
+
+/// The forms of the field at a place, where it is a heading field.
+pub(crate) fn forms_at(headings: &[Option<HeadingForms>], field: u32) -> Option<&HeadingForms>
+    ensures { option_copied result ≡ option_and_then (λ forms. forms) (slice_get headings.now field) }
+{
+    match headings.get(field as usize) {
+        Some(Some(forms)) => Some(forms),
+        _ => None,
     }
 }
 

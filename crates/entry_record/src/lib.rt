@@ -4,6 +4,7 @@
 pub use admission::admission_refusal;
 pub use identity::{class_of, is_deletion, key_of};
 pub use payload::write_run;
+pub use preparation::Preparation;
 pub use prepared::{Prepared, admit};
 
 mod access;
@@ -11,5 +12,6 @@ mod admission;
 mod headings;
 mod identity;
 mod payload;
+mod preparation;
 mod prepared;
 mod successor;

@@ -1,5 +1,5 @@
 //! Entries, each with all that a catalogue asks of it.
-ghost use Rattle.std.specs.Prelude.{◌≡◌, ◌≤◌, None, slice_get, map, IsTrue, IfOk, OnOk, IfErr, option_and_then};
+ghost use Rattle.std.specs.Prelude.{◌≡◌, ◌≤◌, None, map, IsTrue, IfOk, OnOk, IfErr};
 ghost use Rattle.std.specs.Option.{option_copied};
 ghost use Rattle.marc_types.specs.Valid.{is_code};
 ghost use Rattle.entry_record.specs.Identity.{is_deletion};
@@ -10,15 +10,17 @@ ghost use Rattle.entry_record.specs.Headings.{heading_forms};
 ghost use Rattle.entry_record.specs.Payload.{payload_of};
 ghost use Rattle.entry_record.specs.Prepared.{new_entry, established_of, see_from_of, field_form_of, full_form_of, entry_successor};
 
-use crate::access::{Access, access_of};
+use crate::access::{Access, access_of, has_bare_heading};
 use crate::admission::{Examined, examine};
-use crate::headings::{HeadingForms, Headings};
+use crate::headings::{Headings, forms_at};
 use crate::identity::{class_of, is_deletion};
 use crate::payload::{HEAD_LEN, payload, write_run};
+use crate::preparation::Preparation;
 use crate::successor::successor;
 use marc_types::{Entry, Form, Forms, Key, NoMemory, Record, RecordFault, Text, TryCopy};
 use std::alloc::Global;
 use std::marker::Model;
+use std::snapshot::Snapshot;
 
 /// An entry that a catalogue takes, with the forms of its authority and of its heading fields, its successor and its
 /// payload, each made once. Contracts see it as the entry.
@@ -34,23 +36,13 @@ pub struct Prepared {
 
 impl Model for Prepared {
     ghost use Rattle.marc_types.specs.declared.entry.Entry.{Entry};
-    ghost use Rattle.entry_record.specs.Prepared.{IsPreparation};
+    ghost use Rattle.entry_record.specs.Prepared.{IsPrepared};
 
     ghost Value = { Entry };
 
     ghost view = { λ p. p.entry };
 
-    ghost invariant = { λ p. IsPreparation p.entry p.established p.see_from p.headings p.successor p.payload.items };
-}
-
-/// The forms of the field at a place, where it is a heading field.
-fn forms_at(headings: &[Option<HeadingForms>], field: u32) -> Option<&HeadingForms>
-    ensures { option_copied result ≡ option_and_then (λ forms. forms) (slice_get headings.now field) }
-{
-    match headings.get(field as usize) {
-        Some(Some(forms)) => Some(forms),
-        _ => None,
-    }
+    ghost invariant = { λ p. IsPrepared p.entry p.established p.see_from p.headings p.successor p.payload.items };
 }
 
 impl Prepared {
@@ -69,6 +61,43 @@ impl Prepared {
     {
         let Prepared { entry, .. } = self;
         entry
+    }
+
+    /// The entry's record, and what else a commit asks of the entry. It takes no memory.
+    pub fn into_parts(self) -> (Record, Preparation)
+        ensures record { result.0 ≡ self.rec }
+        ensures rest { result.1 ≡ self }
+        ensures admitted { IsAdmitted self }
+    {
+        let Prepared {
+            entry,
+            established,
+            see_from,
+            headings,
+            successor,
+            ..
+        } = self;
+        let whole = Snapshot::of(&entry);
+        let deletes = is_deletion(&entry.rec.leader);
+        let bare = has_bare_heading(entry.rec.fields.as_slice());
+        let Entry {
+            rec,
+            class,
+            key,
+            ..
+        } = entry;
+        let preparation = Preparation {
+            whole,
+            class,
+            key,
+            deletes,
+            bare,
+            established,
+            see_from,
+            headings,
+            successor,
+        };
+        (rec, preparation)
     }
 
     /// The form under which fields are put under the entry's authority; none where they can't be.
