@@ -7,7 +7,7 @@ use Rattle.marc_types.specs.declared.key.Class.TheVariants.{Authority, Bibliogra
 use Rattle.marc_types.specs.declared.key.Key.{Key}
 use Rattle.marc_types.specs.declared.entry.Kept.{Kept}
 use Rattle.entry_record.specs.Authority.{Linkable}
-use Rattle.catalogue_rules.specs.State.{KeptField, KeptRecord, Row, State, kept_record, linkable_authorities, rows_of, tied}
+use Rattle.catalogue_rules.specs.State.{KeptField, Row, State, kept_record, linkable_authorities, rows_of, tied}
 use Rattle.catalogue_rules.specs.Output.{total_line}
 use Rattle.catalogue_rules.specs.Receipt as definition
 use Rattle.catalogue_rules.specs.Receipt.{is_linked, is_ambiguous, is_unlinked, standing_of, count_standing}

@@ -1,6 +1,6 @@
 -- Lines of authorities, row by row: each row's authority is found by its key.
-use Rattle.std.proofs.Common.{◌≡◌, ℕ, ◌+◌, ◌<◌, Bool, true, false, cond, List, [], ◌∷◌, ◌++◌, length, map, drop, get_or, Option, Some, None, refl, sym, ap, ◌∙◌, subst}
-use Rattle.std.specs.Prelude.{◌&&◌, not, filter, filter_map, find}
+use Rattle.std.proofs.Common.{◌≡◌, ℕ, ◌+◌, ◌<◌, Bool, true, false, cond, List, [], ◌∷◌, ◌++◌, length, map, drop, get_or, Option, Some, None, refl, sym, ap, ◌∙◌}
+use Rattle.std.specs.Prelude.{filter, filter_map, find}
 use Rattle.std.specs.Borrow.{Bor}
 use Rattle.std.specs.List.{AllByRecursion, cons_option, flat_map}
 use Rattle.std.specs.List.Sorted.{IsStrictlySortedBy}
@@ -15,7 +15,7 @@ use Rattle.marc_types.specs.declared.entry.Kept.{Kept}
 use Rattle.marc_types.specs.Order.{key_cmp, key_cmp_total, same_key}
 use Rattle.entry_record.specs.Authority.{Linkable}
 use Rattle.record_store.specs.Store.{shown_row}
-use Rattle.catalogue_rules.specs.Choice.{has_key, is_see_from_form, keys_of_linkable}
+use Rattle.catalogue_rules.specs.Choice.{has_key, keys_of_linkable}
 use Rattle.catalogue_rules.specs.Output.{cross_line, cross_lines, keys_sharing_form_of, shared_line, shared_lines}
 use Rattle.catalogue_rules.specs.State.{Row, State, fields_of, kept_record, linkable_authorities, row_linkable}
 use Rattle.catalogue_rules.specs.Valid.{IsAscending}

@@ -9,11 +9,9 @@ use Rattle.entry_record.specs.History.{IsWithin}
 use Rattle.durable_catalogue.specs.Openings.{IsUnopened}
 use Rattle.durable_catalogue.specs.declared.fault.OpenFault.{OpenFault}
 use Rattle.durable_catalogue.specs.declared.fault.OpenFault.TheVariants as opening
-use Rattle.console_lines.specs.Ends.{Outcome, IsTold, IsUntold, IsSilent, out_unwritten}
-use Rattle.console_lines.specs.declared.end.End.{End}
+use Rattle.console_lines.specs.Ends.{Outcome, IsTold, IsSilent, out_unwritten}
 use Rattle.console_lines.specs.declared.end.End.TheVariants.{Done, Told}
 use Rattle.console_lines.specs.declared.end.Unwritten.TheVariants.{Out}
-use Rattle.console_lines.specs.declared.fault.Fault.{Fault}
 use Rattle.console_lines.specs.declared.fault.Fault.TheVariants.{Device, Memory}
 use Rattle.console_lines.proofs.Ends.{told_once, told_not_unwritten, told_not_done, done_not_unwritten, never_told}
 use Rattle.room_files.specs.Journals.{journal_limits, log_bytes, IsClosedDisk, KeepsHistory, KeepsLog, IsDurable}

@@ -1,5 +1,5 @@
 -- Calls of a catalogue over a journal, one after another.
-use Rattle.std.proofs.Common.{◌≡◌, ◌⊎◌, inl, inr, ℕ, ◌≤◌, true, List, [], ◌++◌, is_some, refl, sym, ap, subst, ◌∙◌, arith, append_assoc}
+use Rattle.std.proofs.Common.{◌≡◌, ◌⊎◌, inl, inr, ℕ, ◌≤◌, true, List, [], ◌++◌, is_some, refl, sym, ap, ◌∙◌, arith, append_assoc}
 use Rattle.std.proofs.Math.Logic.{∥∥₁_map}
 use Rattle.std.proofs.lemmas.List.{append-nil}
 use Rattle.outside.specs.declared.disk.Disk.{Ghosts}
@@ -7,7 +7,7 @@ use Rattle.marc_types.specs.declared.entry.Entry.{Entry}
 use Rattle.durable_catalogue.specs.declared.durable.Durable.{Durable}
 use Rattle.durable_catalogue.specs.Durables.{mark_of, marked}
 use Rattle.durable_catalogue.specs.Lasting.{StartsWith}
-use Rattle.durable_catalogue.specs.Calls.{has_told, IsCall, AreCalls, NoCall, OneCall}
+use Rattle.durable_catalogue.specs.Calls.{has_told, AreCalls, NoCall, OneCall}
 use Rattle.durable_catalogue.proofs.Lastings.{reaches_starts, starts_before}
 
 module _ {D : Type 0} {disk : Ghosts D} where

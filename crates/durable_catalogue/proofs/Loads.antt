@@ -1,15 +1,14 @@
 -- The loading of a journal's frames.
 use Rattle.std.proofs.Common.{◌≡◌, ℕ, ◌+◌, ◌-◌, ◌<◌, ◌≤◌, true, false, ◌||◌, nat_lt, List, [], ◌∷◌, ◌++◌, length, take, drop, map, get_or, Option, Some, None, refl, sym, ap, subst, ◌∙◌, arith, append_assoc, length-append, take-append-drop}
-use Rattle.std.specs.Prelude.{slice_get, IfSome}
+use Rattle.std.specs.Prelude.{IfSome}
 use Rattle.std.proofs.lemmas.List.{append-nil, map-append, drop_more, take_more, take_all}
 use Rattle.std.proofs.lemmas.List.Sums.{sum_by-append, sum_by-cons}
-use Rattle.std.proofs.lemmas.Option.{none-some, slice_get_within, slice_get-get_or, get_or_from_slice_get}
 use Rattle.std.proofs.lemmas.Bool.Decides.{nat_tests}
 use Rattle.marc_types.specs.declared.entry.Entry.{Entry}
 use Rattle.marc_types.specs.declared.entry.Limits.{Limits}
 use Rattle.commit_journal.specs.declared.frame.Frame.{Frame}
 use Rattle.entry_record.specs.History.{entry_size, entries_size, last_run, IsWithin}
-use Rattle.catalogue_core.specs.Catalogues.{Catalogued, all_entries, is_full, IsDue, with_entry}
+use Rattle.catalogue_core.specs.Catalogues.{Catalogued, is_full, IsDue, with_entry}
 use Rattle.catalogue_core.specs.declared.catalogue.CoreFault.{CoreFault}
 use Rattle.catalogue_core.specs.declared.catalogue.CoreFault.TheVariants as commit
 use Rattle.entry_history.specs.Payloads.{Holds, IsHistory, NoMore}
@@ -20,7 +19,6 @@ use Rattle.durable_catalogue.specs.Loading.{IsUnreadFrame, IsUncommitted, IsBuil
 use Rattle.durable_catalogue.specs.Logs.{payloads_of}
 use Rattle.durable_catalogue.specs.Openings.{IsBadFrame, IsUnread, catalogue_of}
 use Rattle.durable_catalogue.proofs.Histories.{one_behind, bounded_behind_none}
-use Rattle.durable_catalogue.proofs.Within.{all_kept}
 
 -- so many frames are read
 pub record AreRead (version : ℕ) (frames : List Frame) (count : ℕ) (taken : Taken) : Type 0 where

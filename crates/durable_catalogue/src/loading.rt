@@ -196,7 +196,7 @@ fn run_behind(core: &Catalogue, last: u64) -> u64
     requires bounded { last_run core.now.history ≤ length core.now.history }
     ensures { result ≡ next_run core.now.history }
 {
-    // so many entries are in no memory that this passes 64 bits
+    // a history's length bounds its last run, and is far below what 64 bits hold
     let _few = core.history_len();
     last + 1
 }

@@ -2,11 +2,7 @@
 use Rattle.std.specs.Prelude.{◌≡◌, ℕ, ◌+◌, ◌<◌, ◌↔◌, Bool, true, List, Option, Some, None}
 use Rattle.marc_types.specs.declared.entry.Entry.{Entry}
 use Rattle.marc_types.specs.declared.entry.Limits.{Limits}
-use Rattle.commit_journal.specs.declared.frame.Frame.{Frame}
 use Rattle.entry_record.specs.History.{entries_size, IsWithin}
-use Rattle.entry_history.specs.Payloads.{Holds}
-use Rattle.durable_catalogue.specs.declared.fault.OpenFault.{OpenFault}
-use Rattle.durable_catalogue.specs.declared.fault.OpenFault.TheVariants.{DeviceFault, NotAJournal, OldVersion, Full, NoMemory}
 
 -- Entries that are a history, by some property, were handed on, all of them in their order, and are within the limits.
 pub record IsHandedOn (Has IsThat : List Entry → Type 0) (limits : Limits) : Type 0 where

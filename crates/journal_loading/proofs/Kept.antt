@@ -1,5 +1,5 @@
 -- A journal keeps its history where a file to be loaded isn't there.
-use Rattle.std.proofs.Common.{◌≡◌, ◌∙◌, ℕ, ◌+◌, true, suc, zero, List, [], ◌∷◌, length, slice_get, Option, Some, None, sym, ap, subst}
+use Rattle.std.proofs.Common.{◌≡◌, ◌∙◌, ℕ, ◌+◌, true, suc, zero, List, [], length, slice_get, Option, Some, None, sym, ap, subst}
 use Rattle.std.proofs.Math.Logic.{∥∥₁_map, ∥∥₁_elim, ∥∥₁_prop}
 use Rattle.marc_types.specs.declared.entry.Entry.{Entry}
 use Rattle.outside.specs.Room.{RoomView, bytes_or_none}

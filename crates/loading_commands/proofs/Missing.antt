@@ -1,5 +1,5 @@
 -- How loading ends, and what the journal keeps where a file isn't there.
-use Rattle.std.proofs.Common.{◌≡◌, ◌≢◌, ◌∙◌, ℕ, ◌+◌, true, suc, zero, List, [], ◌∷◌, slice_get, Option, Some, None, refl, sym, ap}
+use Rattle.std.proofs.Common.{◌≡◌, ◌≢◌, ◌∙◌, ℕ, ◌+◌, true, suc, zero, List, [], slice_get, Some, None, refl, sym, ap}
 use Rattle.marc_types.specs.declared.entry.Entry.{Entry}
 use Rattle.outside.specs.Room.{RoomView}
 use Rattle.command_words.specs.declared.library.Library.{Library}

@@ -5,7 +5,6 @@ use Rattle.outside.specs.Fault.{Rose}
 use Rattle.outside.specs.Sink.{WritesFront}
 use Rattle.workload.specs.Workload.{workload_bytes}
 use Rattle.console_lines.specs.Ends.{Outcome, IsTold, IsSilent, out_unwritten, console_unwritten}
-use Rattle.console_lines.specs.declared.end.End.{End}
 use Rattle.console_lines.specs.declared.end.End.TheVariants.{Done, Told}
 use Rattle.console_lines.specs.declared.end.Unwritten.TheVariants.{Out, Console}
 use Rattle.console_lines.specs.declared.fault.Fault.TheVariants.{Memory}

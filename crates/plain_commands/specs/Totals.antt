@@ -1,5 +1,5 @@
 -- What a pass counts of a file, and how much a catalogue of these commands takes. The bounds are this project's own.
-use Rattle.std.specs.Prelude.{◌≡◌, ℕ, ◌*◌, ◌^◌, ◌≤◌, List, [], length}
+use Rattle.std.specs.Prelude.{◌≡◌, ◌*◌, ◌^◌, ◌≤◌, List, [], length}
 use Rattle.marc_types.specs.declared.entry.Entry.{Entry}
 use Rattle.marc_types.specs.Limits.{most_entries, most_bytes, greatest_limits}
 use Rattle.entry_record.specs.History.{entries_size}

@@ -1,8 +1,8 @@
 -- What a command comes to for whose libraries there is no memory.
-use Rattle.std.proofs.Common.{◌≡◌, ◌≢◌, true, false, true≢false, ℕ, ◌<◌, ◌≤◌, List, [], ◌∷◌, length, get_or, None, refl, ap, ◌∙◌, arith}
+use Rattle.std.proofs.Common.{◌≡◌, ◌≢◌, true, false, true≢false, ℕ, ◌≤◌, List, [], ◌∷◌, length, get_or, None, refl, ap, ◌∙◌, arith}
 use Rattle.std.specs.Prelude.{All, IsTrue}
 use Rattle.marc_types.specs.Valid.{is_code}
-use Rattle.outside.specs.Room.{RoomView, SameBut, IsNoneOf}
+use Rattle.outside.specs.Room.{SameBut, IsNoneOf}
 use Rattle.outside.proofs.Rooms.{same_but_none}
 use Rattle.command_words.specs.declared.library.Library.{Library}
 use Rattle.command_words.specs.Command.{Command, Pass, Run, Load, Export, Report, Make, Verify, Matches, Holdings, Migrate, Help, Version, libraries_of, names_of, AreNames}
@@ -16,7 +16,7 @@ use Rattle.archive_commands.proofs.Endings.{reads_fault}
 use Rattle.plain_commands.proofs.Passes.{passes_told}
 use Rattle.plain_commands.proofs.Made.{makes_no_memory}
 use Rattle.output_files.specs.Outputs as files
-use Rattle.journal_loading.specs.Outcomes.{Fails, IsLoadingFault, NotBegun, Unopened}
+use Rattle.journal_loading.specs.Outcomes.{IsLoadingFault, NotBegun, Unopened}
 use Rattle.journal_loading.specs.Inputs.{AreLoadable}
 use Rattle.union_top.specs.Commands.{is_alone, Ends}
 use Rattle.loading_commands.specs.Runs as runs

@@ -6,10 +6,9 @@ use Rattle.std.proofs.lemmas.List.Elements.{All-head, All-tail}
 use Rattle.std.proofs.lemmas.List.Sums.{sum_by-append}
 use Rattle.std.proofs.lemmas.Bool.Decides.{nat_tests}
 use Rattle.marc_types.specs.declared.entry.Entry.{Entry}
-use Rattle.outside.specs.Room.{RoomView}
 use Rattle.marc_stream.specs.Pieces.{Item, items}
 use Rattle.command_words.specs.declared.library.Library.{Library}
-use Rattle.command_words.specs.Command.{Command, Pass, Run, Load, Export, Report, Make, Verify, Matches, Holdings, Migrate, Help, Version, command_of, libraries_of}
+use Rattle.command_words.specs.Command.{Command, Pass, Run, Load, Export, Report, Make, Verify, Matches, Holdings, Migrate, Help, Version, libraries_of}
 use Rattle.entry_record.specs.History.{entry_size, entries_size}
 use Rattle.file_entries.specs.Files.{IsJudged, Accepts}
 use Rattle.file_entries.proofs.Every.{every_judged}
@@ -24,7 +23,6 @@ use Rattle.durable_catalogue.specs.declared.fault.OpenFault.{OpenFault}
 use Rattle.durable_catalogue.specs.declared.fault.OpenFault.TheVariants as opening
 use Rattle.room_files.specs.Faults.{fault_of_opening}
 use Rattle.room_files.specs.Journals.{log_bytes}
-use Rattle.archive_commands.specs.Archives.{HasFittingHistory, WhyUnopened}
 use Rattle.archive_commands.specs.Reads.{DueView, Reads, EndsReading}
 use Rattle.plain_commands.specs.Loading.{IsFullAt, EndsLoading}
 use Rattle.plain_commands.specs.Making.{Makes, EndsMake}
@@ -33,7 +31,7 @@ use Rattle.plain_commands.specs.Totals.{IsWithinLimits}
 use Rattle.journal_loading.specs.Inputs.{IsInputFault}
 use Rattle.match_command.specs.Telling.{TellsMatches}
 use Rattle.holdings_command.specs.Attaching.{EndsAttaching}
-use Rattle.union_top.specs.Commands.{Ends, EndsWith}
+use Rattle.union_top.specs.Commands.{Ends}
 use Rattle.loading_commands.specs.Loading.{Loads, Runs}
 use Rattle.union_top.specs.Complete.{Stayed, Around, InputsStayed, IsUnhinderedPass, IsUnhinderedMake, IsUnhinderedReading, IsUnhinderedHoldings, IsUnhinderedLoad, IsUnhinderedRun, IsUnhindered}
 use Rattle.program_help.specs.Telling.{help_text, version_text}

@@ -1,5 +1,5 @@
 -- How the commands end that only tell, where nothing hinders them.
-use Rattle.std.proofs.Common.{◌≡◌, ◌⊎◌, inl, inr, ℕ, true, List, Option, Some, refl, ap, subst}
+use Rattle.std.proofs.Common.{◌≡◌, ◌⊎◌, inl, inr, ℕ, true, List, Some, refl, subst}
 use Rattle.std.proofs.Math.Logic.{∥∥₁_elim}
 use Rattle.std.specs.Prelude.{IsSomeAnd}
 use Rattle.console_lines.specs.Ends.{Outcome, IsAllDone, console_unwritten}

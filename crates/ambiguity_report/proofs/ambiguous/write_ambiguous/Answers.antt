@@ -1,4 +1,4 @@
-use Rattle.std.proofs.Common.{◌≡◌, ◌∙◌, ap, arith, map, List}
+use Rattle.std.proofs.Common.{◌≡◌, ◌∙◌, ap, arith, map}
 use Rattle.catalogue_rules.specs.State.{linkable_authorities, rows_of, tied}
 use Rattle.record_store.specs.Store.{shown_row}
 use Rattle.catalogue_tables.specs.Stands.{field_standing}

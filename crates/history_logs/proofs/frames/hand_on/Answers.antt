@@ -1,4 +1,4 @@
-use Rattle.std.proofs.Common.{List, [], ◌∷◌, take, ◌++◌, subst}
+use Rattle.std.proofs.Common.{List, [], take, ◌++◌, subst}
 use Rattle.std.proofs.lemmas.List.{take_all}
 use Rattle.marc_types.specs.declared.entry.Entry.{Entry}
 use Rattle.history_logs.specs.Taking.{HasLeft}

@@ -1,7 +1,6 @@
 use Rattle.std.proofs.Common.{rules, ◌≡◌, length, take, refl, sym, ap, subst, ◌∙◌, Some, slice_get, None, IsTrue}
 use Rattle.std.proofs.lemmas.List.Elements.{All-nil, All-push}
 use Rattle.marc_types.specs.Valid.{is_code}
-use Rattle.outside.specs.Fault.{Rose}
 use Rattle.outside.proofs.Rooms.{same_but_itself, same_but_then}
 use Rattle.command_words.specs.declared.library.Library.{Library}
 use Rattle.journal_loading.specs.Inputs.{AreInputs, NoInput, IsFresh}

@@ -3,7 +3,6 @@ use Rattle.outside.proofs.Rooms.{same_but_then, same_but_none}
 use Rattle.durable_catalogue.specs.Durables.{mark_of}
 use Rattle.durable_catalogue.specs.Views.{durable_view}
 use Rattle.console_lines.specs.declared.fault.Fault.TheVariants as fault
-use Rattle.command_words.specs.declared.library.Library.{Library}
 use Rattle.journal_loading.specs.Inputs.{IsInputFault, AreInputs, IsFresh}
 use Rattle.journal_loading.specs.Outcomes.{Unopened}
 use Rattle.journal_loading.proofs.Opened.{inputs_after, take_all, fault_between}

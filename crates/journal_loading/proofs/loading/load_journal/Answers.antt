@@ -1,4 +1,4 @@
-use Rattle.std.proofs.Common.{◌≡◌, ◌<◌, ◌≤◌, length, Some, is_some, sym, ap, subst, ◌∙◌, arith}
+use Rattle.std.proofs.Common.{◌≡◌, Some, sym, ap, subst, ◌∙◌, arith}
 use Rattle.outside.proofs.Rooms.{same_but_none, same_but_then}
 use Rattle.durable_catalogue.specs.Durables.{mark_of}
 use Rattle.durable_catalogue.specs.Views.{durable_view}

@@ -2,7 +2,7 @@ use Rattle.std.proofs.Common.{◌≡◌, ◌∙◌, [], ◌∷◌, length, Some,
 use Rattle.std.specs.Prelude.{All}
 use Rattle.std.specs.Option.{option_copied}
 use Rattle.outside.specs.Room.{IsNoneOf}
-use Rattle.outside.proofs.Rooms.{same_but_itself, same_but_none}
+use Rattle.outside.proofs.Rooms.{same_but_itself}
 use Rattle.command_words.specs.Command as command
 use Rattle.command_words.specs.declared.library.Library.{Library}
 use Rattle.console_lines.specs.Ends.{Outcome, outcome}
