@@ -1,7 +1,9 @@
--- Seats: when two are the same, and what a hash table reads of one.
+-- Seats: when two are the same, their order, and what a hash table reads of one.
 use Rattle.std.specs.Prelude.{◌≡◌, Bool, true, ◌&&◌, ◌==◌, ◌++◌, refl}
 use Rattle.std.specs.Bool.{Decides}
-use Rattle.std.specs.Cmp.{first_so, second_so, unsigned_Decides}
+use Rattle.std.specs.declared.cmp.Ordering.{Ordering}
+use Rattle.std.specs.Ordering.{nat_cmp, on, then_cmp, is_eq, eq_by_cmp}
+use Rattle.std.specs.Cmp.{IsTotalOrder, then_total, on_total, nat_cmp_total, tied_then, first_so, second_so, unsigned_Decides, unsigned_ties}
 use Rattle.std.specs.Hash.{HashWrites}
 use Rattle.std.specs.Hash as fed
 use Rattle.std.proofs.Common.{ap, subst, ◌∙◌}
@@ -38,6 +40,23 @@ seat_Decides x y =
     ∙ ap (λ b. b && (x.field == x.field)) ((unsigned_Decides x.number x.number).1 refl)
     ∙ (unsigned_Decides x.field x.field).1 refl in
     (to, λ e. subst (λ z. same_seat x z ≡ true) e itself)
+
+-- by the class, then by the number, then by the field
+unfoldable pub seat_cmp : Seat → Seat → Ordering
+seat_cmp = then_cmp (on (λ s. class_rank s.class) nat_cmp) (then_cmp (on (λ s. s.number) nat_cmp) (on (λ s. s.field) nat_cmp))
+
+pub seat_cmp_total : IsTotalOrder seat_cmp
+unfolding seat_cmp
+seat_cmp_total =
+    then_total (on_total (λ s. class_rank s.class) nat_cmp_total) (then_total (on_total (λ s. s.number) nat_cmp_total) (on_total (λ s. s.field) nat_cmp_total))
+
+-- the order ties the same seats
+pub seat_ties : (x y : Seat) → same_seat x y ≡ eq_by_cmp seat_cmp x y
+unfolding same_seat seat_cmp
+seat_ties x y =
+    (λ i. unsigned_ties (class_rank x.class) (class_rank y.class) i && (unsigned_ties x.number y.number i && unsigned_ties x.field y.field i))
+    ∙ ap (λ b. is_eq (nat_cmp (class_rank x.class) (class_rank y.class)) && b) (tied_then (nat_cmp x.number y.number) (nat_cmp x.field y.field))
+    ∙ tied_then (nat_cmp (class_rank x.class) (class_rank y.class)) (then_cmp (on (λ s. s.number) nat_cmp) (on (λ s. s.field) nat_cmp) x y)
 
 unfoldable pub seat_writes : Seat → HashWrites
 seat_writes seat = fed.u32 seat.number ++ fed.u32 seat.field

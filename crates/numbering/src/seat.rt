@@ -3,9 +3,10 @@ ghost use Rattle.marc_types.specs.Order.{class_rank};
 
 use marc_types::{Class, NoMemory, TryCopy};
 use std::alloc::Global;
+use std::cmp::Ordering;
 use std::hash::{Hash, Hasher};
 
-/// One field of one record: the record's class, the number of its key, and the field's place in it, from 0.
+/// One field of one record: the record's class, the number of its key, and the field's place in it, from 0. Seats are ordered so.
 #[derive(Clone, Copy, Debug)]
 pub struct Seat {
     pub class: Class,
@@ -51,6 +52,41 @@ impl Eq for Seat {
     ghost use Rattle.std.specs.Cmp.{decided};
 
     ghost laws = { decided same_seat seat_Decides };
+}
+
+impl PartialOrd for Seat {
+    ghost use Rattle.numbering.specs.Seats.{seat_cmp, seat_cmp_total, seat_ties};
+    ghost use Rattle.std.specs.Ordering.{as_partial_cmp};
+    ghost use Rattle.std.specs.Cmp.{po};
+
+    ghost partial_cmp = { as_partial_cmp seat_cmp };
+
+    ghost laws = { po seat_cmp_total seat_ties };
+
+    fn partial_cmp(&self, other: &Seat) -> Option<Ordering> {
+        Some(self.cmp(other))
+    }
+}
+
+impl Ord for Seat {
+    ghost use Rattle.numbering.specs.Seats.{seat_cmp, seat_cmp_total, seat_ties};
+    ghost use Rattle.std.proofs.Common.{refl};
+
+    ghost cmp = { seat_cmp };
+
+    ghost total = { seat_cmp_total };
+
+    ghost matches_partial_cmp = { λ x y. refl };
+
+    ghost matches_eq = { seat_ties };
+
+    #[tactic(auto, unfolding(crate::specs::Seats::seat_cmp))]
+    fn cmp(&self, other: &Seat) -> Ordering {
+        rank(self.class)
+            .cmp(&rank(other.class))
+            .then_with(|| self.number.cmp(&other.number))
+            .then_with(|| self.field.cmp(&other.field))
+    }
 }
 
 impl Hash for Seat {
