@@ -1,7 +1,7 @@
 //! The program `union_cat`: carries out the command of its words over the files of the system.
 #![tactic(auto)]
 
-use command_words::{Words, libraries, request};
+use command_words::{Words, libraries};
 use marc_types::Text;
 use outside_real::{FileRoom, FileSink, ProgressGate, Target};
 use std::io::ErrorKind;
@@ -9,7 +9,7 @@ use std::process::ExitCode;
 use std::sync::Wait;
 use std::thread::Threads;
 use std::{env, io};
-use union_top::{is_alone, run, run_alone};
+use union_top::{run, run_unless_loading};
 
 /// The exit status where there is no memory for the words of the command line, or for the names in them.
 const NO_MEMORY: u8 = 8;
@@ -39,27 +39,23 @@ fn words_of(rt: &HostRuntime) -> io::Result<Words> {
     Ok(Words::from_vec(words))
 }
 
-/// Carries out the command of the words. `threads` starts the loaders; a command without them waits for nobody.
+/// Carries out the command of the words. `threads` starts the loaders of a command that has any; no other waits for anybody.
 fn command<H: Threads + Wait + Sync>(rt: &HostRuntime, threads: &H) -> io::Result<u8> {
     let alloc = rt.alloc();
     let words = words_of(rt)?;
     let mut room = FileRoom::new(rt.clone()?, alloc);
     let mut console = FileSink::direct(alloc, Target::Console(rt.clone()?));
-    let status = match request(&words) {
-        Some(asked) if is_alone(asked) => {
-            run_alone(alloc, &words, asked, &mut room, &mut console).status()
-        }
-        _ => {
-            let Ok(libraries) = libraries(alloc, &words) else {
-                return Ok(NO_MEMORY);
-            };
-            let files = libraries
-                .iter()
-                .map(|library| library.file.as_str())
-                .collect(alloc)?;
-            let gate = ProgressGate::new(rt.clone()?, files);
-            run(threads, alloc, &words, &mut room, &mut console, &gate)
-        }
+    if let Some(status) = run_unless_loading(alloc, &words, &mut room, &mut console) {
+        return Ok(status);
+    }
+    let Ok(libraries) = libraries(alloc, &words) else {
+        return Ok(NO_MEMORY);
     };
+    let files = libraries
+        .iter()
+        .map(|library| library.file.as_str())
+        .collect(alloc)?;
+    let gate = ProgressGate::new(rt.clone()?, files);
+    let status = run(threads, alloc, &words, &mut room, &mut console, &gate);
     Ok(status)
 }

@@ -8,3 +8,4 @@ mod Remaining
 mod Untroubled
 mod Complete
 mod Asked
+mod Carried

@@ -1,4 +1,4 @@
-ghost use Rattle.std.specs.Prelude.{◌≡◌, ◌≢◌, ◌↔◌, ◌⊎◌, ℕ, ◌≤◌, List, true, false, Some, None, []};
+ghost use Rattle.std.specs.Prelude.{◌≡◌, ◌≢◌, ◌↔◌, ◌⊎◌, ℕ, ◌≤◌, List, true, false, Some, None, [], IfSome, IfNone};
 ghost use Rattle.outside.specs.Room.{SameBut};
 ghost use Rattle.command_words.specs.Command.{Command, command_of, names_of};
 ghost use Rattle.command_words.specs.Asked.{command_asked};
@@ -6,6 +6,7 @@ ghost use Rattle.console_lines.specs.Ends.{outcome};
 ghost use Rattle.console_lines.specs.Faults.{IsFaultTold, fault_line};
 ghost use Rattle.union_top.specs.Commands.{is_alone, Ends, EndsWith};
 ghost use Rattle.union_top.specs.Complete.{around, IsUnhindered};
+ghost use Rattle.union_top.specs.Carried.{LoadsFiles, AreCarriedOut};
 
 use crate::holding::attach;
 use archive_commands::{Due, read};
@@ -25,7 +26,7 @@ use std::sync::Wait;
 use std::thread::Threads;
 
 /// Whether a command starts no threads.
-pub fn is_alone(asked: Request<'_>) -> bool
+fn is_alone(asked: Request<'_>) -> bool
     ensures { result ≡ is_alone (command_asked asked.entry) }
 {
     match asked {
@@ -44,7 +45,7 @@ pub fn is_alone(asked: Request<'_>) -> bool
 }
 
 /// Carries out a command that starts no threads: the one that some words ask for. It waits for nobody, so it returns.
-pub fn run_alone<R: Room>(
+fn run_alone<R: Room>(
     alloc: Global,
     words: &Words,
     asked: Request<'_>,
@@ -87,6 +88,34 @@ pub fn run_alone<R: Room>(
         Request::Help { topic } => help(console, topic),
         Request::Version => version(console),
         Request::Run { .. } | Request::Load { .. } => unreachable!(),
+    }
+}
+
+/// Carries out some words, unless their command loads files: then it answers none, and nothing is done. Else it answers the exit
+/// status, as `run` does. It waits for nobody, so it returns.
+pub fn run_unless_loading<R: Room>(
+    alloc: Global,
+    words: &Words,
+    room: &mut R,
+    console: &mut R::Out,
+) -> Option<u8>
+    requires closed { (name : List ℕ) → (R.seen room.old).open_as name ≡ None }
+    ensures closed { (name : List ℕ) → (R.seen room.new).open_as name ≡ None }
+    ensures loads { result ≡ None ↔ LoadsFiles words.now }
+    ensures untouched { IfNone result ((room.new ≡ room.old) × (console.new ≡ console.old)) }
+    ensures carried { IfSome result (λ status. AreCarriedOut words.now status
+        (around R.seen R.Out.faults room.old room.new console.old console.new)
+        (outcome R.seen R.Out.written R.Out.faults room.old room.new console.old console.new)) }
+{
+    match request(words) {
+        None => Some(tell(console, Fault::Usage).status()),
+        Some(asked) => {
+            if is_alone(asked) {
+                Some(run_alone(alloc, words, asked, room, console).status())
+            } else {
+                None
+            }
+        }
     }
 }
 

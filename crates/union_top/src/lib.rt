@@ -1,7 +1,7 @@
 //! What the program does: one call over a room, its words and a console.
 #![tactic(auto)]
 
-pub use command::{is_alone, run, run_alone};
+pub use command::{run, run_unless_loading};
 
 mod command;
 mod holding;
