@@ -33,6 +33,10 @@ for _ in 1 2 3 4 5; do
         # shellcheck disable=SC2086
         "${first[@]}" /usr/bin/time -f "plain $part in all: %M KB" "$work/plain" $part
     done
+    for part in 'one_key 100000 rising' 'one_waited 100000 rising'; do
+        # shellcheck disable=SC2086
+        "${first[@]}" "$work/crates/table_bench/out/table_bench" $part | sed 's/^rattle /rattle rising /'
+    done
 done >"$work/times.txt" 2>&1
 uptime
 # the least number of each line, in the order in which the lines first come

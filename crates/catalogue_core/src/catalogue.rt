@@ -115,7 +115,7 @@ impl Catalogue {
         let entry = Snapshot::of(item.entry());
         // room first: once the state has gone on, nothing can fail
         self.entries.reserve(1)?;
-        let changes = self.engine.step(alloc, &item, steps)?;
+        let changes = self.engine.step(alloc, item, steps)?;
         self.entries.push_reserved(entry);
         self.bytes += size;
         Ok(receipt_at(at, changes))

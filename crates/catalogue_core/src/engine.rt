@@ -51,19 +51,19 @@ impl Engine {
 
     /// Takes the state to that behind one more entry: the entry's record comes into its key's place, links that can't stay are
     /// ended, and every heading is settled. It visits as many records as the entry touches, at most. Want of memory changes
-    /// nothing.
+    /// nothing; the entry is gone then.
     pub fn step<L: Ledger>(
         &mut self,
         alloc: Global,
-        item: &Prepared,
+        item: Prepared,
         steps: &mut Steps<L>,
     ) -> Result<Changes, NoMemory>
-        ensures state { OnOk result (self.new.state ≡ step self.old.state (arrival_of item.now)) }
+        ensures state { OnOk result (self.new.state ≡ step self.old.state (arrival_of item)) }
         ensures changes { IfOk result (λ changes. (at : ℕ)
-            → AreNumbersOf (receipt_of at self.old.state (arrival_of item.now) (step self.old.state (arrival_of item.now))) changes) }
+            → AreNumbersOf (receipt_of at self.old.state (arrival_of item) (step self.old.state (arrival_of item))) changes) }
         ensures before { self.new.before ≡ self.old.before }
         ensures err { OnErr result (self.new ≡ self.old) }
-        ensures visits { steps.new ≤ steps.old + touched self.old.state item.now }
+        ensures visits { steps.new ≤ steps.old + touched self.old.state item }
     {
         // what its type says of the entry is needed behind the commit
         let _entry = item.entry();

@@ -14,9 +14,9 @@ use Rattle.form_index.specs.Index.{Indexed, row_under}
 use Rattle.heading_fields.specs.Parts.{is_subdivided}
 use Rattle.entry_record.specs.Authority.{Linkable, heading_of, is_bare, linkable_by, linkable_kind, linkable_of, linkable_with}
 use Rattle.entry_record.specs.Identity.{is_deletion}
-use Rattle.entry_record.specs.Prepared.{authority_in, authority_of, established_in, established_of, see_from_in, see_from_of}
+use Rattle.entry_record.specs.Prepared.{authority_in, authority_of, established_in, established_of, has_bare_heading, see_from_in, see_from_of}
 use Rattle.catalogue_rules.specs.Settle.{arrival_of}
-use Rattle.catalogue_tables.specs.Following.{FollowsAuthority, authority_brought, has_bare_heading}
+use Rattle.catalogue_tables.specs.Following.{FollowsAuthority, authority_brought}
 use Rattle.catalogue_tables.specs.Rows.{PutsAuthority}
 use Rattle.catalogue_tables.proofs.Followed.{follows_nobody, follows_put}
 

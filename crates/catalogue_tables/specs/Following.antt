@@ -1,9 +1,7 @@
 -- Which authorities the index tells of, and how it follows one that comes, changes or goes.
-use Rattle.std.specs.Prelude.{◌≡◌, ℕ, ◌<◌, ◌≤◌, Bool, true, false, List, length, find, not, Option, Some, None, IfSome, if◌then◌else◌}
+use Rattle.std.specs.Prelude.{◌≡◌, ℕ, ◌<◌, ◌≤◌, Bool, true, false, List, length, find, Option, Some, None, IfSome, if◌then◌else◌}
 use Rattle.std.specs.List.{list_any}
 use Rattle.std.specs.Option.{option_map_or}
-use Rattle.marc_types.specs.Fields.{subfields_of}
-use Rattle.marc_types.specs.declared.field.Field.{Field}
 use Rattle.marc_types.specs.declared.form.Form.{Form}
 use Rattle.marc_types.specs.declared.key.Key.{Key}
 use Rattle.marc_types.specs.Order.{same_form, same_key}
@@ -11,8 +9,7 @@ use Rattle.numbering.specs.Numbers.{number_of, IsNumberOf}
 use Rattle.form_index.specs.Forms.{Forms}
 use Rattle.form_index.specs.Index.{ExchangesRow, Indexed, IsHeld, IsInOrder, Taken, let_go, put_back, row_under, taken, taken_out}
 use Rattle.form_index.specs.Order.{has}
-use Rattle.heading_fields.specs.Parts.{is_subdivided}
-use Rattle.entry_record.specs.Authority.{Linkable, heading_of, is_bare, linkable_of}
+use Rattle.entry_record.specs.Authority.{Linkable, is_bare, linkable_of}
 use Rattle.entry_record.specs.Identity.{is_deletion}
 use Rattle.catalogue_rules.specs.Choice.{has_key}
 use Rattle.catalogue_rules.specs.Settle.{Arrival}
@@ -75,7 +72,3 @@ pub record IsWayBack (keys : List Key) (number : ℕ) (row : Option Taken) (befo
   pub held : CanRestore number row now
   pub restores : restored keys number row now ≡ before
   pub ordered : IsInOrder keys (without_row number now)
-
--- the heading of an authority's fields has no subdivision
-abbrev pub has_bare_heading : List Field → Bool
-has_bare_heading fields = option_map_or (λ f. not (is_subdivided (subfields_of f))) (heading_of fields) true

@@ -1,7 +1,6 @@
 //! What an unlinked heading is to be linked to, by the tables alone: no record is visited, and no list of authorities is scanned.
-ghost use Rattle.std.specs.Prelude.{◌≡◌, ◌&&◌, ◌||◌, not, List, IfOk, option_and_then, unwrap_or};
+ghost use Rattle.std.specs.Prelude.{◌≡◌, ◌&&◌, ◌||◌, List, IfOk, option_and_then, unwrap_or};
 ghost use Rattle.std.specs.Option.{option_copied, option_map};
-ghost use Rattle.marc_types.specs.Fields.{subfields_of};
 ghost use Rattle.marc_types.specs.declared.key.Key.{Key};
 ghost use Rattle.entry_record.specs.Authority.{base_form};
 ghost use Rattle.entry_record.specs.Headings.{divided_form};

@@ -1,43 +1,18 @@
 //! The index follows an authority's entry, and goes back.
 ghost use Rattle.std.specs.Prelude.{◌≡◌, ℕ, ◌<◌, List, length, IfOk, OnOk, OnErr, IfSome, None};
-ghost use Rattle.std.specs.Option.{option_copied};
 ghost use Rattle.marc_types.specs.declared.key.Class.TheVariants.{Authority as AnAuthority};
 ghost use Rattle.marc_types.specs.declared.key.Key.{Key};
 ghost use Rattle.form_index.specs.Index.{IsHeld, IsInOrder, let_go, row_under};
-ghost use Rattle.entry_record.specs.Authority.{heading_of};
 ghost use Rattle.catalogue_rules.specs.Settle.{arrival_of};
-ghost use Rattle.catalogue_tables.specs.Following.{FollowsAuthority, authority_brought, has_bare_heading};
+ghost use Rattle.catalogue_tables.specs.Following.{FollowsAuthority, authority_brought};
 ghost use Rattle.catalogue_tables.specs.Following.{CanRestore, IsWayBack, restored, with_row_back, without_row};
 
 use crate::tables::CatalogueTables;
-use entry_record::Prepared;
+use entry_record::Preparation;
 use form_index::FormRow;
-use heading_fields::has_subdivision;
-use marc_types::{Field, Key, NoMemory};
+use marc_types::{Key, NoMemory};
 use numbering::Numbering;
 use std::alloc::Global;
-
-/// The heading of an authority record: its first 1XX.
-fn heading(fields: &[Field]) -> Option<&Field>
-    ensures { option_copied result ≡ heading_of fields.now }
-{
-    for field in fields {
-        if field.tag().a == b'1' {
-            return Some(field);
-        }
-    }
-    None
-}
-
-/// Whether the heading of an authority record has no subdivision.
-fn has_bare_heading(fields: &[Field]) -> bool
-    ensures { result ≡ has_bare_heading fields.now }
-{
-    match heading(fields) {
-        Some(field) => !has_subdivision(field),
-        None => true,
-    }
-}
 
 impl CatalogueTables {
     ghost use Rattle.catalogue_tables.specs.Tables.{OnlyIndex, OnlyIndexAndForms};
@@ -51,7 +26,7 @@ impl CatalogueTables {
         alloc: Global,
         keys: &Numbering<Key>,
         number: u32,
-        item: &Prepared,
+        item: &Preparation,
     ) -> Result<Option<FormRow>, NoMemory>
         requires class { item.now.class ≡ AnAuthority }
         requires known { number < length keys.now }
@@ -77,7 +52,7 @@ impl CatalogueTables {
         alloc: Global,
         keys: &Numbering<Key>,
         number: u32,
-        item: &Prepared,
+        item: &Preparation,
     ) -> Result<(), NoMemory>
         requires class { item.now.class ≡ AnAuthority }
         requires known { number < length keys.now }
@@ -94,14 +69,13 @@ impl CatalogueTables {
         let Some(established) = item.established() else {
             return Ok(());
         };
-        let bare = has_bare_heading(item.entry().rec.fields.as_slice());
         self.put_authority(
             alloc,
             keys,
             number,
             established,
             item.see_from().as_slice(),
-            bare,
+            item.has_bare_heading(),
         )?;
         Ok(())
     }

@@ -1,7 +1,7 @@
 //! What is known of an authority by its row alone: no record is looked at.
 ghost use Rattle.std.specs.Prelude.{◌≡◌, ◌<◌, ◌++◌, [], ◌∷◌, List, length, find, IfOk, OnOk};
 ghost use Rattle.std.specs.List.{IsDistinct};
-ghost use Rattle.marc_types.specs.Order.{same_form, same_key};
+ghost use Rattle.marc_types.specs.Order.{same_key};
 ghost use Rattle.marc_types.specs.declared.key.Key.{Key};
 ghost use Rattle.form_index.specs.Order.{key_at};
 ghost use Rattle.catalogue_rules.specs.Choice.{has_key};

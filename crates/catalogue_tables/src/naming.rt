@@ -1,5 +1,5 @@
 //! The key that a `$0` names.
-ghost use Rattle.std.specs.Prelude.{◌≡◌, ◌==◌, not, Some, None, position, filter, IfOk, IsTrue};
+ghost use Rattle.std.specs.Prelude.{◌≡◌, ◌==◌, Some, None, position, filter, IfOk, IsTrue};
 ghost use Rattle.std.specs.List.{list_all};
 ghost use Rattle.marc_types.specs.Valid.{is_code, is_graphic, is_number};
 ghost use Rattle.heading_fields.specs.Numbers.{without_blanks};

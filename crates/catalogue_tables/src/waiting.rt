@@ -1,5 +1,5 @@
 //! Seats that wait for a form or for a key.
-ghost use Rattle.std.specs.Prelude.{◌≡◌, OnOk, OnErr, IfOk, IfSome, IfNone, None, option_map};
+ghost use Rattle.std.specs.Prelude.{◌≡◌, OnOk, OnErr, IfOk, IfSome, IfNone, None};
 ghost use Rattle.std.specs.Option.{option_copied};
 ghost use Rattle.marc_types.specs.Order.{same_form};
 ghost use Rattle.numbering.specs.Numbers.{Keeps};

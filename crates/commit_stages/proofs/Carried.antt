@@ -7,6 +7,8 @@ use Rattle.marc_types.specs.declared.entry.Entry.{Entry}
 use Rattle.marc_types.specs.declared.field.Field.{Field}
 use Rattle.marc_types.specs.declared.form.Kind.{Kind}
 use Rattle.marc_types.specs.declared.key.Class.{Class}
+use Rattle.marc_types.specs.declared.key.Class.TheVariants.{Authority}
+use Rattle.marc_types.specs.declared.key.Key.{Key}
 use Rattle.entry_record.specs.Authority.{Linkable, linkable_of}
 use Rattle.entry_record.specs.History.{IsAdmitted}
 use Rattle.entry_record.specs.Identity.{is_deletion}
@@ -20,15 +22,17 @@ use Rattle.linking_laws.specs.Middle.{IsMiddle}
 use Rattle.linking_laws.specs.Stages.{carry_by}
 use Rattle.linking_laws.specs.Visits.{carry_visits}
 use Rattle.linking_laws.specs.Weights.{sum_fields}
-use Rattle.linked_store.specs.Linked.{Linked}
+use Rattle.linked_store.specs.Linked.{Linked, key_of}
 use Rattle.field_settling.specs.Held.{governing_of}
 use Rattle.field_settling.proofs.Headings.{heading_found}
 use Rattle.commit_stages.specs.Turns.{IsCarriedOut}
 use Rattle.commit_stages.proofs.Turning.{ahead_itself}
 use Rattle.commit_stages.proofs.Headed.{heading_proper}
-use Rattle.commit_stages.proofs.Reached.{code_text, number_text}
-use Rattle.commit_stages.specs.Carrying.{IsHeadingOf, heading_in}
-use Rattle.commit_stages.proofs.SettledFields.{with_all}
+use Rattle.commit_stages.proofs.Reached.{code_text, heading_of_key, number_text}
+use Rattle.commit_stages.specs.Brought.{brought_as}
+use Rattle.commit_stages.specs.Carrying.{CanCarry, heading_in}
+use Rattle.commit_stages.specs.declared.brought.BroughtHeading.{BroughtHeading}
+use Rattle.commit_stages.proofs.SettledFields.{in_order, with_all}
 use Rattle.commit_stages.specs.Noted.{NotesChanges}
 use Rattle.commit_stages.proofs.Idle.{idle_noted}
 use Rattle.commit_stages.proofs.Parts.{same_state}
@@ -54,45 +58,48 @@ proper_heading e c is =
     let governs : governing_of (fields_of r) ≡ Some (c.kind, c.heading) = ap governing_of same ∙ heading_found e.key e.rec.fields c (brings e c is) in
     subst (λ (o : Option (Kind × Field)). IfSome o (λ (heading : Kind × Field). is_field heading.1 ≡ true)) governs (heading_proper (Some r) valid)
 
-pub brought_heads : (e now : Entry) (all : List Linkable) (heading : Kind × Field) → now ≡ e → IsAdmitted e → find (has_key e.key) all ≡ authority_brought (arrival_of e)
-    → option_map heading_in (authority_brought (arrival_of e)) ≡ Some heading → IsHeadingOf now.key heading all
-brought_heads e now all heading same admitted own is = subst (λ (n : Entry). IsHeadingOf n.key heading all) (sym same) (at (authority_brought (arrival_of e)) refl is)
+pub can_carry : (e : Entry) (key : Key) (number : ℕ) (x : Linked) (heading : BroughtHeading) → key ≡ e.key → IsAdmitted e → key_of Authority number x.keys ≡ e.key → IsMiddle x.state
+    → find (has_key e.key) (linkable_authorities x.state) ≡ authority_brought (arrival_of e) → Some heading ≡ option_map brought_as (authority_brought (arrival_of e)) → CanCarry key number x
+can_carry e key number x heading same admitted named middle own is = subst (λ (k : Key). CanCarry k number x) (sym same) (at (authority_brought (arrival_of e)) refl is)
   where
-    at : (o : Option Linkable) → authority_brought (arrival_of e) ≡ o → option_map heading_in o ≡ Some heading → IsHeadingOf e.key heading all
+    at : (o : Option Linkable) → authority_brought (arrival_of e) ≡ o → Some heading ≡ option_map brought_as o → CanCarry e.key number x
     at None brought is = cc
     at (Some c) brought is =
-        let heading_is : heading_in c ≡ heading = cc in
         let fit = fit_entry e admitted in
         record {
-          found = ap (option_map heading_in) (own ∙ brought) ∙ is;
-          proper = subst (λ (h : Kind × Field). is_field h.1 ≡ true) heading_is (proper_heading e c brought);
-          code = code_text e.key.code fit.code;
-          number = number_text e.key.number fit.number;
+          heading = heading_in c;
+          under = heading_of_key x (in_order x.state middle) number e.key c named (own ∙ brought);
+          is_of = record {
+            found = ap (option_map heading_in) (own ∙ brought);
+            proper = proper_heading e c brought;
+            code = code_text e.key.code fit.code;
+            number = number_text e.key.number fit.number;
+          };
         }
 
-module _ (e now : Entry) (all : List Linkable) where
-  pub carried_noted : (x : Linked) (before after : List Seat) → now ≡ e → find (has_key e.key) all ≡ authority_brought (arrival_of e)
-      → NotesChanges (carry_by now.key (find (has_key now.key) all)) x before after → NotesChanges (carry_by e.key (authority_brought (arrival_of e))) x before after
+module _ (e : Entry) (key : Key) (all : List Linkable) where
+  pub carried_noted : (x : Linked) (before after : List Seat) → key ≡ e.key → find (has_key e.key) all ≡ authority_brought (arrival_of e)
+      → NotesChanges (carry_by key (find (has_key key) all)) x before after → NotesChanges (carry_by e.key (authority_brought (arrival_of e))) x before after
   carried_noted x before after same own noted =
       subst (λ (o : Option Linkable). NotesChanges (carry_by e.key o) x before after) own
-      (subst (λ (n : Entry). NotesChanges (carry_by n.key (find (has_key n.key) all)) x before after) same noted)
+      (subst (λ (k : Key). NotesChanges (carry_by k (find (has_key k) all)) x before after) same noted)
 
-  pub carried_steps : (s : State) (before after : ℕ) → now ≡ e → find (has_key e.key) all ≡ authority_brought (arrival_of e)
-      → after ≤ before + sum_fields (carry_visits now.key (find (has_key now.key) all)) s → after ≤ before + sum_fields (carry_visits e.key (authority_brought (arrival_of e))) s
+  pub carried_steps : (s : State) (before after : ℕ) → key ≡ e.key → find (has_key e.key) all ≡ authority_brought (arrival_of e)
+      → after ≤ before + sum_fields (carry_visits key (find (has_key key) all)) s → after ≤ before + sum_fields (carry_visits e.key (authority_brought (arrival_of e))) s
   carried_steps s before after same own low =
       subst (λ (o : Option Linkable). after ≤ before + sum_fields (carry_visits e.key o) s) own
-      (subst (λ (n : Entry). after ≤ before + sum_fields (carry_visits n.key (find (has_key n.key) all)) s) same low)
+      (subst (λ (k : Key). after ≤ before + sum_fields (carry_visits k (find (has_key k) all)) s) same low)
 
 -- ---- none
 
-nobody : (o : Option Linkable) → option_map heading_in o ≡ None → o ≡ None
+nobody : (o : Option Linkable) → option_map brought_as o ≡ None → o ≡ None
 nobody None e = refl
 nobody (Some c) e = cc
 
-idle : (e : Entry) → option_map heading_in (authority_brought (arrival_of e)) ≡ None → (class : Class) (h : KeptField) → carry_by e.key (authority_brought (arrival_of e)) class h ≡ h
+idle : (e : Entry) → option_map brought_as (authority_brought (arrival_of e)) ≡ None → (class : Class) (h : KeptField) → carry_by e.key (authority_brought (arrival_of e)) class h ≡ h
 idle e none class h = ap (λ (o : Option Linkable). carry_by e.key o class h) (nobody (authority_brought (arrival_of e)) none)
 
-pub nothing_carried : (e : Entry) (x : Linked) → option_map heading_in (authority_brought (arrival_of e)) ≡ None → IsMiddle x.state
+pub nothing_carried : (e : Entry) (x : Linked) → option_map brought_as (authority_brought (arrival_of e)) ≡ None → IsMiddle x.state
     → IsCarriedOut (linkable_authorities x.state) (carry_by e.key (authority_brought (arrival_of e))) x x
 nothing_carried e x none middle = record {
   ahead = ahead_itself x;
@@ -100,6 +107,6 @@ nothing_carried e x none middle = record {
   middle = with_all x.state middle;
 }
 
-pub nothing_noted : (e : Entry) (x : Linked) (seats : List Seat) → option_map heading_in (authority_brought (arrival_of e)) ≡ None
+pub nothing_noted : (e : Entry) (x : Linked) (seats : List Seat) → option_map brought_as (authority_brought (arrival_of e)) ≡ None
     → NotesChanges (carry_by e.key (authority_brought (arrival_of e))) x seats seats
 nothing_noted e x seats none = idle_noted (carry_by e.key (authority_brought (arrival_of e))) x seats (idle e none)

@@ -1,6 +1,7 @@
 -- Carrying a heading: what is made of one field, and what one visit counts.
 use Rattle.std.proofs.Common.{◌≡◌, ◌∙◌, sym, ap, refl, subst, ℕ, ◌+◌, ◌≤◌, ◌<◌, arith, List, map, length, take, get_or, Option, Some, None, Bool, true, false}
-use Rattle.std.specs.Prelude.{find, if◌then◌else◌}
+use Rattle.std.specs.Prelude.{◌==◌, find, if◌then◌else◌}
+use Rattle.std.specs.Cmp.{unsigned_Decides}
 use Rattle.std.specs.Option.{option_map, option_map_or}
 use Rattle.marc_types.specs.Valid.{is_field}
 use Rattle.marc_types.specs.declared.field.Field.{Field}
@@ -106,6 +107,20 @@ one_visit key seat x before after to_do step = by (field_of seat x) to_do.passes
 -- where no field stands, none is made
 pub none_made : (change : Class → KeptField → KeptField) (seat : Seat) (x : Linked) → None ≡ field_of seat x → (h : KeptField) → field_of seat x ≡ Some h → change seat.class h ≡ h
 none_made change seat x off h there = let no_way : None ≡ Some h = off ∙ there in cc
+
+-- the heading that was found is that of the key
+pub found_of : (key : Key) (all : List Linkable) (o : Option (Kind × Field)) (copied heading : Kind × Field) → Some copied ≡ o → o ≡ Some heading → IsHeadingOf key heading all
+    → IsHeadingOf key copied all
+found_of key all o copied heading found under is = let same : heading ≡ copied = some_same heading copied (sym (found ∙ under)) in subst (λ (h : Kind × Field). IsHeadingOf key h all) same is
+  where
+    some_same : (x y : Kind × Field) → Some x ≡ Some y → x ≡ y
+    some_same x y e = cc
+
+pub none_found : (A : Type 0) (o : Option (Kind × Field)) (heading : Kind × Field) → None ≡ o → o ≡ Some heading → A
+none_found A o heading off under = let no_way : None ≡ Some heading = off ∙ under in cc
+
+pub none_listed : (seats : List Seat) (b : Bool) → b ≡ (length seats == 0) → b ≡ true → length seats ≤ 0
+none_listed seats b e is = let none : length seats ≡ 0 = (unsigned_Decides (length seats) 0).0 (sym e ∙ is) in omega (arith, none)
 
 -- ---- the loop
 

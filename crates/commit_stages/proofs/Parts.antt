@@ -1,6 +1,6 @@
 -- What the stages do where there is nothing to do, and what stands in the place of the committed record.
 use Rattle.std.proofs.Common.{◌≡◌, ◌∙◌, sym, ap, refl, subst, ℕ, Bool, true, false, cond, List, [], ◌∷◌, map, Option, Some, None}
-use Rattle.std.specs.Prelude.{◌&&◌, if◌then◌else◌, is_some}
+use Rattle.std.specs.Prelude.{◌&&◌, if◌then◌else◌, not, option_and_then}
 use Rattle.std.specs.Map.{lookup}
 use Rattle.std.specs.Option.{option_map, option_map_or}
 use Rattle.std.specs.BTreeMap.{insert_entry}
@@ -12,11 +12,16 @@ use Rattle.marc_types.specs.declared.key.Class.TheVariants.{Authority, Bibliogra
 use Rattle.marc_types.specs.declared.key.Key.{Key}
 use Rattle.marc_types.specs.Valid.{is_number}
 use Rattle.marc_types.specs.declared.field.Field.{Field}
-use Rattle.entry_record.specs.Authority.{Linkable, is_valid_key, linkable_of}
+use Rattle.marc_types.specs.Fields.{subfields_of}
+use Rattle.marc_types.specs.declared.form.Form.{Form}
+use Rattle.marc_types.specs.declared.form.Kind.{Kind}
+use Rattle.heading_fields.specs.Parts.{full_part, is_subdivided}
+use Rattle.entry_record.specs.Authority.{Linkable, full_form, heading_of, is_valid_key, linkable_by, linkable_kind, linkable_of, linkable_with}
 use Rattle.entry_record.specs.History.{IsAdmitted}
 use Rattle.entry_record.specs.Identity.{is_deletion}
-use Rattle.entry_record.specs.Prepared.{established_of}
+use Rattle.entry_record.specs.Prepared.{authority_in, established_in, established_of, has_bare_heading}
 use Rattle.catalogue_rules.specs.Receipt.{Standing, is_ambiguous, is_linked, is_unlinked, kept_under}
+use Rattle.catalogue_rules.proofs.Fit.{formed_of}
 use Rattle.catalogue_rules.proofs.States.{fit_entry}
 use Rattle.linking_laws.specs.Middle.{IsMiddle}
 use Rattle.linked_store.specs.Linked.{Linked, key_of}
@@ -34,9 +39,8 @@ use Rattle.numbered_store.specs.Rows.{with_row}
 use Rattle.numbered_store.proofs.Ordered.{lookup_with_row, own_key}
 use Rattle.linking_laws.specs.Stages.{in_own_row, settle_own}
 use Rattle.linked_store.specs.Placing.{record_brought}
-use Rattle.field_settling.specs.Held.{governing_of}
-use Rattle.field_settling.proofs.Headings.{heading_found}
-use Rattle.commit_stages.specs.Carrying.{heading_in}
+use Rattle.commit_stages.specs.Brought.{brought_as}
+use Rattle.commit_stages.specs.declared.brought.BroughtHeading.{BroughtHeading}
 
 -- ---- a change that changes nothing
 
@@ -94,21 +98,38 @@ absent_settled all Bibliographic key s none = λ i. record { authorities = s.aut
 
 -- ---- the heading that an entry brings
 
-brought_by : (e : Entry) → e.class ≡ Authority → is_some (established_of e) ≡ true → governing_of e.rec.fields ≡ option_map heading_in (linkable_of e.key e.rec.fields)
-brought_by e class there = at e.class class there (linkable_of e.key e.rec.fields) refl
-  where
-    at : (c : Class) → c ≡ Authority → is_some (established_of (record e { class = c })) ≡ true → (o : Option Linkable) → linkable_of e.key e.rec.fields ≡ o
-        → governing_of e.rec.fields ≡ option_map heading_in o
-    at Authority is there (Some c) found = heading_found e.key e.rec.fields c found
-    at Authority is there None found =
-        let none : is_some (established_of (record e { class = Authority })) ≡ false = ap (λ (o : Option Linkable). is_some (option_map (λ c. c.established) o)) found in
-        cc
-    at Bibliographic is there o found = cc
+-- what the established form and the heading's bareness say of it
+abbrev heading_with : Form → Bool → BroughtHeading
+heading_with form bare = record { kind = form.kind; bare = bare }
 
-pub heading_brought : (e : Entry) → e.class ≡ Authority → is_deletion e.rec.leader ≡ false → is_some (established_of e) ≡ true
-    → governing_of e.rec.fields ≡ option_map heading_in (authority_brought (arrival_of e))
-heading_brought e class stays there =
-    brought_by e class there ∙ sym (ap (λ (b : Bool). option_map heading_in (if b then None else linkable_of e.key e.rec.fields)) stays)
+brought_with : (key : Key) (fields : List Field) (f : Field) (form : Form) (bare : Bool) (o : Option Kind) → Some form ≡ established_in (option_map (linkable_with key fields f) o)
+    → bare ≡ not (is_subdivided (subfields_of f)) → Some (heading_with form bare) ≡ option_map brought_as (option_map (linkable_with key fields f) o)
+brought_with key fields f form bare None e is = cc
+brought_with key fields f form bare (Some kind) e is =
+    let same : form ≡ full_form kind Authority f = cc in
+    let kind_is : form.kind ≡ kind = ap (λ (x : Form). x.kind) same ∙ formed_of kind (full_part kind Authority f) in
+    λ i. Some (record { kind = kind_is i; bare = is i })
+
+brought_of : (key : Key) (fields : List Field) (form : Form) (bare : Bool) (o : Option Field) → Some form ≡ established_in (option_and_then (linkable_by key fields) o)
+    → bare ≡ option_map_or (λ f. not (is_subdivided (subfields_of f))) o true → Some (heading_with form bare) ≡ option_map brought_as (option_and_then (linkable_by key fields) o)
+brought_of key fields form bare None e is = cc
+brought_of key fields form bare (Some f) e is = brought_with key fields f form bare (linkable_kind f) e is
+
+brought_linkable : (key : Key) (fields : List Field) (form : Form) (bare : Bool) → Some form ≡ established_in (linkable_of key fields) → bare ≡ has_bare_heading fields
+    → Some (heading_with form bare) ≡ option_map brought_as (linkable_of key fields)
+unfolding linkable_of
+brought_linkable key fields form bare e is = brought_of key fields form bare (heading_of fields) e is
+
+brought_in : (class : Class) (key : Key) (fields : List Field) (form : Form) (bare : Bool) → class ≡ Authority → Some form ≡ established_in (authority_in class key fields)
+    → bare ≡ has_bare_heading fields → Some (heading_with form bare) ≡ option_map brought_as (linkable_of key fields)
+brought_in Authority key fields form bare class e is = brought_linkable key fields form bare e is
+brought_in Bibliographic key fields form bare class e is = cc
+
+pub heading_brought : (e : Entry) (form : Form) (bare : Bool) → e.class ≡ Authority → is_deletion e.rec.leader ≡ false → Some form ≡ established_of e
+    → bare ≡ has_bare_heading e.rec.fields → Some (heading_with form bare) ≡ option_map brought_as (authority_brought (arrival_of e))
+heading_brought e form bare class stays made is =
+    brought_in e.class e.key e.rec.fields form bare class made is
+    ∙ sym (ap (λ (b : Bool). option_map brought_as (if b then None else linkable_of e.key e.rec.fields)) stays)
 
 pub key_valid : (e : Entry) → IsAdmitted e → is_valid_key e.key ≡ true
 key_valid e admitted = let fit = fit_entry e admitted in ap (λ b. b && is_number e.key.number) fit.code ∙ fit.number

@@ -101,6 +101,14 @@ row_found key [] c s a found = cc
 row_found key (row ∷ rows) c s a found =
     row_at key row rows c (same_key key row.0) (row_linkable row) refl refl s.0 a.0 (row_found key rows c s.1 a.1) found
 
+-- the heading of a key's authority stands in the record under the number that the key has
+pub heading_of_key : (x : Linked) → AreAuthoritiesInOrder x.state → (number : ℕ) (key : Key) (c : Linkable) → key_of Authority number x.keys ≡ key
+    → find (has_key key) (linkable_authorities x.state) ≡ Some c → heading_under number x ≡ Some (c.kind, c.heading)
+heading_of_key x order number key c named found =
+    let row = row_found key x.state.authorities c order.ascend (recursion_from_All (IsRow Authority) x.state.authorities order.rows) found in
+    ap (λ (k : Key). option_and_then (λ (r : KeptRecord). governing_of (fields_of r)) (kept_under Authority k x.state)) named
+    ∙ ap (option_and_then (λ (r : KeptRecord). governing_of (fields_of r))) row.stands ∙ heading_found key (fields_of row.r) c row.brings
+
 -- ---- a proper key can stand in a record
 
 graphic_data : (b : ℕ) → is_graphic b ≡ true → is_data b ≡ true

@@ -7,11 +7,13 @@ use Rattle.marc_types.specs.declared.form.Kind.{Kind}
 use Rattle.marc_types.specs.declared.key.Class.{Class}
 use Rattle.marc_types.specs.declared.key.Key.{Key}
 use Rattle.entry_record.specs.Authority.{Linkable}
-use Rattle.catalogue_rules.specs.State.{KeptField}
+use Rattle.catalogue_rules.specs.State.{KeptField, linkable_authorities}
 use Rattle.catalogue_rules.specs.Choice.{has_key}
 use Rattle.catalogue_rules.specs.Settle.{is_linked_to}
 use Rattle.linking_laws.specs.Stages.{carry_field}
 use Rattle.linking_laws.specs.Weights.{one_if}
+use Rattle.linked_store.specs.Linked.{Linked}
+use Rattle.commit_stages.specs.Choosing.{heading_under}
 
 abbrev pub heading_in : Linkable → Kind × Field
 heading_in c = (c.kind, c.heading)
@@ -22,6 +24,12 @@ pub record IsHeadingOf (key : Key) (heading : Kind × Field) (all : List Linkabl
   pub proper : is_field heading.1 ≡ true
   pub code : is_text key.code ≡ true
   pub number : is_text key.number ≡ true
+
+-- a heading stands under the number, and it is that of the key's authority
+pub record CanCarry (key : Key) (number : ℕ) (x : Linked) : Type 0 where
+  pub heading : Kind × Field
+  pub under : heading_under number x ≡ Some heading
+  pub is_of : IsHeadingOf key heading (linkable_authorities x.state)
 
 -- what carrying makes of a field
 abbrev pub carry_heading : Key → Kind × Field → Class → KeptField → KeptField

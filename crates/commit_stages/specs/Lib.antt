@@ -1,3 +1,4 @@
+pub mod Brought
 pub mod Fields
 pub mod Noted
 pub mod Turns

@@ -24,9 +24,9 @@ use crate::changes::Changes;
 use crate::stages::{carry_heading, drop_ended, settle_brought};
 use crate::touched::settle_touched;
 use catalogue_tables::KnownAuthority;
-use entry_record::Prepared;
+use entry_record::Preparation;
 use linked_store::LinkedStore;
-use marc_types::{Class, Form, NoMemory};
+use marc_types::{Class, Form, NoMemory, Record};
 use numbering::Numbering;
 use record_store::Steps;
 use std::alloc::Global;
@@ -38,9 +38,11 @@ pub(crate) fn commit_authority<L: Ledger>(
     store: &mut LinkedStore,
     alloc: Global,
     number: u32,
-    item: &Prepared,
+    rec: Record,
+    item: &Preparation,
     steps: &mut Steps<L>,
 ) -> Result<Changes, NoMemory>
+    requires own { rec ≡ item.now.rec }
     requires commit { IsCommit AnAuthority store.old.state item.now }
     requires number { IsNumberOf same_key (keys_in AnAuthority store.old.keys) item.now.key number }
     ensures state { OnOk result (store.new.state ≡ step store.old.state (arrival_of item.now)) }
@@ -51,7 +53,7 @@ pub(crate) fn commit_authority<L: Ledger>(
     store.each_record_has_a_number();
     let known = store.known_authority(alloc, number)?;
     let ending = links_that_end(known.as_ref(), item);
-    store.place(alloc, number, item)?;
+    store.place(alloc, number, rec, item)?;
     let mut noted = Numbering::new(alloc);
     drop_ended(store, alloc, number, item, ending, &mut noted, steps)?;
     carry_heading(store, alloc, number, item, &mut noted, steps)?;
@@ -72,7 +74,7 @@ pub(crate) fn commit_authority<L: Ledger>(
 fn forms_then_and_now<'a>(
     alloc: Global,
     known: &'a [Form],
-    item: &'a Prepared,
+    item: &'a Preparation,
 ) -> Result<Vec<&'a Form>, NoMemory>
     requires { item.now.class ≡ AnAuthority }
     ensures { IfOk result (λ forms. shown_forms forms.items ≡ known.now ++ forms_of_brought (arrival_of item.now)) }
@@ -84,7 +86,7 @@ fn forms_then_and_now<'a>(
 }
 
 // The forms under which the authority is found that the entry brings; none where no field can be linked to it.
-fn lend_brought<'a>(forms: &mut Vec<&'a Form>, item: &'a Prepared) -> Result<(), NoMemory>
+fn lend_brought<'a>(forms: &mut Vec<&'a Form>, item: &'a Preparation) -> Result<(), NoMemory>
     requires { item.now.class ≡ AnAuthority }
     ensures { OnOk result (shown_forms forms.new.items ≡ shown_forms forms.old.items ++ forms_of_brought (arrival_of item.now)) }
 {

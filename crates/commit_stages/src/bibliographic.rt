@@ -13,9 +13,9 @@ ghost use Rattle.commit_stages.specs.Receipts.{AreNumbersOf};
 
 use crate::changes::Changes;
 use crate::stages::settle_brought;
-use entry_record::Prepared;
+use entry_record::Preparation;
 use linked_store::LinkedStore;
-use marc_types::NoMemory;
+use marc_types::{NoMemory, Record};
 use record_store::Steps;
 use std::alloc::Global;
 use std::sync::ledger::Ledger;
@@ -25,9 +25,11 @@ pub(crate) fn commit_bibliographic<L: Ledger>(
     store: &mut LinkedStore,
     alloc: Global,
     number: u32,
-    item: &Prepared,
+    rec: Record,
+    item: &Preparation,
     steps: &mut Steps<L>,
 ) -> Result<Changes, NoMemory>
+    requires own { rec ≡ item.now.rec }
     requires commit { IsCommit ABibliographic store.old.state item.now }
     requires number { IsNumberOf same_key (keys_in ABibliographic store.old.keys) item.now.key number }
     ensures state { OnOk result (store.new.state ≡ step store.old.state (arrival_of item.now)) }
@@ -35,7 +37,7 @@ pub(crate) fn commit_bibliographic<L: Ledger>(
     ensures ahead { IsAhead store.old store.new }
     ensures visits { steps.new ≤ steps.old + touched store.old.state item.now }
 {
-    store.place(alloc, number, item)?;
+    store.place(alloc, number, rec, item)?;
     let counts = settle_brought(store, alloc, number, item, steps)?;
     Ok(Changes {
         linked: counts.linked,

@@ -6,15 +6,13 @@ ghost use Rattle.entry_record.specs.Authority.{Linkable};
 ghost use Rattle.catalogue_rules.specs.Settle.{arrival_of};
 ghost use Rattle.catalogue_tables.specs.Following.{authority_brought};
 ghost use Rattle.linking_laws.specs.Stages.{dropping_by};
-ghost use Rattle.field_settling.specs.Held.{heading_as};
-ghost use Rattle.commit_stages.specs.Carrying.{heading_in};
 ghost use Rattle.catalogue_tables.specs.Known.{IsKnownAs};
 ghost use Rattle.commit_stages.specs.Stages.{dropping_to};
+ghost use Rattle.commit_stages.specs.Brought.{brought_as};
 
 use catalogue_tables::KnownAuthority;
-use entry_record::Prepared;
-use field_settling::{Heading, governing};
-use heading_fields::has_subdivision;
+use entry_record::Preparation;
+use marc_types::Kind;
 
 /// Which links to an authority end with its commit.
 #[derive(Clone, Copy, Debug, PartialEq, Eq)]
@@ -25,23 +23,33 @@ pub(crate) enum Ending {
     All,
 }
 
+/// What of an authority's heading decides which links to it stay.
+#[derive(Clone, Copy, Debug)]
+pub(crate) struct BroughtHeading {
+    pub(crate) kind: Kind,
+    pub(crate) bare: bool,
+}
+
 /// The heading of the authority that the entry brings, if fields can be linked to it.
-pub(crate) fn brought_heading(item: &Prepared) -> Option<Heading<'_>>
+pub(crate) fn brought_heading(item: &Preparation) -> Option<BroughtHeading>
     requires { item.now.class ≡ AnAuthority }
-    ensures { option_map heading_as result ≡ option_map heading_in (authority_brought (arrival_of item.now)) }
+    ensures { result ≡ option_map brought_as (authority_brought (arrival_of item.now)) }
 {
     if item.is_deletion() {
         return None;
     }
     match item.established() {
-        Some(_) => governing(&item.entry().rec),
+        Some(form) => Some(BroughtHeading {
+            kind: form.kind,
+            bare: item.has_bare_heading(),
+        }),
         None => None,
     }
 }
 
 /// Which links end once the entry's record is in its place: all where it brings no authority, or one of another kind than the one
 /// that was known; those by the base where its heading has a subdivision.
-pub(crate) fn links_that_end(known: Option<&KnownAuthority>, item: &Prepared) -> Ending
+pub(crate) fn links_that_end(known: Option<&KnownAuthority>, item: &Preparation) -> Ending
     requires { item.now.class ≡ AnAuthority }
     ensures { (before : Option Linkable) → IsKnownAs before (option_copied known.entry)
         → dropping_to result ≡ dropping_by before (authority_brought (arrival_of item.now)) }
@@ -56,15 +64,15 @@ pub(crate) fn links_that_end(known: Option<&KnownAuthority>, item: &Prepared) ->
 }
 
 // Which links end where an authority takes another's place.
-fn ending_between(known: &KnownAuthority, heading: Heading<'_>) -> Ending
-    ensures { (before now : Linkable) → known.now.kind ≡ before.kind → heading_as heading.entry ≡ heading_in now
+fn ending_between(known: &KnownAuthority, heading: BroughtHeading) -> Ending
+    ensures { (before now : Linkable) → known.now.kind ≡ before.kind → heading ≡ brought_as now
         → dropping_to result ≡ dropping_by (Some before) (Some now) }
 {
     if known.kind != heading.kind {
         Ending::All
-    } else if has_subdivision(heading.field) {
-        Ending::Bases
-    } else {
+    } else if heading.bare {
         Ending::Nothing
+    } else {
+        Ending::Bases
     }
 }

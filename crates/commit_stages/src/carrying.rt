@@ -12,32 +12,33 @@ ghost use Rattle.linked_store.specs.Linked.{IsAhead, IsNumber, ListsSeats, key_o
 ghost use Rattle.field_settling.specs.Held.{heading_as};
 ghost use Rattle.commit_stages.specs.Noted.{NotesChanges, noted_with};
 ghost use Rattle.commit_stages.specs.Turns.{IsCarriedOut, IsMadeOf, IsToDo, IsTurned, visits_at};
-ghost use Rattle.commit_stages.specs.Carrying.{IsHeadingOf, carry_heading, linked_visits};
+ghost use Rattle.commit_stages.specs.Carrying.{CanCarry, IsHeadingOf, carry_heading, linked_visits};
+ghost use Rattle.commit_stages.specs.Choosing.{heading_under};
 
 use crate::exchanging::exchange_noted;
+use crate::settling::look_at_heading;
 use crate::visiting::visit_field;
 use field_settling::{Heading, Held, link_to};
 use linked_store::LinkedStore;
-use marc_types::{Key, NoMemory};
+use marc_types::{Field, Key, Kind, NoMemory, TryCopy};
 use numbering::{Numbering, Seat};
 use record_store::Steps;
 use std::alloc::Global;
 use std::sync::ledger::Ledger;
 
-/// Each field that is linked to the authority is rewritten from its heading. The seats whose field changes are noted. Where memory
-/// ends, the caller can take back what was done.
+/// Each field that is linked to the authority is rewritten from its heading, which is read from the record under the number. The
+/// seats whose field changes are noted. Where memory ends, the caller can take back what was done.
 pub(crate) fn carry<L: Ledger>(
     store: &mut LinkedStore,
     alloc: Global,
     number: u32,
     key: &Key,
-    heading: Heading<'_>,
     noted: &mut Numbering<Seat>,
     steps: &mut Steps<L>,
 ) -> Result<(), NoMemory>
     requires number { IsNumber AnAuthority number store.old.keys }
     requires key { key_of AnAuthority number store.old.keys ≡ key.now }
-    requires heading { IsHeadingOf key.now (heading_as heading) (linkable_authorities store.old.state) }
+    requires heading { CanCarry key.now number store.old }
     requires middle { IsMiddle store.old.state }
     ensures ok { let all = linkable_authorities store.old.state in
         OnOk result (IsCarriedOut all (carry_by key.now (find (has_key key.now) all)) store.old store.new) }
@@ -48,7 +49,61 @@ pub(crate) fn carry<L: Ledger>(
         steps.new ≤ steps.old + sum_fields (carry_visits key.now authority) store.old.state }
 {
     let seats = store.linked(alloc, number)?;
-    carry_to(store, alloc, &seats, key, heading, noted, steps)
+    carry_from(store, alloc, number, &seats, key, noted, steps)
+}
+
+// The seats are those of all places that are linked to the key. Where there is one, the heading is copied: the record lends it only
+// while nothing changes.
+fn carry_from<L: Ledger>(
+    store: &mut LinkedStore,
+    alloc: Global,
+    number: u32,
+    seats: &[Seat],
+    key: &Key,
+    noted: &mut Numbering<Seat>,
+    steps: &mut Steps<L>,
+) -> Result<(), NoMemory>
+    requires number { IsNumber AnAuthority number store.old.keys }
+    requires lists { ListsSeats store.old.keys (holds_at (linked_at key.now) store.old.state) seats.now }
+    requires heading { CanCarry key.now number store.old }
+    requires middle { IsMiddle store.old.state }
+    ensures ok { let all = linkable_authorities store.old.state in
+        OnOk result (IsCarriedOut all (carry_by key.now (find (has_key key.now) all)) store.old store.new) }
+    ensures noted { let all = linkable_authorities store.old.state in
+        OnOk result (NotesChanges (carry_by key.now (find (has_key key.now) all)) store.old noted.old noted.new) }
+    ensures ahead { IsAhead store.old store.new }
+    ensures visits { let authority = find (has_key key.now) (linkable_authorities store.old.state) in
+        steps.new ≤ steps.old + sum_fields (carry_visits key.now authority) store.old.state }
+{
+    store.each_key_has_one_number();
+    if seats.is_empty() {
+        return Ok(());
+    }
+    match copied_heading(store, alloc, number)? {
+        Some(copied) => {
+            let heading = Heading {
+                kind: copied.0,
+                field: &copied.1,
+            };
+            carry_to(store, alloc, seats, key, heading, noted, steps)
+        }
+        None => Ok(()),
+    }
+}
+
+// The heading of the authority under the key that has the number, with its kind.
+fn copied_heading(
+    store: &LinkedStore,
+    alloc: Global,
+    number: u32,
+) -> Result<Option<(Kind, Field)>, NoMemory>
+    requires { IsNumber AnAuthority number store.now.keys }
+    ensures { IfOk result (λ heading. heading ≡ heading_under number store.now) }
+{
+    match look_at_heading(store, number) {
+        Some(heading) => Ok(Some((heading.kind, heading.field.copy(alloc)?))),
+        None => Ok(None),
+    }
 }
 
 // The seats are those of all places that are linked to the key.

@@ -10,30 +10,32 @@ ghost use Rattle.commit_stages.specs.Receipts.{AreNumbersOf};
 use crate::authority::commit_authority;
 use crate::bibliographic::commit_bibliographic;
 use crate::changes::Changes;
-use entry_record::Prepared;
+use entry_record::{Preparation, Prepared};
 use linked_store::LinkedStore;
-use marc_types::{Class, NoMemory};
+use marc_types::{Class, NoMemory, Record};
 use record_store::Steps;
 use std::alloc::Global;
 use std::sync::ledger::Ledger;
 
 /// Takes the store to the state behind one more entry: its record comes into its key's place, links that can't stay are ended, and
-/// every heading is settled. The visits that it counts are at most what the commit touches. Want of memory leaves the state as it was.
+/// every heading is settled. The visits that it counts are at most what the commit touches. Want of memory leaves the state as it was;
+/// the entry is gone then.
 pub fn commit_entry<L: Ledger>(
     store: &mut LinkedStore,
     alloc: Global,
-    item: &Prepared,
+    item: Prepared,
     steps: &mut Steps<L>,
 ) -> Result<Changes, NoMemory>
     requires valid { IsValid store.old.state }
-    ensures state { OnOk result (store.new.state ≡ step store.old.state (arrival_of item.now)) }
-    ensures changes { IfOk result (λ changes. (at : ℕ) → AreNumbersOf (receipt_of at store.old.state (arrival_of item.now) (step store.old.state (arrival_of item.now))) changes) }
+    ensures state { OnOk result (store.new.state ≡ step store.old.state (arrival_of item)) }
+    ensures changes { IfOk result (λ changes. (at : ℕ) → AreNumbersOf (receipt_of at store.old.state (arrival_of item) (step store.old.state (arrival_of item))) changes) }
     ensures err { OnErr result (store.new.state ≡ store.old.state) }
     ensures before { store.new.before ≡ store.old.before }
-    ensures visits { steps.new ≤ steps.old + touched store.old.state item.now }
+    ensures visits { steps.new ≤ steps.old + touched store.old.state item }
 {
+    let (rec, rest) = item.into_parts();
     store.mark();
-    match make(store, alloc, item, steps) {
+    match make(store, alloc, rec, &rest, steps) {
         Ok(changes) => Ok(changes),
         Err(fault) => {
             store.roll_back();
@@ -46,19 +48,21 @@ pub fn commit_entry<L: Ledger>(
 fn make<L: Ledger>(
     store: &mut LinkedStore,
     alloc: Global,
-    item: &Prepared,
+    rec: Record,
+    item: &Preparation,
     steps: &mut Steps<L>,
 ) -> Result<Changes, NoMemory>
+    requires own { rec ≡ item.now.rec }
     requires valid { IsValid store.old.state }
     ensures state { OnOk result (store.new.state ≡ step store.old.state (arrival_of item.now)) }
     ensures changes { IfOk result (λ changes. (at : ℕ) → AreNumbersOf (receipt_of at store.old.state (arrival_of item.now) (step store.old.state (arrival_of item.now))) changes) }
     ensures ahead { IsAhead store.old store.new }
     ensures visits { steps.new ≤ steps.old + touched store.old.state item.now }
 {
-    let entry = item.entry();
-    let number = store.number(alloc, entry.class, &entry.key)?;
-    match entry.class {
-        Class::Authority => commit_authority(store, alloc, number, item, steps),
-        Class::Bibliographic => commit_bibliographic(store, alloc, number, item, steps),
+    item.was_admitted();
+    let number = store.number(alloc, item.class(), item.key())?;
+    match item.class() {
+        Class::Authority => commit_authority(store, alloc, number, rec, item, steps),
+        Class::Bibliographic => commit_bibliographic(store, alloc, number, rec, item, steps),
     }
 }

@@ -148,6 +148,17 @@ fn link_chosen<L: Ledger>(
     }
 }
 
+/// The heading of the authority under the key that has the number, for those who only read. It counts no visit.
+pub(crate) fn look_at_heading(store: &LinkedStore, number: u32) -> Option<Heading<'_>>
+    requires { IsNumber AnAuthority number store.now.keys }
+    ensures { option_map heading_as result ≡ heading_under number store.now }
+{
+    match store.look(Class::Authority, number) {
+        Some(kept) => governing(&kept.rec),
+        None => None,
+    }
+}
+
 // The heading of the authority under the key that has the number. Its record is visited for it.
 fn visit_heading<'a, L: Ledger>(
     store: &'a LinkedStore,

@@ -23,7 +23,7 @@ use crate::counts::HeadingCounts;
 use crate::dropping::drop_links;
 use crate::ending::EndingLinks;
 use crate::own::settle_own;
-use entry_record::Prepared;
+use entry_record::Preparation;
 use linked_store::LinkedStore;
 use marc_types::NoMemory;
 use numbering::{Numbering, Seat};
@@ -36,7 +36,7 @@ pub(crate) fn drop_ended<L: Ledger>(
     store: &mut LinkedStore,
     alloc: Global,
     number: u32,
-    item: &Prepared,
+    item: &Preparation,
     ending: Ending,
     noted: &mut Numbering<Seat>,
     steps: &mut Steps<L>,
@@ -60,15 +60,15 @@ pub(crate) fn drop_ended<L: Ledger>(
 }
 
 // The links to the entry's key, all or those by the base, with its successor.
-fn ended(item: &Prepared, only_base: bool) -> EndingLinks<'_>
+fn ended(item: &Preparation, only_base: bool) -> EndingLinks<'_>
     ensures key { result.key.now ≡ item.now.key }
     ensures only_base { result.only_base ≡ only_base }
     ensures successor { option_copied result.successor ≡ successor_in (arrival_of item.now) }
     ensures valid { is_valid_key item.now.key ≡ true }
 {
-    let entry = item.entry();
+    item.was_admitted();
     EndingLinks {
-        key: &entry.key,
+        key: item.key(),
         only_base,
         successor: item.successor(),
     }
@@ -79,7 +79,7 @@ pub(crate) fn carry_heading<L: Ledger>(
     store: &mut LinkedStore,
     alloc: Global,
     number: u32,
-    item: &Prepared,
+    item: &Preparation,
     noted: &mut Numbering<Seat>,
     steps: &mut Steps<L>,
 ) -> Result<(), NoMemory>
@@ -94,16 +94,9 @@ pub(crate) fn carry_heading<L: Ledger>(
     ensures ahead { IsAhead store.old store.new }
     ensures visits { steps.new ≤ steps.old + sum_fields (carry_visits item.now.key (authority_brought (arrival_of item.now))) store.old.state }
 {
+    item.was_admitted();
     match brought_heading(item) {
-        Some(heading) => carry(
-            store,
-            alloc,
-            number,
-            &item.entry().key,
-            heading,
-            noted,
-            steps,
-        ),
+        Some(_) => carry(store, alloc, number, item.key(), noted, steps),
         None => Ok(()),
     }
 }
@@ -113,7 +106,7 @@ pub(crate) fn settle_brought<L: Ledger>(
     store: &mut LinkedStore,
     alloc: Global,
     number: u32,
-    item: &Prepared,
+    item: &Preparation,
     steps: &mut Steps<L>,
 ) -> Result<HeadingCounts, NoMemory>
     requires number { IsNumber item.now.class number store.old.keys }
@@ -132,6 +125,5 @@ pub(crate) fn settle_brought<L: Ledger>(
             unlinked: 0,
         });
     }
-    let class = item.entry().class;
-    settle_own(store, alloc, class, number, steps)
+    settle_own(store, alloc, item.class(), number, steps)
 }

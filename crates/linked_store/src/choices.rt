@@ -1,5 +1,5 @@
 //! What a field is to be linked to, and what is known of an authority.
-ghost use Rattle.std.specs.Prelude.{◌≡◌, ◌<◌, length, find, IfOk, None, Some};
+ghost use Rattle.std.specs.Prelude.{◌≡◌, ◌<◌, find, IfOk, None, Some};
 ghost use Rattle.std.specs.Option.{option_copied, option_map};
 ghost use Rattle.marc_types.specs.declared.key.Class.TheVariants.{Authority as AnAuthority};
 ghost use Rattle.entry_record.specs.Prepared.{heading_base_form};

@@ -6,14 +6,14 @@ ghost use Rattle.catalogue_rules.specs.State.{kept_field, kept_record};
 ghost use Rattle.form_index.specs.Index.{IsInOrder};
 ghost use Rattle.catalogue_tables.specs.Waiting.{one_or_two};
 ghost use Rattle.numbered_store.specs.Numbered.{IsNumber, SuitsSeat, field_of};
-ghost use Rattle.linked_store.specs.Contents.{Step, ToField, ToLink, ToRecord, ToWait, apply};
+ghost use Rattle.linked_store.specs.Contents.{ToField, ToLink, ToRecord, ToWait, apply};
 ghost use Rattle.linked_store.specs.Placing.{IsFollowed};
-ghost use Rattle.linked_store.specs.Frames.{GoesOn, WaitsNow, contents, links_in, waits_in};
+ghost use Rattle.linked_store.specs.Frames.{GoesOn, WaitsNow, contents};
 
 use crate::change::Change;
 use crate::rows::{take_link, take_waiting};
 use catalogue_tables::CatalogueTables;
-use entry_record::Prepared;
+use entry_record::Preparation;
 use link_table::Link;
 use marc_types::{Class, Field, Form, Kept, NoMemory, Sequence, Tie};
 use numbered_store::NumberedStore;
@@ -69,7 +69,7 @@ impl Frame {
         &mut self,
         alloc: Global,
         number: u32,
-        item: &Prepared,
+        item: &Preparation,
     ) -> Result<(), NoMemory>
         requires class { item.now.class ≡ AnAuthority }
         requires known { IsNumber AnAuthority number self.old.store }

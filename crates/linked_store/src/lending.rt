@@ -9,7 +9,7 @@ ghost use Rattle.entry_record.specs.Prepared.{heading_base_form, heading_full_fo
 ghost use Rattle.linked_store.specs.Lending.{LendsForms, both_or_base, forms_lent};
 
 use crate::wanted::is_divided;
-use entry_record::Prepared;
+use entry_record::Preparation;
 use marc_types::{Class, Field, Form};
 
 /// The forms by which a field is looked up, lent.
@@ -21,7 +21,11 @@ pub(crate) struct LentForms<'a> {
 
 /// The forms by which the entry's field at a place is looked up, if it is a heading: its full form and its base form, which are one
 /// where it isn't subdivided.
-pub(crate) fn lent_forms<'a>(item: &'a Prepared, field: &Field, place: u32) -> Option<LentForms<'a>>
+pub(crate) fn lent_forms<'a>(
+    item: &'a Preparation,
+    field: &Field,
+    place: u32,
+) -> Option<LentForms<'a>>
     requires { slice_get item.now.rec.fields place ≡ Some field.now }
     ensures { LendsForms item.now.class (new_field field.now) (option_map forms_lent result) }
 {
@@ -31,12 +35,12 @@ pub(crate) fn lent_forms<'a>(item: &'a Prepared, field: &Field, place: u32) -> O
     let Some(full) = full_at(item, field, place) else {
         return None;
     };
-    Some(base_or_both(item.entry().class, field, base, full))
+    Some(base_or_both(item.class(), field, base, full))
 }
 
 // The base form of the entry's field.
 #[tactic(auto, unfolding(entry_record::specs::Prepared::field_form_of))]
-fn base_at<'a>(item: &'a Prepared, field: &Field, place: u32) -> Option<&'a Form>
+fn base_at<'a>(item: &'a Preparation, field: &Field, place: u32) -> Option<&'a Form>
     requires { slice_get item.now.rec.fields place ≡ Some field.now }
     ensures { option_copied result ≡ heading_base_form item.now.class field.now }
 {
@@ -45,7 +49,7 @@ fn base_at<'a>(item: &'a Prepared, field: &Field, place: u32) -> Option<&'a Form
 
 // The full form of the entry's field.
 #[tactic(auto, unfolding(entry_record::specs::Prepared::full_form_of))]
-fn full_at<'a>(item: &'a Prepared, field: &Field, place: u32) -> Option<&'a Form>
+fn full_at<'a>(item: &'a Preparation, field: &Field, place: u32) -> Option<&'a Form>
     requires { slice_get item.now.rec.fields place ≡ Some field.now }
     ensures { option_copied result ≡ heading_full_form item.now.class field.now }
 {

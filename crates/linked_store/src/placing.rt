@@ -1,6 +1,6 @@
 //! A record that comes into its place, with its rows in the tables.
-ghost use Rattle.std.specs.Prelude.{◌≡◌, ◌++◌, length, map, slice_get, IfOk, OnOk, OnErr};
-ghost use Rattle.std.specs.Option.{option_copied, option_map};
+ghost use Rattle.std.specs.Prelude.{◌≡◌, ◌≤◌, ◌++◌, length, map, slice_get, IfOk, OnOk, OnErr};
+ghost use Rattle.std.specs.Option.{option_map};
 ghost use Rattle.marc_types.specs.Order.{same_key};
 ghost use Rattle.numbering.specs.Numbers.{IsNumberOf};
 ghost use Rattle.catalogue_tables.specs.Seam.{keys_in};
@@ -18,8 +18,8 @@ use crate::seating::FieldRow;
 use crate::store::LinkedStore;
 use crate::turns::LentRow;
 use crate::wanted::named;
-use entry_record::Prepared;
-use marc_types::{Class, Field, Kept, Links, NoMemory, Record, Tie, TryCopy};
+use entry_record::Preparation;
+use marc_types::{Class, Field, Kept, Links, NoMemory, Record, Tie};
 use std::alloc::Global;
 
 // A record comes in with no link, no field whole, and nothing awaited.
@@ -31,32 +31,41 @@ const NEW_TIE: Tie = Tie {
 
 impl LinkedStore {
     /// Puts an entry's record under its key, in place of the one that stood there; a deletion takes that away. The fields stand as
-    /// they came, with no link. The keys that they name get numbers, also where memory ends.
-    pub fn place(&mut self, alloc: Global, number: u32, item: &Prepared) -> Result<(), NoMemory>
+    /// they came, with no link. The keys that they name get numbers, also where memory ends; the record is gone then.
+    pub fn place(
+        &mut self,
+        alloc: Global,
+        number: u32,
+        rec: Record,
+        item: &Preparation,
+    ) -> Result<(), NoMemory>
+        requires own { rec ≡ item.now.rec }
         requires number { IsNumberOf same_key (keys_in item.now.class self.old.keys) item.now.key number }
         ensures ok { OnOk result (self.new.state ≡ placed_by item.now.class self.old.state item.now) }
         ensures err { OnErr result (self.new.state ≡ self.old.state) }
         ensures ahead { IsAhead self.old self.new }
     {
-        let kept = kept_of(alloc, item)?;
-        let rows = self.rows_for(alloc, item)?;
+        let rows = self.rows_for(alloc, brought(&rec, item), item)?;
+        let kept = kept_of(alloc, rec, item)?;
         self.put(alloc, number, kept, rows, item)
     }
 
-    // What the seats of the entry's fields are to wait for.
+    // What the seats of the fields that the entry brings are to wait for.
     fn rows_for<'a>(
         &mut self,
         alloc: Global,
-        item: &'a Prepared,
+        fields: &[Field],
+        item: &'a Preparation,
     ) -> Result<Vec<FieldRow<'a>>, NoMemory>
+        requires { fields.now ≡ fields_brought (arrival_of item.now) }
         ensures unchanged { IsUnchanged self.old self.new }
         ensures rows { IfOk result (λ rows.
             AreRowsOf item.now.class self.new.keys.authorities (fields_brought (arrival_of item.now)) rows.items) }
     {
-        let places = places_of(item);
+        let places = count_of(fields);
         let mut rows = Vec::new(alloc);
         for place in 0..places {
-            let row = self.row_at(alloc, item, place)?;
+            let row = self.row_at(alloc, fields, item, place)?;
             note_row(&mut rows, place, row)?;
         }
         Ok(rows)
@@ -78,14 +87,16 @@ impl LinkedStore {
     fn row_at<'a>(
         &mut self,
         alloc: Global,
-        item: &'a Prepared,
+        fields: &[Field],
+        item: &'a Preparation,
         place: u32,
     ) -> Result<Option<LentRow<'a>>, NoMemory>
+        requires { fields.now ≡ fields_brought (arrival_of item.now) }
         ensures unchanged { IsUnchanged self.old self.new }
         ensures ok { IfOk result (λ row. IsRowAt item.now.class self.new.keys.authorities
             (slice_get (fields_brought (arrival_of item.now)) place) (option_map row_lent row)) }
     {
-        let Some(field) = field_at(item, place) else {
+        let Some(field) = fields.get(place as usize) else {
             return Ok(None);
         };
         let Some(LentForms { form, other }) = lent_forms(item, field, place) else {
@@ -103,7 +114,7 @@ impl LinkedStore {
         number: u32,
         kept: Option<Kept>,
         rows: Vec<FieldRow<'_>>,
-        item: &Prepared,
+        item: &Preparation,
     ) -> Result<(), NoMemory>
         requires number { IsNumberOf same_key (keys_in item.now.class self.old.keys) item.now.key number }
         requires kept { option_map kept_record kept ≡ record_brought (arrival_of item.now) }
@@ -112,7 +123,7 @@ impl LinkedStore {
         ensures err { OnErr result (self.new.state ≡ self.old.state) }
         ensures ahead { IsAhead self.old self.new }
     {
-        let fields = self.fields_under(item.entry().class, number);
+        let fields = self.fields_under(item.class(), number);
         self.frame.tables.each_form_has_one_number();
         let position = self.frame.log.len();
         if let Err(error) = self.frame.place(alloc, number, fields, kept, rows, item) {
@@ -138,37 +149,33 @@ fn note_row<'a>(
     Ok(())
 }
 
-// How many fields an entry brings.
-fn places_of(item: &Prepared) -> u32
-    ensures { result ≡ length (fields_brought (arrival_of item.now)) }
+// How many fields a record has: there is room for 8331.
+fn count_of(fields: &[Field]) -> u32
+    requires { length fields.now ≤ 8331 }
+    ensures { result ≡ length fields.now }
 {
-    brought(item).len() as u32
-}
-
-fn field_at(item: &Prepared, place: u32) -> Option<&Field>
-    ensures { option_copied result ≡ slice_get (fields_brought (arrival_of item.now)) place }
-{
-    brought(item).get(place as usize)
+    fields.len() as u32
 }
 
 // The fields that an entry brings; a deletion brings none.
-fn brought(item: &Prepared) -> &[Field]
+fn brought<'r>(rec: &'r Record, item: &Preparation) -> &'r [Field]
+    requires { rec.now ≡ item.now.rec }
     ensures { result.now ≡ fields_brought (arrival_of item.now) }
 {
     if item.is_deletion() {
         return &[];
     }
-    item.entry().rec.fields.as_slice()
+    rec.fields.as_slice()
 }
 
 // The record that an entry brings, as it is kept; a deletion brings none.
-fn kept_of(alloc: Global, item: &Prepared) -> Result<Option<Kept>, NoMemory>
+fn kept_of(alloc: Global, rec: Record, item: &Preparation) -> Result<Option<Kept>, NoMemory>
+    requires { rec ≡ item.now.rec }
     ensures { IfOk result (λ kept. option_map kept_record kept ≡ record_brought (arrival_of item.now)) }
 {
     if item.is_deletion() {
         return Ok(None);
     }
-    let rec = item.entry().rec.copy(alloc)?;
     let kept = incoming(alloc, rec)?;
     Ok(Some(kept))
 }

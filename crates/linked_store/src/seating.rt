@@ -11,7 +11,7 @@ ghost use Rattle.linked_store.specs.Placing.{AreApart, AreFreeFrom, HaveRows, In
 
 use crate::frame::Frame;
 use crate::turns::LentRow;
-use entry_record::Prepared;
+use entry_record::Preparation;
 use marc_types::{Class, Kept, NoMemory};
 use numbering::Seat;
 use std::alloc::Global;
@@ -33,7 +33,7 @@ impl Frame {
         fields: u32,
         kept: Option<Kept>,
         rows: Vec<FieldRow<'_>>,
-        item: &Prepared,
+        item: &Preparation,
     ) -> Result<(), NoMemory>
         requires known { IsNumber item.now.class number self.old.store }
         requires kept { option_map kept_record kept ≡ record_brought (arrival_of item.now) }
@@ -44,7 +44,7 @@ impl Frame {
         ensures now { OnOk result (IsPlaced number item.now rows.entry.items self.old self.new) }
         ensures goes { GoesOn self.old self.new }
     {
-        let class = item.entry().class;
+        let class = item.class();
         self.clear(class, number, fields)?;
         self.seat_rows(alloc, class, number, rows)?;
         self.exchange(class, number, kept)?;
@@ -52,7 +52,12 @@ impl Frame {
     }
 
     // The index follows an authority's entry; a bibliographic one has no row there.
-    fn follow_entry(&mut self, alloc: Global, number: u32, item: &Prepared) -> Result<(), NoMemory>
+    fn follow_entry(
+        &mut self,
+        alloc: Global,
+        number: u32,
+        item: &Preparation,
+    ) -> Result<(), NoMemory>
         requires known { IsNumber item.now.class number self.old.store }
         requires ordered { IsInOrder self.old.store.keys.authorities self.old.tables.index }
         ensures now { OnOk result (IndexFollows item.now.class number item.now self.old self.new) }
@@ -60,7 +65,7 @@ impl Frame {
         ensures goes { GoesOn self.old self.new }
         ensures store { self.new.store ≡ self.old.store }
     {
-        match item.entry().class {
+        match item.class() {
             Class::Authority => self.follow(alloc, number, item),
             Class::Bibliographic => Ok(()),
         }

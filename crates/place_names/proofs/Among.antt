@@ -1,24 +1,14 @@
 -- How often a list has a thing, where one comes or goes, and a list that has each thing once.
-use Rattle.std.proofs.Common.{◌≡◌, ◌∙◌, sym, ap, refl, subst, ℕ, ◌+◌, ◌-◌, ◌<◌, ◌≤◌, arith, Bool, true, false, List, [], ◌∷◌, ◌++◌, length, take, get_or, Option, Some, None, unwrap_or}
-use Rattle.std.specs.Prelude.{cond, if◌then◌else◌, ◌||◌, is_some}
+use Rattle.std.proofs.Common.{◌≡◌, ◌∙◌, sym, ap, refl, subst, ℕ, ◌+◌, ◌-◌, ◌<◌, ◌≤◌, arith, Bool, true, false, List, [], ◌∷◌, ◌++◌, length, take, get_or}
+use Rattle.std.specs.Prelude.{cond, if◌then◌else◌, ◌||◌}
 use Rattle.std.specs.Cmp.{IsEquivalence}
 use Rattle.std.specs.List.{remove, list_any, IsDistinct}
-use Rattle.std.specs.HashMap.{HashMap, get, keys}
 use Rattle.std.proofs.lemmas.List.Sums.{sum_by-remove, sum_by_more}
 use Rattle.std.proofs.lemmas.List.Folds.{list_any-append}
 use Rattle.std.proofs.lemmas.Map.Keys.{IsDistinct-push}
-use Rattle.std.proofs.lemmas.Map.Made.{is_some-lookup}
 use Rattle.std.proofs.lemmas.Map.Steps.{list_any_congr}
-use Rattle.place_names.specs.Group.{times_among, times_counted}
+use Rattle.place_names.specs.Group.{times_among}
 use Rattle.place_names.specs.Listed.{HasEach}
-
--- a thing that is counted is one of those that the map has
-pub has_keys : {P S : Type 0} (same : P → P → Bool) (counts : HashMap P ℕ S) → IsDistinct same (keys counts) → HasEach same (times_counted same counts) (keys counts)
-has_keys same counts distinct = record { each = λ p h. sym (is_some-lookup (same p) counts.entries) ∙ by (get same counts p) h; once = distinct }
-  where
-    by : (o : Option ℕ) → 1 ≤ unwrap_or o 0 → is_some o ≡ true
-    by None h = absurd (omega arith)
-    by (Some n) h = refl
 
 has_none : {P : Type 0} (same : P → P → Bool) (times : P → ℕ) → ((p : P) → times p ≡ 0) → HasEach same times []
 unfolding IsDistinct

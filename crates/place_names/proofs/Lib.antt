@@ -1,4 +1,5 @@
 pub mod Among
+pub mod Counted
 pub mod Errors
 pub mod Lefts
 pub mod Listings

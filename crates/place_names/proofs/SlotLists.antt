@@ -6,10 +6,9 @@ use Rattle.std.specs.Ordering.{nat_cmp, ordering_index}
 use Rattle.std.proofs.lemmas.Cmp.{ranked}
 use Rattle.std.proofs.lemmas.List.{get_or_default}
 use Rattle.std.proofs.lemmas.List.Sorted.{IsNonDecreasingBy-from_default}
-use Rattle.std.proofs.lemmas.List.Edits.{length-insert, get_or-insert_below, get_or-insert_at, get_or-insert_above, length-remove, get_or-remove_below, get_or-remove_above}
+use Rattle.std.proofs.lemmas.List.Edits.{length-insert, get_or-insert_below, get_or-insert_at, get_or-insert_above}
 use Rattle.std.proofs.lemmas.Bool.{eqb-true}
 use Rattle.std.proofs.lemmas.Bool.Decides.{nat_tests}
-use Rattle.std.proofs.lemmas.Grind.{common_steps}
 use Rattle.place_names.specs.declared.slot.Slot.{Slot}
 use Rattle.place_names.specs.Slot.{slot_among, field_at, IsAt, IsGap, IsRising, IsChanged, IsSame, let_go}
 
@@ -85,18 +84,6 @@ module _ {R : Type 0} (change : Option (Slot R) → Option (Slot R)) where
 module _ {R : Type 0} (l : List (Slot R)) (rising : IsRising l) (f at : ℕ) (is : IsAt l f at) where
   none_before : NoneBefore l f at
   none_before j lt same = omega (arith, rising j at lt is.in_range, is.is_its)
-
-  -- the fields still rise
-  pub rising_set : (s : Slot R) → s.field ≡ f → IsRising (set l at s)
-  rising_set s e i j lt in_range = grind (arith, common_steps, rising i j, rising i at, rising at j, is.in_range, is.is_its, e)
-
-  pub rising_remove : IsRising (remove l at)
-  rising_remove i j lt in_range =
-      let field = λ (x : Slot R). x.field in
-      let short = length-remove l at is.in_range in
-      let below : (k : ℕ) → k < at → field_at (remove l at) k ≡ field_at l k = λ k low. ap field (get_or-remove_below l at no_slot k low is.in_range) in
-      let above : (k : ℕ) → at ≤ k → field_at (remove l at) k ≡ field_at l (k + 1) = λ k high. ap field (get_or-remove_above l at no_slot k high is.in_range) in
-      grind (arith, below i, above i, below j, above j, rising i j, rising i (j + 1), rising (i + 1) (j + 1))
 
 -- what is read at the place is one slot
 pub one_there : {R : Type 0} (l : List (Slot R)) (f at : ℕ) → IsAt l f at → (x y : Slot R) → x ≡ get_or l at x → y ≡ get_or l at y → x ≡ y

@@ -1,7 +1,8 @@
 -- How often a thing stands in a group.
 use Rattle.std.specs.Prelude.{ℕ, Bool, List, unwrap_or, if◌then◌else◌}
 use Rattle.std.specs.List.{count_by}
-use Rattle.std.specs.HashMap.{HashMap, get}
+use Rattle.std.specs.BTreeMap.{BTreeMap}
+use Rattle.std.specs.Map.{lookup}
 use Rattle.place_names.specs.declared.group.Group.{Group}
 use Rattle.place_names.specs.declared.group.Group.TheVariants.{Empty, One, Few, Many}
 
@@ -11,8 +12,8 @@ module _ {P : Type 0} (same : P → P → Bool) where
   times_among things thing = count_by (λ one. same one thing) things
 
   -- how often the thing is counted
-  abbrev pub times_counted : {S : Type 0} → HashMap P ℕ S → P → ℕ
-  times_counted counts thing = unwrap_or (get same counts thing) 0
+  abbrev pub times_counted : BTreeMap P ℕ → P → ℕ
+  times_counted counts thing = unwrap_or (lookup (same thing) counts.entries) 0
 
   -- how often the group has the thing
   abbrev pub times_in : Group P → P → ℕ

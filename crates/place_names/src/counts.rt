@@ -5,15 +5,14 @@ ghost use Rattle.place_names.specs.Listed.{HasEach};
 use crate::Group;
 use marc_types::NoMemory;
 use std::alloc::Global;
-use std::hash::Hash;
 
 /// How often each thing stands under each name. Names are numbers, and each below the greatest that was used takes room.
 #[derive(Drop)]
-pub struct Counts<P: Eq + Hash> {
+pub struct Counts<P: Ord> {
     groups: Vec<Group<P>>,
 }
 
-impl<P: Eq + Hash + Copy> Counts<P> {
+impl<P: Ord + Copy> Counts<P> {
     /// Nothing stands anywhere.
     pub fn new(alloc: Global) -> Counts<P>
         ensures { (name : ℕ) (thing : P) → times P.eq result.groups.items name thing ≡ 0 }

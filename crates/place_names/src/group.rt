@@ -6,23 +6,22 @@ ghost use Rattle.place_names.specs.Listed.{HasEach};
 
 use marc_types::NoMemory;
 use std::alloc::Global;
-use std::collections::HashMap;
-use std::hash::Hash;
+use std::collections::BTreeMap;
 
-/// So many things are looked through one by one. A group that has had more finds them by their hash.
+/// So many things are looked through one by one. A group that has had more keeps them in a tree, which grows by small steps.
 const FEW: usize = 32;
 
 /// The things under one name, each as often as it stands there.
 #[derive(Drop)]
-pub enum Group<P: Eq + Hash> {
+pub enum Group<P: Ord> {
     Empty,
     One(P),
     Few(Vec<P>),
-    Many(Box<HashMap<P, u32>>),
+    Many(Box<BTreeMap<P, u32>>),
 }
 
 // One more of a thing among those that are counted.
-fn count_in<P: Eq + Hash + Copy>(counts: &mut HashMap<P, u32>, thing: P) -> Result<(), NoMemory>
+fn count_in<P: Ord + Copy>(counts: &mut BTreeMap<P, u32>, thing: P) -> Result<(), NoMemory>
     ensures ok { OnOk result ((p : P) → times_counted P.eq counts.new p ≡ times_counted P.eq counts.old p + (if P.eq thing p then 1 else 0)) }
     ensures err { OnErr result ((p : P) → times_counted P.eq counts.new p ≡ times_counted P.eq counts.old p) }
 {
@@ -38,7 +37,7 @@ fn count_in<P: Eq + Hash + Copy>(counts: &mut HashMap<P, u32>, thing: P) -> Resu
 }
 
 // One less of a thing among those that are counted, if there is one.
-fn uncount_in<P: Eq + Hash + Copy>(counts: &mut HashMap<P, u32>, thing: P)
+fn uncount_in<P: Ord + Copy>(counts: &mut BTreeMap<P, u32>, thing: P)
     ensures { (p : P) → times_counted P.eq counts.new p ≡ times_counted P.eq counts.old p - (if P.eq thing p then 1 else 0) }
 {
     if let Some(times) = counts.get_mut(&thing) {
@@ -73,13 +72,10 @@ fn remove_from<P: Eq + Copy>(things: &mut Vec<P>, thing: P)
 }
 
 // The same things, counted.
-fn counted<P: Eq + Hash + Copy>(
-    alloc: Global,
-    things: &[P],
-) -> Result<Box<HashMap<P, u32>>, NoMemory>
+fn counted<P: Ord + Copy>(alloc: Global, things: &[P]) -> Result<Box<BTreeMap<P, u32>>, NoMemory>
     ensures { IfOk result (λ counts. (p : P) → times_counted P.eq counts.value p ≡ times_among P.eq things.now p) }
 {
-    let mut counts = HashMap::new(alloc);
+    let mut counts = BTreeMap::new(alloc);
     for i in 0..things.len() {
         count_in(&mut counts, things[i])?;
     }
@@ -130,7 +126,7 @@ fn two<P: Copy>(alloc: Global, first: P, second: P) -> Result<Vec<P>, NoMemory>
 }
 
 // The things that are counted.
-fn keys_of<P: Eq + Hash + Copy>(alloc: Global, counts: &HashMap<P, u32>) -> Result<Vec<P>, NoMemory>
+fn keys_of<P: Ord + Copy>(alloc: Global, counts: &BTreeMap<P, u32>) -> Result<Vec<P>, NoMemory>
     ensures { IfOk result (λ things. HasEach P.eq (times_counted P.eq counts.now) things.items) }
 {
     let mut things = Vec::with_capacity(alloc, counts.len())?;
@@ -140,7 +136,7 @@ fn keys_of<P: Eq + Hash + Copy>(alloc: Global, counts: &HashMap<P, u32>) -> Resu
     Ok(things)
 }
 
-impl<P: Eq + Hash + Copy> Group<P> {
+impl<P: Ord + Copy> Group<P> {
     /// One more of the thing. `NoMemory` leaves all counts as they were.
     pub(crate) fn note(&mut self, alloc: Global, thing: P) -> Result<(), NoMemory>
         ensures ok { OnOk result ((p : P) → times_in P.eq self.new p ≡ times_in P.eq self.old p + (if P.eq thing p then 1 else 0)) }
@@ -175,7 +171,7 @@ impl<P: Eq + Hash + Copy> Group<P> {
     }
 
     // The counts of a list that is full.
-    fn outgrown(&self, alloc: Global) -> Result<Option<Box<HashMap<P, u32>>>, NoMemory>
+    fn outgrown(&self, alloc: Global) -> Result<Option<Box<BTreeMap<P, u32>>>, NoMemory>
         ensures { IfOk result (λ found. IfSome found (λ counts. (p : P) → times_counted P.eq counts.value p ≡ times_in P.eq self.now p)) }
     {
         let Group::Few(things) = self else {

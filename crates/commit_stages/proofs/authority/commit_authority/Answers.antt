@@ -103,6 +103,15 @@ returns-in_err-counts-clause-visits g c =
     let s3 = spent_settling c.args.store.now c.args.item.now c.requires.commit c.args.number c.requires.number c.carry_heading.new.store c.carry_heading.new.steps c.settle_brought.new.steps at3 c.settle_brought.ensures.visits in
     within_three c.args.store.now c.args.item.now c.requires.commit c.args.number c.requires.number c.args.steps.now c.drop_ended.new.steps c.carry_heading.new.steps c.settle_brought.new.steps s1 s2 s3
 
+pub returns-in_err-forms-clause-ahead : goal.returns-in_err-forms-clause-ahead
+returns-in_err-forms-clause-ahead g c =
+    let at1 = placed_so c.args.store.now c.args.item.now c.requires.commit c.args.number c.requires.number c.place.new.self c.place.ensures.ahead c.in_ok-place.ensures.ok in
+    let ends = right c.args.store.now c.args.item.now c.requires.commit c.args.number c.requires.number c.in_ok-known.known c.links_that_end-ending.result c.in_ok-known.ensures (λ before is. c.links_that_end-ending.ensures before (subst (IsKnownAs before) (sym c.as_ref.ensures.value) is)) in
+    let at2 = dropped_so c.args.store.now c.args.item.now c.requires.commit c.args.number c.requires.number c.place.new.self c.drop_ended.new.store c.links_that_end-ending.result at1 ends c.in_ok-drop_ended.ensures.ok in
+    let at3 = carried_so c.args.store.now c.args.item.now c.requires.commit c.args.number c.requires.number c.drop_ended.new.store c.carry_heading.new.store at2 c.in_ok-carry_heading.ensures.ok in
+    let at4 = settled_so c.args.store.now c.args.item.now c.requires.commit c.args.number c.requires.number c.carry_heading.new.store c.settle_brought.new.store at3 c.in_ok-counts.ensures.ok in
+    at4.ahead
+
 pub returns-in_err-forms-clause-visits : goal.returns-in_err-forms-clause-visits
 returns-in_err-forms-clause-visits g c =
     let at1 = placed_so c.args.store.now c.args.item.now c.requires.commit c.args.number c.requires.number c.place.new.self c.place.ensures.ahead c.in_ok-place.ensures.ok in

@@ -1,5 +1,5 @@
 use Rattle.std.proofs.Common.{◌≡◌, ◌++◌}
-use Rattle.std.specs.HashMap.{keys}
+use Rattle.std.specs.BTreeMap.{keys}
 use Rattle.place_names.proofs.group.keys_of.Given as goal
 
 abbrev pub invariant-loop-thing : goal.invariant-loop-thing

@@ -1,8 +1,6 @@
-use Rattle.std.proofs.Common.{◌∙◌, ap, refl, sym}
+use Rattle.std.proofs.Common.{◌∙◌, refl, sym}
 use Rattle.marc_types.specs.Order.{same_form}
-use Rattle.marc_types.specs.declared.entry.Entry.{Entry}
 use Rattle.numbering.proofs.Numberlaws.{keeps_itself}
-use Rattle.catalogue_tables.specs.Following.{has_bare_heading}
 use Rattle.catalogue_tables.proofs.Brought.{follows_entry}
 use Rattle.catalogue_tables.proofs.tables.CatalogueTables.put_entry.Goals as goal
 
@@ -14,6 +12,6 @@ returns-in_default-clause-only c = record { forms = keeps_itself same_form c.arg
 
 pub returns-clause-ok : goal.returns-clause-ok
 returns-clause-ok c =
-    follows_entry c.put_authority.new.self.forms c.args.number c.args.item.now c.in-Some.established.now c.as_slice-2.result.now c.has_bare_heading-bare.result c.args.self.now.index
-    c.put_authority.new.self.index c.requires.class (sym c.is_deletion.ensures ∙ c.if-is_deletion.false) c.in-Some.ensures (c.as_slice-2.ensures ∙ c.see_from.ensures)
-    (c.has_bare_heading-bare.ensures ∙ ap has_bare_heading (c.as_slice.ensures ∙ ap (λ (e : Entry). e.rec.fields) c.entry.ensures.value)) c.in_ok-put_authority.ensures.ok
+    follows_entry c.put_authority.new.self.forms c.args.number c.args.item.now c.in-Some.established.now c.as_slice.result.now c.has_bare_heading.result c.args.self.now.index
+    c.put_authority.new.self.index c.requires.class (sym c.is_deletion.ensures ∙ c.if-is_deletion.false) c.in-Some.ensures (c.as_slice.ensures ∙ c.see_from.ensures)
+    c.has_bare_heading.ensures c.in_ok-put_authority.ensures.ok

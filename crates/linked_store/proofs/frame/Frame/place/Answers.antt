@@ -1,6 +1,6 @@
 use Rattle.std.proofs.Common.{◌≡◌, subst}
 use Rattle.std.specs.Option.{option_map}
-use Rattle.marc_types.specs.declared.entry.Entry.{Entry}
+use Rattle.marc_types.specs.declared.key.Class.{Class}
 use Rattle.catalogue_rules.specs.State.{kept_record}
 use Rattle.linked_store.specs.Contents.{ToRecord, apply}
 use Rattle.linked_store.specs.Frames.{contents}
@@ -21,9 +21,9 @@ pub returns-clause-now : goal.returns-clause-now
 returns-clause-now c =
     placed_on c.follow_entry.result c.args.number c.args.item.now c.args.rows.items (option_map kept_record c.args.kept) c.args.self.now c.seat_rows.new.self c.exchange.new.self
     c.follow_entry.new.self
-    (subst (λ (e : Entry). IsReseated e.class c.args.number c.args.rows.items c.args.self.now c.seat_rows.new.self) c.entry.ensures.value
-    (reseated c.entry.result.now.class c.args.number c.args.rows.items c.args.self.now c.clear.new.self c.seat_rows.new.self c.in_ok-clear.ensures.now c.in_ok-seat_rows.ensures.now))
-    (subst (λ (e : Entry). contents c.exchange.new.self ≡ apply (ToRecord e.class c.args.number (option_map kept_record c.args.kept)) (contents c.seat_rows.new.self)) c.entry.ensures.value
+    (subst (λ (k : Class). IsReseated k c.args.number c.args.rows.items c.args.self.now c.seat_rows.new.self) c.class-class.ensures
+    (reseated c.class-class.result c.args.number c.args.rows.items c.args.self.now c.clear.new.self c.seat_rows.new.self c.in_ok-clear.ensures.now c.in_ok-seat_rows.ensures.now))
+    (subst (λ (k : Class). contents c.exchange.new.self ≡ apply (ToRecord k c.args.number (option_map kept_record c.args.kept)) (contents c.seat_rows.new.self)) c.class-class.ensures
     c.in_ok-exchange.ensures.now)
     c.exchange.ensures.tables c.requires.kept c.follow_entry.ensures.store c.follow_entry.ensures.goes.rows c.follow_entry.ensures.now c.follow_entry.ensures.seats
 

@@ -1,13 +1,13 @@
-use Rattle.std.proofs.Common.{◌∙◌, ap, refl}
+use Rattle.std.proofs.Common.{◌∙◌, ap}
 use Rattle.std.proofs.lemmas.Result.{on_err_weaker, on_ok_weaker}
 use Rattle.catalogue_rules.specs.State.{State}
 use Rattle.linking_laws.specs.Commits.{placed_by}
 use Rattle.linked_store.proofs.Brought.{number_kept}
-use Rattle.linked_store.proofs.Fielded.{ahead_same, ahead_then}
+use Rattle.linked_store.proofs.Fielded.{ahead_then}
 use Rattle.linked_store.proofs.store.LinkedStore.place.Goals as goal
 
 pub returns-in_err-kept-clause-ahead : goal.returns-in_err-kept-clause-ahead
-returns-in_err-kept-clause-ahead c = ahead_same c.args.self.now c.args.self.now refl
+returns-in_err-kept-clause-ahead c = c.rows_for.ensures.unchanged.ahead
 
 pub returns-in_err-rows-clause-ahead : goal.returns-in_err-rows-clause-ahead
 returns-in_err-rows-clause-ahead c = c.rows_for.ensures.unchanged.ahead

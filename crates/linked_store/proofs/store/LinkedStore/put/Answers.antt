@@ -1,5 +1,5 @@
 use Rattle.std.proofs.Common.{◌≡◌, ◌∙◌, ap, arith, length, subst, sym}
-use Rattle.marc_types.specs.declared.entry.Entry.{Entry}
+use Rattle.marc_types.specs.declared.key.Class.{Class}
 use Rattle.marc_types.specs.declared.key.Key.{Key}
 use Rattle.marc_types.specs.Order.{same_key}
 use Rattle.numbering.specs.Numbers.{IsNumberOf}
@@ -30,7 +30,7 @@ place-requires-clause-ordered c = c.self.invariant.now.told.ordered
 
 pub fields_under-fields-requires : goal.fields_under-fields-requires
 fields_under-fields-requires c =
-    subst (λ (e : Entry). IsNumber e.class c.args.number c.args.self.now.keys) (sym c.entry.ensures.value)
+    subst (λ (k : Class). IsNumber k c.args.number c.args.self.now.keys) (sym c.class.ensures)
     (low_number (keys_in c.args.item.now.class c.args.self.now.keys) c.args.item.now.key c.args.number c.requires.number)
 
 pub place-requires-clause-free : goal.place-requires-clause-free
@@ -39,7 +39,7 @@ place-requires-clause-free c =
     let of : IsNumberOf same_key (keys_in class c.args.self.now.keys) c.args.item.now.key c.args.number = c.requires.number in
     let most : HasAtMost class c.args.item.now.key c.fields_under-fields.result c.args.self.now.state =
     subst (λ (k : Key). HasAtMost class k c.fields_under-fields.result c.args.self.now.state) (number_key (keys_in class c.args.self.now.keys) c.args.item.now.key c.args.number of)
-    (subst (λ (e : Entry). HasAtMost e.class (key_of e.class c.args.number c.args.self.now.keys) c.fields_under-fields.result c.args.self.now.state) c.entry.ensures.value
+    (subst (λ (k : Class). HasAtMost k (key_of k c.args.number c.args.self.now.keys) c.fields_under-fields.result c.args.self.now.state) c.class.ensures
     c.fields_under-fields.ensures) in
     free_behind c.self.inside.frame.tables (contents c.self.inside.frame) class c.args.item.now.key c.args.number c.fields_under-fields.result c.self.invariant.distinct
     c.each_form_has_one_number.ensures c.self.invariant.now

@@ -1,7 +1,8 @@
-use Rattle.std.proofs.Common.{arith}
+use Rattle.std.proofs.Common.{◌≤◌, List, arith, length, subst, sym}
+use Rattle.marc_types.specs.declared.field.Field.{Field}
 use Rattle.catalogue_rules.specs.Settle.{arrival_of}
 use Rattle.linked_store.specs.Placing.{fields_brought}
-use Rattle.linked_store.proofs.Brought.{no_rows_yet, rows_found, rows_more}
+use Rattle.linked_store.proofs.Brought.{brought_few, no_rows_yet, rows_found, rows_more}
 use Rattle.linked_store.proofs.Fielded.{unchanged_none, unchanged_then}
 use Rattle.linked_store.proofs.store.LinkedStore.rows_for.Goals as goal
 
@@ -12,6 +13,9 @@ returns-in_err-row-clause-unchanged c =
 pub returns-in_err-note_row-clause-unchanged : goal.returns-in_err-note_row-clause-unchanged
 returns-in_err-note_row-clause-unchanged c =
     unchanged_then c.args.self.now c.loop-place.self c.row_at.new.self c.loop-place.invariant.0 c.row_at.ensures.unchanged
+
+pub count_of-places-requires : goal.count_of-places-requires
+count_of-places-requires c = subst (λ (l : List Field). length l ≤ 8331) (sym c.requires) (brought_few c.args.item.now)
 
 pub loop-place-init : goal.loop-place-init
 loop-place-init c = (
@@ -30,4 +34,4 @@ loop-place-preserved c = (
 pub returns-clause-rows : goal.returns-clause-rows
 returns-clause-rows c =
     rows_found c.args.item.now.class c.loop-place.self.keys.authorities (fields_brought (arrival_of c.args.item.now)) c.loop-place.place c.loop-place.rows.items
-    (omega (arith, c.loop-place-test.false, c.places_of-places.ensures)) c.loop-place.invariant.1
+    (subst (λ (l : List Field). length l ≤ c.loop-place.place) c.requires (omega (arith, c.loop-place-test.false, c.count_of-places.ensures))) c.loop-place.invariant.1

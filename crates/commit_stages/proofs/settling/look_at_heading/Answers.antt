@@ -1,0 +1,11 @@
+use Rattle.std.proofs.Common.{◌∙◌}
+use Rattle.marc_types.specs.declared.key.Class.TheVariants.{Authority}
+use Rattle.linked_store.specs.Linked.{record_at}
+use Rattle.commit_stages.proofs.Headed.{heading_read, no_heading}
+use Rattle.commit_stages.proofs.settling.look_at_heading.Goals as goal
+
+pub returns-in-Some : goal.returns-in-Some
+returns-in-Some c = c.governing.ensures ∙ heading_read c.in-Some.kept.now (record_at Authority c.args.number c.args.store.now) c.in-Some.ensures
+
+pub returns-in-None : goal.returns-in-None
+returns-in-None c = no_heading (record_at Authority c.args.number c.args.store.now) c.in-None.ensures
