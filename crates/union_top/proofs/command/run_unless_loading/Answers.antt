@@ -1,0 +1,15 @@
+use Rattle.std.proofs.Common.{◌≡◌}
+use Rattle.console_lines.specs.Ends.{Outcome, outcome}
+use Rattle.console_lines.specs.declared.end.End.{End}
+use Rattle.union_top.specs.Complete.{around}
+use Rattle.union_top.proofs.Complete.{complete}
+use Rattle.union_top.proofs.Carried.{alone_carried}
+use Rattle.union_top.proofs.command.run_unless_loading.Goals as goal
+
+pub returns-then-is_alone-clause-carried : goal.returns-then-is_alone-clause-carried
+returns-then-is_alone-clause-carried g c =
+    let o : (End → Outcome) = outcome g.R.Room.seen g.R.Out.Sink.written g.R.Out.Sink.faults c.args.room.now c.run_alone.new.room c.args.console.now c.run_alone.new.console in
+    alone_carried c.args.words.now c.status-then-is_alone.result
+    (around g.R.Room.seen g.R.Out.Sink.faults c.args.room.now c.run_alone.new.room c.args.console.now c.run_alone.new.console)
+    o c.run_alone.result c.status-then-is_alone.ensures _ c.in-Some.ensures c.run_alone.ensures.command c.run_alone.ensures.apart c.run_alone.ensures.ends
+    (λ command ends u. complete (o c.run_alone.result) c.args.words.now command ends u)
