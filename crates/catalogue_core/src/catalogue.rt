@@ -122,7 +122,8 @@ impl Catalogue {
     }
 
     /// Puts an entry behind those that are staged. Its receipt is that behind the history and the staged entries. Full comes
-    /// before all else, where with this entry the limits would be passed. After either fault nothing is changed.
+    /// before all else, where with this entry the limits would be passed. After either fault nothing is changed, and the entry
+    /// is gone.
     pub fn stage<L: Ledger>(
         &mut self,
         alloc: Global,
@@ -165,7 +166,7 @@ impl Catalogue {
     }
 
     /// Puts an entry behind the history. Full comes before all else, where with this entry the limits would be passed. After
-    /// either fault nothing is changed.
+    /// either fault nothing is changed, and the entry is gone.
     #[tactic(auto, using(crate::proofs::Catalogues::nothing_staged))]
     pub fn commit<L: Ledger>(
         &mut self,

@@ -44,7 +44,7 @@ fn is_alone(asked: Request<'_>) -> bool
     }
 }
 
-/// Carries out a command that starts no threads: the one that some words ask for. It waits for nobody, so it returns.
+/// Carries out a command that starts no threads: the one that some words ask for. It waits for no thread and no lock.
 fn run_alone<R: Room>(
     alloc: Global,
     words: &Words,
@@ -92,7 +92,7 @@ fn run_alone<R: Room>(
 }
 
 /// Carries out some words, unless their command loads files: then it answers none, and nothing is done. Else it answers the exit
-/// status, as `run` does. It waits for nobody, so it returns.
+/// status, as `run` does. It waits for no thread and no lock.
 pub fn run_unless_loading<R: Room>(
     alloc: Global,
     words: &Words,
