@@ -1,9 +1,12 @@
 -- What a command on two names leaves of the room.
-use Rattle.std.proofs.Common.{◌≡◌, ◌≢◌, ◌∙◌, ◌⊎◌, inl, inr, ℕ, Bool, true, false, true≢false, List, ◌∷◌, [], refl, sym, ap, subst, Some, None}
+use Rattle.std.proofs.Common.{◌≡◌, ◌≢◌, ◌∙◌, ◌⊎◌, inl, inr, ℕ, Bool, true, false, true≢false, List, ◌∷◌, [], refl, sym, ap, subst, Some, None, Result, arith}
 use Rattle.std.specs.Str.{bytes_eq}
 use Rattle.marc_types.specs.Order.{text_Decides}
+use Rattle.outside.specs.Fault.{HasWriteCause}
 use Rattle.outside.specs.Room.{RoomView, AsLog, SameBut}
-use Rattle.output_files.specs.Outputs.{IsPartWritten}
+use Rattle.outside.specs.declared.fault.WriteFault.{WriteFault}
+use Rattle.output_files.specs.Outputs.{IsPartWritten, IsOutput}
+use Rattle.outside.proofs.Counts.{rose_later}
 use Rattle.outside.proofs.Rooms.{same_but_first, same_but_more, same_but_then}
 
 same_or_not : (a b : List ℕ) → (a ≡ b) ⊎ (a ≢ b)
@@ -51,6 +54,22 @@ pub part_closed : (old written new : RoomView) (journal out due : List ℕ) → 
     → SameBut written new (journal ∷ []) → IsPartWritten (old.file out) (written.file out) due → IsPartWritten (old.file out) (new.file out) due
 part_closed old written new journal out due opened free apart part =
     subst (λ file. IsPartWritten (old.file out) file due) (sym (apart.files out (other_name old journal out opened free, tt))) part
+
+-- the log's closing leaves an output that was closed before
+pub output_closed : {T : Type 0} → (old written new : RoomView) (journal out due : List ℕ) (result : Result T WriteFault) → old.open_as journal ≡ Some AsLog
+    → old.open_as out ≡ None → SameBut written new (journal ∷ []) → written.open_as out ≡ None
+    → (old.tells ≡ true → IsPartWritten (old.file out) (written.file out) due) → HasWriteCause (old.out_faults out) (written.out_faults out) result
+    → IsOutput old new out due result
+output_closed old written new journal out due result opened free apart closed part cause =
+    let later = apart.outs out in
+    record {
+      closed = apart.open_names out (other_name old journal out opened free, tt) ∙ closed;
+      part = λ told. part_closed old written new journal out due opened free apart (part told);
+      cause = record {
+        later = omega (arith, cause.later, later);
+        failed = λ is. rose_later (old.out_faults out) (written.out_faults out) (new.out_faults out) (cause.failed is) later;
+      };
+    }
 
 -- the log's opening leaves the output
 pub part_opened : (old opened new : RoomView) (journal out due : List ℕ) → journal ≢ out → SameBut old opened (journal ∷ [])

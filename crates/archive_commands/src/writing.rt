@@ -5,7 +5,7 @@ ghost use Rattle.outside.specs.Fault.{HasWriteCause};
 ghost use Rattle.outside.specs.Room.{AsLog, SameBut};
 ghost use Rattle.catalogue_rules.specs.Settle.{state_of};
 ghost use Rattle.catalogue_rules.specs.Output.{export_of};
-ghost use Rattle.output_files.specs.Outputs.{IsPartWritten};
+ghost use Rattle.output_files.specs.Outputs.{IsOutput, IsPartWritten};
 ghost use Rattle.room_files.specs.Journals.{IsClosedDisk};
 ghost use Rattle.archive_commands.specs.Archives.{kept_keys};
 ghost use Rattle.archive_commands.specs.Reads.{due_view, due_of};
@@ -88,18 +88,14 @@ pub fn write_archive<R: Room>(
     // The room: nothing but these two changes, and both are closed.
     ensures apart { SameBut (R.seen room.old) (R.seen room.new) (journal.now ∷ out.now ∷ []) }
     ensures closed { (R.seen room.new).open_as journal.now ≡ None }
-    ensures out_closed { (R.seen room.new).open_as out.now ≡ None }
 
     // The output, as `write_due` leaves it.
-    ensures cause { HasWriteCause ((R.seen room.old).out_faults out.now) ((R.seen room.new).out_faults out.now) result }
+    ensures output { IsOutput (R.seen room.old) (R.seen room.new) out.now (due_of (due_view due.entry) archive.core.history) result }
     ensures memory { IsErrOf result WriteFault.NoMemory → SameBut (R.seen room.old) (R.seen room.new) (journal.now ∷ []) }
     ensures bytes { OnOk result ((R.seen room.old).tells ≡ true →
         (R.seen room.new).file out.now ≡ Some (due_of (due_view due.entry) archive.core.history)) }
-    ensures part { (R.seen room.old).tells ≡ true →
-        IsPartWritten ((R.seen room.old).file out.now) ((R.seen room.new).file out.now) (due_of (due_view due.entry) archive.core.history) }
 
     // The log and its file are what the archive left.
-    ensures file { (R.seen room.old).tells ≡ true → (R.seen room.new).file journal.now ≡ (R.Log.seen archive.journal.disk).content }
     ensures log { (R.seen room.old).tells ≡ true → IsClosedDisk (R.Log.seen archive.journal.disk) (R.seen room.new) journal.now }
 {
     let written = write_due(alloc, room, out, archive.core(), due);

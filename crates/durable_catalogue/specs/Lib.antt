@@ -5,6 +5,7 @@ pub mod Images
 pub mod Lasting
 pub mod Loading
 pub mod Logs
+pub mod Opened
 pub mod Openings
 pub mod Questions
 pub mod Refused

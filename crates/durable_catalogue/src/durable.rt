@@ -1,5 +1,5 @@
 //! A catalogue over a journal.
-ghost use Rattle.std.specs.Prelude.{◌≡◌, ◌≢◌, ℕ, ◌++◌, List, [], true, false, Some, is_some, length, All, IfOk, IfErr, OnOk, OnErr, MatchResult, None, ◌≤◌};
+ghost use Rattle.std.specs.Prelude.{◌≡◌, ◌≢◌, ℕ, ◌++◌, List, [], true, false, Some, is_some, length, All, IfOk, IfErr, OnOk, OnErr, None, ◌≤◌};
 ghost use Rattle.marc_types.specs.declared.entry.Entry.{Entry};
 ghost use Rattle.marc_types.specs.declared.entry.CommitFault.TheVariants.{DeviceFault};
 ghost use Rattle.outside.specs.Disk.{LeavesOnly};
@@ -13,8 +13,7 @@ ghost use Rattle.entry_history.specs.Payloads.{CanFollow};
 ghost use Rattle.entry_history.specs.declared.event.Event.{Event};
 ghost use Rattle.durable_catalogue.specs.Logs.{HasHistory};
 ghost use Rattle.durable_catalogue.specs.declared.fault.OpenFault.{OpenFault};
-ghost use Rattle.durable_catalogue.specs.Openings.{IsUnopened, IsOpening, KeepsContent};
-ghost use Rattle.durable_catalogue.specs.Refused.{LeavesDiskAlone, LeavesSettled, IsPutInOrder};
+ghost use Rattle.durable_catalogue.specs.Opened.{IsOpenedDisk, IsRefusedDisk};
 ghost use Rattle.durable_catalogue.specs.Images.{Holds, HasFrameOrNot};
 ghost use Rattle.durable_catalogue.specs.Lasting.{GoesOn};
 ghost use Rattle.durable_catalogue.specs.Durables.{mark_of, marked, events, is_taken, TookNothing, opening, IsKept, IsLeft, IsLostBy, IsSameOpening};
@@ -90,25 +89,11 @@ impl<D: Disk> Durable<D> {
         ensures opened { IfOk result (λ d. d.opened ≡ length d.core.history) }
         ensures before { IfOk result (λ d. d.before.value ≡ disk) }
         ensures first { IfOk result (λ d. d.first.value ≡ d.journal) }
-        ensures synced { IfOk result (λ d. (D.seen disk).dated ≡ true → is_some ((D.seen d.first.value.disk).synced (D.seen disk).moment) ≡ true) }
 
-        // Each image since the first sync is the same log, and as it was where that is no journal; where that sync didn't succeed,
-        // the content is as it was. The content has the log's history, whatever the opening answers.
-        ensures crash { MatchResult result (λ d. IsOpening (D.seen disk) (D.seen d.journal.disk)) (λ e. IsOpening (D.seen disk) (D.seen e.0)) }
-        ensures content { MatchResult result (λ d. KeepsContent (D.seen disk) (D.seen d.journal.disk))
-            (λ e. KeepsContent (D.seen disk) (D.seen e.0)) }
-        ensures later { MatchResult result (λ d. (D.seen disk).faults ≤ (D.seen d.journal.disk).faults) (λ e. (D.seen disk).faults ≤ (D.seen e.0).faults) }
-
-        // The log is in order, or it was refused, and is left alone: unless a device failed, its content is all that a crash may leave.
-        ensures in_order { IfOk result (λ d. IsPutInOrder (D.seen disk) (D.seen d.journal.disk)) }
-        ensures left_alone { IfErr result (λ e. LeavesDiskAlone (e.1 ≡ OpenFault.DeviceFault) (D.seen disk) (D.seen e.0)) }
-        ensures settled { IfErr result (λ e. LeavesSettled (D.seen disk) (D.seen e.0) e.1) }
-
-        // Each fault comes only where the log is so, and Full only where it is of version 2; a device fault only where the count
-        // of faults rose.
-        ensures fault { IfErr result (λ e. (log : List ℕ) → (D.seen disk).content ≡ Some log → IsUnopened limits log e.1) }
+        // The log is in order, and what was read of it is durable; or it was refused, and is left alone: Full only where it is of version 2.
+        ensures disk { IfOk result (λ d. IsOpenedDisk (D.seen disk) (D.seen d.journal.disk)) }
+        ensures refused { IfErr result (λ e. IsRefusedDisk limits (D.seen disk) (D.seen e.0) e.1) }
         ensures old_first { IfErr result (λ e. e.1 ≡ OpenFault.Full → (log : List ℕ) → (D.seen disk).content ≡ Some log → version_of log ≡ 2) }
-        ensures failed { IfErr result (λ e. e.1 ≡ OpenFault.DeviceFault → Rose (D.seen disk).faults (D.seen e.0).faults) }
     {
         let before = Snapshot::of(&disk);
         match Journal::open(alloc, disk) {

@@ -3,7 +3,7 @@
 
 pub use archive::Archive;
 pub use durable::Durable;
-pub use fault::OpenFault;
+pub use fault::{OpenFault, open_fault};
 pub use loading::read_frame;
 pub use memory::Memory;
 pub use seen::Seen;

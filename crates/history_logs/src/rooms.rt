@@ -1,12 +1,9 @@
 //! The histories of journals in a room.
-ghost use Rattle.std.specs.Prelude.{◌≡◌, ◌≢◌, true, Some, None, IfOk, IfErr, OnOk, OnErr, ◌∷◌, []};
-ghost use Rattle.outside.specs.Fault.{Rose};
+ghost use Rattle.std.specs.Prelude.{◌≡◌, ◌≢◌, true, Some, None, IfOk, IfErr, OnOk, ◌∷◌, []};
 ghost use Rattle.outside.specs.Room.{AsLog, SameBut};
-ghost use Rattle.commit_journal.specs.Log.{version_of};
-ghost use Rattle.durable_catalogue.specs.declared.fault.OpenFault.TheVariants.{DeviceFault, OldVersion};
+ghost use Rattle.durable_catalogue.specs.declared.fault.OpenFault.TheVariants.{OldVersion};
 ghost use Rattle.durable_catalogue.specs.Logs.{HasHistory};
-ghost use Rattle.durable_catalogue.specs.Openings.{IsUnopened};
-ghost use Rattle.room_files.specs.Journals.{journal_limits, log_bytes, IsClosedDisk, KeepsHistory, KeepsLog};
+ghost use Rattle.room_files.specs.Journals.{journal_limits, log_bytes, IsClosedDisk, IsOpenLog, IsRefusedLog};
 ghost use Rattle.history_logs.specs.Taking.{IsHandedOn};
 
 use crate::log::HistoryLog;
@@ -18,7 +15,7 @@ use std::alloc::Global;
 
 /// Opens the file of that name, a log of either version, and hands its entries on. A fault closes it again; any front of the entries
 /// was then handed on.
-#[tactic(auto, using(room_files::proofs::Journals::unopened_keeps))]
+#[tactic(auto, using(room_files::proofs::Journals::unopened_log))]
 pub fn open_history<R: Room, T: EntryTaker>(
     alloc: Global,
     room: &mut R,
@@ -28,24 +25,15 @@ pub fn open_history<R: Room, T: EntryTaker>(
     requires free { (R.seen room.old).open_as name.now ≡ None }
     requires none { T.has taker.old [] }
     ensures apart { SameBut (R.seen room.old) (R.seen room.new) (name.now ∷ []) }
-    ensures opened { OnOk result ((R.seen room.new).open_as name.now ≡ Some AsLog) }
-    ensures closed { OnErr result ((R.seen room.new).open_as name.now ≡ None) }
 
     // All entries of the log's history were handed on; they are within the limits, and the log keeps them.
     ensures taken { OnOk result (IsHandedOn (T.has taker.new)
         (λ entries. (R.seen room.old).tells ≡ true → HasHistory entries (log_bytes (R.seen room.old) name.now)) journal_limits) }
-    ensures version { IfOk result (λ h. (R.seen room.old).tells ≡ true → version_of (log_bytes (R.seen room.old) name.now) ≡ h.journal.version) }
-    ensures kept { IfOk result (λ h. (R.seen room.old).tells ≡ true →
-        KeepsLog (log_bytes (R.seen room.old) name.now) (R.Log.seen h.journal.disk)) }
+    ensures log { IfOk result (λ h. IsOpenLog (R.seen room.old) (R.seen room.new) name.now h.journal.version (R.Log.seen h.journal.disk)) }
 
-    // Each fault comes only where the log is so; a device fault only where the count of faults rose.
-    ensures fault { IfErr result (λ fault. (R.seen room.old).tells ≡ true →
-        IsUnopened journal_limits (log_bytes (R.seen room.old) name.now) fault) }
+    // A log that is refused keeps its history.
+    ensures refused { IfErr result (IsRefusedLog (R.seen room.old) (R.seen room.new) name.now) }
     ensures current { IfErr result (λ fault. fault ≢ OldVersion) }
-    ensures cause { IfErr result (λ fault. fault ≡ DeviceFault →
-        Rose ((R.seen room.old).log_faults name.now) ((R.seen room.new).log_faults name.now)) }
-    ensures keeps { IfErr result (λ fault. (R.seen room.old).tells ≡ true →
-        KeepsHistory (fault ≡ DeviceFault) (R.seen room.old) (R.seen room.new) name.now) }
 {
     let Ok(log) = room.open_log(name) else {
         return Err(OpenFault::DeviceFault);
@@ -67,7 +55,6 @@ pub fn close_history<R: Room>(room: &mut R, name: &str, history: HistoryLog<R::L
     ensures closed { (R.seen room.new).open_as name.now ≡ None }
 
     // The log and its file are what the opening left.
-    ensures file { (R.seen room.old).tells ≡ true → (R.seen room.new).file name.now ≡ (R.Log.seen history.journal.disk).content }
     ensures log { (R.seen room.old).tells ≡ true → IsClosedDisk (R.Log.seen history.journal.disk) (R.seen room.new) name.now }
 {
     room.close_log(name, history.close());

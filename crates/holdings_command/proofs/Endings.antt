@@ -177,12 +177,12 @@ module _ (journal out rest : List ℕ) (library : Library) (code : Option (List 
     pub within : IsWithin journal_limits history
 
   pub was_opened : (before : RoomView) (disk : DiskView) (history : List Entry) → (o.old.tells ≡ true → before.tells ≡ true)
-      → (before.tells ≡ true → o.new.file journal ≡ disk.content) → (before.tells ≡ true → IsClosedDisk disk o.new journal)
+      → (before.tells ≡ true → IsClosedDisk disk o.new journal)
       → (o.old.tells ≡ true → HasHistory history (log_bytes o.old journal)) → IsWithin journal_limits history
       → (o.old.tells ≡ true → KeepsLog (log_bytes o.old journal) disk) → WasOpened history
-  was_opened before disk history tells_then file log has within kept = record {
-    keeps = λ failed tells. let then = tells_then tells in closed_keeps o.old o.new journal disk (file then) (log then) failed (kept tells);
-    durable = λ tells. let then = tells_then tells in closed_durable o.old o.new journal disk (file then) (log then) (log_bytes o.old journal) (kept tells);
+  was_opened before disk history tells_then log has within kept = record {
+    keeps = λ failed tells. let then = tells_then tells in closed_keeps o.old o.new journal disk (log then) failed (kept tells);
+    durable = λ tells. let then = tells_then tells in closed_durable o.old o.new journal disk (log then) (log_bytes o.old journal) (kept tells);
     has = has;
     within = within;
   }

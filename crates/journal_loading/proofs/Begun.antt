@@ -17,9 +17,9 @@ use Rattle.parallel_loading.specs.declared.input.InputFile.{InputFile}
 use Rattle.parallel_loading.specs.Files.{EachLoaded, AreOfOneFile, AreLoaded}
 use Rattle.room_files.specs.Faults.{fault_of_opening}
 use Rattle.room_files.specs.Journals.{journal_limits, IsOpenedFrom, IsClosedTo}
-use Rattle.journal_loading.specs.Inputs.{AreInputs, IsFresh}
+use Rattle.journal_loading.specs.Inputs.{AreInputs, IsFresh, lefts_of}
 use Rattle.journal_loading.specs.Outcomes.{any_ends, loading_fault, AreLoadedBehind, IsLoadedWhole, IsUnbegun, Unbegun, IsLoadingFault, NotBegun, InPart, IsFinished, IsStopped, Unloaded, Faulty}
-use Rattle.journal_loading.proofs.Loaded.{inputs_count, libraries_loaded, none_failed, results_count, after_count, has_mark, had_fault, HadFault}
+use Rattle.journal_loading.proofs.Loaded.{inputs_count, libraries_loaded, libraries_read, none_failed, results_count, after_count, has_mark, had_fault, HadFault}
 
 -- a fault of opening an input is its own or want of memory
 either_fault : (why : Fault) → (why ≢ fault.Input → why ≡ fault.Memory) → (why ≡ fault.Input) ⊎ (why ≡ fault.Memory)
@@ -168,10 +168,11 @@ module _ {S : Type 0} (left : S → Option (List ℕ)) (faults : S → ℕ) (roo
 
   pub loaded_part : (new : RoomView) (why : Fault) (results : Result (List FileResult) NoMemory)
       → IfOk results (λ rs. AreLoaded left faults limits before files after rs entries mark) → OnErr results (entries ≡ before) → OnErr results (mark ≡ None)
-      → IsStopped why results → (o.tells ≡ true → IsClosedTo new journal entries mark o) → IsLoadingFault room new journal libraries why
-  loaded_part new why (Err e) loaded kept unmarked (Unloaded e' is) closed =
+      → IsStopped why results → (o.tells ≡ true → IsClosedTo new journal entries mark o) → new.lefts ≡ lefts_of left after ++ room.lefts
+      → IsLoadingFault room new journal libraries why
+  loaded_part new why (Err e) loaded kept unmarked (Unloaded e' is) closed lefts =
       NotBegun (unbegun room new journal why before entries mark was o tells (λ other. is) opened kept unmarked closed)
-  loaded_part new why (Ok results) loaded kept unmarked (Faulty rs is) closed = InPart (record {
+  loaded_part new why (Ok results) loaded kept unmarked (Faulty rs is) closed lefts = InPart (record {
     before = before;
     added = loaded.added;
     mark = mark;
@@ -182,6 +183,10 @@ module _ {S : Type 0} (left : S → Option (List ℕ)) (faults : S → ℕ) (roo
     faulty = is;
     unmarked = λ other. loaded.unmarked (none_failed results (none_by_a_device results why is other));
     closed = subst (λ es. IsClosedTo new journal es mark o) loaded.after_is (closed (opened.tells tells));
+    lefts = lefts_of left after;
+    lefts_are = lefts;
+    read_to = libraries_read left faults room before loaded.added mark 0 libraries files after results tells inputs
+        (subst (λ most. EachLoaded left faults most before loaded.added mark 0 files after results) same loaded.each);
   })
 
 module _ {S : Type 0} (left : S → Option (List ℕ)) (faults : S → ℕ) (room : RoomView) (files after : List (InputFile S)) (limits : Limits) (before entries : List Entry) (mark : Option (List Entry)) where
@@ -235,6 +240,3 @@ on_ok_at (Err e) y at is = cc
 pub err_at : {T E P : Type 0} (r : Result T E) (e : E) → r ≡ Err e → OnErr r P → P
 err_at (Ok x) e at is = cc
 err_at (Err x) e at is = is
-
-pub ok_at : {T E : Type 0} (P : T → Type 0) (r : Result T E) (x : T) → r ≡ Ok x → IfOk r P → P x
-ok_at P r x at is = subst (λ r. IfOk r P) at is

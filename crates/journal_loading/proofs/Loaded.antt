@@ -1,5 +1,5 @@
 -- What loading the files of libraries comes to, from what it does of their inputs.
-use Rattle.std.proofs.Common.{◌≡◌, ◌≢◌, ℕ, ◌+◌, ◌<◌, suc, Bool, true, false, ◌||◌, List, [], ◌∷◌, length, slice_get, Option, Some, None, IsSome, is_some, refl, sym, ap, subst, ◌∙◌, arith}
+use Rattle.std.proofs.Common.{◌≡◌, ◌≢◌, ℕ, ◌+◌, ◌<◌, suc, Bool, true, false, ◌||◌, List, [], ◌∷◌, ◌++◌, length, slice_get, Option, Some, None, IsSome, is_some, refl, sym, ap, subst, ◌∙◌, arith}
 use Rattle.std.specs.Prelude.{All}
 use Rattle.std.proofs.lemmas.List.Elements.{All-nil, All-cons, All-head, All-tail}
 use Rattle.marc_types.specs.declared.entry.Entry.{Entry}
@@ -13,8 +13,9 @@ use Rattle.loader_workers.specs.declared.result.FileResult.{FileResult}
 use Rattle.parallel_loading.specs.declared.input.InputFile.{InputFile}
 use Rattle.parallel_loading.specs.Files.{IsFileLoaded, LoadsFile, EachLoaded, NoFile, OneMore}
 use Rattle.room_files.specs.Journals.{journal_limits}
-use Rattle.journal_loading.specs.Inputs.{IsInputOf, AreInputs, NoInput, OneInput, IsFresh}
-use Rattle.journal_loading.specs.Outcomes.{IsLibraryLoaded, AreLibrariesLoaded, NoLibrary, OneLibrary, ends_so, any_ends}
+use Rattle.file_entries.specs.Files.{IsJudged}
+use Rattle.journal_loading.specs.Inputs.{IsInputOf, AreInputs, NoInput, OneInput, IsFresh, lefts_of}
+use Rattle.journal_loading.specs.Outcomes.{IsLibraryLoaded, AreLibrariesLoaded, NoLibrary, OneLibrary, AreReadTo, ends_so, any_ends}
 
 there_is : (o : Option (List ℕ)) → IsSome o → (b : List ℕ) × (o ≡ Some b)
 there_is None is = cc
@@ -46,7 +47,20 @@ module _ {S : Type 0} (left : S → Option (List ℕ)) (faults : S → ℕ) (roo
         record {
           bytes = there.0;
           there = there.1;
-          loaded = subst (λ code. IsFileLoaded journal_limits before added mark code there.0 loader result) is.code (did.loaded there.0 told);
+          loaded = let d = did.loaded there.0 told in record {
+            done = d.done;
+            coming = d.coming;
+            front = d.front;
+            next = d.next;
+            more = d.more;
+            split = d.split;
+            judged = subst (λ code. IsJudged code loader d.done (d.front ++ d.next ++ d.more) result.refused) is.code d.judged;
+            committed_are = d.committed_are;
+            marked_are = d.marked_are;
+            accepted = d.accepted;
+            counts = d.counts;
+            ends = d.ends;
+          };
         }
 
     -- each library's file was loaded
@@ -56,6 +70,15 @@ module _ {S : Type 0} (left : S → Option (List ℕ)) (faults : S → ℕ) (roo
     libraries_loaded _ _ _ _ _ tells NoInput (NoFile loader) = NoLibrary loader
     libraries_loaded _ _ _ _ _ tells (OneInput ls is l i one are) (OneMore loader fs bs rs o n r did each) =
         OneLibrary loader ls rs l r (library_loaded loader l i n r tells one did) (libraries_loaded (loader + 1) ls is bs rs tells are each)
+
+    -- and was read as far as its input gave it
+    pub libraries_read : (loader : ℕ) (libraries : List Library) (old new : List (InputFile S)) (results : List FileResult) (tells : room.tells ≡ true)
+        → (are : AreInputs left room libraries old) → (each : EachLoaded left faults journal_limits before added mark loader old new results)
+        → AreReadTo (libraries_loaded loader libraries old new results tells are each) (lefts_of left new)
+    libraries_read _ _ _ _ _ tells NoInput (NoFile loader) = tt
+    libraries_read _ _ _ _ _ tells (OneInput ls is l i one are) (OneMore loader fs bs rs o n r did each) =
+        let there = there_is (room.file l.file) (one.there tells) in
+        (did.read_to there.0 (one.bytes tells ∙ there.1), libraries_read (loader + 1) ls is bs rs tells are each)
 
   module _ (limits : Limits) (before added : List Entry) (mark : Option (List Entry)) where
     fault_here : (loader : ℕ) (o n : InputFile S) (r : FileResult) (bs : List (InputFile S)) (rs : List FileResult) → LoadsFile left faults limits before added mark loader o n r

@@ -1,5 +1,5 @@
 -- Inputs that are opened one after the other.
-use Rattle.std.proofs.Common.{◌≡◌, ℕ, ◌+◌, ◌<◌, ◌≤◌, suc, zero, Bool, false, nat_eq, ◌≢◌, List, [], ◌∷◌, ◌++◌, length, take, slice_get, get_or, Option, Some, None, IsSome, true, refl, sym, ap, subst, ◌∙◌, arith}
+use Rattle.std.proofs.Common.{◌≡◌, ℕ, ◌+◌, ◌<◌, ◌≤◌, suc, zero, Bool, false, nat_eq, ◌≢◌, List, [], ◌∷◌, ◌++◌, length, take, drop, slice_get, get_or, Option, Some, None, IsSome, true, refl, sym, ap, subst, ◌∙◌, arith}
 use Rattle.std.specs.Prelude.{All}
 use Rattle.std.proofs.lemmas.Bool.Decides.{nat_tests}
 use Rattle.std.proofs.lemmas.List.Elements.{All-head, All-tail}
@@ -7,7 +7,7 @@ use Rattle.outside.specs.Fault.{Rose}
 use Rattle.outside.specs.Room.{RoomView, SameBut}
 use Rattle.command_words.specs.declared.library.Library.{Library}
 use Rattle.parallel_loading.specs.declared.input.InputFile.{InputFile}
-use Rattle.journal_loading.specs.Inputs.{IsInputFault, IsInputOf, AreInputs, NoInput, OneInput, RisesFrom}
+use Rattle.journal_loading.specs.Inputs.{IsInputFault, IsInputOf, AreInputs, NoInput, OneInput, RisesFrom, lefts_of}
 
 some_same : {A : Type 0} {x y : A} → Some x ≡ Some y → x ≡ y
 some_same is = cc
@@ -120,3 +120,30 @@ fault_between libraries old now new last before is behind = record {
   named = is.named;
   rose = let first = before is.library.file in let later = behind is.library.file in omega (arith, first, is.rose, later);
 }
+
+-- what is at a place comes first of what is left from there on
+drop_at : {A : Type 0} (xs : List A) (n : ℕ) (x : A) → slice_get xs n ≡ Some x → drop n xs ≡ x ∷ drop (n + 1) xs
+drop_at [] n x is = cc
+drop_at (y ∷ xs) zero x is = let same : y ≡ x = cc in ap (λ z. z ∷ xs) same
+drop_at (y ∷ xs) (suc n) x is = drop_at xs n x is
+
+-- one more input is closed, in front of those behind it
+pub lefts_more : {S : Type 0} (left : S → Option (List ℕ)) (all : List (InputFile S)) (n : ℕ) (last : InputFile S) (old now new : List (Option (List ℕ)))
+    → slice_get all n ≡ Some last → now ≡ lefts_of left (drop (n + 1) all) ++ old → new ≡ left last.source ∷ now → new ≡ lefts_of left (drop n all) ++ old
+lefts_more left all n last old now new at was is =
+    is ∙ ap (λ ls. left last.source ∷ ls) was ∙ sym (ap (λ inputs. lefts_of left inputs ++ old) (drop_at all n last at))
+
+-- none is closed at first
+pub lefts_none : {S : Type 0} (left : S → Option (List ℕ)) (all : List (InputFile S)) (old : List (Option (List ℕ)))
+    → old ≡ lefts_of left (drop (length all) all) ++ old
+lefts_none left [] old = refl
+lefts_none left (i ∷ all) old = lefts_none left all old
+
+none_behind : {A : Type 0} (xs : List A) (n : ℕ) (x : A) → length xs ≤ n → slice_get xs n ≡ Some x → ⊥
+none_behind [] n x behind is = cc
+none_behind (y ∷ xs) zero x behind is = absurd (omega (arith, behind))
+none_behind (y ∷ xs) (suc n) x behind is = none_behind xs n x (omega (arith, behind)) is
+
+-- before the first is closed no count has to have risen
+pub rises_none : {S : Type 0} (faults : S → ℕ) (libraries : List Library) (all : List (InputFile S)) (old new : RoomView) → RisesFrom faults (length all) libraries all old new
+rises_none faults libraries all old new index library input from named is had = absurd (none_behind all index input from is)

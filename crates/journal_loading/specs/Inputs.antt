@@ -1,5 +1,5 @@
 -- The inputs of a command's files. The rules are this project's own.
-use Rattle.std.specs.Prelude.{◌≡◌, ◌≢◌, ℕ, ◌<◌, ◌≤◌, true, List, [], ◌∷◌, length, All, Option, Some, IsSome, IsTrue, slice_get}
+use Rattle.std.specs.Prelude.{◌≡◌, ◌≢◌, ℕ, ◌<◌, ◌≤◌, true, List, [], ◌∷◌, length, map, All, Option, Some, IsSome, IsTrue, slice_get}
 use Rattle.marc_types.specs.Valid.{is_code}
 use Rattle.outside.specs.Room.{RoomView}
 use Rattle.outside.specs.Fault.{Rose}
@@ -36,6 +36,10 @@ module _ {S : Type 0} (left : S → Option (List ℕ)) where
     NoInput : AreInputs room [] []
     OneInput : (libraries : List Library) (inputs : List (InputFile S)) (library : Library) (input : InputFile S) → IsInputOf room library input
         → AreInputs room libraries inputs → AreInputs room (library ∷ libraries) (input ∷ inputs)
+
+-- what these inputs have left
+abbrev pub lefts_of : {S : Type 0} → (S → Option (List ℕ)) → List (InputFile S) → List (Option (List ℕ))
+lefts_of left inputs = map (λ input. left input.source) inputs
 
 -- an input that had no fault yet, of a file with a proper code
 pub record IsFresh {S : Type 0} (faults : S → ℕ) (input : InputFile S) : Type 0 where

@@ -15,6 +15,7 @@ use Rattle.durable_catalogue.specs.Openings.{IsUnopened}
 use Rattle.durable_catalogue.specs.Views.{DurableView}
 use Rattle.durable_catalogue.specs.declared.fault.OpenFault.{OpenFault}
 use Rattle.durable_catalogue.specs.declared.fault.OpenFault.TheVariants as opening
+use Rattle.loader_workers.specs.Loading.{IsCutShort}
 use Rattle.loader_workers.specs.declared.file_end.FileEnd.{FileEnd}
 use Rattle.loader_workers.specs.declared.file_end.FileEnd.TheVariants as end
 use Rattle.loader_workers.specs.declared.result.FileResult.{FileResult}
@@ -36,6 +37,16 @@ pub data AreLibrariesLoaded (room : RoomView) (before added : List Entry) (mark 
   OneLibrary : (loader : ℕ) (libraries : List Library) (results : List FileResult) (library : Library) (result : FileResult)
       → IsLibraryLoaded room before added mark library loader result → AreLibrariesLoaded room before added mark (loader + 1) libraries results
       → AreLibrariesLoaded room before added mark loader (library ∷ libraries) (result ∷ results)
+
+-- How far each file was read, of whose input this was left: where it failed, no item is left out that ends, with its terminator, within the
+-- bytes that it gave.
+abbrev pub AreReadTo : {room : RoomView} {before added : List Entry} {mark : Option (List Entry)} {loader : ℕ} {libraries : List Library}
+    {results : List FileResult} → AreLibrariesLoaded room before added mark loader libraries results → List (Option (List ℕ)) → Type 0
+AreReadTo (NoLibrary loader) [] = Unit {0}
+AreReadTo (NoLibrary loader) (left ∷ lefts) = ⊥
+AreReadTo (OneLibrary loader libraries results library result is are) [] = ⊥
+AreReadTo (OneLibrary loader libraries results library result is are) (left ∷ lefts) =
+    (result.end ≡ end.ReadFault → IsCutShort (Some is.bytes) left is.loaded.coming) × AreReadTo are lefts
 
 -- Files were loaded behind these entries: `added` are entries of their loaders, and those of a frame that a device failed to take
 -- are all of one of them.
@@ -75,7 +86,7 @@ pub record IsLoadedWhole (room : RoomView) (journal : List ℕ) (libraries : Lis
   pub loaded : AreLoadedBehind room libraries before added None results
   pub faultless : loading_fault results ≡ None
 
--- Loading ended by a fault, and the journal of that name is closed. It had `before`, and has behind that what was committed; of a
+-- Loading ended by a fault, and the journal of that name and all inputs are closed. It had `before`, and has behind that what was committed; of a
 -- frame that a device failed to take it may have all entries too, and there is none after another fault.
 pub record IsLoadedInPart (old new : RoomView) (journal : List ℕ) (libraries : List Library) (why : Fault) : Type 0 where
   pub before : List Entry
@@ -88,6 +99,9 @@ pub record IsLoadedInPart (old new : RoomView) (journal : List ℕ) (libraries :
   pub faulty : loading_fault results ≡ Some why
   pub unmarked : why ≢ fault.Device → mark ≡ None
   pub closed : IsClosedTo new journal (before ++ added) mark o
+  pub lefts : List (Option (List ℕ))
+  pub lefts_are : new.lefts ≡ lefts ++ old.lefts
+  pub read_to : AreReadTo loaded.files lefts
 
 -- Why loading didn't begin: the journal isn't opened, and has the history that it had, and is full only where its version is 2; or
 -- an input isn't opened, or there is no memory to begin, and the journal was opened and closed again with nothing added.

@@ -1,9 +1,9 @@
 //! The inputs of a command's files: opened all before the first is read, and closed on every path.
-ghost use Rattle.std.specs.Prelude.{◌≡◌, ◌≢◌, ◌≤◌, None, All, IsTrue, IfOk, IfErr, IfSome, length, take, []};
+ghost use Rattle.std.specs.Prelude.{◌≡◌, ◌≢◌, ◌≤◌, None, All, IsTrue, IfOk, IfErr, IfSome, length, take, [], ◌∷◌, ◌++◌};
 ghost use Rattle.marc_types.specs.Valid.{is_code};
 ghost use Rattle.outside.specs.Fault.{Rose};
 ghost use Rattle.outside.specs.Room.{SameBut};
-ghost use Rattle.journal_loading.specs.Inputs.{AreProper, IsInputFault, IsInputOf, AreInputs, IsFresh, RisesFrom};
+ghost use Rattle.journal_loading.specs.Inputs.{AreProper, IsInputFault, IsInputOf, AreInputs, IsFresh, RisesFrom, lefts_of};
 
 use command_words::Library;
 use console_lines::Fault;
@@ -21,6 +21,7 @@ fn open_input<R: Room>(
     requires free { (R.seen room.old).open_as library.now.file ≡ None }
     requires proper { IsTrue (is_code library.now.code) }
     ensures stays { SameBut (R.seen room.old) (R.seen room.new) [] }
+    ensures lefts { (R.seen room.new).lefts ≡ (R.seen room.old).lefts }
     ensures input { IfOk result (λ input. IsInputOf R.In.left (R.seen room.old) library.now input) }
     ensures fresh { IfOk result (λ input. IsFresh R.In.faults input) }
     ensures cause { IfErr result (λ fault. fault ≡ Fault.Input →
@@ -45,6 +46,7 @@ pub fn open_inputs<R: Room>(
     requires free { All (λ library. (R.seen room.old).open_as library.file ≡ None) libraries.now }
     requires proper { AreProper libraries.now }
     ensures stays { SameBut (R.seen room.old) (R.seen room.new) [] }
+    ensures lefts { (R.seen room.new).lefts ≡ (R.seen room.old).lefts }
 
     // What was opened: all files, where there is no fault.
     ensures inputs { AreInputs R.In.left (R.seen room.old) (take (length result.0.items) libraries.now) result.0.items }
@@ -69,6 +71,7 @@ pub fn open_inputs<R: Room>(
 /// Closes the file of a library.
 fn close_input<R: Room>(room: &mut R, library: &Library, input: InputFile<R::In>)
     ensures stays { SameBut (R.seen room.old) (R.seen room.new) [] }
+    ensures left { (R.seen room.new).lefts ≡ R.In.left input.source ∷ (R.seen room.old).lefts }
     ensures rose { Rose 0 (R.In.faults input.source) →
         Rose ((R.seen room.old).in_faults library.now.file) ((R.seen room.new).in_faults library.now.file) }
 {
@@ -80,6 +83,7 @@ fn close_input<R: Room>(room: &mut R, library: &Library, input: InputFile<R::In>
 pub fn close_inputs<R: Room>(room: &mut R, libraries: &[Library], inputs: InputFiles<R::In>)
     requires { length inputs ≤ length libraries.now }
     ensures stays { SameBut (R.seen room.old) (R.seen room.new) [] }
+    ensures lefts { (R.seen room.new).lefts ≡ lefts_of R.In.left inputs ++ (R.seen room.old).lefts }
     ensures rose { RisesFrom R.In.faults 0 libraries.now inputs (R.seen room.old) (R.seen room.new) }
 {
     let mut inputs = inputs.into_vec();

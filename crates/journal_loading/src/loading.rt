@@ -38,6 +38,7 @@ fn begin<R: Room>(
     requires free { (name : List ℕ) → (R.seen room.old).open_as name ≡ None }
     requires loadable { AreLoadable journal.now libraries.now }
     ensures apart { SameBut (R.seen room.old) (R.seen room.new) (journal.now ∷ []) }
+    ensures lefts { OnOk result ((R.seen room.new).lefts ≡ (R.seen room.old).lefts) }
     ensures begun { IfOk result (λ r.
         HasBegun R.In.left R.In.faults (R.seen room.old) (R.seen room.new) journal.now libraries.now (durable_view r.0) r.1) }
     ensures failed { IfErr result (λ why. Fails (R.seen room.old) (R.seen room.new) journal.now libraries.now why
@@ -68,10 +69,10 @@ fn finish<R: Room>(
 ) -> Result<LoadedJournal<R::Log>, Fault>
     requires { (R.seen room.old).open_as journal.now ≡ Some AsLog }
     ensures apart { SameBut (R.seen room.old) (R.seen room.new) (journal.now ∷ []) }
+    ensures lefts { (R.seen room.new).lefts ≡ (R.seen room.old).lefts }
     ensures opened { OnOk result ((R.seen room.new).open_as journal.now ≡ Some AsLog) }
     ensures closed { OnErr result ((R.seen room.new).open_as journal.now ≡ None) }
-    ensures loaded { IfOk result (λ l. l.durable ≡ durable) }
-    ensures results { IfOk result (λ l. IsFinished results l.results) }
+    ensures loaded { IfOk result (λ l. (l.durable ≡ durable) × IsFinished results l.results) }
     ensures ended { IfErr result (λ why. IsStopped why results) }
     ensures log { OnErr result ((R.seen room.old).tells ≡ true → is_some (R.Log.seen durable.before.value).content ≡ true →
         IsClosedAs (R.seen room.new) journal.now (durable_view durable)) }

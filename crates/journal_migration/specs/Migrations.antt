@@ -3,6 +3,7 @@ use Rattle.std.specs.Prelude.{◌≡◌, ◌≢◌, ◌⊎◌, ℕ, ◌+◌, ◌
 use Rattle.marc_types.specs.declared.entry.Entry.{Entry}
 use Rattle.marc_types.specs.declared.entry.Limits.{Limits}
 use Rattle.outside.specs.Disk.{DiskView, OnlyContent, SameDisk}
+use Rattle.outside.specs.Fault.{Rose}
 use Rattle.commit_journal.specs.declared.format.TheConstants.{BLANK_LENGTH, LENGTH_BYTES}
 use Rattle.commit_journal.specs.Log.{walk_of, version_of}
 use Rattle.commit_journal.specs.Journal.{EndsAt, LeavesLog}
@@ -89,3 +90,17 @@ pub record IsMigration (limits : Limits) (history : List Entry) (old new : DiskV
   pub unsynced : old.dated ≡ true → new.synced old.moment ≡ None → new.content ≡ old.content
   pub dated : new.dated ≡ old.dated
   pub tells : is_some new.content ≡ is_some old.content
+
+-- A history was brought into a disk's log: that was fit for it, and now all that a crash may leave is a log of the newest version with that
+-- history, which ends with its closed gate. The history is one that a log was read as.
+pub record IsMigrated (limits : Limits) (history : List Entry) (old new : DiskView) : Type 0 where
+  pub fit : (log : List ℕ) → old.content ≡ Some log → (entries : List Entry) × IsFit limits history entries log
+  pub all : (was c : List ℕ) → HasHistory history was → is_some old.content ≡ true → new.image c → IsBrought history c
+  pub content : (was c : List ℕ) → HasHistory history was → new.content ≡ Some c → IsBrought history c
+
+-- A history was refused for that reason, which comes only where the log is so, and a device's only where the count of faults rose. A log that
+-- isn't fit for the history is left alone, whatever the reason is.
+pub record IsRefusedHistory (limits : Limits) (history : List Entry) (old new : DiskView) (why : MigrateFault) : Type 0 where
+  pub so : (log : List ℕ) → old.content ≡ Some log → IsUnmigrated limits history log why
+  pub left_alone : LeavesUnfitAlone limits history why old new
+  pub failed : why ≡ DeviceFault → Rose old.faults new.faults

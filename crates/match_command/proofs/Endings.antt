@@ -79,13 +79,13 @@ module _ (journal out : List ℕ) (o : Outcome) where
     pub part : o.old.tells ≡ true → IsPartWritten (o.old.file out) (o.new.file out) (matches_due history)
 
   pub was_read : (mid : RoomView) (disk : DiskView) (history : List Entry) → journal ≢ out → SameBut o.old mid (journal ∷ [])
-      → (mid.tells ≡ true → o.new.file journal ≡ disk.content) → (mid.tells ≡ true → IsClosedDisk disk o.new journal)
+      → (mid.tells ≡ true → IsClosedDisk disk o.new journal)
       → (o.old.tells ≡ true → HasHistory history (log_bytes o.old journal)) → IsWithin journal_limits history
       → (o.old.tells ≡ true → KeepsLog (log_bytes o.old journal) disk)
       → (mid.tells ≡ true → IsPartWritten (mid.file out) (o.new.file out) (matches_due history)) → WasRead history
-  was_read mid disk history differ opened file log has within kept part = record {
-    keeps = λ failed tells. let then = opened.tells ∙ tells in closed_keeps o.old o.new journal disk (file then) (log then) failed (kept tells);
-    durable = λ tells. let then = opened.tells ∙ tells in closed_durable o.old o.new journal disk (file then) (log then) (log_bytes o.old journal) (kept tells);
+  was_read mid disk history differ opened log has within kept part = record {
+    keeps = λ failed tells. let then = opened.tells ∙ tells in closed_keeps o.old o.new journal disk (log then) failed (kept tells);
+    durable = λ tells. let then = opened.tells ∙ tells in closed_durable o.old o.new journal disk (log then) (log_bytes o.old journal) (kept tells);
     has = has;
     within = within;
     part = λ tells. part_opened o.old mid o.new journal out (matches_due history) differ opened (part (opened.tells ∙ tells));
@@ -95,11 +95,11 @@ module _ (journal out : List ℕ) (o : Outcome) where
   pub was_taken : (mid : RoomView) (disk : DiskView) (table : List Numbered)
       → (t : IsHandedOn (λ entries. table ≡ table_after entries) (λ entries. o.old.tells ≡ true → HasHistory entries (log_bytes o.old journal)) journal_limits)
       → journal ≢ out → SameBut o.old mid (journal ∷ [])
-      → (mid.tells ≡ true → o.new.file journal ≡ disk.content) → (mid.tells ≡ true → IsClosedDisk disk o.new journal)
+      → (mid.tells ≡ true → IsClosedDisk disk o.new journal)
       → (o.old.tells ≡ true → KeepsLog (log_bytes o.old journal) disk)
       → (mid.tells ≡ true → IsPartWritten (mid.file out) (o.new.file out) (lines_of (matches_of table))) → WasRead t.entries
-  was_taken mid disk table t differ opened file log kept part =
-      was_read mid disk t.entries differ opened file log t.history t.within kept
+  was_taken mid disk table t differ opened log kept part =
+      was_read mid disk t.entries differ opened log t.history t.within kept
       (λ told. subst (IsPartWritten (mid.file out) (o.new.file out)) (due_of_table table t.entries t.taken) (part told))
 
   module _ (history : List Entry) (r : WasRead history) where

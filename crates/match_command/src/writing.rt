@@ -2,7 +2,7 @@
 ghost use Rattle.std.specs.Prelude.{◌≡◌, ◌∷◌, [], true, Some, None, IfOk, IfErr, OnOk};
 ghost use Rattle.outside.specs.Fault.{HasCause, HasWriteCause};
 ghost use Rattle.outside.specs.Room.{AsLog, SameBut};
-ghost use Rattle.output_files.specs.Outputs.{IsPartWritten};
+ghost use Rattle.output_files.specs.Outputs.{IsOutput, IsPartWritten};
 ghost use Rattle.room_files.specs.Journals.{IsClosedDisk};
 ghost use Rattle.match_report.specs.Groups.{lines_of, matches_of};
 
@@ -77,18 +77,14 @@ pub(crate) fn write_history<R: Room>(
     // The room: nothing but these two changes, and both are closed.
     ensures apart { SameBut (R.seen room.old) (R.seen room.new) (journal.now ∷ out.now ∷ []) }
     ensures closed { (R.seen room.new).open_as journal.now ≡ None }
-    ensures out_closed { (R.seen room.new).open_as out.now ≡ None }
 
     // The output, as `write_table` leaves it.
-    ensures cause { HasWriteCause ((R.seen room.old).out_faults out.now) ((R.seen room.new).out_faults out.now) result }
+    ensures output { IsOutput (R.seen room.old) (R.seen room.new) out.now (lines_of (matches_of table.now)) result }
     ensures memory { IfErr result (λ fault. fault ≡ WriteFault.NoMemory → SameBut (R.seen room.old) (R.seen room.new) (journal.now ∷ [])) }
     ensures bytes { OnOk result ((R.seen room.old).tells ≡ true →
         (R.seen room.new).file out.now ≡ Some (lines_of (matches_of table.now))) }
-    ensures part { (R.seen room.old).tells ≡ true →
-        IsPartWritten ((R.seen room.old).file out.now) ((R.seen room.new).file out.now) (lines_of (matches_of table.now)) }
 
     // The log and its file are what the opening left.
-    ensures file { (R.seen room.old).tells ≡ true → (R.seen room.new).file journal.now ≡ (R.Log.seen history.journal.disk).content }
     ensures log { (R.seen room.old).tells ≡ true → IsClosedDisk (R.Log.seen history.journal.disk) (R.seen room.new) journal.now }
 {
     let written = write_table(alloc, room, out, table);

@@ -80,7 +80,7 @@ module _ (from into : List ℕ) (differ : into ≢ from) (old opened brought clo
     (first : SameBut old opened (from ∷ [])) (second : SameBut opened brought (into ∷ [])) (last : SameBut brought closed (from ∷ []))
     (has : old.tells ≡ true → HasHistory history (log_bytes old from)) (named : old.tells ≡ true → version_of (log_bytes old from) ≡ version)
     (within : IsWithin journal_limits history) (kept : old.tells ≡ true → KeepsLog (log_bytes old from) disk)
-    (file : brought.tells ≡ true → closed.file from ≡ disk.content) (log : brought.tells ≡ true → IsClosedDisk disk closed from)
+    (log : brought.tells ≡ true → IsClosedDisk disk closed from)
     (brings : (was : List ℕ) → opened.tells ≡ true → HasHistory history was → BringsInto history opened brought into) where
   first_bytes : log_bytes opened into ≡ log_bytes old into
   first_bytes = bytes_first history old opened brought closed from into differ first last
@@ -113,7 +113,7 @@ module _ (from into : List ℕ) (differ : into ≢ from) (old opened brought clo
   keeps_opened : (failed : Type 0) → old.tells ≡ true → KeepsHistory failed old closed from
   keeps_opened failed tells =
       let now = second.tells ∙ first.tells ∙ tells in
-      closed_keeps old closed from disk (file now) (log now) failed (kept tells)
+      closed_keeps old closed from disk (log now) failed (kept tells)
 
   brings_opened : (entries : List Entry) → old.tells ≡ true → HasHistory entries (log_bytes old from) → ∥ BringsInto entries old closed into ∥₁
   brings_opened entries tells also =

@@ -48,7 +48,7 @@ module _ (history : List Entry) (old new : RoomView) (name : List ℕ) (before d
   pub alone_into : before.moment ≡ 0 → IsClosedDisk disk new name → IsTimed disk → (fault : MigrateFault) → LeavesUnfitAlone journal_limits history fault before disk
       → IsUnfit journal_limits history (log_bytes old name) → KeepsHistory (fault ≡ migrating.DeviceFault) old new name
   alone_into begins closed timed fault alone unfit =
-      closed_history old new name disk file closed (fault ≡ migrating.DeviceFault)
+      closed_history old new name disk closed (fault ≡ migrating.DeviceFault)
       (subst (λ o. LeavesAlone (fault ≡ migrating.DeviceFault) log (bytes_or_none o)) (sym told_now.1) content)
       (λ entries has. subst (λ o. HasHistory entries (bytes_or_none o)) (sym told_now.1) (∥∥₁_map has (same_log entries log told_now.0 content.leaves.same)))
       (λ s c synced was. left.images s c (ap disk.synced begins ∙ synced) was)

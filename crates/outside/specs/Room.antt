@@ -25,6 +25,8 @@ pub record RoomView : Type 1 where
   pub out_faults : List ℕ → ℕ
   -- the faults of the name's logs
   pub log_faults : List ℕ → ℕ
+  -- what each input that was closed had left then, the newest first; none where its source doesn't tell
+  pub lefts : List (Option (List ℕ))
 
 -- the bytes of a file, none where there is no file
 abbrev pub bytes_or_none : Option (List ℕ) → List ℕ

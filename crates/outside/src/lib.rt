@@ -6,6 +6,7 @@
 #![tactic(auto)]
 
 mod bytes;
+mod closed;
 mod disk;
 mod fault;
 mod gate;
@@ -16,6 +17,7 @@ mod sink;
 mod source;
 
 pub use bytes::Bytes;
+pub use closed::GivenUp;
 pub use disk::{Disk, LONGEST_DISK};
 pub use fault::{Failed, WriteFault};
 pub use gate::{Gate, LARGEST_BATCH};

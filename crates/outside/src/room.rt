@@ -21,6 +21,7 @@ pub trait Room {
     fn open_in(&mut self, name: &str) -> Result<Self::In, Failed>
         requires { (seen self.old).open_as name.now ≡ None }
         ensures stays { SameBut (seen self.old) (seen self.new) [] }
+        ensures lefts { (seen self.new).lefts ≡ (seen self.old).lefts }
         ensures cause { HasCause ((seen self.old).in_faults name.now) ((seen self.new).in_faults name.now) result }
 
         // The object has no fault yet, and gives the file's bytes.
@@ -33,6 +34,7 @@ pub trait Room {
     fn open_out(&mut self, name: &str) -> Result<Self::Out, Failed>
         requires { (seen self.old).open_as name.now ≡ None }
         ensures apart { SameBut (seen self.old) (seen self.new) (name.now ∷ []) }
+        ensures lefts { (seen self.new).lefts ≡ (seen self.old).lefts }
         ensures opened { OnOk result ((seen self.new).open_as name.now ≡ Some AsOutput) }
         ensures failed { OnErr result (SameBut (seen self.old) (seen self.new) []) }
         ensures cause { HasCause ((seen self.old).out_faults name.now) ((seen self.new).out_faults name.now) result }
@@ -47,6 +49,7 @@ pub trait Room {
     fn open_log(&mut self, name: &str) -> Result<Self::Log, Failed>
         requires { (seen self.old).open_as name.now ≡ None }
         ensures apart { SameBut (seen self.old) (seen self.new) (name.now ∷ []) }
+        ensures lefts { (seen self.new).lefts ≡ (seen self.old).lefts }
         ensures opened { OnOk result ((seen self.new).open_as name.now ≡ Some AsLog) }
         ensures failed { OnErr result (SameBut (seen self.old) (seen self.new) []) }
         ensures cause { HasCause ((seen self.old).log_faults name.now) ((seen self.new).log_faults name.now) result }
@@ -60,6 +63,7 @@ pub trait Room {
     /// Takes an input back, and adds its faults to the count of that name's inputs.
     fn close_in(&mut self, name: &str, object: Self::In)
         ensures stays { SameBut (seen self.old) (seen self.new) [] }
+        ensures left { (seen self.new).lefts ≡ Self.In.left object ∷ (seen self.old).lefts }
         ensures counted { (seen self.new).in_faults name.now
             ≡ count_sum ((seen self.old).in_faults name.now) (Self.In.faults object) };
 
@@ -67,6 +71,7 @@ pub trait Room {
     fn close_out(&mut self, name: &str, object: Self::Out) -> Result<(), Failed>
         requires { (seen self.old).open_as name.now ≡ Some AsOutput }
         ensures apart { SameBut (seen self.old) (seen self.new) (name.now ∷ []) }
+        ensures lefts { (seen self.new).lefts ≡ (seen self.old).lefts }
         ensures closed { (seen self.new).open_as name.now ≡ None }
 
         // The file has all that was written, or, where the call fails, some front of it.
@@ -85,6 +90,7 @@ pub trait Room {
     fn close_log(&mut self, name: &str, object: Self::Log)
         requires { (seen self.old).open_as name.now ≡ Some AsLog }
         ensures apart { SameBut (seen self.old) (seen self.new) (name.now ∷ []) }
+        ensures lefts { (seen self.new).lefts ≡ (seen self.old).lefts }
         ensures closed { (seen self.new).open_as name.now ≡ None }
         ensures bytes { (seen self.old).tells ≡ true → (seen self.new).file name.now ≡ (Self.Log.seen object).content }
         ensures log { (seen self.old).tells ≡ true → (seen self.new).has_log name.now ≡ true }

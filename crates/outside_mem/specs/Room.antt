@@ -52,6 +52,7 @@ room_view room = record {
   in_faults = λ _. room.in_faults;
   out_faults = λ _. room.out_faults;
   log_faults = λ _. room.log_faults;
+  lefts = room.closed;
 }
 
 -- an open name tells no file

@@ -11,7 +11,7 @@ ghost use Rattle.outside_mem.specs.declared.files.FileState.TheVariants.{Absent,
 
 use crate::files::{self, FileState, MemFile};
 use crate::{MemDisk, MemSink, MemSource};
-use outside::{Bytes, Failed, LONGEST_DISK, NoMemory, Room};
+use outside::{Bytes, Failed, GivenUp, LONGEST_DISK, NoMemory, Room};
 use std::alloc::Global;
 
 /// A room in memory, which tells its files and closed logs. It keeps one count of faults per sort, which stands for every name.
@@ -22,6 +22,7 @@ pub struct MemRoom {
     in_faults: u64,
     out_faults: u64,
     log_faults: u64,
+    closed: GivenUp<MemSource>,
 }
 
 impl MemRoom {
@@ -38,6 +39,7 @@ impl MemRoom {
             in_faults: 0,
             out_faults: 0,
             log_faults: 0,
+            closed: GivenUp::none(),
         }
     }
 
@@ -152,6 +154,7 @@ fn disk_copy(alloc: Global, files: &[MemFile], name: &str) -> Option<MemDisk>
 impl MemRoom {
     /// An empty sink under that name, where it may be opened and there is memory for it.
     fn start_output(&mut self, name: &str) -> Option<MemSink>
+        ensures lefts { self.new.closed ≡ self.old.closed }
         ensures sink { IfSome result (IsSinkOf (file_under self.old name.now)) }
         ensures open { OnSome result (ChangesUnder self.old self.new name.now
             (record (file_under self.old name.now) { state = OpenOutput })) }
@@ -166,6 +169,7 @@ impl MemRoom {
 
     /// A disk of the file under that name, where it may be opened and there is memory for it.
     fn start_log(&mut self, name: &str) -> Option<MemDisk>
+        ensures lefts { self.new.closed ≡ self.old.closed }
         ensures disk { IfSome result (IsLogOf (file_under self.old name.now)) }
         ensures open { OnSome result (ChangesUnder self.old self.new name.now
             (record (file_under self.old name.now) { state = OpenLog })) }
@@ -261,6 +265,7 @@ impl Room for MemRoom {
         ensures counts { HasCounts self.new (count_sum (in_count self.old) object.calls.faults) (out_count self.old) (log_count self.old) }
     {
         self.in_faults = self.in_faults.saturating_add(object.faults());
+        self.closed.give_up(&object);
     }
 
     #[tactic(auto, using(crate::proofs::Places::file_in_nameless, crate::proofs::Rooms::apart_changed))]

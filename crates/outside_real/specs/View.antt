@@ -27,8 +27,8 @@ file_disk_view disk = untold_disk disk.len disk.faults
 abbrev pub opened : Bool → Bool → Option OpenSort
 opened as_output as_log = if as_output then Some AsOutput else if as_log then Some AsLog else None
 
-abbrev pub untold_room : (List ℕ → Bool) → (List ℕ → Bool) → ℕ → ℕ → ℕ → RoomView
-untold_room is_output is_log ins outs logs = record {
+abbrev pub untold_room : (List ℕ → Bool) → (List ℕ → Bool) → ℕ → ℕ → ℕ → List (Option (List ℕ)) → RoomView
+untold_room is_output is_log ins outs logs lefts = record {
   tells = false;
   file = λ _. None;
   open_as = λ name. opened (is_output name) (is_log name);
@@ -37,11 +37,12 @@ untold_room is_output is_log ins outs logs = record {
   in_faults = λ _. ins;
   out_faults = λ _. outs;
   log_faults = λ _. logs;
+  lefts = lefts;
 }
 
 -- a room over real files as any room is seen
 abbrev pub file_room_view : {R File Dir : Type 0} → FileRoom R File Dir → RoomView
-file_room_view room = untold_room (contains_text room.outputs.set) (contains_text room.open_logs.set) room.ins room.outs room.logs
+file_room_view room = untold_room (contains_text room.outputs.set) (contains_text room.open_logs.set) room.ins room.outs room.logs room.closed
 
 -- the faults of all inputs, of all outputs, and of all logs
 pub record HasCounts {R File Dir : Type 0} (room : FileRoom R File Dir) (inputs outputs of_logs : ℕ) : Type 0 where

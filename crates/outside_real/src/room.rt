@@ -13,7 +13,7 @@ use crate::opening::{OpenedAs, emptied};
 use crate::sink::FileSink;
 use crate::source::FileSource;
 use crate::target::Target;
-use outside::{Disk, Failed, Room, Sink, Source};
+use outside::{Disk, Failed, GivenUp, Room, Sink, Source};
 use std::alloc::Global;
 use std::fs::File;
 use std::rt::Files;
@@ -32,6 +32,7 @@ pub struct FileRoom<R: Files> {
     ins: u64,
     outs: u64,
     logs: u64,
+    closed: GivenUp<FileSource<File>>,
 }
 
 impl<R: Files<File = File> + Print + Clone + Drop> FileRoom<R> {
@@ -49,6 +50,7 @@ impl<R: Files<File = File> + Print + Clone + Drop> FileRoom<R> {
             ins: 0,
             outs: 0,
             logs: 0,
+            closed: GivenUp::none(),
         }
     }
 
@@ -80,6 +82,7 @@ impl<R: Files<File = File> + Print + Clone + Drop> FileRoom<R> {
             → (file_room_view self.new).open_as n ≡ (file_room_view self.old).open_as n }
         ensures counts { HasCounts self.new self.old.ins self.old.outs self.old.logs }
         ensures held { self.new.held ≡ self.old.held }
+        ensures lefts { self.new.closed ≡ self.old.closed }
     {
         self.outputs.remove(name);
         self.open_logs.remove(name);
@@ -175,6 +178,7 @@ impl<R: Files<File = File> + Print + Clone + Drop> Room for FileRoom<R> {
         ensures held { self.new.held ≡ self.old.held }
     {
         self.ins = added(self.ins, object.faults());
+        self.closed.give_up(&object);
     }
 
     fn close_out(&mut self, name: &str, mut object: FileSink<Target<R>>) -> Result<(), Failed>

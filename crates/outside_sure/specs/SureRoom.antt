@@ -68,6 +68,7 @@ sure_room_view room = record {
   in_faults = λ _. room.in_faults;
   out_faults = λ _. room.out_faults;
   log_faults = λ _. room.log_faults;
+  lefts = room.closed;
 }
 
 -- an open name tells no file

@@ -13,7 +13,7 @@ use crate::held::Held;
 use crate::shelf::Shelf;
 use crate::sure_files::{self, Kept};
 use crate::{SureDisk, SureSink, SureSource};
-use outside::{Failed, LONGEST_DISK, NoMemory, Room};
+use outside::{Failed, GivenUp, LONGEST_DISK, NoMemory, Room};
 use std::alloc::Global;
 
 /// A room in memory that fails for want of room alone, and takes memory at no call of the trait. It tells its files and
@@ -25,6 +25,7 @@ pub struct SureRoom {
     in_faults: u64,
     out_faults: u64,
     log_faults: u64,
+    closed: GivenUp<SureSource>,
 }
 
 impl SureRoom {
@@ -41,6 +42,7 @@ impl SureRoom {
             in_faults: 0,
             out_faults: 0,
             log_faults: 0,
+            closed: GivenUp::none(),
         })
     }
 
@@ -79,6 +81,7 @@ impl SureRoom {
     /// the name is new.
     fn exchange(&mut self, name: &str, kept: Kept) -> Option<Held>
         requires { (sure_room_view self.old).open_as name.now ≡ None }
+        ensures closed { self.new.closed ≡ self.old.closed }
         ensures none { is_none result ≡ lacks_place self.old name.now }
         ensures bytes { IfSome result (λ held. held.bytes ≡ bytes_or_none (told_kept (kept_under self.old name.now))) }
         ensures held_room { IfSome result (λ held. held.room ≡ room_kept self.old.shelf.room (kept_under self.old name.now)) }
@@ -94,6 +97,7 @@ impl SureRoom {
 
     fn start_output(&mut self, name: &str) -> Option<SureSink>
         requires { (sure_room_view self.old).open_as name.now ≡ None }
+        ensures closed { self.new.closed ≡ self.old.closed }
         ensures none { is_none result ≡ lacks_place self.old name.now }
         ensures sink { IfSome result (λ sink. sink ≡ record { bytes = []; room = room_kept self.old.shelf.room (kept_under self.old name.now); faults = 0 }) }
         ensures open { OnSome result (KeepsUnder self.old self.new name.now OpenOutput) }
@@ -117,6 +121,7 @@ impl SureRoom {
 
     fn start_log(&mut self, name: &str) -> Option<SureDisk>
         requires { (sure_room_view self.old).open_as name.now ≡ None }
+        ensures closed { self.new.closed ≡ self.old.closed }
         ensures none { is_none result ≡ lacks_log self.old name.now }
         ensures disk { IfSome result (λ disk. disk_state disk ≡ record {
           bytes = bytes_or_none (told_kept (kept_under self.old name.now));
@@ -134,6 +139,7 @@ impl SureRoom {
     }
 
     fn take_copy(&mut self, name: &str) -> Option<SureSource>
+        ensures closed { self.new.closed ≡ self.old.closed }
         ensures none { is_none result ≡ (copies_left (kept_under self.old name.now) == 0) }
         ensures source { IfSome result (λ source. told_kept (kept_under self.old name.now) ≡ Some source) }
         ensures taken { HasTaken self.old self.new name.now }
@@ -226,13 +232,14 @@ impl Room for SureRoom {
 
     // A sure source has no faults to add.
     #[tactic(auto, using(crate::proofs::SureRooms::stays_kept))]
-    fn close_in(&mut self, _name: &str, _object: SureSource)
+    fn close_in(&mut self, _name: &str, object: SureSource)
         ensures stays { SameBut (sure_room_view self.old) (sure_room_view self.new) [] }
         ensures kept { SameKept self.old self.new }
         ensures counts { HasSureCounts self.new self.old.shelf.room (free_places self.old) self.old.in_faults self.old.out_faults self.old.log_faults }
         ensures counted { self.new.in_faults ≡ count_sum self.old.in_faults 0 }
     {
         self.in_faults = self.in_faults.saturating_add(0);
+        self.closed.give_up(&object);
     }
 
     #[tactic(auto, using(crate::proofs::SureRooms::apart_kept))]

@@ -63,6 +63,13 @@ pub record IsPassedUntold (library : Library) (bytes : List ℕ) (written told n
   pub export : written ≡ Some (exported accepted)
   pub console : WritesFront told now (results library.file accepted refused)
 
+-- Which of OUT and the console could not be written: each has its cause, and where OUT could not be, the console is as it was.
+pub record EndsDelivering (out : List ℕ) (o : Outcome) : Type 0 where
+  pub out_cause : o.end ≡ out_unwritten → Rose (o.old.out_faults out) (o.new.out_faults out)
+  pub console_cause : o.end ≡ console_unwritten → Rose o.faults o.faults_now
+  pub no_report : o.end ≢ report_unwritten
+  pub silent : o.end ≡ out_unwritten → IsSilent o
+
 -- The command `pass`: one file through an empty catalogue, into the file OUT.
 pub record Passes (library : Library) (out : List ℕ) (o : Outcome) : Type 0 where
   -- a fault that is told is one of loading, and leaves the room as it was

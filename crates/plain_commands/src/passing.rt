@@ -1,10 +1,9 @@
-ghost use Rattle.std.specs.Prelude.{◌≡◌, ◌≢◌, ℕ, List, true, None, IsTrue, ◌∷◌, []};
+ghost use Rattle.std.specs.Prelude.{◌≡◌, ℕ, List, true, None, IsTrue, ◌∷◌, []};
 ghost use Rattle.marc_types.specs.Valid.{is_code};
-ghost use Rattle.outside.specs.Fault.{Rose};
 ghost use Rattle.outside.specs.Room.{SameBut};
 ghost use Rattle.command_words.specs.declared.library.Library.{Library};
-ghost use Rattle.console_lines.specs.Ends.{outcome, IsAllDone, IsTold, out_unwritten, report_unwritten, console_unwritten};
-ghost use Rattle.plain_commands.specs.Passing.{IsReady, IsPassed, IsPassedInPart, IsPassedUntold, Passes};
+ghost use Rattle.console_lines.specs.Ends.{outcome, IsAllDone, IsTold, out_unwritten, console_unwritten};
+ghost use Rattle.plain_commands.specs.Passing.{IsReady, IsPassed, IsPassedInPart, IsPassedUntold, EndsDelivering, Passes};
 
 use crate::ready::{Ready, prepare};
 use command_words::Library;
@@ -25,17 +24,14 @@ fn deliver<R: Room>(
     requires free { (R.seen room.old).open_as out.now ≡ None }
     ensures apart { SameBut (R.seen room.old) (R.seen room.new) (out.now ∷ []) }
     ensures closed { (R.seen room.new).open_as out.now ≡ None }
-    ensures no_report { result ≢ report_unwritten }
 
     // Want of memory alone is told, and then OUT isn't begun.
     ensures fault { (why : Fault) → result ≡ End.Told why → (why ≡ Fault.Memory) × SameBut (R.seen room.old) (R.seen room.new) [] ×
         IsTold why (outcome R.seen R.Out.written R.Out.faults room.old room.new console.old console.new result) }
 
-    // Which of the two could not be written, and that the console isn't touched where OUT could not.
-    ensures out_cause { result ≡ out_unwritten → Rose ((R.seen room.old).out_faults out.now) ((R.seen room.new).out_faults out.now) }
-    ensures console_cause { result ≡ console_unwritten → Rose (R.Out.faults console.old) (R.Out.faults console.new) }
-    ensures silent { result ≡ out_unwritten →
-        (R.Out.written console.new ≡ R.Out.written console.old) × (R.Out.faults console.new ≡ R.Out.faults console.old) }
+    // Which of the two could not be written.
+    ensures unwritten { EndsDelivering out.now
+        (outcome R.seen R.Out.written R.Out.faults room.old room.new console.old console.new result) }
 
     // What is there then, of a file with these bytes.
     ensures whole { (library : Library) (bytes : List ℕ) → (R.seen room.old).tells ≡ true → IsReady library bytes ready.now →

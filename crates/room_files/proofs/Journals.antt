@@ -3,18 +3,21 @@ use Rattle.std.proofs.Common.{◌≡◌, ◌⊎◌, inl, inr, ⊎_elim, ◌∙�
 use Rattle.std.proofs.Math.Logic.{∥∥₁_map}
 use Rattle.marc_types.specs.declared.entry.Entry.{Entry}
 use Rattle.outside.specs.Disk.{DiskView, SameDisk, Unchanged, OnlyContent}
+use Rattle.outside.specs.Fault.{Rose, count_sum}
 use Rattle.outside.specs.Room.{RoomView, SameBut, bytes_or_none}
+use Rattle.outside.proofs.Counts.{rose_closed}
 use Rattle.commit_journal.specs.Journal.{IsSettled, EndsAt, LeavesLog}
 use Rattle.commit_journal.proofs.Logs.{version_two}
 use Rattle.durable_catalogue.specs.Logs.{HasHistory}
-use Rattle.durable_catalogue.specs.Openings.{IsOpening, KeepsContent}
-use Rattle.durable_catalogue.specs.Refused.{LeavesAlone, LeavesDiskAlone, LeavesSettled, IsPutInOrder}
+use Rattle.durable_catalogue.specs.Opened.{IsOpenedDisk, IsRefusedDisk}
+use Rattle.durable_catalogue.specs.Openings.{IsOpening, IsUnopened, KeepsContent}
+use Rattle.durable_catalogue.specs.Refused.{LeavesAlone, LeavesDiskAlone, LeavesSettled}
 use Rattle.durable_catalogue.specs.declared.fault.OpenFault.{OpenFault}
 use Rattle.durable_catalogue.specs.declared.fault.OpenFault.TheVariants.{DeviceFault}
 use Rattle.durable_catalogue.specs.Durables.{Opening, IsLeft, marked}
 use Rattle.durable_catalogue.proofs.Keeping.{some_of}
 use Rattle.durable_catalogue.proofs.Readings.{same_log}
-use Rattle.room_files.specs.Journals.{log_bytes, HasSynced, KeepsLog, KeepsHistory, Unopened, Opened, IsClosedDisk, IsClosedTo, IsDurable}
+use Rattle.room_files.specs.Journals.{journal_limits, log_bytes, HasSynced, KeepsLog, KeepsHistory, Unopened, Opened, IsClosedDisk, IsClosedTo, IsOpenLog, IsRefusedLog, IsDurable}
 
 -- what the trait says of a disk's moments
 pub record IsTimed (disk : DiskView) : Type 0 where
@@ -66,14 +69,14 @@ module _ (old new : DiskView) (log : List ℕ) (told : old.content ≡ Some log)
       ap bytes_or_none (opening.unsynced (sym opening.dated ∙ dated) (ap new.synced begins ∙ none) ∙ told)
 
   -- an opening keeps the log
-  pub opening_keeps : KeepsContent old new → IsPutInOrder old new → (old.dated ≡ true → is_some (new.synced old.moment) ≡ true) → OnlyContent new → KeepsLog log new
-  opening_keeps keeps order synced only = record {
-    leaves = subst (λ o. LeavesLog log (bytes_or_none o)) (sym now_told.1) (order.leaves log now_told.0 told now_told.1);
-    bytes = ap bytes_or_none (order.bytes log told);
-    content = content_keeps keeps;
+  pub opening_keeps : IsOpenedDisk old new → KeepsLog log new
+  opening_keeps opened = record {
+    leaves = subst (λ o. LeavesLog log (bytes_or_none o)) (sym now_told.1) (opened.in_order.leaves log now_told.0 told now_told.1);
+    bytes = ap bytes_or_none (opened.in_order.bytes log told);
+    content = content_keeps opened.content;
     images = images_keep;
-    synced = λ dated. ap (λ n. is_some (new.synced n)) (sym begins) ∙ synced (sym opening.dated ∙ dated);
-    only = λ c image. only now_told.0 c now_told.1 image ∙ sym (ap bytes_or_none now_told.1);
+    synced = λ dated. ap (λ n. is_some (new.synced n)) (sym begins) ∙ opened.synced (sym opening.dated ∙ dated);
+    only = λ c image. opened.only now_told.0 c now_told.1 image ∙ sym (ap bytes_or_none now_told.1);
   }
 
   -- and one that is refused leaves it alone
@@ -87,7 +90,7 @@ module _ (old new : DiskView) (log : List ℕ) (told : old.content ≡ Some log)
       settled_now old new begins timed synced now_told.0 now_told.1 (⊎_elim (λ only. inl only) (λ same. inr same.1) (settled other))
 
 -- a log that is closed has what its disk has
-module _ (old new : RoomView) (name : List ℕ) (disk : DiskView) (file : new.file name ≡ disk.content) (closed : IsClosedDisk disk new name) where
+module _ (old new : RoomView) (name : List ℕ) (disk : DiskView) (closed : IsClosedDisk disk new name) where
   pub closed_history : (failed : Type 0) → LeavesAlone failed (log_bytes old name) (bytes_or_none disk.content)
       → ((entries : List Entry) → HasHistory entries (log_bytes old name) → HasHistory entries (bytes_or_none disk.content))
       → ((s : ℕ) (c : List ℕ) → disk.synced 0 ≡ Some s → disk.left s c → LeavesLog (log_bytes old name) c)
@@ -96,13 +99,13 @@ module _ (old new : RoomView) (name : List ℕ) (disk : DiskView) (file : new.fi
       → KeepsHistory failed old new name
   closed_history failed alone content images unsynced settled = Opened (record {
     is_log = closed.is_log;
-    alone = subst (λ o. LeavesAlone failed (log_bytes old name) (bytes_or_none o)) (sym file) alone;
-    history = λ entries has. subst (λ o. HasHistory entries (bytes_or_none o)) (sym file) (content entries has);
+    alone = subst (λ o. LeavesAlone failed (log_bytes old name) (bytes_or_none o)) (sym closed.file) alone;
+    history = λ entries has. subst (λ o. HasHistory entries (bytes_or_none o)) (sym closed.file) (content entries has);
     images = each;
     image_history = λ entries s c has synced left. ∥∥₁_map has (same_log entries (log_bytes old name) c (each s c synced left).same);
-    unsynced = λ dated none. ap bytes_or_none file ∙ unsynced (sym unchanged.dated ∙ dated) (sym (unchanged.syncs 0) ∙ none);
+    unsynced = λ dated none. ap bytes_or_none closed.file ∙ unsynced (sym unchanged.dated ∙ dated) (sym (unchanged.syncs 0) ∙ none);
     settled = λ other synced c image.
-        settled other (λ dated. ap is_some (sym (unchanged.syncs 0)) ∙ synced (unchanged.dated ∙ dated)) c ((unchanged.images c).0 image) ∙ sym (ap bytes_or_none file);
+        settled other (λ dated. ap is_some (sym (unchanged.syncs 0)) ∙ synced (unchanged.dated ∙ dated)) c ((unchanged.images c).0 image) ∙ sym (ap bytes_or_none closed.file);
   })
     where
       unchanged : Unchanged disk (new.log name)
@@ -124,12 +127,47 @@ module _ (old new : RoomView) (name : List ℕ) (disk : DiskView) (file : new.fi
       record {
         is_log = closed.is_log;
         synced = λ dated. ap is_some (unchanged.syncs 0) ∙ keeps.synced (sym unchanged.dated ∙ dated);
-        only = λ c image. keeps.only c ((unchanged.images c).0 image) ∙ sym (ap bytes_or_none file);
+        only = λ c image. keeps.only c ((unchanged.images c).0 image) ∙ sym (ap bytes_or_none closed.file);
       }
+
+  -- a log that was refused and is closed again keeps its history
+  pub refused_keeps : (was : DiskView) (why : OpenFault) → was.content ≡ Some (log_bytes old name) → was.moment ≡ 0
+      → IsRefusedDisk journal_limits was disk why → IsTimed disk → KeepsHistory (why ≡ DeviceFault) old new name
+  refused_keeps was why told begins refused timed =
+      let log = log_bytes old name in
+      closed_history (why ≡ DeviceFault) (refusal_alone was disk log told begins refused.crash (why ≡ DeviceFault) refused.left_alone)
+      (content_keeps was disk log told begins refused.crash refused.content)
+      (images_keep was disk log told begins refused.crash)
+      (unsynced_keeps was disk log told begins refused.crash)
+      (refusal_settled was disk log told begins refused.crash why refused.settled timed)
 
 -- a log that isn't opened is as it was
 pub unopened_keeps : (failed : Type 0) (old new : RoomView) (name : List ℕ) → SameBut old new [] → KeepsHistory failed old new name
 unopened_keeps failed old new name stays = Unopened (record { file = stays.files name tt; is_log = stays.log_names name tt; log = stays.logs name tt })
+
+-- a log that isn't opened is refused for its device
+pub unopened_log : (old new : RoomView) (name : List ℕ) → old.open_as name ≡ None → SameBut old new [] → Rose (old.log_faults name) (new.log_faults name)
+    → IsRefusedLog old new name DeviceFault
+unopened_log old new name free stays rose = record {
+  closed = stays.open_names name tt ∙ free;
+  keeps = λ told. unopened_keeps (DeviceFault ≡ DeviceFault) old new name stays;
+  so = λ told. tt;
+  cause = λ device. rose;
+}
+
+-- a log that was opened, and closed again since it is refused
+pub refused_log : (old mid new : RoomView) (name : List ℕ) (was now : DiskView) (why : OpenFault) → (old.tells ≡ true → was.content ≡ Some (log_bytes old name))
+    → was.moment ≡ 0 → was.faults ≡ 0 → old.log_faults name ≤ mid.log_faults name → IsRefusedDisk journal_limits was now why → IsTimed now
+    → new.open_as name ≡ None → (old.tells ≡ true → IsClosedDisk now new name) → new.log_faults name ≡ count_sum (mid.log_faults name) now.faults
+    → IsRefusedLog old new name why
+refused_log old mid new name was now why bytes begins fresh earlier refused timed closed log counted = record {
+  closed = closed;
+  keeps = λ told. refused_keeps old new name now (log told) was why (bytes told) begins refused timed;
+  so = λ told. refused.so (log_bytes old name) (bytes told);
+  cause = λ device.
+      let rose = rose_closed (old.log_faults name) (mid.log_faults name) now.faults earlier (subst (λ n. Rose n now.faults) fresh (refused.failed device)) in
+      subst (Rose (old.log_faults name)) (sym counted) rose;
+}
 
 -- what is kept where one thing failed is kept where another did that comes with it
 pub keeps_where : (failed also : Type 0) (old new : RoomView) (name : List ℕ) → (failed → also) → KeepsHistory failed old new name → KeepsHistory also old new name

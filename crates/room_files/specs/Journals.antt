@@ -4,12 +4,16 @@ use Rattle.marc_types.specs.declared.entry.Entry.{Entry}
 use Rattle.marc_types.specs.declared.entry.Limits.{Limits}
 use Rattle.marc_types.specs.Limits.{greatest_limits}
 use Rattle.outside.specs.Disk.{DiskView, SameDisk, OnlyContent}
-use Rattle.outside.specs.Room.{RoomView, bytes_or_none}
+use Rattle.outside.specs.Fault.{Rose}
+use Rattle.outside.specs.Room.{RoomView, AsLog, bytes_or_none}
 use Rattle.commit_journal.specs.Log.{walk_of, version_of}
 use Rattle.commit_journal.specs.Journal.{EndsAt, LeavesLog, in_order}
 use Rattle.entry_record.specs.History.{next_run, IsWithin}
 use Rattle.durable_catalogue.specs.Logs.{HasHistory}
 use Rattle.durable_catalogue.specs.Images.{Holds}
+use Rattle.durable_catalogue.specs.declared.fault.OpenFault.{OpenFault}
+use Rattle.durable_catalogue.specs.declared.fault.OpenFault.TheVariants.{DeviceFault}
+use Rattle.durable_catalogue.specs.Openings.{IsUnopened}
 use Rattle.durable_catalogue.specs.Refused.{LeavesAlone}
 use Rattle.durable_catalogue.specs.Durables.{Opening, IsLeft, marked}
 use Rattle.durable_catalogue.specs.Views.{DurableView}
@@ -65,8 +69,9 @@ pub record IsUntouched (old new : RoomView) (name : List ℕ) : Type 0 where
   pub is_log : new.has_log name ≡ old.has_log name
   pub log : old.has_log name ≡ true → SameDisk (old.log name) (new.log name)
 
--- the file of that name is the log that this disk was closed as, with its moments
+-- the file of that name is the log that this disk was closed as, with its content and its moments
 pub record IsClosedDisk (disk : DiskView) (room : RoomView) (name : List ℕ) : Type 0 where
+  pub file : room.file name ≡ disk.content
   pub is_log : room.has_log name ≡ true
   pub same : SameDisk disk (room.log name)
 
@@ -103,6 +108,20 @@ pub record KeepsLog (log : List ℕ) (disk : DiskView) : Type 0 where
   pub images : (s : ℕ) (c : List ℕ) → disk.synced 0 ≡ Some s → disk.left s c → LeavesLog log c
   pub synced : HasSynced disk
   pub only : (c : List ℕ) → disk.image c → c ≡ bytes_or_none disk.content
+
+-- The log of that name, of that version, was opened to be read, and the disk keeps it.
+pub record IsOpenLog (old new : RoomView) (name : List ℕ) (version : ℕ) (disk : DiskView) : Type 0 where
+  pub is_open : new.open_as name ≡ Some AsLog
+  pub version_is : old.tells ≡ true → version_of (log_bytes old name) ≡ version
+  pub kept : old.tells ≡ true → KeepsLog (log_bytes old name) disk
+
+-- The log of that name was refused, is closed, and keeps its history. The fault comes only where the log is so, and a device's only where
+-- the count of faults rose.
+pub record IsRefusedLog (old new : RoomView) (name : List ℕ) (why : OpenFault) : Type 0 where
+  pub closed : new.open_as name ≡ None
+  pub keeps : old.tells ≡ true → KeepsHistory (why ≡ DeviceFault) old new name
+  pub so : old.tells ≡ true → IsUnopened journal_limits (log_bytes old name) why
+  pub cause : why ≡ DeviceFault → Rose (old.log_faults name) (new.log_faults name)
 
 -- the file of that name is a closed log, and durable: it has synced, where it tells its moments, and its file is all that a crash may
 -- leave

@@ -1,13 +1,10 @@
 //! Journals that are only read.
-ghost use Rattle.std.specs.Prelude.{◌≡◌, ◌≢◌, true, Some, None, IfOk, IfErr, OnOk, OnErr, ◌∷◌, []};
-ghost use Rattle.outside.specs.Fault.{Rose};
+ghost use Rattle.std.specs.Prelude.{◌≡◌, ◌≢◌, true, Some, None, IfOk, IfErr, ◌∷◌, []};
 ghost use Rattle.outside.specs.Room.{AsLog, SameBut};
-ghost use Rattle.commit_journal.specs.Log.{version_of};
-ghost use Rattle.durable_catalogue.specs.declared.fault.OpenFault.TheVariants.{DeviceFault, OldVersion};
+ghost use Rattle.durable_catalogue.specs.declared.fault.OpenFault.TheVariants.{OldVersion};
 ghost use Rattle.durable_catalogue.specs.Logs.{HasHistory};
-ghost use Rattle.durable_catalogue.specs.Openings.{IsUnopened};
 ghost use Rattle.entry_record.specs.History.{IsWithin};
-ghost use Rattle.room_files.specs.Journals.{journal_limits, log_bytes, IsClosedDisk, KeepsHistory, KeepsLog};
+ghost use Rattle.room_files.specs.Journals.{journal_limits, log_bytes, IsClosedDisk, IsOpenLog, IsRefusedLog};
 
 use crate::JOURNAL_LIMITS;
 use durable_catalogue::{Archive, Memory, OpenFault};
@@ -15,7 +12,7 @@ use outside::Room;
 use std::alloc::Global;
 
 /// Opens the file of that name to read its history, of either version. A fault closes it again.
-#[tactic(auto, using(crate::proofs::Journals::unopened_keeps))]
+#[tactic(auto, using(crate::proofs::Journals::unopened_log))]
 pub fn open_archive<R: Room>(
     alloc: Global,
     room: &mut R,
@@ -23,24 +20,15 @@ pub fn open_archive<R: Room>(
 ) -> Result<Archive<R::Log>, OpenFault>
     requires { (R.seen room.old).open_as name.now ≡ None }
     ensures apart { SameBut (R.seen room.old) (R.seen room.new) (name.now ∷ []) }
-    ensures opened { OnOk result ((R.seen room.new).open_as name.now ≡ Some AsLog) }
-    ensures closed { OnErr result ((R.seen room.new).open_as name.now ≡ None) }
 
     // The catalogue has the log's history, within the limits, and the log keeps it.
+    ensures log { IfOk result (λ a. IsOpenLog (R.seen room.old) (R.seen room.new) name.now a.journal.version (R.Log.seen a.journal.disk)) }
     ensures history { IfOk result (λ a. (R.seen room.old).tells ≡ true → HasHistory a.core.history (log_bytes (R.seen room.old) name.now)) }
-    ensures version { IfOk result (λ a. (R.seen room.old).tells ≡ true → version_of (log_bytes (R.seen room.old) name.now) ≡ a.journal.version) }
     ensures within { IfOk result (λ a. IsWithin journal_limits a.core.history) }
-    ensures kept { IfOk result (λ a. (R.seen room.old).tells ≡ true →
-        KeepsLog (log_bytes (R.seen room.old) name.now) (R.Log.seen a.journal.disk)) }
 
-    // Each fault comes only where the log is so; a device fault only where the count of faults rose.
-    ensures fault { IfErr result (λ fault. (R.seen room.old).tells ≡ true →
-        IsUnopened journal_limits (log_bytes (R.seen room.old) name.now) fault) }
+    // A log that is refused keeps its history.
+    ensures refused { IfErr result (IsRefusedLog (R.seen room.old) (R.seen room.new) name.now) }
     ensures current { IfErr result (λ fault. fault ≢ OldVersion) }
-    ensures cause { IfErr result (λ fault. fault ≡ DeviceFault →
-        Rose ((R.seen room.old).log_faults name.now) ((R.seen room.new).log_faults name.now)) }
-    ensures keeps { IfErr result (λ fault. (R.seen room.old).tells ≡ true →
-        KeepsHistory (fault ≡ DeviceFault) (R.seen room.old) (R.seen room.new) name.now) }
 {
     let Ok(log) = room.open_log(name) else {
         return Err(OpenFault::DeviceFault);
@@ -62,7 +50,6 @@ pub fn close_archive<R: Room>(room: &mut R, name: &str, archive: Archive<R::Log>
     ensures closed { (R.seen room.new).open_as name.now ≡ None }
 
     // The log and its file are what the archive left.
-    ensures file { (R.seen room.old).tells ≡ true → (R.seen room.new).file name.now ≡ (R.Log.seen archive.journal.disk).content }
     ensures log { (R.seen room.old).tells ≡ true → IsClosedDisk (R.Log.seen archive.journal.disk) (R.seen room.new) name.now }
 {
     room.close_log(name, archive.close(Memory::Left));

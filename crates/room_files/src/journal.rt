@@ -1,13 +1,12 @@
 //! Journals that are appended to.
-ghost use Rattle.std.specs.Prelude.{◌≡◌, true, Some, None, is_some, IfOk, IfErr, OnOk, OnErr, ◌∷◌, []};
+ghost use Rattle.std.specs.Prelude.{◌≡◌, true, Some, None, is_some, IfOk, IfErr, OnOk, ◌∷◌, []};
 ghost use Rattle.outside.specs.Fault.{Rose};
 ghost use Rattle.outside.specs.Room.{AsLog, SameBut};
-ghost use Rattle.durable_catalogue.specs.declared.fault.OpenFault.TheVariants.{DeviceFault, Full};
+ghost use Rattle.durable_catalogue.specs.declared.fault.OpenFault.TheVariants.{Full};
 ghost use Rattle.commit_journal.specs.Log.{version_of};
 ghost use Rattle.durable_catalogue.specs.Durables.{mark_of};
 ghost use Rattle.durable_catalogue.specs.Views.{durable_view};
-ghost use Rattle.durable_catalogue.specs.Openings.{IsUnopened};
-ghost use Rattle.room_files.specs.Journals.{journal_limits, log_bytes, IsOpenedAs, IsClosedAs, KeepsHistory};
+ghost use Rattle.room_files.specs.Journals.{log_bytes, IsOpenedAs, IsClosedAs, IsRefusedLog};
 
 use durable_catalogue::{Durable, Memory, OpenFault};
 use marc_types::Limits;
@@ -18,7 +17,7 @@ use std::alloc::Global;
 pub const JOURNAL_LIMITS: Limits = Limits::GREATEST;
 
 /// Opens the file of that name as a catalogue's log. A fault closes it again.
-#[tactic(auto, using(crate::proofs::Journals::unopened_keeps))]
+#[tactic(auto, using(crate::proofs::Journals::unopened_log))]
 pub fn open_journal<R: Room>(
     alloc: Global,
     room: &mut R,
@@ -26,20 +25,14 @@ pub fn open_journal<R: Room>(
 ) -> Result<Durable<R::Log>, OpenFault>
     requires { (R.seen room.old).open_as name.now ≡ None }
     ensures apart { SameBut (R.seen room.old) (R.seen room.new) (name.now ∷ []) }
+    ensures lefts { (R.seen room.new).lefts ≡ (R.seen room.old).lefts }
     ensures opened { OnOk result ((R.seen room.new).open_as name.now ≡ Some AsLog) }
-    ensures closed { OnErr result ((R.seen room.new).open_as name.now ≡ None) }
     ensures catalogue { IfOk result (λ d. IsOpenedAs (R.seen room.old) name.now (durable_view d)) }
 
-    // Each fault comes only where the log is so, and Full only where it is of version 2; a device fault only where the count of
-    // faults rose.
-    ensures fault { IfErr result (λ fault. (R.seen room.old).tells ≡ true →
-        IsUnopened journal_limits (log_bytes (R.seen room.old) name.now) fault) }
+    // A log that is refused keeps its history, and is Full only where it is of version 2.
+    ensures refused { IfErr result (IsRefusedLog (R.seen room.old) (R.seen room.new) name.now) }
     ensures old_first { IfErr result (λ fault. fault ≡ Full → (R.seen room.old).tells ≡ true →
         version_of (log_bytes (R.seen room.old) name.now) ≡ 2) }
-    ensures cause { IfErr result (λ fault. fault ≡ DeviceFault →
-        Rose ((R.seen room.old).log_faults name.now) ((R.seen room.new).log_faults name.now)) }
-    ensures keeps { IfErr result (λ fault. (R.seen room.old).tells ≡ true →
-        KeepsHistory (fault ≡ DeviceFault) (R.seen room.old) (R.seen room.new) name.now) }
 {
     let Ok(log) = room.open_log(name) else {
         return Err(OpenFault::DeviceFault);
@@ -58,6 +51,7 @@ pub fn open_journal<R: Room>(
 pub fn close_journal<R: Room>(room: &mut R, name: &str, durable: Durable<R::Log>)
     requires { (R.seen room.old).open_as name.now ≡ Some AsLog }
     ensures apart { SameBut (R.seen room.old) (R.seen room.new) (name.now ∷ []) }
+    ensures lefts { (R.seen room.new).lefts ≡ (R.seen room.old).lefts }
     ensures closed { (R.seen room.new).open_as name.now ≡ None }
 
     // The file and the closed log, where the room tells and the log told when it was opened.

@@ -21,7 +21,7 @@ use Rattle.holdings_command.proofs.command.attach_holdings.Goals as goal
 
 -- the journal was not opened
 pub returns-in-Err-clause-closed : goal.returns-in-Err-clause-closed
-returns-in-Err-clause-closed g c = closed_one _ _ _ c.open_archive.ensures.apart c.in-Err.ensures.closed c.requires.closed
+returns-in-Err-clause-closed g c = closed_one _ _ _ c.open_archive.ensures.apart c.in-Err.ensures.refused.closed c.requires.closed
 
 pub returns-in-Err-clause-apart : goal.returns-in-Err-clause-apart
 returns-in-Err-clause-apart g c = same_but_first _ _ c.args.journal.now (c.args.out.now ∷ c.args.rest.now ∷ []) c.open_archive.ensures.apart
@@ -35,7 +35,7 @@ returns-in-Err-clause-ends g c =
     let now = c.tell.new.console in
     attaches_unopened _ _ _ _ _ _ c.in-Err.fault (c.tell.ensures.end ∙ ap Told c.fault_of_opening.ensures)
     (subst (λ f. IsFaultTold (written console) (written now) (faults console) (faults now) (fault_line f)) c.fault_of_opening.ensures c.tell.ensures.told)
-    c.open_archive.ensures.apart because.current because.fault because.keeps because.cause
+    c.open_archive.ensures.apart because.current because.refused.so because.refused.keeps because.refused.cause
 
 -- the file was not read, or memory ran out over it
 pub returns-in-Err-prepare-clause-closed : goal.returns-in-Err-prepare-clause-closed
@@ -59,7 +59,7 @@ returns-in-Err-prepare-clause-ends g c =
     let o = outcome g.R.Room.seen g.R.Out.Sink.written g.R.Out.Sink.faults c.args.room.now c.close_archive.new.room c.args.console.now c.tell-in-Err-prepare.new.console c.tell-in-Err-prepare.result in
     attaches_unread _ _ _ _ _ o c.in-Ok.archive.core.history
     (was_opened _ _ _ _ _ o (seen c.prepare.new.room) (g.R.Log.Disk.seen c.in-Ok.archive.journal.disk) _ (λ tells. c.prepare.ensures.stays.tells ∙ opened.tells ∙ tells)
-    closing.file closing.log a.history a.within a.kept)
+    closing.log a.history a.within a.log.kept)
     c.in-Err-prepare.fault c.in-Err-prepare.ensures.kind c.tell-in-Err-prepare.ensures.end c.tell-in-Err-prepare.ensures.told apart
     (λ input.
     let up = c.in-Err-prepare.ensures.cause input in
@@ -109,9 +109,9 @@ returns-in-Err-written-clause-ends g c =
     let o = outcome g.R.Room.seen g.R.Out.Sink.written g.R.Out.Sink.faults c.args.room.now c.close_archive-2.new.room c.args.console.now c.hindered.new.console c.hindered.result in
     let log = log_bytes (seen c.args.room.now) c.args.journal.now in
     let was = was_opened c.args.journal.now c.args.out.now c.args.rest.now library (option_copied c.args.code) o (seen c.write_both-written.new.room)
-    (g.R.Log.Disk.seen c.in-Ok.archive.journal.disk) core.history (λ tells. w.apart.tells ∙ stays.tells ∙ opened.tells ∙ tells) closing.file closing.log
+    (g.R.Log.Disk.seen c.in-Ok.archive.journal.disk) core.history (λ tells. w.apart.tells ∙ stays.tells ∙ opened.tells ∙ tells) closing.log
     (λ tells. subst (λ (k : Catalogued). HasHistory k.history log) (sym c.core-core.ensures.value) (a.history tells))
-    (subst (λ (k : Catalogued). IsWithin journal_limits k.history) (sym c.core-core.ensures.value) a.within) a.kept in
+    (subst (λ (k : Catalogued). IsWithin journal_limits k.history) (sym c.core-core.ensures.value) a.within) a.log.kept in
     let ready = read_there (λ bytes. IsReady library bytes (state_of core.history) c.in-Ok-prepare.ready) _ _ c.args.journal.now library.file c.requires.file.0 opened
     c.in-Ok-prepare.ensures.ready in
     by_hindrance c.in-Err-written.why
@@ -153,9 +153,9 @@ returns-in-Ok-write_all-clause-ends g c =
     let o = outcome g.R.Room.seen g.R.Out.Sink.written g.R.Out.Sink.faults c.args.room.now c.close_archive-2.new.room c.args.console.now c.write_all.new.self c.end_of.result in
     let log = log_bytes (seen c.args.room.now) c.args.journal.now in
     let was = was_opened c.args.journal.now c.args.out.now c.args.rest.now library (option_copied c.args.code) o (seen c.write_both-written.new.room)
-    (g.R.Log.Disk.seen c.in-Ok.archive.journal.disk) core.history (λ tells. w.apart.tells ∙ stays.tells ∙ opened.tells ∙ tells) closing.file closing.log
+    (g.R.Log.Disk.seen c.in-Ok.archive.journal.disk) core.history (λ tells. w.apart.tells ∙ stays.tells ∙ opened.tells ∙ tells) closing.log
     (λ tells. subst (λ (k : Catalogued). HasHistory k.history log) (sym c.core-core.ensures.value) (a.history tells))
-    (subst (λ (k : Catalogued). IsWithin journal_limits k.history) (sym c.core-core.ensures.value) a.within) a.kept in
+    (subst (λ (k : Catalogued). IsWithin journal_limits k.history) (sym c.core-core.ensures.value) a.within) a.log.kept in
     let ready = read_there (λ bytes. IsReady library bytes (state_of core.history) c.in-Ok-prepare.ready) _ _ c.args.journal.now library.file c.requires.file.0 opened
     c.in-Ok-prepare.ensures.ready in
     attaches_whole c.args.journal.now c.args.out.now c.args.rest.now library (option_copied c.args.code) o core.history was c.in-Ok-prepare.ready ready
@@ -192,9 +192,9 @@ returns-clause-ends g c =
     let o = outcome g.R.Room.seen g.R.Out.Sink.written g.R.Out.Sink.faults c.args.room.now c.close_archive-2.new.room c.args.console.now c.write_all.new.self (NotWritten Console) in
     let log = log_bytes (seen c.args.room.now) c.args.journal.now in
     let was = was_opened c.args.journal.now c.args.out.now c.args.rest.now library (option_copied c.args.code) o (seen c.write_both-written.new.room)
-    (g.R.Log.Disk.seen c.in-Ok.archive.journal.disk) core.history (λ tells. w.apart.tells ∙ stays.tells ∙ opened.tells ∙ tells) closing.file closing.log
+    (g.R.Log.Disk.seen c.in-Ok.archive.journal.disk) core.history (λ tells. w.apart.tells ∙ stays.tells ∙ opened.tells ∙ tells) closing.log
     (λ tells. subst (λ (k : Catalogued). HasHistory k.history log) (sym c.core-core.ensures.value) (a.history tells))
-    (subst (λ (k : Catalogued). IsWithin journal_limits k.history) (sym c.core-core.ensures.value) a.within) a.kept in
+    (subst (λ (k : Catalogued). IsWithin journal_limits k.history) (sym c.core-core.ensures.value) a.within) a.log.kept in
     let ready = read_there (λ bytes. IsReady library bytes (state_of core.history) c.in-Ok-prepare.ready) _ _ c.args.journal.now library.file c.requires.file.0 opened
     c.in-Ok-prepare.ensures.ready in
     attaches_untold c.args.journal.now c.args.out.now c.args.rest.now library (option_copied c.args.code) o core.history was c.in-Ok-prepare.ready ready

@@ -11,7 +11,7 @@ pub returns-in_default-clause-inputs : goal.returns-in_default-clause-inputs
 returns-in_default-clause-inputs g c = rw c.new.ensures.items NoInput
 
 pub loop-index-init : goal.loop-index-init
-loop-index-init g c = (same_but_itself _ _, ap length c.in-Ok.ensures.items, refl, rw c.in-Ok.ensures.items (All-nil (IsFresh g.R.In.Source.faults)), rw c.in-Ok.ensures.items NoInput)
+loop-index-init g c = (same_but_itself _ _, ap length c.in-Ok.ensures.items, refl, rw c.in-Ok.ensures.items (All-nil (IsFresh g.R.In.Source.faults)), rw c.in-Ok.ensures.items NoInput, refl)
 
 pub open_input-requires-clause-free : goal.open_input-requires-clause-free
 open_input-requires-clause-free g c κs within =
@@ -24,13 +24,16 @@ open_input-requires-clause-proper g c κs within =
     got_is (λ (l : Library). IsTrue (is_code l.code)) c.args.libraries.now c.loop-index.index c.index-libraries-index.result c.loop-index-test.true c.index-libraries-index.is c.requires.proper
 
 pub push_reserved-requires : goal.push_reserved-requires
-push_reserved-requires g c = let (stays, len, room, fresh, are) = c.loop-index.invariant in let has = c.in-Ok.ensures.capacity in let more = c.loop-index-test.true in search rules
+push_reserved-requires g c = let (stays, len, room, fresh, are, lefts) = c.loop-index.invariant in let has = c.in-Ok.ensures.capacity in let more = c.loop-index-test.true in search rules
 
 pub returns-in-Err-clause-stays : goal.returns-in-Err-clause-stays
 returns-in-Err-clause-stays g c = same_but_then _ _ _ _ c.loop-index.invariant.0 c.in-Err.ensures.stays
 
 pub returns-in-Err-clause-inputs : goal.returns-in-Err-clause-inputs
 returns-in-Err-clause-inputs g c = c.loop-index.invariant.4
+
+pub returns-in-Err-clause-lefts : goal.returns-in-Err-clause-lefts
+returns-in-Err-clause-lefts g c = c.in-Err.ensures.lefts ∙ c.loop-index.invariant.5
 
 pub returns-in-Err-clause-cause : goal.returns-in-Err-clause-cause
 returns-in-Err-clause-cause g c is =
@@ -43,7 +46,7 @@ returns-in-Err-clause-cause g c is =
 
 pub loop-index-preserved : goal.loop-index-preserved
 loop-index-preserved g c =
-    let (stays, len, room, fresh, inputs) = c.loop-index.invariant in
+    let (stays, len, room, fresh, inputs, lefts) = c.loop-index.invariant in
     let pushed = c.push_reserved.ensures.items in
     let libraries = c.args.libraries.now in
     let library = c.index-libraries-index.result in
@@ -59,6 +62,7 @@ loop-index-preserved g c =
           let more = input_more left old libraries c.loop-index.inputs.items library c.in-Ok-open_input.input inputs at
           (input_before left old (g.R.Room.seen c.loop-index.room) library c.in-Ok-open_input.input stays c.in-Ok-open_input.ensures.input) in
           subst (λ items. AreInputs left old (take (length items) libraries) items) (sym pushed) more),
+      c.in-Ok-open_input.ensures.lefts ∙ lefts,
     )
 
 pub returns-clause-stays : goal.returns-clause-stays
@@ -66,6 +70,9 @@ returns-clause-stays g c = c.loop-index.invariant.0
 
 pub returns-clause-inputs : goal.returns-clause-inputs
 returns-clause-inputs g c = c.loop-index.invariant.4
+
+pub returns-clause-lefts : goal.returns-clause-lefts
+returns-clause-lefts g c = c.loop-index.invariant.5
 
 pub returns-clause-whole : goal.returns-clause-whole
 returns-clause-whole g c none = search rules

@@ -13,9 +13,9 @@ pub returns-in-Err-clause-failed : goal.returns-in-Err-clause-failed
 returns-in-Err-clause-failed g c =
     let e = c.in-Err.ensures in
     let is = c.fault_of_opening.ensures in record {
-      closed = e.closed;
-      because = λ tells. Unopened c.in-Err.fault is (e.fault tells) (λ full. e.old_first full tells) (e.keeps tells);
-      device = λ device. e.cause (opening_device c.in-Err.fault (sym is ∙ device));
+      closed = e.refused.closed;
+      because = λ tells. Unopened c.in-Err.fault is (e.refused.so tells) (λ full. e.old_first full tells) (e.refused.keeps tells);
+      device = λ device. e.refused.cause (opening_device c.in-Err.fault (sym is ∙ device));
       input = λ input. absurd (opening_input c.in-Err.fault (sym is ∙ input));
       no_usage = λ usage. opening_usage c.in-Err.fault (sym is ∙ usage);
       no_other_history = λ other. opening_other_history c.in-Err.fault (sym is ∙ other);

@@ -1,12 +1,13 @@
-use Rattle.std.proofs.Common.{◌≡◌, Some, sym, ap, subst, ◌∙◌, arith}
+use Rattle.std.proofs.Common.{◌≡◌, Some, ◌++◌, sym, ap, subst, ◌∙◌, arith}
 use Rattle.outside.proofs.Rooms.{same_but_none, same_but_then}
 use Rattle.durable_catalogue.specs.Durables.{mark_of}
 use Rattle.durable_catalogue.specs.Views.{durable_view}
 use Rattle.room_files.specs.Journals.{IsOpenedFrom}
+use Rattle.journal_loading.specs.Inputs.{lefts_of}
 use Rattle.journal_loading.specs.Outcomes.{HasLoaded, NotBegun}
 use Rattle.journal_loading.proofs.Opened.{get_within}
 use Rattle.journal_loading.proofs.Loaded.{inputs_count}
-use Rattle.journal_loading.proofs.Begun.{same_count, result_count, stopped_device, stopped_input, stopped_usage, stopped_other_history, loaded_whole, loaded_part, if_ok_more, if_err_more, on_ok_at, err_at, ok_at}
+use Rattle.journal_loading.proofs.Begun.{same_count, result_count, stopped_device, stopped_input, stopped_usage, stopped_other_history, loaded_whole, loaded_part, if_ok_more, if_err_more, on_ok_at, err_at}
 use Rattle.journal_loading.proofs.Kept.{loading_keeps}
 use Rattle.journal_loading.proofs.loading.load_journal.Goals as goal
 
@@ -83,15 +84,15 @@ returns-clause-loaded g c =
     let libraries = c.args.libraries.now in
     let opened = subst (IsOpenedFrom old c.args.journal.now d.core.history (mark_of d.mark)) (sym load.origin) b.catalogue in
     if_ok_more c.finish.result (λ l at finished.
-    subst (λ e. HasLoaded old new c.args.journal.now libraries (durable_view e) l.results) (sym (ok_at (λ l. l.durable ≡ now) c.finish.result l at c.finish.ensures.loaded))
+    subst (λ e. HasLoaded old new c.args.journal.now libraries (durable_view e) l.results) (sym finished.0)
     (record {
       is_open = on_ok_at c.finish.result l at c.finish.ensures.opened;
       whole = λ tells.
           loaded_whole left faults old c.args.journal.now libraries files after d.limits d.core.history now.core.history (mark_of d.mark) (mark_of now.mark) o
-          tells b.inputs_are b.catalogue.limits opened results l.results load.loaded finished;
-      count = result_count left faults old files after d.limits d.core.history now.core.history (mark_of now.mark) results l.results load.loaded finished
+          tells b.inputs_are b.catalogue.limits opened results l.results load.loaded finished.1;
+      count = result_count left faults old files after d.limits d.core.history now.core.history (mark_of now.mark) results l.results load.loaded finished.1
           ∙ inputs_count left faults old libraries files b.inputs_are;
-    })) c.finish.ensures.results
+    })) c.finish.ensures.loaded
 
 pub returns-clause-failed : goal.returns-clause-failed
 returns-clause-failed g c =
@@ -112,7 +113,8 @@ returns-clause-failed g c =
       because = λ tells.
           loaded_part left faults old c.args.journal.now libraries files after d.limits d.core.history now.core.history (mark_of d.mark) (mark_of now.mark) o
           tells b.inputs_are b.catalogue.limits opened new why results load.loaded load.unbegun load.unmarked stopped
-          (λ told. err_at c.finish.result why at c.finish.ensures.log (c.close_inputs.ensures.stays.tells ∙ (c.in-Ok.ensures.apart.tells ∙ tells)) told);
+          (λ told. err_at c.finish.result why at c.finish.ensures.log (c.close_inputs.ensures.stays.tells ∙ (c.in-Ok.ensures.apart.tells ∙ tells)) told)
+          (c.finish.ensures.lefts ∙ c.close_inputs.ensures.lefts ∙ ap (λ ls. lefts_of left after ++ ls) c.in-Ok.ensures.lefts);
       device = λ is.
           let mark = stopped_device left faults old files after d.limits d.core.history now.core.history (mark_of now.mark) why results load.loaded stopped is in
           let rose = err_at c.finish.result why at c.finish.ensures.cause mark opened.faults in

@@ -2,19 +2,18 @@ use Rattle.std.proofs.Common.{◌≡◌, [], ◌∷◌}
 use Rattle.outside.specs.Room.{SameBut}
 use Rattle.outside.specs.declared.fault.WriteFault.TheVariants.{NoMemory}
 use Rattle.outside.proofs.Rooms.{same_but_none, same_but_then}
-use Rattle.archive_commands.proofs.Rooms.{part_closed}
+use Rattle.archive_commands.proofs.Rooms.{output_closed}
 use Rattle.match_report.specs.Groups.{lines_of, matches_of}
 use Rattle.match_command.proofs.Taken.{if_err_then}
 use Rattle.match_command.proofs.writing.write_history.Goals as goal
 
-pub returns-clause-part : goal.returns-clause-part
-returns-clause-part g c told =
+pub returns-clause-output : goal.returns-clause-output
+returns-clause-output g c =
     let seen = g.R.Room.seen in
-    let old = seen c.args.room.now in
-    let written = seen c.write_table-written.new.room in
-    let out = c.args.out.now in
-    part_closed old written (seen c.close_history.new.room) c.args.journal.now out (lines_of (matches_of c.args.table.now))
-    c.requires.opened c.requires.free c.close_history.ensures.apart (c.write_table-written.ensures.part told)
+    let written = c.write_table-written.ensures in
+    output_closed (seen c.args.room.now) (seen c.write_table-written.new.room) (seen c.close_history.new.room) c.args.journal.now c.args.out.now
+    (lines_of (matches_of c.args.table.now)) c.write_table-written.result c.requires.opened c.requires.free c.close_history.ensures.apart
+    written.closed written.part written.cause
 
 pub returns-clause-memory : goal.returns-clause-memory
 returns-clause-memory g c =

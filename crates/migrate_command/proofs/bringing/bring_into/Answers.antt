@@ -53,13 +53,13 @@ returns-in-Ok-migrate-clause-brought g c =
     let room = g.R.Room.seen in
     let history = c.args.history.now in
     let into = c.args.into.now in
-    let migrated = c.in-Ok-migrate.ensures in
+    let migrated = c.in-Ok-migrate.ensures.migrated in
     let closing = c.close_log.ensures in record {
       oldest = c.if-version-ne1.false;
       fit = λ tells. migrated.fit (log_bytes (room c.args.room.now) into) (c.in-Ok.ensures.bytes tells);
       all = λ was tells is_history.
           all_into history (room c.args.room.now) (room c.close_log.new.self) into (disk c.in-Ok.log) (disk c.in-Ok-migrate.log)
-          (c.in-Ok.ensures.bytes tells) (closing.bytes (c.in-Ok.ensures.apart.tells ∙ tells)) (migrated.crash was is_history)
+          (c.in-Ok.ensures.bytes tells) (closing.bytes (c.in-Ok.ensures.apart.tells ∙ tells)) (c.in-Ok-migrate.ensures.crash was is_history)
           (λ bytes is_now. migrated.content was bytes is_history is_now);
       durable = λ was tells is_history.
           images_into history (room c.close_log.new.self) into (disk c.in-Ok-migrate.log)
@@ -88,17 +88,17 @@ returns-in-Err-clause-fault g c =
     let told = c.fault_of_migrating.ensures in
     let closing = c.close_log-in-Err.ensures in
     Refused failed.1 c.if-version-ne1.false told
-    (λ tells. c.in-Err.ensures.fault (log_bytes (room c.args.room.now) into) (c.in-Ok.ensures.bytes tells))
+    (λ tells. c.in-Err.ensures.refused.so (log_bytes (room c.args.room.now) into) (c.in-Ok.ensures.bytes tells))
     (λ was tells is_history none.
     let now = room c.close_log-in-Err.new.self in
     let open_tells = c.in-Ok.ensures.apart.tells ∙ tells in
     keeps_where (failed.1 ≡ migrating.DeviceFault) (c.fault_of_migrating.result ≡ Device) (room c.args.room.now) now into (λ device. told ∙ ap fault_of_migrating device)
     (alone_into c.args.history.now (room c.args.room.now) now into (disk c.in-Ok.log) (disk failed.0)
     (c.in-Ok.ensures.bytes tells) (closing.bytes open_tells) (c.in-Err.ensures.crash was is_history)
-    c.in-Ok.ensures.beginning (record { is_log = closing.log open_tells; same = closing.moments open_tells })
+    c.in-Ok.ensures.beginning (record { file = closing.bytes open_tells; is_log = closing.log open_tells; same = closing.moments open_tells })
     (record { after = law.synced_after failed.0; by_now = law.synced_by_now failed.0; undated = law.undated_content failed.0 })
-    failed.1 c.in-Err.ensures.left_alone none))
+    failed.1 c.in-Err.ensures.refused.left_alone none))
     (λ device.
     rose_into ((room c.args.room.now).log_faults into) ((room c.open_log.new.self).log_faults into) ((room c.close_log-in-Err.new.self).log_faults into)
     (disk c.in-Ok.log).faults (disk failed.0).faults c.in-Ok.ensures.fresh c.in-Ok.ensures.cause.later closing.counted
-    (c.in-Err.ensures.failed (migrating_device failed.1 (sym told ∙ device))))
+    (c.in-Err.ensures.refused.failed (migrating_device failed.1 (sym told ∙ device))))

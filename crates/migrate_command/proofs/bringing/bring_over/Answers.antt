@@ -16,7 +16,7 @@ returns-in-Err-clause-closed g c =
     let into = c.args.into.now in
     let apart = c.open_history.ensures.apart in
     let opened = room c.open_history.new.room in
-    closed_opened (room c.args.room.now) opened opened from into apart (same_but_itself opened (from ∷ into ∷ [])) c.in-Err.ensures.closed
+    closed_opened (room c.args.room.now) opened opened from into apart (same_but_itself opened (from ∷ into ∷ [])) c.in-Err.ensures.refused.closed
     (apart.open_names into ((λ same. c.requires.differ (sym same)), tt) ∙ c.requires.closed into) c.requires.closed
 
 pub returns-in-Err-clause-apart : goal.returns-in-Err-clause-apart
@@ -27,7 +27,7 @@ returns-in-Err-clause-over g c =
     let because = c.in-Err.ensures in
     over_unopened c.args.from.now c.args.into.now (λ same. c.requires.differ (sym same)) (g.R.Room.seen c.args.room.now) (g.R.Room.seen c.open_history.new.room)
     c.open_history.ensures.apart c.in-Err.fault (Err c.fault_of_opening.result) (ap (λ f. Err f) c.fault_of_opening.ensures)
-    because.current because.fault because.keeps because.cause
+    because.current because.refused.so because.refused.keeps because.refused.cause
 
 -- its history was brought over
 pub returns-in-Ok-brought-clause-closed : goal.returns-in-Ok-brought-clause-closed
@@ -53,7 +53,7 @@ returns-in-Ok-brought-clause-over g c =
     let closing = c.close_history.ensures in
     over_brought c.args.from.now c.args.into.now (λ same. c.requires.differ (sym same)) (room c.args.room.now) (room c.open_history.new.room)
     (room c.bring_into-brought.new.room) (room c.close_history.new.room) (g.R.Log.Disk.seen log.journal.disk) history c.version.result
-    c.open_history.ensures.apart brought.apart closing.apart has (λ tells. opened.version tells ∙ sym c.version.ensures) within opened.kept closing.file closing.log brought.brings
+    c.open_history.ensures.apart brought.apart closing.apart has (λ tells. opened.log.version_is tells ∙ sym c.version.ensures) within opened.log.kept closing.log brought.brings
     (length history) (Ok (length history)) refl refl
     c.in-Ok-brought.ensures.brought
 
@@ -81,5 +81,5 @@ returns-clause-over g c =
     let closing = c.close_history.ensures in
     over_unbrought c.args.from.now c.args.into.now (λ same. c.requires.differ (sym same)) (room c.args.room.now) (room c.open_history.new.room)
     (room c.bring_into-brought.new.room) (room c.close_history.new.room) (g.R.Log.Disk.seen log.journal.disk) history c.version.result
-    c.open_history.ensures.apart brought.apart closing.apart has (λ tells. opened.version tells ∙ sym c.version.ensures) within opened.kept closing.file closing.log brought.brings
+    c.open_history.ensures.apart brought.apart closing.apart has (λ tells. opened.log.version_is tells ∙ sym c.version.ensures) within opened.log.kept closing.log brought.brings
     c.in-Err-brought.fault (Err c.in-Err-brought.fault) refl c.in-Err-brought.ensures.fault

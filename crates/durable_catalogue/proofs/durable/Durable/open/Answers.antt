@@ -5,11 +5,10 @@ use Rattle.entry_history.specs.Readers.{IsVersion}
 use Rattle.entry_history.specs.Payloads.{IsHistory, CanFollow}
 use Rattle.durable_catalogue.specs.Logs.{payloads_of}
 use Rattle.durable_catalogue.specs.Durables.{IsKept}
-use Rattle.durable_catalogue.specs.Openings.{IsOpening, IsUnloaded, IsUnopened, KeepsContent}
-use Rattle.durable_catalogue.proofs.Opened.{next_follows, was_reading, opened_kept, opening_of, unloaded, unopened, never_full, either_version}
-use Rattle.durable_catalogue.specs.declared.fault.OpenFault.TheVariants.{DeviceFault}
-use Rattle.durable_catalogue.specs.Refused.{LeavesDiskAlone, LeavesSettled}
-use Rattle.durable_catalogue.proofs.Refused.{leaves_history, recovered_order, recovered_alone, unwritten_alone, recovered_settled, refused_settled}
+use Rattle.durable_catalogue.specs.Openings.{IsUnloaded}
+use Rattle.durable_catalogue.specs.Opened.{IsRefusedDisk}
+use Rattle.durable_catalogue.proofs.Opened.{next_follows, was_reading, opened_kept, never_full}
+use Rattle.durable_catalogue.proofs.Answered.{opened_disk, unloaded_disk, unopened_disk}
 use Rattle.durable_catalogue.proofs.durable.Durable.open.Goals as goal
 
 pub invariant_of-result : goal.invariant_of-result
@@ -48,44 +47,6 @@ returns-in-Ok-load-clause-history g c log told =
     let holds = subst (λ fs. IsHistory 2 [] (payloads_of fs) history) c.into_vec.ensures done.history in
     ∣ was_reading c.in-Ok.frames journal.place (seen c.args.disk) (seen journal.disk) history recovered c.in-Ok.ensures.crash holds log told ∣₁
 
-pub returns-in-Ok-load-clause-crash : goal.returns-in-Ok-load-clause-crash
-returns-in-Ok-load-clause-crash g c = opening_of (g.D.Disk.seen c.args.disk) (g.D.Disk.seen c.in-Ok.journal.disk) c.in-Ok.ensures.crash
-
-pub returns-in-Ok-load-clause-content : goal.returns-in-Ok-load-clause-content
-returns-in-Ok-load-clause-content g c = leaves_history (g.D.Disk.seen c.args.disk) (g.D.Disk.seen c.in-Ok.journal.disk) c.in-Ok.ensures.content
-
-pub returns-in-Ok-load-clause-in_order : goal.returns-in-Ok-load-clause-in_order
-returns-in-Ok-load-clause-in_order g c =
-    let journal = c.in-Ok.journal in
-    recovered_order (g.D.Disk.seen c.args.disk) (g.D.Disk.seen journal.disk) c.in-Ok.ensures.content c.in-Ok.frames journal.place journal.version c.in-Ok.ensures.recovered
-
-pub returns-in-Err-load-clause-content : goal.returns-in-Err-load-clause-content
-returns-in-Err-load-clause-content g c =
-    let seen = g.D.Disk.seen in
-    subst (λ d. KeepsContent (seen c.args.disk) (seen d)) (sym c.close.ensures) (leaves_history (seen c.args.disk) (seen c.in-Ok.journal.disk) c.in-Ok.ensures.content)
-
-pub returns-in-Err-load-clause-left_alone : goal.returns-in-Err-load-clause-left_alone
-returns-in-Err-load-clause-left_alone g c =
-    let seen = g.D.Disk.seen in
-    let journal = c.in-Ok.journal in
-    let failed = c.in-Err-load.fault ≡ DeviceFault in
-    subst (λ d. LeavesDiskAlone failed (seen c.args.disk) (seen d)) (sym c.close.ensures)
-    (recovered_alone (seen c.args.disk) (seen journal.disk) c.in-Ok.ensures.content c.in-Ok.frames journal.place journal.version c.in-Ok.ensures.recovered failed)
-
-pub returns-in-Err-load-clause-crash : goal.returns-in-Err-load-clause-crash
-returns-in-Err-load-clause-crash g c =
-    let seen = g.D.Disk.seen in
-    subst (λ d. IsOpening (seen c.args.disk) (seen d)) (sym c.close.ensures) (opening_of (seen c.args.disk) (seen c.in-Ok.journal.disk) c.in-Ok.ensures.crash)
-
-pub returns-in-Err-load-clause-fault : goal.returns-in-Err-load-clause-fault
-returns-in-Err-load-clause-fault g c log told =
-    let seen = g.D.Disk.seen in
-    let journal = c.in-Ok.journal in
-    let fault = c.in-Err-load.fault in
-    let version = subst IsVersion (c.in-Ok.ensures.recovered.named log told ∙ sym c.version.ensures) (either_version log) in
-    let why = subst (λ v. IsUnloaded v c.in-Ok.frames c.args.limits fault) c.version.ensures (subst (λ fs. IsUnloaded c.version.result fs c.args.limits fault) c.into_vec.ensures (c.in-Err-load.ensures.fault version)) in
-    unloaded c.in-Ok.frames journal.place journal.version (seen c.args.disk) (seen journal.disk) c.args.limits fault c.in-Ok.ensures.recovered why log told
-
 pub returns-in-Err-load-clause-old_first : goal.returns-in-Err-load-clause-old_first
 returns-in-Err-load-clause-old_first g c full log told =
     c.in-Ok.ensures.recovered.named log told ∙ (sym c.version.ensures ∙ c.in-Err-load.ensures.old_first full)
@@ -93,33 +54,32 @@ returns-in-Err-load-clause-old_first g c full log told =
 pub returns-in-Err-clause-old_first : goal.returns-in-Err-clause-old_first
 returns-in-Err-clause-old_first g c full log told = absurd (never_full c.in-Err.failed.1 (sym c.open_fault.ensures ∙ full))
 
-pub returns-in-Err-clause-content : goal.returns-in-Err-clause-content
-returns-in-Err-clause-content g c = leaves_history (g.D.Disk.seen c.args.disk) (g.D.Disk.seen c.in-Err.failed.0) c.in-Err.ensures.content
-
-pub returns-in-Err-clause-left_alone : goal.returns-in-Err-clause-left_alone
-returns-in-Err-clause-left_alone g c =
-    let seen = g.D.Disk.seen in
-    unwritten_alone (seen c.args.disk) (seen c.in-Err.failed.0) c.in-Err.ensures.content (c.open_fault.result ≡ DeviceFault) c.in-Err.failed.1 c.in-Err.ensures.fault
-    (λ device. c.open_fault.ensures ∙ device)
-
-pub returns-in-Err-clause-crash : goal.returns-in-Err-clause-crash
-returns-in-Err-clause-crash g c = opening_of (g.D.Disk.seen c.args.disk) (g.D.Disk.seen c.in-Err.failed.0) c.in-Err.ensures.crash
-
-pub returns-in-Err-clause-fault : goal.returns-in-Err-clause-fault
-returns-in-Err-clause-fault g c log told =
-    let seen = g.D.Disk.seen in
-    subst (λ f. IsUnopened c.args.limits log f) (sym c.open_fault.ensures)
-    (unopened (seen c.args.disk) (seen c.in-Err.failed.0) c.args.limits c.in-Err.failed.1 c.in-Err.ensures.fault log told)
-
-pub returns-in-Err-load-clause-settled : goal.returns-in-Err-load-clause-settled
-returns-in-Err-load-clause-settled g c =
+pub returns-in-Ok-load-clause-disk : goal.returns-in-Ok-load-clause-disk
+returns-in-Ok-load-clause-disk g c =
     let seen = g.D.Disk.seen in
     let journal = c.in-Ok.journal in
-    subst (λ d. LeavesSettled (seen c.args.disk) (seen d) c.in-Err-load.fault) (sym c.close.ensures)
-    (recovered_settled c.in-Ok.frames journal.place journal.version (seen c.args.disk) (seen journal.disk) c.in-Err-load.fault c.in-Ok.ensures.recovered)
+    let was = c.in-Ok.ensures in
+    opened_disk (seen c.args.disk) (seen journal.disk) was.crash was.content was.later c.in-Ok.frames journal.place journal.version was.recovered was.synced
 
-pub returns-in-Err-clause-settled : goal.returns-in-Err-clause-settled
-returns-in-Err-clause-settled g c =
+pub returns-in-Err-load-clause-refused : goal.returns-in-Err-load-clause-refused
+returns-in-Err-load-clause-refused g c =
     let seen = g.D.Disk.seen in
-    subst (λ f. LeavesSettled (seen c.args.disk) (seen c.in-Err.failed.0) f) (sym c.open_fault.ensures)
-    (refused_settled (seen c.args.disk) (seen c.in-Err.failed.0) c.in-Err.failed.1 c.in-Err.ensures.fault)
+    let journal = c.in-Ok.journal in
+    let was = c.in-Ok.ensures in
+    let limits = c.args.limits in
+    let fault = c.in-Err-load.fault in
+    subst (λ d. IsRefusedDisk limits (seen c.args.disk) (seen d) fault) (sym c.close.ensures)
+    (unloaded_disk (seen c.args.disk) (seen journal.disk) was.crash was.content was.later c.in-Ok.frames journal.place journal.version was.recovered
+    limits fault
+    (λ named.
+    let why = c.in-Err-load.ensures.fault (subst IsVersion (sym c.version.ensures) named) in
+    subst (λ v. IsUnloaded v c.in-Ok.frames limits fault) c.version.ensures (subst (λ fs. IsUnloaded c.version.result fs limits fault) c.into_vec.ensures why))
+    c.in-Err-load.ensures.no_device)
+
+pub returns-in-Err-clause-refused : goal.returns-in-Err-clause-refused
+returns-in-Err-clause-refused g c =
+    let seen = g.D.Disk.seen in
+    let was = c.in-Err.ensures in
+    let limits = c.args.limits in
+    subst (λ f. IsRefusedDisk limits (seen c.args.disk) (seen c.in-Err.failed.0) f) (sym c.open_fault.ensures)
+    (unopened_disk (seen c.args.disk) (seen c.in-Err.failed.0) was.crash was.content was.later limits c.in-Err.failed.1 was.fault)
