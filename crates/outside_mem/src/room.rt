@@ -11,7 +11,7 @@ ghost use Rattle.outside_mem.specs.declared.files.FileState.TheVariants.{Absent,
 
 use crate::files::{self, FileState, MemFile};
 use crate::{MemDisk, MemSink, MemSource};
-use outside::{Bytes, Failed, GivenUp, LONGEST_DISK, NoMemory, Room};
+use outside::{Bytes, Failed, GivenUp, LONGEST_DISK, NoMemory, Room, Source};
 use std::alloc::Global;
 
 /// A room in memory, which tells its files and closed logs. It keeps one count of faults per sort, which stands for every name.
@@ -202,6 +202,7 @@ impl Room for MemRoom {
         ensures source { IfOk result (IsSourceOf (file_under self.old name.now)) }
         ensures files { SameFiles self.old self.new }
         ensures counts { HasCounts self.new (counted result (in_count self.old)) (out_count self.old) (log_count self.old) }
+        ensures lefts { self.new.closed ≡ self.old.closed }
     {
         match open_copy(self.alloc, &self.files, name) {
             Some(source) => Ok(source),
@@ -225,6 +226,7 @@ impl Room for MemRoom {
             (record (file_under self.old name.now) { state = OpenOutput })) }
         ensures failed { OnErr result (SameFiles self.old self.new) }
         ensures counts { HasCounts self.new (in_count self.old) (counted result (out_count self.old)) (log_count self.old) }
+        ensures lefts { self.new.closed ≡ self.old.closed }
     {
         match self.start_output(name) {
             Some(sink) => Ok(sink),
@@ -248,6 +250,7 @@ impl Room for MemRoom {
             (record (file_under self.old name.now) { state = OpenLog })) }
         ensures failed { OnErr result (SameFiles self.old self.new) }
         ensures counts { HasCounts self.new (in_count self.old) (out_count self.old) (counted result (log_count self.old)) }
+        ensures lefts { self.new.closed ≡ self.old.closed }
     {
         match self.start_log(name) {
             Some(disk) => Ok(disk),
@@ -263,6 +266,7 @@ impl Room for MemRoom {
         ensures stays { SameBut (room_view self.old) (room_view self.new) [] }
         ensures files { SameFiles self.old self.new }
         ensures counts { HasCounts self.new (count_sum (in_count self.old) object.calls.faults) (out_count self.old) (log_count self.old) }
+        ensures left { self.new.closed ≡ ⟦<MemSource as Source>⟧.left object ∷ self.old.closed }
     {
         self.in_faults = self.in_faults.saturating_add(object.faults());
         self.closed.give_up(&object);
@@ -278,6 +282,7 @@ impl Room for MemRoom {
         ensures closed { ChangesUnder self.old self.new name.now
             (record (file_under self.old name.now) { state = Closed object.bytes }) }
         ensures counts { HasCounts self.new (in_count self.old) (count_sum (out_count self.old) object.calls.faults) (log_count self.old) }
+        ensures lefts { self.new.closed ≡ self.old.closed }
     {
         self.out_faults = self.out_faults.saturating_add(object.faults());
         if let Some(place) = files::place_of(&self.files, name) {
@@ -297,6 +302,7 @@ impl Room for MemRoom {
         ensures closed { ChangesUnder self.old self.new name.now
             (record (file_under self.old name.now) { state = ClosedLog object }) }
         ensures counts { HasCounts self.new (in_count self.old) (out_count self.old) (count_sum (log_count self.old) object.calls.faults) }
+        ensures lefts { self.new.closed ≡ self.old.closed }
     {
         self.log_faults = self.log_faults.saturating_add(object.faults());
         if let Some(place) = files::place_of(&self.files, name) {

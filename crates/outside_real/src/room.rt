@@ -113,6 +113,7 @@ impl<R: Files<File = File> + Print + Clone + Drop> Room for FileRoom<R> {
         // A fault counts once, and the other counts stay.
         ensures counts { HasCounts self.new (counted result self.old.ins) self.old.outs self.old.logs }
         ensures holds { Holds self.old.held self.new.held name.now result }
+        ensures lefts { self.new.closed ≡ self.old.closed }
     {
         match self.held.open(self.alloc, &self.rt, name, OpenedAs::Input) {
             Ok(file) => Ok(FileSource::new(file)),
@@ -134,6 +135,7 @@ impl<R: Files<File = File> + Print + Clone + Drop> Room for FileRoom<R> {
         // A fault counts once, and the other counts stay.
         ensures counts { HasCounts self.new self.old.ins (counted result self.old.outs) self.old.logs }
         ensures holds { Holds self.old.held self.new.held name.now result }
+        ensures lefts { self.new.closed ≡ self.old.closed }
     {
         // The name first, so that want of memory leaves the file as it was.
         if self.outputs.add(self.alloc, name).is_ok() {
@@ -159,6 +161,7 @@ impl<R: Files<File = File> + Print + Clone + Drop> Room for FileRoom<R> {
         // A fault counts once, and the other counts stay.
         ensures counts { HasCounts self.new self.old.ins self.old.outs (counted result self.old.logs) }
         ensures holds { Holds self.old.held self.new.held name.now result }
+        ensures lefts { self.new.closed ≡ self.old.closed }
     {
         if self.open_logs.add(self.alloc, name).is_ok() {
             if let Ok(file) = self.held.open(self.alloc, &self.rt, name, OpenedAs::Log) {
@@ -176,6 +179,7 @@ impl<R: Files<File = File> + Print + Clone + Drop> Room for FileRoom<R> {
         ensures stays { SameBut (file_room_view self.old) (file_room_view self.new) [] }
         ensures counts { HasCounts self.new (count_sum self.old.ins (⟦<FileSource<File> as Source>⟧.faults object)) self.old.outs self.old.logs }
         ensures held { self.new.held ≡ self.old.held }
+        ensures left { self.new.closed ≡ ⟦<FileSource<File> as Source>⟧.left object ∷ self.old.closed }
     {
         self.ins = added(self.ins, object.faults());
         self.closed.give_up(&object);
@@ -191,6 +195,7 @@ impl<R: Files<File = File> + Print + Clone + Drop> Room for FileRoom<R> {
         ensures counts { HasCounts self.new self.old.ins
             (count_sum self.old.outs (counted result (⟦<FileSink<Target<R>> as Sink>⟧.faults object))) self.old.logs }
         ensures held { self.new.held ≡ self.old.held }
+        ensures lefts { self.new.closed ≡ self.old.closed }
     {
         let finished = object.finish();
         self.outs = added(self.outs, object.faults());
@@ -205,6 +210,7 @@ impl<R: Files<File = File> + Print + Clone + Drop> Room for FileRoom<R> {
         ensures counts { HasCounts self.new self.old.ins self.old.outs
             (count_sum self.old.logs (⟦<FileDisk as Disk>⟧.seen object).faults) }
         ensures held { self.new.held ≡ self.old.held }
+        ensures lefts { self.new.closed ≡ self.old.closed }
     {
         self.logs = added(self.logs, object.faults());
         self.forget(name);

@@ -13,7 +13,7 @@ use crate::held::Held;
 use crate::shelf::Shelf;
 use crate::sure_files::{self, Kept};
 use crate::{SureDisk, SureSink, SureSource};
-use outside::{Failed, GivenUp, LONGEST_DISK, NoMemory, Room};
+use outside::{Failed, GivenUp, LONGEST_DISK, NoMemory, Room, Source};
 use std::alloc::Global;
 
 /// A room in memory that fails for want of room alone, and takes memory at no call of the trait. It tells its files and
@@ -170,6 +170,7 @@ impl Room for SureRoom {
         ensures source { IfOk result (λ source. told_kept (kept_under self.old name.now) ≡ Some source) }
         ensures taken { HasTaken self.old self.new name.now }
         ensures counts { HasSureCounts self.new self.old.shelf.room (free_places self.old) (counted result self.old.in_faults) self.old.out_faults self.old.log_faults }
+        ensures lefts { self.new.closed ≡ self.old.closed }
     {
         match self.take_copy(name) {
             Some(source) => Ok(source),
@@ -193,6 +194,7 @@ impl Room for SureRoom {
         ensures open { OnOk result (KeepsUnder self.old self.new name.now OpenOutput) }
         ensures failed { OnErr result (SameKept self.old self.new) }
         ensures counts { HasSureCounts self.new self.old.shelf.room (places_after self.old name.now (is_err result)) self.old.in_faults (counted result self.old.out_faults) self.old.log_faults }
+        ensures lefts { self.new.closed ≡ self.old.closed }
     {
         match self.start_output(name) {
             Some(sink) => Ok(sink),
@@ -220,6 +222,7 @@ impl Room for SureRoom {
         ensures open { OnOk result (KeepsUnder self.old self.new name.now OpenLog) }
         ensures failed { OnErr result (SameKept self.old self.new) }
         ensures counts { HasSureCounts self.new self.old.shelf.room (places_after self.old name.now (is_err result)) self.old.in_faults self.old.out_faults (counted result self.old.log_faults) }
+        ensures lefts { self.new.closed ≡ self.old.closed }
     {
         match self.start_log(name) {
             Some(disk) => Ok(disk),
@@ -237,6 +240,7 @@ impl Room for SureRoom {
         ensures kept { SameKept self.old self.new }
         ensures counts { HasSureCounts self.new self.old.shelf.room (free_places self.old) self.old.in_faults self.old.out_faults self.old.log_faults }
         ensures counted { self.new.in_faults ≡ count_sum self.old.in_faults 0 }
+        ensures left { self.new.closed ≡ ⟦<SureSource as Source>⟧.left object ∷ self.old.closed }
     {
         self.in_faults = self.in_faults.saturating_add(0);
         self.closed.give_up(&object);
@@ -251,6 +255,7 @@ impl Room for SureRoom {
         ensures ok { IsOk result }
         ensures closed { KeepsUnder self.old self.new name.now (Closed (record { bytes = object.bytes; room = object.room; copies = 0 })) }
         ensures counts { HasSureCounts self.new self.old.shelf.room (free_places self.old) self.old.in_faults (count_sum self.old.out_faults object.faults) self.old.log_faults }
+        ensures lefts { self.new.closed ≡ self.old.closed }
     {
         self.out_faults = self.out_faults.saturating_add(object.faults());
         if let Some(place) = sure_files::place_of(&self.shelf.files, name) {
@@ -269,6 +274,7 @@ impl Room for SureRoom {
         ensures moments { SameDisk (sure_disk_view object) (kept_log (kept_under self.new name.now)) }
         ensures closed { KeepsUnder self.old self.new name.now (ClosedLog object) }
         ensures counts { HasSureCounts self.new self.old.shelf.room (free_places self.old) self.old.in_faults self.old.out_faults (count_sum self.old.log_faults object.faults) }
+        ensures lefts { self.new.closed ≡ self.old.closed }
     {
         self.log_faults = self.log_faults.saturating_add(object.faults());
         if let Some(place) = sure_files::place_of(&self.shelf.files, name) {
