@@ -1,10 +1,11 @@
 -- A journal that gains the rest of a history.
 use Rattle.std.proofs.Common.{◌≡◌, ◌⊎◌, inl, inr, ℕ, ◌+◌, ◌≤◌, List, [], ◌∷◌, length, take, drop, slice_get, Some, is_some, refl, sym, ap, subst, ◌∙◌, arith, Bool, false, Result, Ok, Err}
-use Rattle.std.specs.Prelude.{OnOk}
+use Rattle.std.specs.Prelude.{OnOk, IfErr}
 use Rattle.std.proofs.lemmas.List.{take_all}
 use Rattle.std.proofs.Math.Logic.{∥∥₁_map}
 use Rattle.marc_types.specs.declared.entry.Entry.{Entry}
 use Rattle.outside.specs.Disk.{DiskView, OnlyContent, LeavesOnly}
+use Rattle.outside.specs.Fault.{HasCause, Rose}
 use Rattle.commit_journal.specs.declared.format.TheConstants.{LENGTH_BYTES}
 use Rattle.commit_journal.specs.declared.frame.Frame.{Frame}
 use Rattle.commit_journal.specs.Log.{frames_of, version_of}
@@ -18,6 +19,8 @@ use Rattle.entry_payload.proofs.Payloads.{held_alone}
 use Rattle.durable_catalogue.specs.Logs.{HasHistory}
 use Rattle.durable_catalogue.proofs.Keeping.{some_of}
 use Rattle.durable_catalogue.proofs.Readings.{either_reading, longer_reading}
+use Rattle.journal_migration.specs.declared.fault.MigrateFault.{MigrateFault}
+use Rattle.journal_migration.specs.declared.fault.MigrateFault.TheVariants.{DeviceFault}
 use Rattle.journal_migration.specs.Migrations.{IsAmid, Before, framed_lengths}
 use Rattle.journal_migration.specs.Fronts.{EachFollows, Brings, BringsRest, HasGained, HasBrought, HasOneMoreOrNot, TriesEntry, AddsEntry}
 use Rattle.journal_migration.proofs.Amid.{framed_append, entry_within, one_more, split_at, amid_either, amid_where}
@@ -27,6 +30,16 @@ use Rattle.journal_migration.proofs.Following.{follows_at}
 pub on_ok_three : {T E : Type 0} {P Q S U : Type 0} (r : Result T E) → (P → Q → S → U) → OnOk r P → OnOk r Q → OnOk r S → OnOk r U
 on_ok_three (Ok x) f p q s = f p q s
 on_ok_three (Err e) f p q s = tt
+
+pub on_ok_both : {T E : Type 0} {P Q U : Type 0} (r : Result T E) → (P → Q → U) → OnOk r P → OnOk r Q → OnOk r U
+on_ok_both (Ok x) f p q = f p q
+on_ok_both (Err e) f p q = tt
+
+-- what follows of each fault, where only a device has one, and then its count of faults rose
+pub by_device : {T : Type 0} {P : MigrateFault → Type 0} {before now : ℕ} (r : Result T MigrateFault) → HasCause before now r
+    → IfErr r (λ fault. fault ≡ DeviceFault) → (Rose before now → P DeviceFault) → IfErr r P
+by_device (Ok x) cause device so = tt
+by_device {P} (Err e) cause device so = subst P (sym device) (so cause.failed)
 
 -- nothing happens to a disk
 pub continues_self : (disk : DiskView) → Continues disk disk

@@ -1,11 +1,13 @@
 -- What a journal has of a history already, and how it gains the rest.
-use Rattle.std.specs.Prelude.{◌≡◌, ◌≢◌, ◌⊎◌, ℕ, ◌+◌, ◌≤◌, List, [], ◌∷◌, ◌++◌, length, take, Some}
+use Rattle.std.specs.Prelude.{◌≡◌, ◌≢◌, ◌⊎◌, ℕ, ◌+◌, ◌≤◌, Bool, false, List, [], ◌∷◌, ◌++◌, length, take, Some}
 use Rattle.marc_types.specs.declared.entry.Entry.{Entry}
 use Rattle.marc_types.specs.declared.entry.Limits.{Limits}
 use Rattle.outside.specs.Disk.{DiskView, LeavesOnly}
+use Rattle.outside.specs.Fault.{Rose}
 use Rattle.commit_journal.specs.declared.frame.Frame.{Frame}
 use Rattle.commit_journal.specs.Log.{version_of}
 use Rattle.entry_history.specs.Payloads.{CanFollow, IsHistory}
+use Rattle.entry_history.specs.Readers.{IsVersion}
 use Rattle.durable_catalogue.specs.Logs.{payloads_of, IsLogOf, HasHistory}
 use Rattle.durable_catalogue.specs.Openings.{IsBadFrame}
 use Rattle.journal_migration.specs.Migrations.{Begins, AreWithin, IsAmid, framed_length, framed_lengths}
@@ -78,6 +80,20 @@ pub record HasGained (entries these : List Entry) (log now : List ℕ) : Type 0 
 abbrev pub HasBrought : List Entry → List Entry → List Entry → DiskView → DiskView → Type 0
 HasBrought history entries these old new = (log now : List ℕ) → old.content ≡ Some log → HasHistory entries log → EachFollows [] history
     → new.content ≡ Some now → HasGained entries these log now
+
+-- A history was brought behind the entries of a journal's frames, a front of it in a journal of the newest version. The journal is
+-- whole and of that version, and its disk tells all of the history.
+pub record HasBroughtRest (was : ℕ) (frames : List Frame) (limits : Limits) (history : List Entry) (old new : DiskView) (broken : Bool) (version : ℕ) : Type 0 where
+  pub front : IsVersion was → (count : ℕ) × HoldsFront was frames limits history count
+  pub was_newest : was ≡ 2
+  pub brought : (entries : List Entry) → IsVersion was → IsHistory was [] (payloads_of frames) entries → HasBrought history entries history old new
+  pub whole : broken ≡ false
+  pub newest : version ≡ 2
+
+-- why a history was not brought behind the entries of a journal's frames, or not all of it
+pub record IsNotBrought (was : ℕ) (frames : List Frame) (limits : Limits) (history : List Entry) (old new : DiskView) (why : MigrateFault) : Type 0 where
+  pub so : IsVersion was → HoldNoFront was frames limits history why
+  pub failed : why ≡ DeviceFault → Rose old.faults new.faults
 
 -- an image has these entries, or these and one more, is of the newest version, and no longer than the log with a frame for that one
 pub record HasOneMoreOrNot (before : List Entry) (e : Entry) (log image : List ℕ) : Type 0 where

@@ -2,13 +2,13 @@
 ghost use Rattle.std.specs.Prelude.{◌≡◌, ◌≤◌, [], false, length, take, List, ℕ, IfErr, OnOk};
 ghost use Rattle.commit_journal.specs.Journal.{Continues};
 ghost use Rattle.marc_types.specs.declared.entry.Entry.{Entry};
-ghost use Rattle.outside.specs.Fault.{HasCause, Rose};
+ghost use Rattle.outside.specs.Fault.{HasCause};
 ghost use Rattle.entry_record.specs.History.{IsWithin};
 ghost use Rattle.entry_history.specs.Payloads.{IsHistory};
 ghost use Rattle.entry_history.specs.Readers.{IsVersion};
 ghost use Rattle.durable_catalogue.specs.Logs.{payloads_of};
 ghost use Rattle.journal_migration.specs.declared.fault.MigrateFault.TheVariants.{DeviceFault};
-ghost use Rattle.journal_migration.specs.Fronts.{Brings, BringsRest, MayGain, MayNotGain, HasBrought, AddsEntry, TriesEntry, HoldsFront, HoldNoFront};
+ghost use Rattle.journal_migration.specs.Fronts.{Brings, BringsRest, MayGain, MayNotGain, HasBrought, HasBroughtRest, IsNotBrought, AddsEntry, TriesEntry};
 
 use crate::MigrateFault;
 use crate::front::front_of;
@@ -46,8 +46,7 @@ fn bring_rest<D: Disk>(
     requires within { count ≤ length history.now }
     ensures continues { Continues (D.seen journal.old.disk) (D.seen journal.new.disk) }
     ensures brings { BringsRest history.now count (D.seen journal.old.disk) (D.seen journal.new.disk) }
-    ensures whole { OnOk result (journal.new.broken ≡ false) }
-    ensures newest { OnOk result (journal.new.version ≡ 2) }
+    ensures open { OnOk result ((journal.new.broken ≡ false) × (journal.new.version ≡ 2)) }
     ensures brought { OnOk result (HasBrought history.now (take count history.now) history.now (D.seen journal.old.disk) (D.seen journal.new.disk)) }
     ensures device { IfErr result (λ fault. fault ≡ DeviceFault) }
     ensures cause { HasCause (D.seen journal.old.disk).faults (D.seen journal.new.disk).faults result }
@@ -69,20 +68,16 @@ pub fn bring<D: Disk>(
     requires whole { journal.old.broken ≡ false }
     requires within { IsWithin limits.now history.now }
 
-    // Each image has the entries of the frames, or, where the journal may gain it, more of the history; in the end it has all.
+    // Each image has the entries of the frames, or, where the journal may gain it, more of the history.
     ensures continues { Continues (D.seen journal.old.disk) (D.seen journal.new.disk) }
     ensures brings { (entries : List Entry) → IsVersion journal.old.version → IsHistory journal.old.version [] (payloads_of frames.now) entries →
         Brings (MayGain journal.old.version limits.now history.now entries) history.now entries (D.seen journal.old.disk) (D.seen journal.new.disk) }
-    ensures brought { OnOk result ((entries : List Entry) → IsVersion journal.old.version → IsHistory journal.old.version [] (payloads_of frames.now) entries →
-        HasBrought history.now entries history.now (D.seen journal.old.disk) (D.seen journal.new.disk)) }
-    ensures whole { OnOk result (journal.new.broken ≡ false) }
-    ensures newest { OnOk result (journal.new.version ≡ 2) }
 
-    // The history began with the entries of the frames, or there is a reason against it. A journal that may not gain it is as it was.
-    ensures version { OnOk result (journal.old.version ≡ 2) }
-    ensures front { IsVersion journal.old.version → OnOk result ((count : ℕ) × HoldsFront journal.old.version frames.now limits.now history.now count) }
-    ensures fault { IsVersion journal.old.version → IfErr result (HoldNoFront journal.old.version frames.now limits.now history.now) }
-    ensures failed { IfErr result (λ fault. fault ≡ DeviceFault → Rose (D.seen journal.old.disk).faults (D.seen journal.new.disk).faults) }
+    // The history began with the entries of the frames, and they have all of it now, or there is a reason against it. A journal that
+    // may not gain it is as it was.
+    ensures brought { OnOk result (HasBroughtRest journal.old.version frames.now limits.now history.now (D.seen journal.old.disk) (D.seen journal.new.disk)
+        journal.new.broken journal.new.version) }
+    ensures refused { IfErr result (IsNotBrought journal.old.version frames.now limits.now history.now (D.seen journal.old.disk) (D.seen journal.new.disk)) }
     ensures alone { IsVersion journal.old.version → MayNotGain journal.old.version frames.now limits.now history.now → journal.new ≡ journal.old }
     ensures later { (D.seen journal.old.disk).faults ≤ (D.seen journal.new.disk).faults }
 {

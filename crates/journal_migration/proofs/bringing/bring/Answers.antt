@@ -1,8 +1,8 @@
 use Rattle.std.proofs.Common.{◌≡◌, ◌∙◌, sym, subst}
-use Rattle.std.proofs.lemmas.Result.{err_from_is_err_and, on_ok_weaker}
+use Rattle.std.proofs.lemmas.Result.{err_from_is_err_and}
 use Rattle.journal_migration.specs.Fronts.{Brings, MayGain, HasBrought}
 use Rattle.journal_migration.proofs.Fronts.{front_is, may_gain}
-use Rattle.journal_migration.proofs.Gaining.{settled_newest, brings_none, brings_where}
+use Rattle.journal_migration.proofs.Gaining.{settled_newest, brings_none, brings_where, on_ok_both, by_device}
 use Rattle.journal_migration.proofs.bringing.bring.Goals as goal
 
 pub returns-in_err-count-clause-brings : goal.returns-in_err-count-clause-brings
@@ -14,11 +14,16 @@ returns-in_err-count-clause-brings g c entries version held =
     (MayGain journal.version c.args.limits.now c.args.history.now entries)
     (λ may. settled_newest journal.place journal.version (seen journal.disk) settled may.newest) c.args.history.now entries
 
-pub returns-in_err-count-clause-fault : goal.returns-in_err-count-clause-fault
-returns-in_err-count-clause-fault g c version =
+pub returns-in_err-count-clause-refused : goal.returns-in_err-count-clause-refused
+returns-in_err-count-clause-refused g c =
     let p = err_from_is_err_and c.from_residual.result c.from_residual.ensures.1 in
     let why = rw c.version.ensures at c.in_err-count.ensures.fault in
-    rw (p.1, p.2) (why version)
+    let no_device = c.in_err-count.ensures.no_device in
+    rw (p.1, p.2) (record { so = why; failed = λ device. absurd (no_device device) })
+
+pub returns-clause-refused : goal.returns-clause-refused
+returns-clause-refused g c =
+    by_device c.bring_rest.result c.bring_rest.ensures.cause c.bring_rest.ensures.device (λ rose. record { so = λ version. tt; failed = λ device. rose })
 
 pub returns-clause-alone : goal.returns-clause-alone
 returns-clause-alone g c version none =
@@ -43,6 +48,12 @@ returns-clause-brought g c =
     let journal = c.args.journal.now in
     let history = c.args.history.now in
     let front = rw c.version.ensures at c.in_ok-count.ensures.front in
-    on_ok_weaker c.bring_rest.result (λ brought entries version held.
-    subst (λ es. HasBrought history es history (seen journal.disk) (seen c.bring_rest.new.journal.disk))
-    (front_is journal.version c.args.frames.now c.args.limits.now history c.in_ok-count.count entries (front version) held) brought) c.bring_rest.ensures.brought
+    on_ok_both c.bring_rest.result (λ open brought. record {
+      front = λ version. (c.in_ok-count.count, front version);
+      was_newest = sym c.version.ensures ∙ c.in_ok-count.ensures.version;
+      brought = λ entries version held.
+          subst (λ es. HasBrought history es history (seen journal.disk) (seen c.bring_rest.new.journal.disk))
+          (front_is journal.version c.args.frames.now c.args.limits.now history c.in_ok-count.count entries (front version) held) brought;
+      whole = open.0;
+      newest = open.1;
+    }) c.bring_rest.ensures.open c.bring_rest.ensures.brought

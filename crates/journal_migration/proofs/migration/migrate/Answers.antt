@@ -10,27 +10,25 @@ returns-in-Ok-bring-clause-migrated g c = record {
   fit = λ log told.
       let seen = g.D.Disk.seen in
       let journal = c.in-Ok.journal in
-      let front = rw c.as_slice.ensures at c.in-Ok-bring.ensures.front in
+      let done = rw c.as_slice.ensures at c.in-Ok-bring.ensures.brought in
       fit c.args.history.now c.in-Ok.frames journal.place journal.version (seen c.args.new) (seen journal.disk) c.in-Ok.ensures.recovered c.in-Ok.ensures.crash
-      c.args.limits c.in-Ok-bring.ensures.version front log told;
+      c.args.limits done.was_newest done.front log told;
   all = λ was bytes is_history told image.
       let seen = g.D.Disk.seen in
       let journal = c.in-Ok.journal in
       let new = c.bring.new.journal.disk in
-      let front = rw c.as_slice.ensures at c.in-Ok-bring.ensures.front in
-      let brought = rw c.as_slice.ensures at c.in-Ok-bring.ensures.brought in
+      let done = rw c.as_slice.ensures at c.in-Ok-bring.ensures.brought in
       images_all c.args.history.now c.in-Ok.frames journal.place journal.version (seen c.args.new) (seen journal.disk) c.in-Ok.ensures.recovered c.in-Ok.ensures.crash
-      c.in-Ok.ensures.content (seen new) c.bring.ensures.continues was is_history (g.met.D.Disk.content_is_image new) c.args.limits c.in-Ok-bring.ensures.version front brought
-      c.bring.new.journal.place c.bring.new.journal.version (c.bring.new.journal.settled c.in-Ok-bring.ensures.whole) c.in-Ok-bring.ensures.newest bytes told (subst (λ d. (seen d).image bytes) c.close.ensures image);
+      c.in-Ok.ensures.content (seen new) c.bring.ensures.continues was is_history (g.met.D.Disk.content_is_image new) c.args.limits done.was_newest done.front done.brought
+      c.bring.new.journal.place c.bring.new.journal.version (c.bring.new.journal.settled done.whole) done.newest bytes told (subst (λ d. (seen d).image bytes) c.close.ensures image);
   content = λ was bytes is_history is_now.
       let seen = g.D.Disk.seen in
       let journal = c.in-Ok.journal in
       let new = c.bring.new.journal.disk in
-      let front = rw c.as_slice.ensures at c.in-Ok-bring.ensures.front in
-      let brought = rw c.as_slice.ensures at c.in-Ok-bring.ensures.brought in
+      let done = rw c.as_slice.ensures at c.in-Ok-bring.ensures.brought in
       brought_all c.args.history.now c.in-Ok.frames journal.place journal.version (seen c.args.new) (seen journal.disk) c.in-Ok.ensures.recovered c.in-Ok.ensures.crash
-      c.in-Ok.ensures.content (seen new) c.bring.ensures.continues was is_history (g.met.D.Disk.content_is_image new) c.args.limits c.in-Ok-bring.ensures.version front brought
-      c.bring.new.journal.place c.bring.new.journal.version (c.bring.new.journal.settled c.in-Ok-bring.ensures.whole) c.in-Ok-bring.ensures.newest
+      c.in-Ok.ensures.content (seen new) c.bring.ensures.continues was is_history (g.met.D.Disk.content_is_image new) c.args.limits done.was_newest done.front done.brought
+      c.bring.new.journal.place c.bring.new.journal.version (c.bring.new.journal.settled done.whole) done.newest
       bytes (sym (ap (λ d. (seen d).content) c.close.ensures) ∙ is_now);
 }
 
@@ -64,9 +62,9 @@ returns-in-Ok-clause-refused g c = record {
       let seen = g.D.Disk.seen in
       let journal = c.in-Ok.journal in
       let history = c.args.history.now in
-      let why = rw c.as_slice.ensures at c.in-Err-bring.ensures.fault in
+      let why = rw c.as_slice.ensures at c.in-Err-bring.ensures.refused in
       let version = is_version history c.in-Ok.frames journal.place journal.version (seen c.args.new) (seen journal.disk) c.in-Ok.ensures.recovered c.in-Ok.ensures.crash log told in
-      unmigrated c.in-Ok.frames journal.place journal.version (seen c.args.new) (seen journal.disk) c.args.limits history c.in-Err-bring.fault c.in-Ok.ensures.recovered (why version) log told;
+      unmigrated c.in-Ok.frames journal.place journal.version (seen c.args.new) (seen journal.disk) c.args.limits history c.in-Err-bring.fault c.in-Ok.ensures.recovered (why.so version) log told;
   left_alone = λ log told none.
       let seen = g.D.Disk.seen in
       let journal = c.in-Ok.journal in
@@ -85,7 +83,7 @@ returns-in-Ok-clause-refused g c = record {
       let seen = g.D.Disk.seen in
       let later = c.in-Ok.ensures.later in
       subst (λ d. Rose (seen c.args.new).faults (seen d).faults) (sym c.close-in-Err-bring.ensures)
-      (rose_since _ _ _ later (c.in-Err-bring.ensures.failed device));
+      (rose_since _ _ _ later (c.in-Err-bring.ensures.refused.failed device));
 }
 
 pub returns-clause-crash : goal.returns-clause-crash
