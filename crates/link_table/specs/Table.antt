@@ -7,4 +7,4 @@ use Rattle.link_table.specs.Sound.{seen}
 use Rattle.link_table.specs.declared.table.LinkTable.{LinkTable}
 
 unfoldable pub links : LinkTable → Links
-links table = seen (row_at table.slots) (rooms_at table.slots) (times same_seat table.names.groups.items)
+links table = seen (row_at table.slots) (rooms_at table.slots) (times same_seat table.names.groups)

@@ -16,7 +16,7 @@ use std::alloc::Global;
 pub struct LinkTable {
     slots: Slots<u32>,
     names: Counts<Seat>,
-    ghost sound: { LinksAgree (row_at slots) (rooms_at slots) (times same_seat names.groups.items) },
+    ghost sound: { LinksAgree (row_at slots) (rooms_at slots) (times same_seat names.groups) },
 }
 
 #[tactic(auto, unfolding(crate::specs::Table::links))]

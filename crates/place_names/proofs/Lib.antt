@@ -5,3 +5,4 @@ pub mod Lefts
 pub mod Listings
 pub mod Rows
 pub mod SlotLists
+pub mod Written

@@ -1,13 +1,15 @@
 -- How often a thing is counted under a name. Names are numbers.
 use Rattle.std.specs.Prelude.{◌≡◌, ℕ, ◌+◌, ◌-◌, Bool, List, if◌then◌else◌}
-use Rattle.std.specs.List.{count_by, slice_index_or}
+use Rattle.std.specs.List.{count_by}
+use Rattle.numbering.specs.declared.pages.Pages.{Pages}
+use Rattle.numbering.specs.Pages.{row_or}
 use Rattle.place_names.specs.Group.{times_in}
 use Rattle.place_names.specs.declared.group.Group.{Group}
 use Rattle.place_names.specs.declared.group.Group.TheVariants.{Empty}
 
 -- how often the thing is counted under the name
-abbrev pub times : {P : Type 0} (same : P → P → Bool) → List (Group P) → ℕ → P → ℕ
-times same groups name thing = times_in same (slice_index_or groups name Empty) thing
+abbrev pub times : {P : Type 0} (same : P → P → Bool) → Pages (Group P) → ℕ → P → ℕ
+times same groups name thing = times_in same (row_or Empty groups name) thing
 
 module _ {N P : Type 0} (same_name : N → N → Bool) (same : P → P → Bool) where
   -- how often a list of names brings the thing under the name

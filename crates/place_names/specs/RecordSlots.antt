@@ -1,5 +1,7 @@
 -- The slots of one record, and those of the records of one class by the numbers of their keys.
-use Rattle.std.specs.Prelude.{◌≡◌, ℕ, Bool, false, not, ◌&&◌, nat_eq, List, slice_index_or, Option, None, Some, if◌then◌else◌}
+use Rattle.std.specs.Prelude.{◌≡◌, ℕ, Bool, false, not, ◌&&◌, nat_eq, Option, None, Some, if◌then◌else◌}
+use Rattle.numbering.specs.declared.pages.Pages.{Pages}
+use Rattle.numbering.specs.Pages.{row_or}
 use Rattle.place_names.specs.declared.slot.Slot.{Slot}
 use Rattle.place_names.specs.declared.record_slots.RecordSlots.{RecordSlots}
 use Rattle.place_names.specs.declared.record_slots.RecordSlots.TheVariants.{Empty, One, Few}
@@ -19,8 +21,8 @@ module _ {R : Type 0} where
   has_other (Few list) field = false
 
   -- the slot of a field of the record whose key has the number
-  abbrev pub slot_under : List (RecordSlots R) → ℕ → ℕ → Option (Slot R)
-  slot_under records number field = slot_in (slice_index_or records number Empty) field
+  abbrev pub slot_under : Pages (RecordSlots R) → ℕ → ℕ → Option (Slot R)
+  slot_under records number field = slot_in (row_or Empty records number) field
 
   -- one field's slot of one record is changed, and no other
   abbrev pub IsChangedUnder : ℕ → ℕ → (Option (Slot R) → Option (Slot R)) → (old new : ℕ → ℕ → Option (Slot R)) → Type 0

@@ -18,7 +18,7 @@ module _ {R : Type 0} where
   -- the slot of a seat
   abbrev pub slot_at : Slots R → Seat → Option (Slot R)
   slot_at slots seat =
-      of_class (slot_under slots.authorities.records.items) (slot_under slots.bibliographic.records.items) seat.class seat.number seat.field
+      of_class (slot_under slots.authorities.records) (slot_under slots.bibliographic.records) seat.class seat.number seat.field
 
   -- the row that stands for the seat
   abbrev pub row_at : Slots R → Seat → Option R

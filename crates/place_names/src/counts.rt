@@ -1,61 +1,51 @@
-ghost use Rattle.std.specs.Prelude.{◌≡◌, ◌<◌, ℕ, nat_eq, length, OnOk, OnErr, IfOk};
+ghost use Rattle.std.specs.Prelude.{◌≡◌, ℕ, nat_eq, OnOk, OnErr, IfOk};
 ghost use Rattle.place_names.specs.Counts.{times, once, brought, TimesSame, TimesMore, TimesLess};
 ghost use Rattle.place_names.specs.Listed.{HasEach};
 
 use crate::Group;
 use marc_types::NoMemory;
+use numbering::Pages;
 use std::alloc::Global;
 
-/// How often each thing stands under each name. Names are numbers, and each below the greatest that was used takes room.
+/// How often each thing stands under each name. Names are numbers.
 #[derive(Drop)]
 pub struct Counts<P: Ord> {
-    groups: Vec<Group<P>>,
+    groups: Pages<Group<P>>,
 }
 
 impl<P: Ord + Copy> Counts<P> {
     /// Nothing stands anywhere.
     pub fn new(alloc: Global) -> Counts<P>
-        ensures { (name : ℕ) (thing : P) → times P.eq result.groups.items name thing ≡ 0 }
+        ensures { (name : ℕ) (thing : P) → times P.eq result.groups name thing ≡ 0 }
     {
         Counts {
-            groups: Vec::new(alloc),
+            groups: Pages::new(alloc),
         }
-    }
-
-    // Adds empty groups until the name has one.
-    fn reach(&mut self, name: u32) -> Result<(), NoMemory>
-        ensures same { TimesSame (times P.eq self.old.groups.items) (times P.eq self.new.groups.items) }
-        ensures long { OnOk result (name < length self.new.groups.items) }
-    {
-        while self.groups.len() <= name as usize {
-            self.groups.push(Group::Empty)?;
-        }
-        Ok(())
     }
 
     /// One more of the thing under the name. `NoMemory` leaves all counts as they were.
     pub fn note(&mut self, alloc: Global, name: u32, thing: P) -> Result<(), NoMemory>
-        ensures ok { OnOk result (TimesMore (once nat_eq P.eq name thing) (times P.eq self.old.groups.items) (times P.eq self.new.groups.items)) }
-        ensures err { OnErr result (TimesSame (times P.eq self.old.groups.items) (times P.eq self.new.groups.items)) }
+        ensures ok { OnOk result (TimesMore (once nat_eq P.eq name thing) (times P.eq self.old.groups) (times P.eq self.new.groups)) }
+        ensures err { OnErr result (TimesSame (times P.eq self.old.groups) (times P.eq self.new.groups)) }
     {
-        self.reach(name)?;
-        self.groups[name as usize].note(alloc, thing)?;
+        self.groups.reach(alloc, name)?;
+        self.groups.row_mut(name).note(alloc, thing)?;
         Ok(())
     }
 
     /// One less of the thing under the name, if there is one.
     pub fn forget(&mut self, name: u32, thing: P)
-        ensures { TimesLess (once nat_eq P.eq name thing) (times P.eq self.old.groups.items) (times P.eq self.new.groups.items) }
+        ensures { TimesLess (once nat_eq P.eq name thing) (times P.eq self.old.groups) (times P.eq self.new.groups) }
     {
-        if let Some(group) = self.groups.get_mut(name as usize) {
+        if let Some(group) = self.groups.get_mut(name) {
             group.forget(thing);
         }
     }
 
     /// One more of the thing under each of the names. `NoMemory` leaves all counts as they were.
     pub fn note_all(&mut self, alloc: Global, names: &[u32], thing: P) -> Result<(), NoMemory>
-        ensures ok { OnOk result (TimesMore (brought nat_eq P.eq names.now thing) (times P.eq self.old.groups.items) (times P.eq self.new.groups.items)) }
-        ensures err { OnErr result (TimesSame (times P.eq self.old.groups.items) (times P.eq self.new.groups.items)) }
+        ensures ok { OnOk result (TimesMore (brought nat_eq P.eq names.now thing) (times P.eq self.old.groups) (times P.eq self.new.groups)) }
+        ensures err { OnErr result (TimesSame (times P.eq self.old.groups) (times P.eq self.new.groups)) }
     {
         for i in 0..names.len() {
             if let Err(error) = self.note(alloc, names[i], thing) {
@@ -68,7 +58,7 @@ impl<P: Ord + Copy> Counts<P> {
 
     /// One less of the thing under each of the names, as far as there are any.
     pub fn forget_all(&mut self, names: &[u32], thing: P)
-        ensures { TimesLess (brought nat_eq P.eq names.now thing) (times P.eq self.old.groups.items) (times P.eq self.new.groups.items) }
+        ensures { TimesLess (brought nat_eq P.eq names.now thing) (times P.eq self.old.groups) (times P.eq self.new.groups) }
     {
         for i in 0..names.len() {
             self.forget(names[i], thing);
@@ -77,9 +67,9 @@ impl<P: Ord + Copy> Counts<P> {
 
     /// The things that stand under the name, each once, in any order.
     pub fn things(&self, alloc: Global, name: u32) -> Result<Vec<P>, NoMemory>
-        ensures { IfOk result (λ things. HasEach P.eq (times P.eq self.now.groups.items name) things.items) }
+        ensures { IfOk result (λ things. HasEach P.eq (times P.eq self.now.groups name) things.items) }
     {
-        match self.groups.get(name as usize) {
+        match self.groups.get(name) {
             None => Ok(Vec::new(alloc)),
             Some(group) => group.things(alloc),
         }

@@ -5,6 +5,7 @@ ghost use Rattle.place_names.specs.Group.{times_in, times_among, times_counted};
 ghost use Rattle.place_names.specs.Listed.{HasEach};
 
 use marc_types::NoMemory;
+use numbering::Blank;
 use std::alloc::Global;
 use std::collections::BTreeMap;
 
@@ -18,6 +19,16 @@ pub enum Group<P: Ord> {
     One(P),
     Few(Vec<P>),
     Many(Box<BTreeMap<P, u32>>),
+}
+
+impl<P: Ord + Copy> Blank for Group<P> {
+    ghost use Rattle.place_names.specs.declared.group.Group.TheVariants.{Empty};
+
+    ghost blank = { Empty };
+
+    fn blank(_alloc: Global) -> Group<P> {
+        Group::Empty
+    }
 }
 
 // One more of a thing among those that are counted.

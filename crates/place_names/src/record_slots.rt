@@ -6,6 +6,7 @@ ghost use Rattle.place_names.specs.RecordSlots.{has_other, slot_in};
 use crate::slot::Slot;
 use crate::slot_list::SlotList;
 use marc_types::NoMemory;
+use numbering::Blank;
 use std::alloc::Global;
 use std::mem;
 
@@ -15,6 +16,16 @@ pub enum RecordSlots<R> {
     Empty,
     One(Slot<R>),
     Few(SlotList<R>),
+}
+
+impl<R: Drop> Blank for RecordSlots<R> {
+    ghost use Rattle.place_names.specs.declared.record_slots.RecordSlots.TheVariants.{Empty};
+
+    ghost blank = { Empty };
+
+    fn blank(_alloc: Global) -> RecordSlots<R> {
+        RecordSlots::Empty
+    }
 }
 
 impl<R: Drop> RecordSlots<R> {

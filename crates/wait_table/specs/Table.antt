@@ -8,5 +8,5 @@ use Rattle.wait_table.specs.declared.table.WaitTable.{WaitTable}
 
 unfoldable pub waits : WaitTable → Waits
 waits table =
-    seen (row_at table.slots) (rooms_at table.slots) (times same_seat table.forms.groups.items)
-    (times same_seat table.keys.groups.items)
+    seen (row_at table.slots) (rooms_at table.slots) (times same_seat table.forms.groups)
+    (times same_seat table.keys.groups)

@@ -18,8 +18,8 @@ pub struct WaitTable {
     slots: Slots<Waiting>,
     forms: Counts<Seat>,
     keys: Counts<Seat>,
-    ghost sound: { WaitsAgree (row_at slots) (rooms_at slots) (times same_seat forms.groups.items)
-        (times same_seat keys.groups.items) },
+    ghost sound: { WaitsAgree (row_at slots) (rooms_at slots) (times same_seat forms.groups)
+        (times same_seat keys.groups) },
 }
 
 // One more of the seat under each form that is asked for.
@@ -30,8 +30,8 @@ fn note_forms(
     seat: Seat,
 ) -> Result<(), NoMemory>
     ensures ok { OnOk result (TimesMore (brought nat_eq same_seat (forms_of asked) seat)
-        (times same_seat forms.old.groups.items) (times same_seat forms.new.groups.items)) }
-    ensures err { OnErr result (TimesSame (times same_seat forms.old.groups.items) (times same_seat forms.new.groups.items)) }
+        (times same_seat forms.old.groups) (times same_seat forms.new.groups)) }
+    ensures err { OnErr result (TimesSame (times same_seat forms.old.groups) (times same_seat forms.new.groups)) }
 {
     match asked {
         Asked::One(own) => forms.note_all(alloc, &[own], seat)?,
@@ -43,7 +43,7 @@ fn note_forms(
 // One less of the seat under each form that is asked for.
 fn forget_forms(forms: &mut Counts<Seat>, asked: Asked, seat: Seat)
     ensures { TimesLess (brought nat_eq same_seat (forms_of asked) seat)
-        (times same_seat forms.old.groups.items) (times same_seat forms.new.groups.items) }
+        (times same_seat forms.old.groups) (times same_seat forms.new.groups) }
 {
     match asked {
         Asked::One(own) => forms.forget_all(&[own], seat),

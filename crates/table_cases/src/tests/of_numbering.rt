@@ -1,5 +1,5 @@
 use marc_types::{Class, Key, NoMemory, Text};
-use numbering::{Numbering, Seat};
+use numbering::{Numbering, Pages, Seat};
 use std::alloc::Global;
 use std::test::Fail;
 
@@ -46,5 +46,23 @@ fn seats_differ_by_each_part(rt: HostRuntime) -> Result<(), Fail> {
         field: 0,
     };
     assert!(rt; seats.number_of(&other) == None);
+    Ok(())
+}
+
+/// A high number comes before a low one.
+#[test]
+fn rows_stand_in_pages(rt: HostRuntime) -> Result<(), Fail> {
+    let alloc = rt.alloc();
+    let mut rows: Pages<Option<u32>> = Pages::new(alloc);
+    rows.reach(alloc, 5_000)?;
+    *rows.row_mut(5_000) = Some(50);
+    assert!(rt; rows.get(5_001) == Some(&None));
+    assert!(rt; rows.get(3) == None);
+    rows.reach(alloc, 3)?;
+    if let Some(row) = rows.get_mut(3) {
+        *row = Some(30);
+    }
+    assert!(rt; rows.get(3) == Some(&Some(30)));
+    assert!(rt; rows.get(5_000) == Some(&Some(50)));
     Ok(())
 }

@@ -12,5 +12,5 @@ unfolding links
 returns c =
     rw c.in_ok-seats.ensures
     (rw c.as_slice.ensures.value
-    (things_listed seat_Decides (leads_to c.args.number) (row_at c.args.self.now.slots) (times same_seat c.args.self.now.names.groups.items c.args.number)
+    (things_listed seat_Decides (leads_to c.args.number) (row_at c.args.self.now.slots) (times same_seat c.args.self.now.names.groups c.args.number)
     (counted_once c.args.self.now.sound c.args.number) c.in_ok-counted.counted.items c.in_ok-counted.ensures))

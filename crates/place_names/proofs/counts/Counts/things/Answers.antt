@@ -6,5 +6,5 @@ use Rattle.place_names.proofs.counts.Counts.things.Goals as goal
 
 pub returns-in-None : goal.returns-in-None
 returns-in-None g c =
-    has_nothing g.P.PartialEq.eq (times g.P.PartialEq.eq c.args.self.now.groups.items c.args.name) c.new.result.items c.new.ensures.items
+    has_nothing g.P.PartialEq.eq (times g.P.PartialEq.eq c.args.self.now.groups c.args.name) c.new.result.items c.new.ensures.items
     (λ p. grind (arith, common_steps))
