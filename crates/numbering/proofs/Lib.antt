@@ -1,1 +1,2 @@
 pub mod Numberlaws
+pub mod Pagelaws

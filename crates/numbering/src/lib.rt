@@ -4,8 +4,10 @@
 #![tactic(auto)]
 
 pub use numbers::Numbering;
+pub use pages::{Blank, PAGE, Pages};
 pub use seat::{Seat, Seats};
 
 pub mod laws;
 mod numbers;
+mod pages;
 mod seat;
