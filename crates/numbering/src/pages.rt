@@ -69,8 +69,8 @@ impl<T> Pages<T> {
         page.get(n as usize % PAGE)
     }
 
-    // The row of a number that is there.
-    fn row_mut(&mut self, n: u32) -> &mut T
+    /// The row of a number that is there, for writing.
+    pub fn row_mut(&mut self, n: u32) -> &mut T
         requires { is_some (there self.old n) ≡ true }
         ensures* writes_back { sem 𝓛 (lends_row T.row self.entry n result) }
         ensures value { Some result.now ≡ there self.old n }
