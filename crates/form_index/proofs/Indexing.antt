@@ -1,22 +1,26 @@
 -- The index as rows and lists: what each change leaves of them.
-use Rattle.std.proofs.Common.{◌≡◌, ◌≢◌, ◌⊎◌, inl, inr, ◌∙◌, sym, ap, subst, refl, ℕ, zero, suc, ◌<◌, ◌≤◌, arith, List, [], ◌∷◌, ◌++◌, length, Option, Some, None, Result, Ok, Err, OnErr, eq-eqb}
-use Rattle.std.specs.Prelude.{Bool, true, false, ◌||◌, ◌==◌, is_none, if◌then◌else◌}
+use Rattle.std.proofs.Common.{◌≡◌, ◌≢◌, ◌⊎◌, inl, inr, ◌∙◌, sym, ap, subst, refl, ℕ, arith, List, [], ◌∷◌, length, Option, Some, None, Result, Ok, Err, OnErr, eq-eqb}
+use Rattle.std.specs.Prelude.{Bool, true, false, ◌||◌, ◌==◌, is_none, is_some, if◌then◌else◌}
 use Rattle.std.specs.Option.{option_map_or}
 use Rattle.std.specs.List.Sorted.{IsStrictlySortedBy}
 use Rattle.std.proofs.lemmas.Bool.{true≢false, eqb-true}
 use Rattle.marc_types.specs.declared.key.Key.{Key}
 use Rattle.form_index.specs.Order.{Ascends, has}
+use Rattle.numbering.specs.Pages.{row_or, there, with_row}
+use Rattle.numbering.specs.declared.pages.Pages.{Pages}
+use Rattle.form_index.specs.Paged.{is_there}
 use Rattle.form_index.specs.Trimmed.{trimmed, with_at}
-use Rattle.form_index.specs.Listed.{Listed, released, entered, withdrawn, with_held}
+use Rattle.form_index.specs.Listed.{Listed, no_list, released, entered, withdrawn, with_held}
 use Rattle.form_index.specs.Forms.{Forms, belongs}
-use Rattle.form_index.specs.Index.{ExchangesRow, Indexed, IsBlankScan, IsHeld, IsScan, IsShortListing, Listing, ListingInOrder, Puts, PutsBack, TakesOut, Took, listed, listing_step, no_index, slot_at, taken, with_slot}
+use Rattle.form_index.specs.Index.{ExchangesRow, Indexed, IsBlankScan, IsHeld, IsScan, IsShortListing, Listing, ListingInOrder, Puts, PutsBack, TakesOut, Took, listed, listing_step, no_index, rows_in, slot_at, taken, with_slot}
 use Rattle.form_index.specs.Stands.{Fits, HasSlots, Stands}
 use Rattle.form_index.specs.declared.among.Among.{Among}
 use Rattle.form_index.specs.declared.among.Among.TheVariants.{All, Bare}
 use Rattle.form_index.specs.declared.among.By.{By}
 use Rattle.form_index.specs.declared.among.By.TheVariants.{Established, SeeFrom}
 use Rattle.form_index.proofs.Listing.{listing_short, listing_took, same_listing}
-use Rattle.form_index.proofs.Places.{held_after_hold, held_after_enter, held_after_withdraw, held_withdrawn, live_entered, live_withdrawn, put_undone, reentered, still_has}
+use Rattle.form_index.proofs.Paging.{flat_blank, flat_none, flat_same, flat_with_row}
+use Rattle.form_index.proofs.Places.{held_after_hold, held_after_enter, held_after_withdraw, held_withdrawn, live_entered, live_withdrawn, put_undone, reentered, still_has, turn}
 use Rattle.form_index.proofs.Trims.{same_trimmed, trimmed_again, trimmed_at, with_at_at}
 
 -- ---- rows
@@ -50,19 +54,41 @@ slots_back n s t rows short at =
     by m true e = ap (λ b. if b then s else (if b then t else slot_at rows m)) e ∙ sym at ∙ ap (slot_at rows) (sym (eqb-true m n e))
     by m false e = ap (λ b. if b then s else (if b then t else slot_at rows m)) e
 
+-- where there is no row, to take none changes nothing
+pub none_there : (n : ℕ) (rows : List (Option Forms)) → slot_at rows n ≡ None → (m : ℕ) → slot_at rows m ≡ (if m == n then None else slot_at rows m)
+none_there n rows free m = by (m == n) refl
+  where
+    by : (d : Bool) → (m == n) ≡ d → slot_at rows m ≡ (if m == n then None else slot_at rows m)
+    by true e = ap (slot_at rows) (eqb-true m n e) ∙ free ∙ sym (ap (λ b. if b then None else slot_at rows m) e)
+    by false e = sym (ap (λ b. if b then None else slot_at rows m) e)
+
 -- where there was no row, none went
 pub none_taken : (n : ℕ) (rows more : List (Option Forms)) → slot_at rows n ≡ None → ((m : ℕ) → slot_at more m ≡ (if m == n then None else slot_at rows m)) → (m : ℕ) → slot_at more m ≡ slot_at rows m
-none_taken n rows more free slots m = slots m ∙ by (m == n) refl
-  where
-    by : (d : Bool) → (m == n) ≡ d → (if m == n then None else slot_at rows m) ≡ slot_at rows m
-    by true e = ap (λ b. if b then None else slot_at rows m) e ∙ sym free ∙ ap (slot_at rows) (sym (eqb-true m n e))
-    by false e = ap (λ b. if b then None else slot_at rows m) e
+none_taken n rows more free slots m = slots m ∙ sym (none_there n rows free m)
 
-pub blank_slot : (rows : List (Option Forms)) (n : ℕ) → slot_at (rows ++ None ∷ []) n ≡ slot_at rows n
-blank_slot [] zero = refl
-blank_slot [] (suc n) = refl
-blank_slot (r ∷ rs) zero = refl
-blank_slot (r ∷ rs) (suc n) = blank_slot rs n
+-- ---- rows in pages
+
+pub same_slots : (old new : Pages (Option Forms)) → ((n : ℕ) → row_or None new n ≡ row_or None old n) → (n : ℕ) → slot_at (rows_in new) n ≡ slot_at (rows_in old) n
+same_slots = flat_same None
+
+-- a number with a row is there
+pub row_there : (pages : Pages (Option Forms)) (n : ℕ) (r : Forms) → slot_at (rows_in pages) n ≡ Some r → is_there pages n ≡ true
+row_there pages n r at = by (there pages n) refl
+  where
+    by : (o : Option (Option Forms)) → there pages n ≡ o → is_there pages n ≡ true
+    by (Some slot) e = ap is_some e
+    by None e = absurd (none≢some (sym (flat_none None pages n e) ∙ at))
+      where
+        none≢some : None ≡ Some r → ⊥
+        none≢some h = cc
+
+pub no_rows : (pages : Pages (Option Forms)) → ((n : ℕ) → there pages n ≡ None) → trimmed is_none (rows_in pages) ≡ []
+no_rows = flat_blank None is_none none_is refl
+
+-- a slot is exchanged
+pub slots_with : (pages : Pages (Option Forms)) (n : ℕ) (slot : Option Forms) → is_there pages n ≡ true → (m : ℕ)
+    → slot_at (rows_in (with_row pages n slot)) m ≡ (if m == n then slot else slot_at (rows_in pages) m)
+slots_with pages n slot at m = flat_with_row None pages n slot at m ∙ ap (λ b. if b then slot else slot_at (rows_in pages) m) (turn n m)
 
 -- ---- rows and lists together
 
@@ -100,40 +126,43 @@ module _ (n : ℕ) (r : Forms) (step : Listed → Listed) (old new : Listing) (t
         by true e = ap (λ l. has m l.live) (took_in a b f e) ∙ inside a b f e m ∙ ends (m == n) refl
         by false e = ap (λ l. has m l.live) (took_out a b f e) ∙ same e (m == n) refl ∙ ends (m == n) refl
 
-  slots_after : ((l : Listed) (m : ℕ) → has m (step l).held ≡ true → (m ≡ n) ⊎ (has m l.held ≡ true)) → (rows more : List (Option Forms)) → n < length more → length rows ≤ length more
-      → HasSlots rows old → HasSlots more new
-  slots_after held rows more known longer slots f m there = by (belongs All Established f r) refl
+  slots_after : ((l : Listed) (m : ℕ) → has m (step l).held ≡ true → (m ≡ n) ⊎ (has m l.held ≡ true)) → (reached now : ℕ → Bool) → now n ≡ true → ((m : ℕ) → reached m ≡ true → now m ≡ true)
+      → HasSlots reached old → HasSlots now new
+  slots_after held reached now known stays slots f m there = by (belongs All Established f r) refl
     where
-      where_from : (m ≡ n) ⊎ (has m (listed All Established f old).held ≡ true) → m < length more
-      where_from (inl e) = subst (λ k. k < length more) (sym e) known
-      where_from (inr h) = let low : m < length rows = slots f m h in omega arith
+      where_from : (m ≡ n) ⊎ (has m (listed All Established f old).held ≡ true) → now m ≡ true
+      where_from (inl e) = ap now e ∙ known
+      where_from (inr h) = stays m (slots f m h)
 
-      by : (t : Bool) → belongs All Established f r ≡ t → m < length more
+      by : (t : Bool) → belongs All Established f r ≡ t → now m ≡ true
       by true e = where_from (held (listed All Established f old) m (sym (ap (λ l. has m l.held) (took_in All Established f e)) ∙ there))
       by false e = where_from (inr (sym (ap (λ l. has m l.held) (took_out All Established f e)) ∙ there))
 
+-- blank slots more change nothing
+pub reached_stands : (rows more : List (Option Forms)) (reached now : ℕ → Bool) (lists : Listing) → Stands rows reached lists → ((m : ℕ) → slot_at more m ≡ slot_at rows m)
+    → ((m : ℕ) → reached m ≡ true → now m ≡ true) → Stands more now lists
+reached_stands rows more reached now lists stands same stays = record {
+  fits = λ a b f m. stands.fits a b f m ∙ ap (λ o. option_map_or (belongs a b f) o false) (sym (same m));
+  slots = λ f m held. stays m (stands.slots f m held);
+  short = stands.short;
+}
+
 -- ---- a row is taken out
 
-module _ (keys : List Key) (n : ℕ) (r : Forms) (rows more : List (Option Forms)) (old new : Listing) (stands : Stands rows old) (at : slot_at rows n ≡ Some r)
+module _ (keys : List Key) (n : ℕ) (r : Forms) (rows more : List (Option Forms)) (reached now : ℕ → Bool) (old new : Listing) (stands : Stands rows reached old) (at : slot_at rows n ≡ Some r)
     (slots : (m : ℕ) → slot_at more m ≡ (if m == n then None else slot_at rows m)) (ordered : ListingInOrder keys old) (is : new ≡ listing_step r (withdrawn n) old) where
-  there : (a : Among) (b : By) (f : ℕ) → has n (listed a b f old).live ≡ belongs a b f r
-  there a b f = stands.fits a b f n ∙ ap (λ o. option_map_or (belongs a b f) o false) at
+  listed_there : (a : Among) (b : By) (f : ℕ) → has n (listed a b f old).live ≡ belongs a b f r
+  listed_there a b f = stands.fits a b f n ∙ ap (λ o. option_map_or (belongs a b f) o false) at
 
   took_withdraw : Took r (withdrawn n) old new
   took_withdraw = subst (Took r (withdrawn n) old) (sym is) (listing_took r (withdrawn n) old refl)
 
-  within : (rows : List (Option Forms)) (n : ℕ) → slot_at rows n ≡ Some r → n < length rows
-  within [] n e = cc
-  within (x ∷ xs) zero e = omega arith
-  within (x ∷ xs) (suc n) e = let low : n < length xs = within xs n e in omega arith
-
-  pub take_stands : length more ≡ length rows → Stands more new
-  take_stands long = record {
+  pub take_stands : now n ≡ true → ((m : ℕ) → reached m ≡ true → now m ≡ true) → Stands more now new
+  take_stands known stays = record {
     fits = fits_after n r (withdrawn n) old new took_withdraw rows more None slots stands.fits
-        (λ a b f e m. live_withdrawn n (listed a b f old) keys (ordered a b f) (there a b f ∙ e) m)
-        (λ a b f e. there a b f ∙ e);
-    slots = let low : n < length rows = within rows n at in
-        slots_after n r (withdrawn n) old new took_withdraw (λ l m h. held_after_withdraw n l m h) rows more (omega arith) (omega arith) stands.slots;
+        (λ a b f e m. live_withdrawn n (listed a b f old) keys (ordered a b f) (listed_there a b f ∙ e) m)
+        (λ a b f e. listed_there a b f ∙ e);
+    slots = slots_after n r (withdrawn n) old new took_withdraw (λ l m h. held_after_withdraw n l m h) reached now known stays stands.slots;
     short = subst IsShortListing (sym is) (listing_short r (withdrawn n) old stands.short);
   }
 
@@ -150,14 +179,14 @@ module _ (keys : List Key) (n : ℕ) (r : Forms) (rows more : List (Option Forms
       by a b f true e =
           took_in n r (entered keys n) new (listing_step r (entered keys n) new) took_enter a b f e
           ∙ ap (entered keys n) (took_in n r (withdrawn n) old new took_withdraw a b f e)
-          ∙ reentered n (listed a b f old) keys (ordered a b f) (there a b f ∙ e)
+          ∙ reentered n (listed a b f old) keys (ordered a b f) (listed_there a b f ∙ e)
       by a b f false e = took_out n r (entered keys n) new (listing_step r (entered keys n) new) took_enter a b f e ∙ took_out n r (withdrawn n) old new took_withdraw a b f e
 
   pub take_takes : TakesOut keys (taken n r) (shown rows old) (shown more new)
   take_takes = record {
     is = λ i. record { rows = rows_with n None rows more slots i; lists = is i };
     rows = λ m. slots_at more m ∙ slots m ∙ ap (λ z. if m == n then None else z) (sym (slots_at rows m));
-    held = λ a b f e. ap (λ l. has n l.held) (took_in n r (withdrawn n) old new took_withdraw a b f e) ∙ held_withdrawn n (listed a b f old) (there a b f ∙ e);
+    held = λ a b f e. ap (λ l. has n l.held) (took_in n r (withdrawn n) old new took_withdraw a b f e) ∙ held_withdrawn n (listed a b f old) (listed_there a b f ∙ e);
     undone =
         let rows_back : with_slot n (Some r) (trimmed is_none more) ≡ trimmed is_none rows =
         ap (with_slot n (Some r)) (rows_with n None rows more slots)
@@ -182,10 +211,10 @@ module _ (keys : List Key) (n : ℕ) (r : Forms) (rows more : List (Option Forms
       (λ a b f e m. live_entered n (listed a b f old) keys (held a b f e) (absent a b f) m ∙ ap (λ t. if m == n then t else has m (listed a b f old).live) (sym e))
       (λ a b f e. absent a b f ∙ sym e)
 
-  pub enter_stands : IsShortListing old → HasSlots rows old → n < length more → length rows ≤ length more → Stands more new
-  enter_stands short places known longer = record {
+  pub enter_stands : (reached now : ℕ → Bool) → IsShortListing old → HasSlots reached old → now n ≡ true → ((m : ℕ) → reached m ≡ true → now m ≡ true) → Stands more now new
+  enter_stands reached now short places known stays = record {
     fits = enter_fits;
-    slots = slots_after n r (entered keys n) old new took_entered (λ l m h. held_after_enter n l keys m h) rows more known longer places;
+    slots = slots_after n r (entered keys n) old new took_entered (λ l m h. held_after_enter n l keys m h) reached now known stays places;
     short = subst IsShortListing (sym is) (listing_short r (entered keys n) old short);
   }
 
@@ -199,13 +228,13 @@ module _ (keys : List Key) (n : ℕ) (r : Forms) (rows more : List (Option Forms
   }
 
 -- a place that is held has a slot
-pub held_slot : (n : ℕ) (r : Forms) (rows : List (Option Forms)) (lists : Listing) → Stands rows lists → IsHeld (taken n r) (shown rows lists) → n < length rows
-held_slot n r rows lists stands held =
+pub held_slot : (n : ℕ) (r : Forms) (rows : List (Option Forms)) (reached : ℕ → Bool) (lists : Listing) → Stands rows reached lists → IsHeld (taken n r) (shown rows lists) → reached n ≡ true
+held_slot n r rows reached lists stands held =
     stands.slots r.established n (held All Established r.established (ap (λ t. t || false) (eq-eqb r.established r.established refl)))
 
 -- ---- places are made, or given up
 
-module _ (n : ℕ) (r : Forms) (rows : List (Option Forms)) (old new : Listing) (stands : Stands rows old) where
+module _ (n : ℕ) (r : Forms) (rows : List (Option Forms)) (reached : ℕ → Bool) (old new : Listing) (stands : Stands rows reached old) where
   pub hold_fits : (more : List (Option Forms)) → ((m : ℕ) → slot_at more m ≡ slot_at rows m) → Took r (with_held n) old new → Fits more new
   hold_fits more same took a b f m = by (belongs a b f r) refl ∙ stands.fits a b f m ∙ ap (λ o. option_map_or (belongs a b f) o false) (sym (same m))
     where
@@ -217,8 +246,8 @@ module _ (n : ℕ) (r : Forms) (rows : List (Option Forms)) (old new : Listing) 
   hold_held took a b f e =
       ap (λ l. has n l.held) (took_in n r (with_held n) old new took a b f e) ∙ ap (λ t. t || has n (listed a b f old).held) (eq-eqb n n refl)
 
-  pub hold_slots : (more : List (Option Forms)) → n < length more → length rows ≤ length more → Took r (with_held n) old new → HasSlots more new
-  hold_slots more known longer took = slots_after n r (with_held n) old new took (λ l m h. held_after_hold n l m h) rows more known longer stands.slots
+  pub hold_slots : (now : ℕ → Bool) → now n ≡ true → ((m : ℕ) → reached m ≡ true → now m ≡ true) → Took r (with_held n) old new → HasSlots now new
+  hold_slots now known stays took = slots_after n r (with_held n) old new took (λ l m h. held_after_hold n l m h) reached now known stays stands.slots
 
   pub hold_ordered : (keys : List Key) → ListingInOrder keys old → Took r (with_held n) old new → ListingInOrder keys new
   hold_ordered keys ordered took a b f = by (belongs a b f r) refl
@@ -241,7 +270,7 @@ module _ (n : ℕ) (r : Forms) (rows : List (Option Forms)) (old new : Listing) 
     pub release_ordered : (keys : List Key) → ListingInOrder keys old → ListingInOrder keys new
     release_ordered keys ordered a b f = subst (Ascends keys) (sym (same_live a b f)) (ordered a b f)
 
-    pub release_stands : Stands rows new
+    pub release_stands : Stands rows reached new
     release_stands = record {
       fits = λ a b f m. ap (has m) (same_live a b f) ∙ stands.fits a b f m;
       slots = λ f m there. stands.slots f m (by f m there (belongs All Established f r) refl);
@@ -254,7 +283,7 @@ module _ (n : ℕ) (r : Forms) (rows : List (Option Forms)) (old new : Listing) 
 
 -- ---- a row that was put is taken out and let go
 
-module _ (keys : List Key) (n : ℕ) (r : Forms) (rows more : List (Option Forms)) (old mid new : Listing) (stands : Stands rows old) (free : slot_at rows n ≡ None)
+module _ (keys : List Key) (n : ℕ) (r : Forms) (rows more : List (Option Forms)) (reached : ℕ → Bool) (old mid new : Listing) (stands : Stands rows reached old) (free : slot_at rows n ≡ None)
     (slots : (m : ℕ) → slot_at more m ≡ (if m == n then Some r else slot_at rows m)) (held : Took r (with_held n) old mid) (is : new ≡ listing_step r (entered keys n) mid) where
   put_lists : IsShortListing mid → listing_step r (released n) (listing_step r (withdrawn n) new) ≡ old
   put_lists short =
@@ -294,7 +323,7 @@ module _ (keys : List Key) (n : ℕ) (r : Forms) (rows more : List (Option Forms
 
 -- ---- what the lists say of the rows
 
-module _ (rows : List (Option Forms)) (lists : Listing) (stands : Stands rows lists) (a : Among) (b : By) (f : ℕ) where
+module _ (rows : List (Option Forms)) (reached : ℕ → Bool) (lists : Listing) (stands : Stands rows reached lists) (a : Among) (b : By) (f : ℕ) where
   pub scans : (numbers : List ℕ) → numbers ≡ (listed a b f lists).live → IsScan a b f (shown rows lists) numbers
   scans numbers is = record {
     members = λ n. ap (has n) is ∙ stands.fits a b f n ∙ ap (λ o. option_map_or (belongs a b f) o false) (sym (slots_at rows n));
@@ -315,6 +344,25 @@ none_ordered keys All Established f = nil_ascends keys
 none_ordered keys All SeeFrom f = nil_ascends keys
 none_ordered keys Bare Established f = nil_ascends keys
 none_ordered keys Bare SeeFrom f = nil_ascends keys
+
+none_listed : (a : Among) (b : By) (f : ℕ) → listed a b f no_index.lists ≡ no_list
+none_listed All Established f = refl
+none_listed All SeeFrom f = refl
+none_listed Bare Established f = refl
+none_listed Bare SeeFrom f = refl
+
+none_short : IsShortListing no_index.lists
+none_short All Established = refl
+none_short All SeeFrom = refl
+none_short Bare Established = refl
+none_short Bare SeeFrom = refl
+
+pub none_stands : (pages : Pages (Option Forms)) → ((n : ℕ) → there pages n ≡ None) → (lists : Listing) → lists ≡ no_index.lists → Stands (rows_in pages) (is_there pages) lists
+none_stands pages none lists is = subst (Stands (rows_in pages) (is_there pages)) (sym is) (record {
+  fits = λ a b f n. ap (λ l. has n l.live) (none_listed a b f) ∙ sym (ap (λ o. option_map_or (belongs a b f) o false) (flat_none None pages n (none n)));
+  slots = λ f n held. absurd (true≢false (sym held));
+  short = none_short;
+})
 
 -- ---- what a test for emptiness says, and what an error leaves
 

@@ -4,6 +4,7 @@ pub mod Listing
 pub mod Moved
 pub mod Onces
 pub mod Ordered
+pub mod Paging
 pub mod Places
 pub mod Stepping
 pub mod Trims

@@ -14,7 +14,7 @@ use Rattle.form_index.proofs.Ordered.{greater_differs, less_back, number_total}
 itself : (n : ℕ) → (n == n) ≡ true
 itself n = eq-eqb n n refl
 
-turn : (m n : ℕ) → (m == n) ≡ (n == m)
+pub turn : (m n : ℕ) → (m == n) ≡ (n == m)
 turn m n = by (m == n) refl
   where
     by : (b : Bool) → (m == n) ≡ b → (m == n) ≡ (n == m)

@@ -1,14 +1,18 @@
 -- A step at the lists of several forms, one after another.
-use Rattle.std.proofs.Common.{◌≡◌, ◌∙◌, sym, ap, subst, refl, ℕ, zero, suc, ◌+◌, ◌<◌, ◌≤◌, arith, List, [], ◌∷◌, ◌++◌, length, take, get_or, eq-eqb, ne_eqb}
-use Rattle.std.specs.Prelude.{Bool, true, false, not, ◌||◌, ◌==◌, if◌then◌else◌}
+use Rattle.std.proofs.Common.{◌≡◌, ◌∙◌, sym, ap, subst, refl, ℕ, zero, suc, ◌+◌, ◌<◌, ◌≤◌, arith, List, [], ◌∷◌, ◌++◌, length, take, get_or, Some, None, eq-eqb, ne_eqb}
+use Rattle.std.specs.Prelude.{Bool, true, false, not, ◌||◌, ◌==◌, is_some, if◌then◌else◌}
 use Rattle.std.proofs.lemmas.Bool.{both_ways, eqb-true, and_parts, and_from, not-true, or_parts}
 use Rattle.std.proofs.lemmas.List.{take_all, take_more}
 use Rattle.marc_types.specs.declared.key.Key.{Key}
 use Rattle.form_index.specs.declared.key_list.Step.{Step}
 use Rattle.form_index.specs.declared.key_list.Step.TheVariants.{Enter, Withdraw}
 use Rattle.form_index.specs.Order.{Ascends, has, without}
+use Rattle.numbering.specs.Pages.{there, with_row}
+use Rattle.numbering.specs.declared.pages.Pages.{Pages}
+use Rattle.form_index.specs.Paged.{is_there}
 use Rattle.form_index.specs.Trimmed.{trimmed}
-use Rattle.form_index.specs.Listed.{InOrder, IsShort, Listed, SameLists, Stepped, SteppedAt, each_from, each_of, is_empty, is_no_list, is_once, list_at, no_list, released, stepped, with_held}
+use Rattle.form_index.specs.Listed.{InOrder, IsShort, Listed, SameLists, Stepped, SteppedAt, each_from, each_of, is_empty, is_no_list, is_once, list_at, lists_in, no_list, released, stepped, with_held}
+use Rattle.form_index.proofs.Paging.{flat_blank, flat_none, flat_some, flat_with_row}
 use Rattle.form_index.proofs.Trims.{same_short, same_trimmed, trimmed_again, trimmed_at}
 
 -- ---- blank lists
@@ -74,12 +78,55 @@ each_of_is forms step old new stays stepped =
     ∙ ap (λ l. if has form forms then step l else l) (sym (lists_at old form))
     ∙ sym (each_of_at forms step (trimmed is_no_list old) stays form))
 
--- one more blank list
-pub blank_more : (lists : List Listed) → SameLists lists (lists ++ no_list ∷ [])
-blank_more [] zero = refl
-blank_more [] (suc form) = refl
-blank_more (l ∷ ls) zero = refl
-blank_more (l ∷ ls) (suc form) = blank_more ls form
+-- ---- lists in pages
+
+pub no_lists : (pages : Pages Listed) → ((form : ℕ) → there pages form ≡ None) → trimmed is_no_list (lists_in pages) ≡ []
+no_lists = flat_blank no_list is_no_list blank_is refl
+
+-- the list that is there took a step
+pub step_in : (pages : Pages Listed) (at : ℕ) (step : Listed → Listed) (l : Listed) → there pages at ≡ Some l → SteppedAt at step (lists_in pages) (lists_in (with_row pages at (step l)))
+step_in pages at step l is form = flat_with_row no_list pages at (step l) (ap is_some is) form ∙ by (at == form) refl
+  where
+    was : Listed
+    was = list_at (lists_in pages) form
+
+    by : (b : Bool) → (at == form) ≡ b → (if at == form then step l else was) ≡ (if at == form then step was else was)
+    by true e = ap (λ k. if at == form then step k else was) (sym (flat_some no_list pages at l is) ∙ ap (list_at (lists_in pages)) (eqb-true at form e))
+    by false e = ap (λ b. if b then step l else was) e ∙ sym (ap (λ b. if b then step was else was) e)
+
+-- where no list is there, none changes
+pub step_out : (pages : Pages Listed) (at : ℕ) (step : Listed → Listed) → step no_list ≡ no_list → there pages at ≡ None → SteppedAt at step (lists_in pages) (lists_in pages)
+step_out pages at step stays is form = by (at == form) refl
+  where
+    was : Listed
+    was = list_at (lists_in pages) form
+
+    by : (b : Bool) → (at == form) ≡ b → was ≡ (if at == form then step was else was)
+    by true e =
+        let blank : was ≡ no_list = ap (list_at (lists_in pages)) (sym (eqb-true at form e)) ∙ flat_none no_list pages at is in
+        blank ∙ sym stays ∙ ap step (sym blank) ∙ sym (ap (λ b. if b then step was else was) e)
+    by false e = sym (ap (λ b. if b then step was else was) e)
+
+pub stays_in : (pages : Pages Listed) (at : ℕ) (l : Listed) → there pages at ≡ Some l → SameLists (lists_in pages) (lists_in (with_row pages at l))
+stays_in pages at l is form = step_in pages at (λ k. k) l is form ∙ by (at == form)
+  where
+    by : (b : Bool) → (if b then list_at (lists_in pages) form else list_at (lists_in pages) form) ≡ list_at (lists_in pages) form
+    by true = refl
+    by false = refl
+
+pub step_after : (at : ℕ) (step : Listed → Listed) (old mid new : List Listed) → SameLists old mid → SteppedAt at step mid new → SteppedAt at step old new
+step_after at step old mid new same stepped form = stepped form ∙ ap (λ l. if at == form then step l else l) (same form)
+
+-- the list of a form is in order, and stays so with another list in order in its place
+pub order_at : (keys : List Key) (pages : Pages Listed) (at : ℕ) (l : Listed) → InOrder keys (lists_in pages) → there pages at ≡ Some l → Ascends keys l.live
+order_at keys pages at l ordered is = subst (λ l. Ascends keys l.live) (flat_some no_list pages at l is) (ordered at)
+
+pub order_in : (keys : List Key) (pages : Pages Listed) (at : ℕ) (l : Listed) → is_there pages at ≡ true → InOrder keys (lists_in pages) → Ascends keys l.live → InOrder keys (lists_in (with_row pages at l))
+order_in keys pages at l is ordered ascends form = subst (λ l. Ascends keys l.live) (sym (flat_with_row no_list pages at l is form)) (by (at == form))
+  where
+    by : (b : Bool) → Ascends keys (if b then l else list_at (lists_in pages) form).live
+    by true = ascends
+    by false = ordered form
 
 -- no form yet
 pub step_none : (forms : List ℕ) (step : Listed → Listed) (lists : List Listed) → Stepped (take 0 forms) step lists lists

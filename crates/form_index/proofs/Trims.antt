@@ -26,7 +26,7 @@ module _ {X : Type 0} (blank : X) (is_blank : X → Bool) (decides : (x : X) →
   trimmed_at (x ∷ xs) zero = first_at x (trimmed is_blank xs)
   trimmed_at (x ∷ xs) (suc n) = next_at x (trimmed is_blank xs) n ∙ trimmed_at xs n
 
-  all_blank : (xs : List X) → ((n : ℕ) → get_or xs n blank ≡ blank) → trimmed is_blank xs ≡ []
+  pub all_blank : (xs : List X) → ((n : ℕ) → get_or xs n blank ≡ blank) → trimmed is_blank xs ≡ []
   all_blank [] all = refl
   all_blank (x ∷ xs) all =
       ap (prepend is_blank x) (all_blank xs (λ n. all (suc n)))

@@ -3,6 +3,8 @@ use Rattle.std.specs.Prelude.{◌≡◌, ℕ, ◌==◌, true, false, List, [], O
 use Rattle.std.specs.Option.{option_map_or}
 use Rattle.marc_types.specs.declared.key.Key.{Key}
 use Rattle.form_index.specs.Order.{Ascends, has}
+use Rattle.numbering.specs.declared.pages.Pages.{Pages}
+use Rattle.form_index.specs.Paged.{flat}
 use Rattle.form_index.specs.Trimmed.{trimmed, with_at}
 use Rattle.form_index.specs.Listed.{InOrder, IsShort, Listed, Stepped, each_of, list_at, released, entered, withdrawn}
 use Rattle.form_index.specs.Forms.{Forms, belongs, forms_by}
@@ -38,6 +40,10 @@ pub record Taken : Type 0 where
 
 abbrev pub slot_at : List (Option Forms) → ℕ → Option Forms
 slot_at rows number = slice_index_or rows number None
+
+-- the rows that stand in pages
+abbrev pub rows_in : Pages (Option Forms) → List (Option Forms)
+rows_in pages = flat None pages
 
 -- the row under a key's number
 abbrev pub row_under : ℕ → Indexed → Option Forms

@@ -2,6 +2,8 @@
 use Rattle.std.specs.Prelude.{◌≡◌, ℕ, suc, Bool, true, false, not, ◌&&◌, ◌==◌, List, [], ◌∷◌, slice_index_or, if◌then◌else◌}
 use Rattle.marc_types.specs.declared.key.Key.{Key}
 use Rattle.form_index.specs.Order.{Ascends, has, inserted, without}
+use Rattle.numbering.specs.declared.pages.Pages.{Pages}
+use Rattle.form_index.specs.Paged.{flat}
 use Rattle.form_index.specs.Trimmed.{trimmed}
 use Rattle.form_index.specs.declared.key_list.Step.{Step}
 use Rattle.form_index.specs.declared.key_list.Step.TheVariants.{Enter, Withdraw}
@@ -46,6 +48,10 @@ stepped keys n Withdraw = withdrawn n
 
 abbrev pub list_at : List Listed → ℕ → Listed
 list_at lists form = slice_index_or lists form no_list
+
+-- the lists that stand in pages
+abbrev pub lists_in : Pages Listed → List Listed
+lists_in pages = flat no_list pages
 
 -- a step at the lists from one number on, where the test holds of theirs
 abbrev pub each_from : ℕ → (ℕ → Bool) → (Listed → Listed) → List Listed → List Listed

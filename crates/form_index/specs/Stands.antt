@@ -1,5 +1,5 @@
 -- How the rows and the lists of the index agree.
-use Rattle.std.specs.Prelude.{◌≡◌, ℕ, ◌<◌, true, false, List, length, Option}
+use Rattle.std.specs.Prelude.{◌≡◌, ℕ, Bool, true, false, List, Option}
 use Rattle.std.specs.Option.{option_map_or}
 use Rattle.form_index.specs.Order.{has}
 use Rattle.form_index.specs.Forms.{Forms, belongs}
@@ -15,11 +15,12 @@ Fits rows lists =
     (among : Among) (by : By) (form n : ℕ) →
     has n (listed among by form lists).live ≡ option_map_or (belongs among by form) (slot_at rows n) false
 
--- a number for which a place is held has a slot
-abbrev pub HasSlots : List (Option Forms) → Listing → Type 0
-HasSlots rows lists = (form n : ℕ) → has n (listed All Established form lists).held ≡ true → n < length rows
+-- a number for which a place is held is reached: it has a slot
+abbrev pub HasSlots : (ℕ → Bool) → Listing → Type 0
+HasSlots reached lists = (form n : ℕ) → has n (listed All Established form lists).held ≡ true → reached n ≡ true
 
-pub record Stands (rows : List (Option Forms)) (lists : Listing) : Type 0 where
+-- the rows, the numbers that are reached, and the lists
+pub record Stands (rows : List (Option Forms)) (reached : ℕ → Bool) (lists : Listing) : Type 0 where
   pub fits : Fits rows lists
-  pub slots : HasSlots rows lists
+  pub slots : HasSlots reached lists
   pub short : IsShortListing lists

@@ -1,7 +1,8 @@
-ghost use Rattle.std.specs.Prelude.{◌≡◌, ℕ, ◌<◌, ◌≤◌, ◌==◌, [], List, length, if◌then◌else◌};
+ghost use Rattle.std.specs.Prelude.{◌≡◌, ℕ, ◌<◌, ◌==◌, true, [], List, length, if◌then◌else◌};
 ghost use Rattle.std.specs.Prelude.{None, Some, IfSome, IfNone, OnOk, OnErr};
 ghost use Rattle.std.specs.Option.{option_copied, option_map};
-ghost use Rattle.form_index.specs.Index.{IsHeld, IsInOrder, Puts, PutsBack, TakesOut, let_go, no_index, row_under, slot_at, taken};
+ghost use Rattle.form_index.specs.Index.{IsHeld, IsInOrder, Puts, PutsBack, TakesOut, let_go, no_index, row_under, rows_in, slot_at, taken};
+ghost use Rattle.form_index.specs.Paged.{is_there};
 ghost use Rattle.form_index.specs.Candidates.{IsAnswer};
 
 use crate::among::{Among, By};
@@ -10,7 +11,7 @@ use crate::key_list::Step;
 use crate::listings::Listings;
 use crate::row::{FormRow, RowForms};
 use marc_types::{Key, NoMemory};
-use numbering::Numbering;
+use numbering::{Numbering, Pages};
 use std::alloc::Global;
 use std::marker::Model;
 use std::mem;
@@ -21,21 +22,22 @@ use std::mem;
 /// and the lists; the order of the lists is `IsInOrder`, which stays while the keys' numbering grows.
 #[derive(Drop)]
 pub struct FormIndex {
-    rows: Vec<Option<RowForms>>,
+    rows: Pages<Option<RowForms>>,
     lists: Listings,
 }
 
 impl Model for FormIndex {
     ghost use Rattle.std.specs.Prelude.{is_none};
+    ghost use Rattle.form_index.specs.Paged.{is_there};
     ghost use Rattle.form_index.specs.Trimmed.{trimmed};
-    ghost use Rattle.form_index.specs.Index.{Indexed};
+    ghost use Rattle.form_index.specs.Index.{Indexed, rows_in};
     ghost use Rattle.form_index.specs.Stands.{Stands};
 
     ghost Value = { Indexed };
 
-    ghost view = { λ i. record { rows = trimmed is_none i.rows.items; lists = i.lists } };
+    ghost view = { λ i. record { rows = trimmed is_none (rows_in i.rows); lists = i.lists } };
 
-    ghost invariant = { λ i. Stands i.rows.items i.lists };
+    ghost invariant = { λ i. Stands (rows_in i.rows) (is_there i.rows) i.lists };
 }
 
 impl FormIndex {
@@ -45,7 +47,7 @@ impl FormIndex {
         ensures ordered { (keys : List Key) → IsInOrder keys result }
     {
         FormIndex {
-            rows: Vec::new(alloc),
+            rows: Pages::new(alloc),
             lists: Listings::new(alloc),
         }
     }
@@ -87,7 +89,7 @@ impl FormIndex {
         ensures ordered { IsInOrder keys.now self.new }
         ensures err { OnErr result (self.new ≡ self.old) }
     {
-        reach(&mut self.rows, number)?;
+        self.rows.reach(alloc, number)?;
         self.lists.hold(alloc, number, &forms)?;
         self.lists.step(Step::Enter, keys, number, &forms);
         set_slot(&mut self.rows, number, forms);
@@ -134,41 +136,29 @@ impl FormIndex {
     }
 }
 
-fn slot(rows: &[Option<RowForms>], number: u32) -> Option<&RowForms>
-    ensures { option_copied result ≡ slot_at rows.now number }
+fn slot(rows: &Pages<Option<RowForms>>, number: u32) -> Option<&RowForms>
+    ensures { option_copied result ≡ slot_at (rows_in rows.now) number }
 {
-    match rows.get(number as usize) {
+    match rows.get(number) {
         Some(slot) => slot.as_ref(),
         None => None,
     }
 }
 
-// Adds blank slots until the number has one.
-fn reach(rows: &mut Vec<Option<RowForms>>, number: u32) -> Result<(), NoMemory>
-    ensures same { (n : ℕ) → slot_at rows.new.items n ≡ slot_at rows.old.items n }
-    ensures longer { length rows.old.items ≤ length rows.new.items }
-    ensures long { OnOk result (number < length rows.new.items) }
+fn set_slot(rows: &mut Pages<Option<RowForms>>, number: u32, forms: RowForms)
+    requires { is_there rows.old number ≡ true }
+    ensures slots { (n : ℕ) → slot_at (rows_in rows.new) n ≡ (if n == number then Some forms else slot_at (rows_in rows.old) n) }
+    ensures stays { (n : ℕ) → is_there rows.old n ≡ true → is_there rows.new n ≡ true }
 {
-    while rows.len() <= number as usize {
-        rows.push(None)?;
-    }
-    Ok(())
+    let _before = mem::replace(rows.row_mut(number), Some(forms));
 }
 
-fn set_slot(rows: &mut Vec<Option<RowForms>>, number: u32, forms: RowForms)
-    requires { number < length rows.old.items }
-    ensures slots { (n : ℕ) → slot_at rows.new.items n ≡ (if n == number then Some forms else slot_at rows.old.items n) }
-    ensures long { length rows.new.items ≡ length rows.old.items }
+fn empty_slot(rows: &mut Pages<Option<RowForms>>, number: u32) -> Option<RowForms>
+    ensures row { result ≡ slot_at (rows_in rows.old) number }
+    ensures slots { (n : ℕ) → slot_at (rows_in rows.new) n ≡ (if n == number then None else slot_at (rows_in rows.old) n) }
+    ensures stays { (n : ℕ) → is_there rows.old n ≡ true → is_there rows.new n ≡ true }
 {
-    let _before = mem::replace(&mut rows[number as usize], Some(forms));
-}
-
-fn empty_slot(rows: &mut Vec<Option<RowForms>>, number: u32) -> Option<RowForms>
-    ensures row { result ≡ slot_at rows.old.items number }
-    ensures slots { (n : ℕ) → slot_at rows.new.items n ≡ (if n == number then None else slot_at rows.old.items n) }
-    ensures long { length rows.new.items ≡ length rows.old.items }
-{
-    match rows.get_mut(number as usize) {
+    match rows.get_mut(number) {
         Some(slot) => slot.take(),
         None => None,
     }

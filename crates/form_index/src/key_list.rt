@@ -5,7 +5,7 @@ ghost use Rattle.form_index.specs.Order.{Ascends, IsGap, number_cmp};
 ghost use Rattle.form_index.specs.Listed.{no_list, with_held, released, entered, stepped, withdrawn};
 
 use marc_types::{Key, NoMemory};
-use numbering::Numbering;
+use numbering::{Blank, Numbering};
 use std::alloc::Global;
 use std::cmp::Ordering;
 use std::marker::Model;
@@ -34,6 +34,14 @@ impl Model for KeyList {
     ghost view = { λ l. record { live = take l.live l.numbers.items; held = drop l.live l.numbers.items } };
 
     ghost invariant = { λ l. l.live ≤ length l.numbers.items };
+}
+
+impl Blank for KeyList {
+    ghost blank = { no_list };
+
+    fn blank(alloc: Global) -> KeyList {
+        KeyList::new(alloc)
+    }
 }
 
 impl KeyList {

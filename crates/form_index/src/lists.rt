@@ -1,26 +1,26 @@
 ghost use Rattle.std.specs.Prelude.{◌≡◌, ◌<◌, [], length, true, OnOk, OnErr};
-ghost use Rattle.form_index.specs.Listed.{InOrder, IsShort, SameLists, Stepped, SteppedAt, each_of, is_no_list, is_once, list_at, released, stepped, with_held};
+ghost use Rattle.form_index.specs.Listed.{InOrder, IsShort, SameLists, Stepped, SteppedAt, each_of, is_once, list_at, lists_in, released, stepped, with_held};
 
 use crate::key_list::{KeyList, Step};
 use marc_types::{Key, NoMemory};
-use numbering::Numbering;
+use numbering::{Numbering, Pages};
 use std::alloc::Global;
 use std::marker::Model;
 
-/// A list of key numbers for each form, by the form's number. Forms past the end have blank lists.
+/// A list of key numbers for each form, by the form's number. Forms that weren't reached have blank lists.
 #[derive(Drop)]
 pub(crate) struct Lists {
-    lists: Vec<KeyList>,
+    lists: Pages<KeyList>,
 }
 
 impl Model for Lists {
     ghost use Rattle.std.specs.Prelude.{List};
     ghost use Rattle.form_index.specs.Trimmed.{trimmed};
-    ghost use Rattle.form_index.specs.Listed.{Listed, is_no_list};
+    ghost use Rattle.form_index.specs.Listed.{Listed, is_no_list, lists_in};
 
     ghost Value = { List Listed };
 
-    ghost view = { λ s. trimmed is_no_list s.lists.items };
+    ghost view = { λ s. trimmed is_no_list (lists_in s.lists) };
 }
 
 impl Lists {
@@ -28,7 +28,7 @@ impl Lists {
         ensures { result ≡ [] }
     {
         Lists {
-            lists: Vec::new(alloc),
+            lists: Pages::new(alloc),
         }
     }
 
@@ -69,17 +69,17 @@ impl Lists {
     }
 }
 
-fn live_at(lists: &[KeyList], form: u32) -> &[u32]
-    ensures { result.now ≡ (list_at lists.now form).live }
+fn live_at(lists: &Pages<KeyList>, form: u32) -> &[u32]
+    ensures { result.now ≡ (list_at (lists_in lists.now) form).live }
 {
-    match lists.get(form as usize) {
+    match lists.get(form) {
         Some(list) => list.live(),
         None => &[],
     }
 }
 
 fn step_each(
-    lists: &mut Vec<KeyList>,
+    lists: &mut Pages<KeyList>,
     step: Step,
     keys: &Numbering<Key>,
     number: u32,
@@ -87,53 +87,53 @@ fn step_each(
 )
     requires known { number < length keys.now }
     requires once { is_once forms.now ≡ true }
-    requires ordered { InOrder keys.now lists.old.items }
-    ensures stepped { Stepped forms.now (stepped keys.now number step) lists.old.items lists.new.items }
-    ensures ordered { InOrder keys.now lists.new.items }
+    requires ordered { InOrder keys.now (lists_in lists.old) }
+    ensures stepped { Stepped forms.now (stepped keys.now number step) (lists_in lists.old) (lists_in lists.new) }
+    ensures ordered { InOrder keys.now (lists_in lists.new) }
 {
     for form in forms {
         step_at(lists, step, keys, number, *form);
     }
 }
 
-fn step_at(lists: &mut Vec<KeyList>, step: Step, keys: &Numbering<Key>, number: u32, form: u32)
+fn step_at(lists: &mut Pages<KeyList>, step: Step, keys: &Numbering<Key>, number: u32, form: u32)
     requires known { number < length keys.now }
-    requires ordered { InOrder keys.now lists.old.items }
-    ensures stepped { SteppedAt form (stepped keys.now number step) lists.old.items lists.new.items }
-    ensures ordered { InOrder keys.now lists.new.items }
+    requires ordered { InOrder keys.now (lists_in lists.old) }
+    ensures stepped { SteppedAt form (stepped keys.now number step) (lists_in lists.old) (lists_in lists.new) }
+    ensures ordered { InOrder keys.now (lists_in lists.new) }
 {
-    if let Some(list) = lists.get_mut(form as usize) {
+    if let Some(list) = lists.get_mut(form) {
         list.step(step, keys, number);
     }
 }
 
-fn release_each(lists: &mut Vec<KeyList>, number: u32, forms: &[u32])
+fn release_each(lists: &mut Pages<KeyList>, number: u32, forms: &[u32])
     requires once { is_once forms.now ≡ true }
-    ensures { Stepped forms.now (released number) lists.old.items lists.new.items }
+    ensures { Stepped forms.now (released number) (lists_in lists.old) (lists_in lists.new) }
 {
     for form in forms {
         release_at(lists, number, *form);
     }
 }
 
-fn release_at(lists: &mut Vec<KeyList>, number: u32, form: u32)
-    ensures { SteppedAt form (released number) lists.old.items lists.new.items }
+fn release_at(lists: &mut Pages<KeyList>, number: u32, form: u32)
+    ensures { SteppedAt form (released number) (lists_in lists.old) (lists_in lists.new) }
 {
-    if let Some(list) = lists.get_mut(form as usize) {
+    if let Some(list) = lists.get_mut(form) {
         list.release(number);
     }
 }
 
 // Makes a place in each of these lists. Where memory ends, the places that were made are given up.
 fn hold_each(
-    lists: &mut Vec<KeyList>,
+    lists: &mut Pages<KeyList>,
     alloc: Global,
     number: u32,
     forms: &[u32],
 ) -> Result<(), NoMemory>
     requires { is_once forms.now ≡ true }
-    ensures ok { OnOk result (Stepped forms.now (with_held number) lists.old.items lists.new.items) }
-    ensures err { OnErr result (SameLists lists.old.items lists.new.items) }
+    ensures ok { OnOk result (Stepped forms.now (with_held number) (lists_in lists.old) (lists_in lists.new)) }
+    ensures err { OnErr result (SameLists (lists_in lists.old) (lists_in lists.new)) }
 {
     for (i, form) in forms.iter().enumerate() {
         if let Err(fault) = hold_at(lists, alloc, number, *form) {
@@ -144,21 +144,15 @@ fn hold_each(
     Ok(())
 }
 
-fn hold_at(lists: &mut Vec<KeyList>, alloc: Global, number: u32, form: u32) -> Result<(), NoMemory>
-    ensures ok { OnOk result (SteppedAt form (with_held number) lists.old.items lists.new.items) }
-    ensures err { OnErr result (SameLists lists.old.items lists.new.items) }
+fn hold_at(
+    lists: &mut Pages<KeyList>,
+    alloc: Global,
+    number: u32,
+    form: u32,
+) -> Result<(), NoMemory>
+    ensures ok { OnOk result (SteppedAt form (with_held number) (lists_in lists.old) (lists_in lists.new)) }
+    ensures err { OnErr result (SameLists (lists_in lists.old) (lists_in lists.new)) }
 {
-    reach(lists, alloc, form)?;
-    lists[form as usize].hold(number)
-}
-
-// Adds blank lists until the form has one.
-fn reach(lists: &mut Vec<KeyList>, alloc: Global, form: u32) -> Result<(), NoMemory>
-    ensures same { SameLists lists.old.items lists.new.items }
-    ensures long { OnOk result (form < length lists.new.items) }
-{
-    while lists.len() <= form as usize {
-        lists.push(KeyList::new(alloc))?;
-    }
-    Ok(())
+    lists.reach(alloc, form)?;
+    lists.row_mut(form).hold(number)
 }
