@@ -1,5 +1,5 @@
 -- Why loading didn't begin, or ended in part; and that it ended whole.
-use Rattle.std.proofs.Common.{◌≡◌, ◌≢◌, ◌⊎◌, inl, inr, ℕ, ◌<◌, List, ◌++◌, length, Option, Some, None, Bool, true, false, Result, Ok, Err, IfOk, IfErr, OnOk, OnErr, refl, sym, ap, subst, ◌∙◌}
+use Rattle.std.proofs.Common.{◌≡◌, ◌≢◌, ◌⊎◌, inl, inr, ℕ, ◌<◌, List, ◌++◌, length, map, Option, Some, None, Bool, true, false, Result, Ok, Err, IfOk, IfErr, OnOk, OnErr, refl, sym, ap, subst, ◌∙◌, arith}
 use Rattle.std.specs.Prelude.{is_some, All, if◌then◌else◌}
 use Rattle.marc_types.specs.declared.entry.Entry.{Entry}
 use Rattle.marc_types.specs.declared.entry.Limits.{Limits}
@@ -17,9 +17,10 @@ use Rattle.parallel_loading.specs.declared.input.InputFile.{InputFile}
 use Rattle.parallel_loading.specs.Files.{EachLoaded, AreOfOneFile, AreLoaded}
 use Rattle.room_files.specs.Faults.{fault_of_opening}
 use Rattle.room_files.specs.Journals.{journal_limits, IsOpenedFrom, IsClosedTo}
-use Rattle.journal_loading.specs.Inputs.{AreInputs, IsFresh, lefts_of}
-use Rattle.journal_loading.specs.Outcomes.{any_ends, loading_fault, AreLoadedBehind, IsLoadedWhole, IsUnbegun, Unbegun, IsLoadingFault, NotBegun, InPart, IsFinished, IsStopped, Unloaded, Faulty}
-use Rattle.journal_loading.proofs.Loaded.{inputs_count, libraries_loaded, libraries_read, none_failed, results_count, after_count, has_mark, had_fault, HadFault}
+use Rattle.journal_loading.specs.Inputs.{AreInputs, IsFresh, RisesFrom, lefts_of}
+use Rattle.journal_loading.specs.Outcomes.{any_ends, loading_fault, AreLoadedBehind, IsLoadedWhole, AreUnread, IsUnbegun, Unbegun, IsLoadingFault, NotBegun, InPart, IsFinished, IsStopped, Unloaded, Faulty}
+use Rattle.journal_loading.proofs.Loaded.{inputs_count, libraries_loaded, libraries_read, none_failed, results_count, after_count, has_mark, had_fault, each_failed, HadFault}
+use Rattle.journal_loading.proofs.Opened.{unread, take_all}
 
 -- a fault of opening an input is its own or want of memory
 either_fault : (why : Fault) → (why ≢ fault.Input → why ≡ fault.Memory) → (why ≡ fault.Input) ⊎ (why ≡ fault.Memory)
@@ -64,10 +65,10 @@ opening_other_history opening.NoMemory is = cc
 -- a journal that was opened, and closed again with the same entries
 pub unbegun : (old new : RoomView) (journal : List ℕ) (why : Fault) (before entries : List Entry) (mark was : Option (List Entry)) (o : Opening)
     → old.tells ≡ true → (why ≢ fault.Input → why ≡ fault.Memory) → IsOpenedFrom old journal before was o → entries ≡ before → mark ≡ None
-    → (o.tells ≡ true → IsClosedTo new journal entries mark o) → IsUnbegun old new journal why
-unbegun old new journal why before entries mark was o tells other opened same none closed =
+    → (o.tells ≡ true → IsClosedTo new journal entries mark o) → (libraries : List Library) → AreUnread old new libraries → IsUnbegun old new journal libraries why
+unbegun old new journal why before entries mark was o tells other opened same none closed libraries unread =
     Unbegun before o (either_fault why other) (subst (λ m. IsOpenedFrom old journal before m o) opened.unmarked opened)
-    (subst (λ m. IsClosedTo new journal before m o) none (subst (λ es. IsClosedTo new journal es mark o) same (closed (opened.tells tells))))
+    (subst (λ m. IsClosedTo new journal before m o) none (subst (λ es. IsClosedTo new journal es mark o) same (closed (opened.tells tells)))) unread
 
 module _ (a b c d : Bool) where
   -- no fault: no device failed
@@ -166,13 +167,22 @@ module _ {S : Type 0} (left : S → Option (List ℕ)) (faults : S → ℕ) (roo
         faultless = finished.faultless;
       }
 
+  -- all files were opened, and nothing was read of them
+  none_read : (new : RoomView) → after ≡ files → new.lefts ≡ lefts_of left after ++ room.lefts → AreUnread room new libraries
+  none_read new same_files lefts = record {
+    count = length libraries;
+    lefts_are = lefts ∙ ap (λ inputs. lefts_of left inputs ++ room.lefts) same_files ∙ ap (λ ls. ls ++ room.lefts)
+        (unread left room tells libraries files inputs ∙ ap (map (λ (l : Library). room.file l.file)) (sym (take_all libraries (length libraries) refl)));
+  }
+
   pub loaded_part : (new : RoomView) (why : Fault) (results : Result (List FileResult) NoMemory)
       → IfOk results (λ rs. AreLoaded left faults limits before files after rs entries mark) → OnErr results (entries ≡ before) → OnErr results (mark ≡ None)
-      → IsStopped why results → (o.tells ≡ true → IsClosedTo new journal entries mark o) → new.lefts ≡ lefts_of left after ++ room.lefts
+      → OnErr results (after ≡ files) → IsStopped why results → (o.tells ≡ true → IsClosedTo new journal entries mark o)
+      → new.lefts ≡ lefts_of left after ++ room.lefts → All (IsFresh faults) files → RisesFrom faults 0 libraries after room new
       → IsLoadingFault room new journal libraries why
-  loaded_part new why (Err e) loaded kept unmarked (Unloaded e' is) closed lefts =
-      NotBegun (unbegun room new journal why before entries mark was o tells (λ other. is) opened kept unmarked closed)
-  loaded_part new why (Ok results) loaded kept unmarked (Faulty rs is) closed lefts = InPart (record {
+  loaded_part new why (Err e) loaded kept unmarked same_files (Unloaded e' is) closed lefts fresh rises =
+      NotBegun (unbegun room new journal why before entries mark was o tells (λ other. is) opened kept unmarked closed libraries (none_read new same_files lefts))
+  loaded_part new why (Ok results) loaded kept unmarked same_files (Faulty rs is) closed lefts fresh rises = InPart (record {
     before = before;
     added = loaded.added;
     mark = mark;
@@ -187,6 +197,9 @@ module _ {S : Type 0} (left : S → Option (List ℕ)) (faults : S → ℕ) (roo
     lefts_are = lefts;
     read_to = libraries_read left faults room before loaded.added mark 0 libraries files after results tells inputs
         (subst (λ most. EachLoaded left faults most before loaded.added mark 0 files after results) same loaded.each);
+    failing = λ index library result named at fails.
+        let (input, is_its, rose) = each_failed left faults room limits before loaded.added mark 0 files after results fresh loaded.each index result at fails in
+        rises index library input (omega arith) named is_its rose;
   })
 
 module _ {S : Type 0} (left : S → Option (List ℕ)) (faults : S → ℕ) (room : RoomView) (files after : List (InputFile S)) (limits : Limits) (before entries : List Entry) (mark : Option (List Entry)) where

@@ -41,9 +41,9 @@ kept_same failed old new journal (journals.Unopened untouched) entries has =
 kept_same failed old new journal (journals.Opened closed) entries has = closed.history entries has
 
 -- loading didn't begin
-unbegun_keeps : (old new : RoomView) (journal : List ℕ) (why : Fault) → old.tells ≡ true → IsUnbegun old new journal why → HasSameHistory old new journal
-unbegun_keeps old new journal why tells (Unopened of is so full keeps) = kept_same _ old new journal keeps
-unbegun_keeps old new journal why tells (Unbegun before o either opened closed) =
+unbegun_keeps : (old new : RoomView) (journal : List ℕ) (libraries : List Library) (why : Fault) → old.tells ≡ true → IsUnbegun old new journal libraries why → HasSameHistory old new journal
+unbegun_keeps old new journal libraries why tells (Unopened of is so full keeps) = kept_same _ old new journal keeps
+unbegun_keeps old new journal libraries why tells (Unbegun before o either opened closed unread) =
     same_history before (log_bytes old journal) (log_bytes new journal) (opened.history tells)
     (subst (HasHistory before) (sym (ap bytes_or_none closed.file)) (whole_history before closed.bytes closed.holds))
 
@@ -61,6 +61,6 @@ loaded_there room before added mark _ _ _ (OneLibrary loader ls rs l r one more)
 -- where a file isn't there, loading didn't begin
 pub loading_keeps : (old new : RoomView) (journal : List ℕ) (libraries : List Library) (why : Fault) → old.tells ≡ true
     → IsLoadingFault old new journal libraries why → IsFileMissing libraries old → HasSameHistory old new journal
-loading_keeps old new journal libraries why tells (NotBegun unbegun) gone = unbegun_keeps old new journal why tells unbegun
+loading_keeps old new journal libraries why tells (NotBegun unbegun) gone = unbegun_keeps old new journal libraries why tells unbegun
 loading_keeps old new journal libraries why tells (InPart part) gone =
     absurd (loaded_there old part.before part.added part.mark 0 libraries part.results part.loaded.files gone.index gone.library gone.named gone.missing)

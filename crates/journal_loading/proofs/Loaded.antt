@@ -1,5 +1,5 @@
 -- What loading the files of libraries comes to, from what it does of their inputs.
-use Rattle.std.proofs.Common.{◌≡◌, ◌≢◌, ℕ, ◌+◌, ◌<◌, suc, Bool, true, false, ◌||◌, List, [], ◌∷◌, ◌++◌, length, slice_get, Option, Some, None, IsSome, is_some, refl, sym, ap, subst, ◌∙◌, arith}
+use Rattle.std.proofs.Common.{◌≡◌, ◌≢◌, ℕ, ◌+◌, ◌<◌, suc, zero, Bool, true, false, ◌||◌, List, [], ◌∷◌, ◌++◌, length, slice_get, Option, Some, None, IsSome, is_some, refl, sym, ap, subst, ◌∙◌, arith}
 use Rattle.std.specs.Prelude.{All}
 use Rattle.std.proofs.lemmas.List.Elements.{All-nil, All-cons, All-head, All-tail}
 use Rattle.marc_types.specs.declared.entry.Entry.{Entry}
@@ -113,6 +113,18 @@ module _ {S : Type 0} (left : S → Option (List ℕ)) (faults : S → ℕ) (roo
     had_fault _ _ _ _ fresh (NoFile loader) any = cc
     had_fault _ _ _ _ fresh (OneMore loader fs bs rs o n r did each) any =
         fault_here loader o n r bs rs did (All-head (IsFresh faults) o fs fresh) (had_fault (loader + 1) fs bs rs (All-tail (IsFresh faults) o fs fresh) each) any
+
+    -- where a file's end is a read fault, its own source failed
+    pub each_failed : (loader : ℕ) (old new : List (InputFile S)) (results : List FileResult) → All (IsFresh faults) old
+        → EachLoaded left faults limits before added mark loader old new results → (index : ℕ) (result : FileResult) → slice_get results index ≡ Some result
+        → result.end ≡ end.ReadFault → (input : InputFile S) × (slice_get new index ≡ Some input) × Rose 0 (faults input.source)
+    each_failed _ _ _ _ fresh (NoFile loader) index result at is = cc
+    each_failed _ _ _ _ fresh (OneMore loader fs bs rs o n r did each) zero result at is =
+        let same : r ≡ result = cc in
+        let head = All-head (IsFresh faults) o fs fresh in
+        (n, refl, subst (λ was. Rose was (faults n.source)) head.faultless (did.cause (ap (λ (one : FileResult). one.end) same ∙ is)))
+    each_failed _ _ _ _ fresh (OneMore loader fs bs rs o n r did each) (suc index) result at is =
+        each_failed (loader + 1) fs bs rs (All-tail (IsFresh faults) o fs fresh) each index result at is
 
     mark_here : (loader : ℕ) (o n : InputFile S) (r : FileResult) (rs : List FileResult) → LoadsFile left faults limits before added mark loader o n r
         → (any_ends end.DeviceFault rs ≡ true → is_some mark ≡ true) → any_ends end.DeviceFault (r ∷ rs) ≡ true → is_some mark ≡ true

@@ -1,5 +1,5 @@
 -- Inputs that are opened one after the other.
-use Rattle.std.proofs.Common.{◌≡◌, ℕ, ◌+◌, ◌<◌, ◌≤◌, suc, zero, Bool, false, nat_eq, ◌≢◌, List, [], ◌∷◌, ◌++◌, length, take, drop, slice_get, get_or, Option, Some, None, IsSome, true, refl, sym, ap, subst, ◌∙◌, arith}
+use Rattle.std.proofs.Common.{◌≡◌, ℕ, ◌+◌, ◌<◌, ◌≤◌, suc, zero, Bool, false, nat_eq, ◌≢◌, List, [], ◌∷◌, ◌++◌, length, map, take, drop, slice_get, get_or, Option, Some, None, IsSome, true, refl, sym, ap, subst, ◌∙◌, arith}
 use Rattle.std.specs.Prelude.{All}
 use Rattle.std.proofs.lemmas.Bool.Decides.{nat_tests}
 use Rattle.std.proofs.lemmas.List.Elements.{All-head, All-tail}
@@ -132,6 +132,23 @@ pub lefts_more : {S : Type 0} (left : S → Option (List ℕ)) (all : List (Inpu
     → slice_get all n ≡ Some last → now ≡ lefts_of left (drop (n + 1) all) ++ old → new ≡ left last.source ∷ now → new ≡ lefts_of left (drop n all) ++ old
 lefts_more left all n last old now new at was is =
     is ∙ ap (λ ls. left last.source ∷ ls) was ∙ sym (ap (λ inputs. lefts_of left inputs ++ old) (drop_at all n last at))
+
+-- what inputs have left of which nothing was read
+pub unread : {S : Type 0} (left : S → Option (List ℕ)) (room : RoomView) → room.tells ≡ true → (libraries : List Library) (inputs : List (InputFile S))
+    → AreInputs left room libraries inputs → lefts_of left inputs ≡ map (λ (library : Library). room.file library.file) libraries
+unread left room tells _ _ NoInput = refl
+unread left room tells _ _ (OneInput ls is l i one are) =
+    ap (λ x. x ∷ lefts_of left is) (one.bytes tells) ∙ ap (λ xs. room.file l.file ∷ xs) (unread left room tells ls is are)
+
+-- counts that rose between other calls rose in all of them
+pub rises_around : {S : Type 0} (faults : S → ℕ) (libraries : List Library) (inputs : List (InputFile S)) (old now new last : RoomView)
+    → ((n : List ℕ) → old.in_faults n ≤ now.in_faults n) → RisesFrom faults 0 libraries inputs now new → ((n : List ℕ) → new.in_faults n ≤ last.in_faults n)
+    → RisesFrom faults 0 libraries inputs old last
+rises_around faults libraries inputs old now new last before rises behind index library input from named is had =
+    let rose = rises index library input from named is had in
+    let first = before library.file in
+    let later = behind library.file in
+    omega (arith, rose, first, later)
 
 -- none is closed at first
 pub lefts_none : {S : Type 0} (left : S → Option (List ℕ)) (all : List (InputFile S)) (old : List (Option (List ℕ)))

@@ -1,5 +1,5 @@
 -- What loading a command's files into a journal comes to. The rules are this project's own.
-use Rattle.std.specs.Prelude.{◌≡◌, ◌≢◌, ◌⊎◌, ℕ, ◌+◌, ◌<◌, Bool, true, false, List, [], ◌∷◌, ◌++◌, length, All, Option, Some, None, Result, Ok, Err, slice_get, if◌then◌else◌}
+use Rattle.std.specs.Prelude.{◌≡◌, ◌≢◌, ◌⊎◌, ℕ, ◌+◌, ◌<◌, Bool, true, false, List, [], ◌∷◌, ◌++◌, length, map, take, All, Option, Some, None, Result, Ok, Err, slice_get, if◌then◌else◌}
 use Rattle.std.specs.List.{list_any}
 use Rattle.marc_types.specs.declared.entry.Entry.{Entry}
 use Rattle.marc_types.specs.declared.copying.NoMemory.{NoMemory}
@@ -87,7 +87,8 @@ pub record IsLoadedWhole (room : RoomView) (journal : List ℕ) (libraries : Lis
   pub faultless : loading_fault results ≡ None
 
 -- Loading ended by a fault, and the journal of that name and all inputs are closed. It had `before`, and has behind that what was committed; of a
--- frame that a device failed to take it may have all entries too, and there is none after another fault.
+-- frame that a device failed to take it may have all entries too, and there is none after another fault. A file's end is a read fault only
+-- where its own input failed.
 pub record IsLoadedInPart (old new : RoomView) (journal : List ℕ) (libraries : List Library) (why : Fault) : Type 0 where
   pub before : List Entry
   pub added : List Entry
@@ -102,19 +103,27 @@ pub record IsLoadedInPart (old new : RoomView) (journal : List ℕ) (libraries :
   pub lefts : List (Option (List ℕ))
   pub lefts_are : new.lefts ≡ lefts ++ old.lefts
   pub read_to : AreReadTo loaded.files lefts
+  pub failing : (index : ℕ) (library : Library) (result : FileResult) → slice_get libraries index ≡ Some library → slice_get results index ≡ Some result
+      → result.end ≡ end.ReadFault → Rose (old.in_faults library.file) (new.in_faults library.file)
+
+-- the files of the first of these libraries, so many, were opened, and closed again with nothing read of them
+pub record AreUnread (old new : RoomView) (libraries : List Library) : Type 0 where
+  pub count : ℕ
+  pub lefts_are : new.lefts ≡ map (λ (library : Library). old.file library.file) (take count libraries) ++ old.lefts
 
 -- Why loading didn't begin: the journal isn't opened, and has the history that it had, and is full only where its version is 2; or
--- an input isn't opened, or there is no memory to begin, and the journal was opened and closed again with nothing added.
-pub data IsUnbegun (old new : RoomView) (journal : List ℕ) (why : Fault) : Type 0 where
+-- an input isn't opened, or there is no memory to begin, and the journal was opened and closed again with nothing added, and nothing read
+-- of the inputs.
+pub data IsUnbegun (old new : RoomView) (journal : List ℕ) (libraries : List Library) (why : Fault) : Type 0 where
   Unopened : (of : OpenFault) → why ≡ fault_of_opening of → IsUnopened journal_limits (log_bytes old journal) of
       → (of ≡ opening.Full → version_of (log_bytes old journal) ≡ 2) → KeepsHistory (of ≡ opening.DeviceFault) old new journal
-      → IsUnbegun old new journal why
+      → IsUnbegun old new journal libraries why
   Unbegun : (before : List Entry) (o : Opening) → (why ≡ fault.Input) ⊎ (why ≡ fault.Memory) → IsOpenedFrom old journal before None o → IsClosedTo new journal before None o
-      → IsUnbegun old new journal why
+      → AreUnread old new libraries → IsUnbegun old new journal libraries why
 
 -- why files are not loaded whole: loading didn't begin, or it ended in part
 pub data IsLoadingFault (old new : RoomView) (journal : List ℕ) (libraries : List Library) (why : Fault) : Type 0 where
-  NotBegun : IsUnbegun old new journal why → IsLoadingFault old new journal libraries why
+  NotBegun : IsUnbegun old new journal libraries why → IsLoadingFault old new journal libraries why
   InPart : IsLoadedInPart old new journal libraries why → IsLoadingFault old new journal libraries why
 
 -- a file of these libraries isn't there

@@ -42,7 +42,7 @@ fn begin<R: Room>(
     ensures begun { IfOk result (λ r.
         HasBegun R.In.left R.In.faults (R.seen room.old) (R.seen room.new) journal.now libraries.now (durable_view r.0) r.1) }
     ensures failed { IfErr result (λ why. Fails (R.seen room.old) (R.seen room.new) journal.now libraries.now why
-        (IsUnbegun (R.seen room.old) (R.seen room.new) journal.now why)) }
+        (IsUnbegun (R.seen room.old) (R.seen room.new) journal.now libraries.now why)) }
 {
     let durable = match open_journal(alloc, room, journal) {
         Ok(durable) => durable,

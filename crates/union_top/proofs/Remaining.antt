@@ -84,10 +84,10 @@ module _ (old new : RoomView) (journal : List ℕ) (libraries : List Library) (t
       (crowded old p.before p.added p.mark 0 libraries fits.accepted fits.refused p.results
       (subst (λ n. All (λ (e : Entry). e.loader < n) p.added) (omega arith) loaders) fits.judged p.loaded.files full)))
 
-  of_unbegun : (why : Fault) → IsUnbegun old new journal why → Remains why
+  of_unbegun : (why : Fault) → IsUnbegun old new journal libraries why → Remains why
   of_unbegun why (Unopened of is so current keeps) = of_opening (log_bytes old journal) of why is fits.version (may_be (log_bytes old journal) of fitting so)
-  of_unbegun why (Unbegun before o (inl input) opened closed) = subst Remains (sym input) tt
-  of_unbegun why (Unbegun before o (inr memory) opened closed) = subst Remains (sym memory) tt
+  of_unbegun why (Unbegun before o (inl input) opened closed unread) = subst Remains (sym input) tt
+  of_unbegun why (Unbegun before o (inr memory) opened closed unread) = subst Remains (sym memory) tt
 
   of_loading : (why : Fault) → IsLoadingFault old new journal libraries why → Remains why
   of_loading why (NotBegun u) = of_unbegun why u

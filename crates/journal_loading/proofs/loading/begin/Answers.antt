@@ -1,11 +1,13 @@
-use Rattle.std.proofs.Common.{◌≢◌, IfSome, ◌≡◌, All, length, take, refl, sym, ap, subst, ◌∙◌, arith}
+use Rattle.std.proofs.Common.{◌≢◌, IfSome, ◌≡◌, ◌++◌, All, length, map, take, true, refl, sym, ap, subst, ◌∙◌, arith}
+use Rattle.std.proofs.lemmas.List.Elements.{All-take}
+use Rattle.command_words.specs.declared.library.Library.{Library}
 use Rattle.outside.proofs.Rooms.{same_but_then, same_but_none}
 use Rattle.durable_catalogue.specs.Durables.{mark_of}
 use Rattle.durable_catalogue.specs.Views.{durable_view}
 use Rattle.console_lines.specs.declared.fault.Fault.TheVariants as fault
-use Rattle.journal_loading.specs.Inputs.{IsInputFault, AreInputs, IsFresh}
+use Rattle.journal_loading.specs.Inputs.{IsInputFault, AreInputs, IsFresh, lefts_of}
 use Rattle.journal_loading.specs.Outcomes.{Unopened}
-use Rattle.journal_loading.proofs.Opened.{inputs_after, take_all, fault_between}
+use Rattle.journal_loading.proofs.Opened.{inputs_after, take_all, fault_between, unread}
 use Rattle.journal_loading.proofs.Begun.{unbegun, opening_usage, opening_other_history, opening_input, opening_device}
 use Rattle.journal_loading.proofs.loading.begin.Goals as goal
 
@@ -67,11 +69,21 @@ returns-in-Some-clause-failed g c =
     let o = (durable_view d).opened in
     let tells_then = c.close_inputs.ensures.stays.tells ∙ (c.open_inputs-inputs.ensures.stays.tells ∙ c.open_journal.ensures.apart.tells) in
     let other = subst (λ o. IfSome o (λ why. why ≢ fault.Input → why ≡ fault.Memory)) c.in-Some.is c.open_inputs-inputs.ensures.fault in
+    let left = g.R.In.Source.left in
+    let libraries = c.args.libraries.now in
+    let opened = c.open_inputs-inputs.result.0.items in
+    let first = take (length opened) libraries in
+    let inputs = inputs_after left old (seen c.open_journal.new.room) c.args.journal.now c.open_journal.ensures.apart first opened
+    (All-take (λ (l : Library). l.file ≢ c.args.journal.now) (length opened) libraries c.requires.loadable.apart) c.open_inputs-inputs.ensures.inputs in
+    let lefts : old.tells ≡ true → new.lefts ≡ map (λ (l : Library). old.file l.file) first ++ old.lefts = λ tells.
+    c.close_journal.ensures.lefts ∙ (c.close_inputs.ensures.lefts ∙ (ap (λ ls. lefts_of left c.from_vec-inputs.result ++ ls) (c.open_inputs-inputs.ensures.lefts ∙ c.open_journal.ensures.lefts)
+    ∙ ap (λ ls. ls ++ old.lefts) (ap (lefts_of left) c.from_vec-inputs.ensures ∙ unread left old tells first opened inputs))) in
     record {
       closed = c.close_journal.ensures.closed;
       because = λ tells.
           unbegun old new c.args.journal.now c.in-Some.fault d.core.history d.core.history (mark_of d.mark) (mark_of d.mark) o tells
-          other c.in-Ok.ensures.catalogue refl c.in-Ok.ensures.catalogue.unmarked (c.close_journal.ensures.log (tells_then ∙ tells));
+          other c.in-Ok.ensures.catalogue refl c.in-Ok.ensures.catalogue.unmarked (c.close_journal.ensures.log (tells_then ∙ tells))
+          c.args.libraries.now (record { count = length opened; lefts_are = lefts tells; });
       device = λ device. let memory = other (λ input. let no : fault.Device ≡ fault.Input = sym device ∙ input in cc) in
           let no : fault.Device ≡ fault.Memory = sym device ∙ memory in cc;
       input = λ is.

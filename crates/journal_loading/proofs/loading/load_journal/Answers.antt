@@ -5,7 +5,7 @@ use Rattle.durable_catalogue.specs.Views.{durable_view}
 use Rattle.room_files.specs.Journals.{IsOpenedFrom}
 use Rattle.journal_loading.specs.Inputs.{lefts_of}
 use Rattle.journal_loading.specs.Outcomes.{HasLoaded, NotBegun}
-use Rattle.journal_loading.proofs.Opened.{get_within}
+use Rattle.journal_loading.proofs.Opened.{get_within, rises_around}
 use Rattle.journal_loading.proofs.Loaded.{inputs_count}
 use Rattle.journal_loading.proofs.Begun.{same_count, result_count, stopped_device, stopped_input, stopped_usage, stopped_other_history, loaded_whole, loaded_part, if_ok_more, if_err_more, on_ok_at, err_at}
 use Rattle.journal_loading.proofs.Kept.{loading_keeps}
@@ -112,9 +112,11 @@ returns-clause-failed g c =
       closed = err_at c.finish.result why at c.finish.ensures.closed;
       because = λ tells.
           loaded_part left faults old c.args.journal.now libraries files after d.limits d.core.history now.core.history (mark_of d.mark) (mark_of now.mark) o
-          tells b.inputs_are b.catalogue.limits opened new why results load.loaded load.unbegun load.unmarked stopped
+          tells b.inputs_are b.catalogue.limits opened new why results load.loaded load.unbegun load.unmarked load.files stopped
           (λ told. err_at c.finish.result why at c.finish.ensures.log (c.close_inputs.ensures.stays.tells ∙ (c.in-Ok.ensures.apart.tells ∙ tells)) told)
-          (c.finish.ensures.lefts ∙ c.close_inputs.ensures.lefts ∙ ap (λ ls. lefts_of left after ++ ls) c.in-Ok.ensures.lefts);
+          (c.finish.ensures.lefts ∙ c.close_inputs.ensures.lefts ∙ ap (λ ls. lefts_of left after ++ ls) c.in-Ok.ensures.lefts)
+          b.fresh (rises_around faults libraries after old (g.R.Room.seen c.in-Ok.new.room) (g.R.Room.seen c.close_inputs.new.room) new c.in-Ok.ensures.apart.ins
+          c.close_inputs.ensures.rose c.finish.ensures.apart.ins);
       device = λ is.
           let mark = stopped_device left faults old files after d.limits d.core.history now.core.history (mark_of now.mark) why results load.loaded stopped is in
           let rose = err_at c.finish.result why at c.finish.ensures.cause mark opened.faults in
