@@ -5,7 +5,7 @@ use std::fmt;
 use std::marker::Model;
 use std::snapshot::Snapshot;
 
-/// Sources that were given up, as clauses see them: what each had left, the newest first. It has no bytes.
+/// Sources that were given up, as clauses see them: what each had left, the newest first. It takes no memory.
 #[cycle(given_up)]
 #[derive(Drop)]
 pub struct GivenUp<S: Source> {

@@ -14,7 +14,7 @@ pub trait Room {
 
     type Log: Disk + Send;
 
-    // What a room is, for the clauses: its files and closed logs, the names that are open, and its counts of faults.
+    // What a room is, for the clauses: its files, closed logs, open names, counts of faults, and what closed inputs had left.
     ghost seen: { Self → RoomView };
 
     /// Opens the file of that name to be read. It fails where there is no such file.
