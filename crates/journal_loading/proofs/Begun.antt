@@ -180,6 +180,7 @@ module _ {S : Type 0} (left : S → Option (List ℕ)) (faults : S → ℕ) (roo
       → OnErr results (after ≡ files) → IsStopped why results → (o.tells ≡ true → IsClosedTo new journal entries mark o)
       → new.lefts ≡ lefts_of left after ++ room.lefts → All (IsFresh faults) files → RisesFrom faults 0 libraries after room new
       → IsLoadingFault room new journal libraries why
+  unfolding loaded_behind
   loaded_part new why (Err e) loaded kept unmarked same_files (Unloaded e' is) closed lefts fresh rises =
       NotBegun (unbegun room new journal why before entries mark was o tells (λ other. is) opened kept unmarked closed libraries (none_read new same_files lefts))
   loaded_part new why (Ok results) loaded kept unmarked same_files (Faulty rs is) closed lefts fresh rises = InPart (record {

@@ -17,7 +17,7 @@ use Rattle.file_entries.specs.Files.{IsJudged}
 use Rattle.journal_loading.specs.Inputs.{IsInputOf, AreInputs, NoInput, OneInput, IsFresh, lefts_of}
 use Rattle.journal_loading.specs.Outcomes.{IsLibraryLoaded, AreLibrariesLoaded, NoLibrary, OneLibrary, AreReadTo, ends_so, any_ends}
 
-there_is : (o : Option (List ℕ)) → IsSome o → (b : List ℕ) × (o ≡ Some b)
+pub there_is : (o : Option (List ℕ)) → IsSome o → (b : List ℕ) × (o ≡ Some b)
 there_is None is = cc
 there_is (Some b) is = (b, refl)
 
@@ -39,7 +39,7 @@ module _ {S : Type 0} (left : S → Option (List ℕ)) (faults : S → ℕ) (roo
   inputs_count _ _ (OneInput ls is l i one are) = ap suc (inputs_count ls is are)
 
   module _ (before added : List Entry) (mark : Option (List Entry)) where
-    library_loaded : (loader : ℕ) (library : Library) (old new : InputFile S) (result : FileResult) → room.tells ≡ true → IsInputOf left room library old
+    unfoldable pub library_loaded : (loader : ℕ) (library : Library) (old new : InputFile S) (result : FileResult) → room.tells ≡ true → IsInputOf left room library old
         → LoadsFile left faults journal_limits before added mark loader old new result → IsLibraryLoaded room before added mark library loader result
     library_loaded loader library old new result tells is did =
         let there = there_is (room.file library.file) (is.there tells) in
@@ -64,7 +64,7 @@ module _ {S : Type 0} (left : S → Option (List ℕ)) (faults : S → ℕ) (roo
         }
 
     -- each library's file was loaded
-    pub libraries_loaded : (loader : ℕ) (libraries : List Library) (old new : List (InputFile S)) (results : List FileResult) → room.tells ≡ true
+    unfoldable pub libraries_loaded : (loader : ℕ) (libraries : List Library) (old new : List (InputFile S)) (results : List FileResult) → room.tells ≡ true
         → AreInputs left room libraries old → EachLoaded left faults journal_limits before added mark loader old new results
         → AreLibrariesLoaded room before added mark loader libraries results
     libraries_loaded _ _ _ _ _ tells NoInput (NoFile loader) = NoLibrary loader
@@ -75,6 +75,7 @@ module _ {S : Type 0} (left : S → Option (List ℕ)) (faults : S → ℕ) (roo
     pub libraries_read : (loader : ℕ) (libraries : List Library) (old new : List (InputFile S)) (results : List FileResult) (tells : room.tells ≡ true)
         → (are : AreInputs left room libraries old) → (each : EachLoaded left faults journal_limits before added mark loader old new results)
         → AreReadTo (libraries_loaded loader libraries old new results tells are each) (lefts_of left new)
+    unfolding libraries_loaded library_loaded
     libraries_read _ _ _ _ _ tells NoInput (NoFile loader) = tt
     libraries_read _ _ _ _ _ tells (OneInput ls is l i one are) (OneMore loader fs bs rs o n r did each) =
         let there = there_is (room.file l.file) (one.there tells) in

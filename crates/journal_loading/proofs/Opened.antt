@@ -122,7 +122,7 @@ fault_between libraries old now new last before is behind = record {
 }
 
 -- what is at a place comes first of what is left from there on
-drop_at : {A : Type 0} (xs : List A) (n : ℕ) (x : A) → slice_get xs n ≡ Some x → drop n xs ≡ x ∷ drop (n + 1) xs
+drop_at : {A : Type 0} (xs : List A) (n : ℕ) (x : A) → slice_get xs n ≡ Some x → drop n xs ≡ x ∷ drop (suc n) xs
 drop_at [] n x is = cc
 drop_at (y ∷ xs) zero x is = let same : y ≡ x = cc in ap (λ z. z ∷ xs) same
 drop_at (y ∷ xs) (suc n) x is = drop_at xs n x is
@@ -131,7 +131,9 @@ drop_at (y ∷ xs) (suc n) x is = drop_at xs n x is
 pub lefts_more : {S : Type 0} (left : S → Option (List ℕ)) (all : List (InputFile S)) (n : ℕ) (last : InputFile S) (old now new : List (Option (List ℕ)))
     → slice_get all n ≡ Some last → now ≡ lefts_of left (drop (n + 1) all) ++ old → new ≡ left last.source ∷ now → new ≡ lefts_of left (drop n all) ++ old
 lefts_more left all n last old now new at was is =
-    is ∙ ap (λ ls. left last.source ∷ ls) was ∙ sym (ap (λ inputs. lefts_of left inputs ++ old) (drop_at all n last at))
+    let next : n + 1 ≡ suc n = omega arith in
+    is ∙ ap (λ ls. left last.source ∷ ls) (was ∙ ap (λ k. lefts_of left (drop k all) ++ old) next)
+    ∙ sym (ap (λ inputs. lefts_of left inputs ++ old) (drop_at all n last at))
 
 -- what inputs have left of which nothing was read
 pub unread : {S : Type 0} (left : S → Option (List ℕ)) (room : RoomView) → room.tells ≡ true → (libraries : List Library) (inputs : List (InputFile S))

@@ -36,10 +36,10 @@ on_ok_both (Ok x) f p q = f p q
 on_ok_both (Err e) f p q = tt
 
 -- what follows of each fault, where only a device has one, and then its count of faults rose
-pub by_device : {T : Type 0} {P : MigrateFault → Type 0} {before now : ℕ} (r : Result T MigrateFault) → HasCause before now r
+pub by_device : {T : Type 0} {before now : ℕ} (P : MigrateFault → Type 0) (r : Result T MigrateFault) → HasCause before now r
     → IfErr r (λ fault. fault ≡ DeviceFault) → (Rose before now → P DeviceFault) → IfErr r P
-by_device (Ok x) cause device so = tt
-by_device {P} (Err e) cause device so = subst P (sym device) (so cause.failed)
+by_device P (Ok x) cause device so = tt
+by_device P (Err e) cause device so = subst P (sym device) (so cause.failed)
 
 -- nothing happens to a disk
 pub continues_self : (disk : DiskView) → Continues disk disk

@@ -46,7 +46,7 @@ fn bring_rest<D: Disk>(
     requires within { count ≤ length history.now }
     ensures continues { Continues (D.seen journal.old.disk) (D.seen journal.new.disk) }
     ensures brings { BringsRest history.now count (D.seen journal.old.disk) (D.seen journal.new.disk) }
-    ensures open { OnOk result ((journal.new.broken ≡ false) × (journal.new.version ≡ 2)) }
+    ensures whole { OnOk result ((journal.new.broken ≡ false) × (journal.new.version ≡ 2)) }
     ensures brought { OnOk result (HasBrought history.now (take count history.now) history.now (D.seen journal.old.disk) (D.seen journal.new.disk)) }
     ensures device { IfErr result (λ fault. fault ≡ DeviceFault) }
     ensures cause { HasCause (D.seen journal.old.disk).faults (D.seen journal.new.disk).faults result }

@@ -1,4 +1,4 @@
-use Rattle.std.proofs.Common.{rules, ◌≡◌, ◌∷◌, [], ◌++◌, drop, ◌+◌, ◌<◌, get_or, length, Some, slice_get, sym, ap, subst, ◌∙◌, arith, length-append}
+use Rattle.std.proofs.Common.{rules, ◌≡◌, ◌∷◌, [], ◌++◌, drop, ◌+◌, ◌<◌, get_or, length, Some, slice_get, refl, sym, ap, subst, ◌∙◌, arith, length-append}
 use Rattle.outside.proofs.Rooms.{same_but_itself, same_but_then}
 use Rattle.journal_loading.proofs.Opened.{at_end, at_before, closed_more, got, rises_none, lefts_more, lefts_none}
 use Rattle.journal_loading.specs.Inputs.{lefts_of}

@@ -115,7 +115,7 @@ returns-clause-failed g c =
           tells b.inputs_are b.catalogue.limits opened new why results load.loaded load.unbegun load.unmarked load.files stopped
           (λ told. err_at c.finish.result why at c.finish.ensures.log (c.close_inputs.ensures.stays.tells ∙ (c.in-Ok.ensures.apart.tells ∙ tells)) told)
           (c.finish.ensures.lefts ∙ c.close_inputs.ensures.lefts ∙ ap (λ ls. lefts_of left after ++ ls) c.in-Ok.ensures.lefts)
-          b.fresh (rises_around faults libraries after old (g.R.Room.seen c.in-Ok.new.room) (g.R.Room.seen c.close_inputs.new.room) new c.in-Ok.ensures.apart.ins
+          b.fresh (rises_around faults libraries after old (g.R.Room.seen c.begin.new.room) (g.R.Room.seen c.close_inputs.new.room) new c.in-Ok.ensures.apart.ins
           c.close_inputs.ensures.rose c.finish.ensures.apart.ins);
       device = λ is.
           let mark = stopped_device left faults old files after d.limits d.core.history now.core.history (mark_of now.mark) why results load.loaded stopped is in

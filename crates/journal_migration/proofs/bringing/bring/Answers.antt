@@ -1,6 +1,6 @@
 use Rattle.std.proofs.Common.{◌≡◌, ◌∙◌, sym, subst}
 use Rattle.std.proofs.lemmas.Result.{err_from_is_err_and}
-use Rattle.journal_migration.specs.Fronts.{Brings, MayGain, HasBrought}
+use Rattle.journal_migration.specs.Fronts.{Brings, MayGain, HasBrought, IsNotBrought}
 use Rattle.journal_migration.proofs.Fronts.{front_is, may_gain}
 use Rattle.journal_migration.proofs.Gaining.{settled_newest, brings_none, brings_where, on_ok_both, by_device}
 use Rattle.journal_migration.proofs.bringing.bring.Goals as goal
@@ -23,7 +23,10 @@ returns-in_err-count-clause-refused g c =
 
 pub returns-clause-refused : goal.returns-clause-refused
 returns-clause-refused g c =
-    by_device c.bring_rest.result c.bring_rest.ensures.cause c.bring_rest.ensures.device (λ rose. record { so = λ version. tt; failed = λ device. rose })
+    let seen = g.D.Disk.seen in
+    let journal = c.args.journal.now in
+    by_device (IsNotBrought journal.version c.args.frames.now c.args.limits.now c.args.history.now (seen journal.disk) (seen c.bring_rest.new.journal.disk))
+    c.bring_rest.result c.bring_rest.ensures.cause c.bring_rest.ensures.device (λ rose. record { so = λ version. tt; failed = λ device. rose })
 
 pub returns-clause-alone : goal.returns-clause-alone
 returns-clause-alone g c version none =
@@ -48,12 +51,12 @@ returns-clause-brought g c =
     let journal = c.args.journal.now in
     let history = c.args.history.now in
     let front = rw c.version.ensures at c.in_ok-count.ensures.front in
-    on_ok_both c.bring_rest.result (λ open brought. record {
+    on_ok_both c.bring_rest.result (λ state brought. record {
       front = λ version. (c.in_ok-count.count, front version);
       was_newest = sym c.version.ensures ∙ c.in_ok-count.ensures.version;
       brought = λ entries version held.
           subst (λ es. HasBrought history es history (seen journal.disk) (seen c.bring_rest.new.journal.disk))
           (front_is journal.version c.args.frames.now c.args.limits.now history c.in_ok-count.count entries (front version) held) brought;
-      whole = open.0;
-      newest = open.1;
-    }) c.bring_rest.ensures.open c.bring_rest.ensures.brought
+      whole = state.0;
+      newest = state.1;
+    }) c.bring_rest.ensures.whole c.bring_rest.ensures.brought
