@@ -16,22 +16,34 @@ fn room_of(rt: &HostRuntime) -> Result<FileRoom<HostRuntime>, Fail>
     Ok(FileRoom::new(rt.clone()?, rt.alloc()))
 }
 
+// Whether a log that one room opens can't be opened by another, as a log, as an input, and behind its closing as an output.
+fn is_held_as_each(rt: &HostRuntime, path: &str) -> Result<bool, Fail> {
+    let mut room = room_of(rt)?;
+    let mut other = room_of(rt)?;
+    let log = room.open_log(path)?;
+    if other.open_log(path).is_ok() || other.open_in(path).is_ok() {
+        return Ok(false);
+    }
+    room.close_log(path, log);
+    Ok(other.open_out(path).is_err())
+}
+
 #[test]
 fn a_log_is_held_until_its_room_is_dropped(rt: HostRuntime) -> Result<(), Fail> {
     let path = path_of(&rt, "held-log")?;
     fs::write(&rt, path.as_str(), b"log".as_slice())?;
-    {
-        let mut room = room_of(&rt)?;
-        let log = room.open_log(&path)?;
-        assert!(rt; room_of(&rt)?.open_log(&path).is_err());
-        assert!(rt; room_of(&rt)?.open_in(&path).is_err());
-        room.close_log(&path, log);
-        assert!(rt; room_of(&rt)?.open_out(&path).is_err());
-    }
-    let log = room_of(&rt)?.open_log(&path)?;
+    assert!(rt; is_held_as_each(&rt, &path)?);
+    let mut room = room_of(&rt)?;
+    let log = room.open_log(&path)?;
     assert_eq!(rt; log.len(), 3);
     fs::remove_file(&rt, path.as_str())?;
     Ok(())
+}
+
+// Whether no further room can open that as an output.
+fn is_held(rt: &HostRuntime, name: &str) -> Result<bool, Fail> {
+    let mut other = room_of(rt)?;
+    Ok(other.open_out(name).is_err())
 }
 
 #[test]
@@ -45,7 +57,7 @@ fn an_output_is_no_open_log_by_another_name(rt: HostRuntime) -> Result<(), Fail>
     let mut room = room_of(&rt)?;
     let log = room.open_log(&path)?;
     for name in [hard.as_str(), soft.as_str()] {
-        assert!(rt; room_of(&rt)?.open_out(name).is_err(), "{name}");
+        assert!(rt; is_held(&rt, name)?, "{name}");
         fs::remove_file(&rt, name)?;
     }
     room.close_log(&path, log);
