@@ -83,7 +83,7 @@ returns-in-Some-clause-failed g c =
       because = λ tells.
           unbegun old new c.args.journal.now c.in-Some.fault d.core.history d.core.history (mark_of d.mark) (mark_of d.mark) o tells
           other c.in-Ok.ensures.catalogue refl c.in-Ok.ensures.catalogue.unmarked (c.close_journal.ensures.log (tells_then ∙ tells))
-          c.args.libraries.now (record { count = length opened; lefts_are = lefts tells; });
+          c.args.libraries.now (record { count = length opened; lefts_are = lefts tells });
       device = λ device. let memory = other (λ input. let no : fault.Device ≡ fault.Input = sym device ∙ input in cc) in
           let no : fault.Device ≡ fault.Memory = sym device ∙ memory in cc;
       input = λ is.
