@@ -80,6 +80,7 @@ fn copies(alloc: Global, record: &[u8], count: u32) -> Result<Vec<u8>, NoMemory>
 #[test]
 fn as_many_files_as_a_command_takes(rt: HostRuntime) -> Result<(), Fail> {
     let alloc = rt.alloc();
+    let mut room = with_files(alloc, MOST)?;
     let totals = totals_of(alloc, MOST)?;
 
     // Each library's records have keys of their own.
@@ -90,7 +91,6 @@ fn as_many_files_as_a_command_takes(rt: HostRuntime) -> Result<(), Fail> {
         (load_of(alloc, MOST)?, 0, totals.as_str()),
         (export, 0, ""),
     ];
-    let mut room = with_files(alloc, MOST)?;
     for (words, status, told) in &table {
         let mut console = SureSink::new(alloc, ROOM)?;
         let answer = run(&rt, alloc, words, &mut room, &mut console, &OpenGate);
