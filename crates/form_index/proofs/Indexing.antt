@@ -6,9 +6,8 @@ use Rattle.std.specs.List.Sorted.{IsStrictlySortedBy}
 use Rattle.std.proofs.lemmas.Bool.{true≢false, eqb-true}
 use Rattle.marc_types.specs.declared.key.Key.{Key}
 use Rattle.form_index.specs.Order.{Ascends, has}
-use Rattle.numbering.specs.Pages.{row_or, there, with_row}
+use Rattle.numbering.specs.Pages.{is_there, row_or, there, with_row_under}
 use Rattle.numbering.specs.declared.pages.Pages.{Pages}
-use Rattle.form_index.specs.Paged.{is_there}
 use Rattle.form_index.specs.Trimmed.{trimmed, with_at}
 use Rattle.form_index.specs.Listed.{Listed, no_list, released, entered, withdrawn, with_held}
 use Rattle.form_index.specs.Forms.{Forms, belongs}
@@ -87,7 +86,7 @@ no_rows = flat_blank None is_none none_is refl
 
 -- a slot is exchanged
 pub slots_with : (pages : Pages (Option Forms)) (n : ℕ) (slot : Option Forms) → is_there pages n ≡ true → (m : ℕ)
-    → slot_at (rows_in (with_row pages n slot)) m ≡ (if m == n then slot else slot_at (rows_in pages) m)
+    → slot_at (rows_in (with_row_under pages n slot)) m ≡ (if m == n then slot else slot_at (rows_in pages) m)
 slots_with pages n slot at m = flat_with_row None pages n slot at m ∙ ap (λ b. if b then slot else slot_at (rows_in pages) m) (turn n m)
 
 -- ---- rows and lists together

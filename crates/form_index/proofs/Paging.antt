@@ -5,10 +5,10 @@ use Rattle.std.specs.Option.{option_map}
 use Rattle.std.proofs.lemmas.Bool.{eqb-true}
 use Rattle.std.proofs.lemmas.Nat.{le-div}
 use Rattle.std.proofs.lemmas.Option.{slice_get_past}
-use Rattle.numbering.specs.Pages.{row_in, row_or, there, with_row}
+use Rattle.numbering.specs.Pages.{is_there, row_in_page, row_or, there, with_row_under}
 use Rattle.numbering.specs.declared.pages.Pages.{Pages}
 use Rattle.numbering.proofs.Pagelaws.{row_or_with_row, there_with_row}
-use Rattle.form_index.specs.Paged.{firsts, flat, is_there}
+use Rattle.form_index.specs.Paged.{firsts, flat}
 use Rattle.form_index.specs.Trimmed.{trimmed}
 use Rattle.form_index.proofs.Trims.{all_blank}
 
@@ -26,7 +26,7 @@ module _ {X : Type 0} where
   unfolding there
   beyond pages n high =
       let page : slice_get pages.pages.items (n / 1024) ≡ None = slice_get_past pages.pages.items (n / 1024) (le-div (length pages.pages.items) n 1024 (omega arith) high) in
-      ap (λ page. row_in page (n % 1024)) page
+      ap (λ page. row_in_page page (n % 1024)) page
 
   -- ---- what is at a number
 
@@ -46,11 +46,11 @@ module _ {X : Type 0} where
   flat_same blank old new same n = flat_at blank new n ∙ same n ∙ sym (flat_at blank old n)
 
   pub flat_with_row : (blank : X) (pages : Pages X) (n : ℕ) (row : X) → is_there pages n ≡ true → (m : ℕ)
-      → get_or (flat blank (with_row pages n row)) m blank ≡ (if n == m then row else get_or (flat blank pages) m blank)
+      → get_or (flat blank (with_row_under pages n row)) m blank ≡ (if n == m then row else get_or (flat blank pages) m blank)
   flat_with_row blank pages n row at m =
-      flat_at blank (with_row pages n row) m ∙ row_or_with_row blank pages n m row at ∙ ap (λ z. if n == m then row else z) (sym (flat_at blank pages m))
+      flat_at blank (with_row_under pages n row) m ∙ row_or_with_row blank pages n m row at ∙ ap (λ z. if n == m then row else z) (sym (flat_at blank pages m))
 
-  pub stays_there : (pages : Pages X) (n : ℕ) (row : X) (m : ℕ) → is_there pages m ≡ true → is_there (with_row pages n row) m ≡ true
+  pub stays_there : (pages : Pages X) (n : ℕ) (row : X) (m : ℕ) → is_there pages m ≡ true → is_there (with_row_under pages n row) m ≡ true
   stays_there pages n row m at = ap is_some (there_with_row pages n m row) ∙ by (n == m) refl
     where
       kept : (o : Option X) → is_some (option_map (λ _. row) o) ≡ is_some o

@@ -7,9 +7,8 @@ use Rattle.marc_types.specs.declared.key.Key.{Key}
 use Rattle.form_index.specs.declared.key_list.Step.{Step}
 use Rattle.form_index.specs.declared.key_list.Step.TheVariants.{Enter, Withdraw}
 use Rattle.form_index.specs.Order.{Ascends, has, without}
-use Rattle.numbering.specs.Pages.{there, with_row}
+use Rattle.numbering.specs.Pages.{is_there, there, with_row_under}
 use Rattle.numbering.specs.declared.pages.Pages.{Pages}
-use Rattle.form_index.specs.Paged.{is_there}
 use Rattle.form_index.specs.Trimmed.{trimmed}
 use Rattle.form_index.specs.Listed.{InOrder, IsShort, Listed, SameLists, Stepped, SteppedAt, each_from, each_of, is_empty, is_no_list, is_once, list_at, lists_in, no_list, released, stepped, with_held}
 use Rattle.form_index.proofs.Paging.{flat_blank, flat_none, flat_some, flat_with_row}
@@ -84,7 +83,7 @@ pub no_lists : (pages : Pages Listed) → ((form : ℕ) → there pages form ≡
 no_lists = flat_blank no_list is_no_list blank_is refl
 
 -- the list that is there took a step
-pub step_in : (pages : Pages Listed) (at : ℕ) (step : Listed → Listed) (l : Listed) → there pages at ≡ Some l → SteppedAt at step (lists_in pages) (lists_in (with_row pages at (step l)))
+pub step_in : (pages : Pages Listed) (at : ℕ) (step : Listed → Listed) (l : Listed) → there pages at ≡ Some l → SteppedAt at step (lists_in pages) (lists_in (with_row_under pages at (step l)))
 step_in pages at step l is form = flat_with_row no_list pages at (step l) (ap is_some is) form ∙ by (at == form) refl
   where
     was : Listed
@@ -107,7 +106,7 @@ step_out pages at step stays is form = by (at == form) refl
         blank ∙ sym stays ∙ ap step (sym blank) ∙ sym (ap (λ b. if b then step was else was) e)
     by false e = sym (ap (λ b. if b then step was else was) e)
 
-pub stays_in : (pages : Pages Listed) (at : ℕ) (l : Listed) → there pages at ≡ Some l → SameLists (lists_in pages) (lists_in (with_row pages at l))
+pub stays_in : (pages : Pages Listed) (at : ℕ) (l : Listed) → there pages at ≡ Some l → SameLists (lists_in pages) (lists_in (with_row_under pages at l))
 stays_in pages at l is form = step_in pages at (λ k. k) l is form ∙ by (at == form)
   where
     by : (b : Bool) → (if b then list_at (lists_in pages) form else list_at (lists_in pages) form) ≡ list_at (lists_in pages) form
@@ -121,7 +120,7 @@ step_after at step old mid new same stepped form = stepped form ∙ ap (λ l. if
 pub order_at : (keys : List Key) (pages : Pages Listed) (at : ℕ) (l : Listed) → InOrder keys (lists_in pages) → there pages at ≡ Some l → Ascends keys l.live
 order_at keys pages at l ordered is = subst (λ l. Ascends keys l.live) (flat_some no_list pages at l is) (ordered at)
 
-pub order_in : (keys : List Key) (pages : Pages Listed) (at : ℕ) (l : Listed) → is_there pages at ≡ true → InOrder keys (lists_in pages) → Ascends keys l.live → InOrder keys (lists_in (with_row pages at l))
+pub order_in : (keys : List Key) (pages : Pages Listed) (at : ℕ) (l : Listed) → is_there pages at ≡ true → InOrder keys (lists_in pages) → Ascends keys l.live → InOrder keys (lists_in (with_row_under pages at l))
 order_in keys pages at l is ordered ascends form = subst (λ l. Ascends keys l.live) (sym (flat_with_row no_list pages at l is form)) (by (at == form))
   where
     by : (b : Bool) → Ascends keys (if b then l else list_at (lists_in pages) form).live

@@ -1,6 +1,6 @@
 -- Rows that stand in pages, as one list by number.
-use Rattle.std.specs.Prelude.{ℕ, zero, suc, ◌*◌, Bool, List, [], ◌∷◌, length, is_some}
-use Rattle.numbering.specs.Pages.{there, row_or}
+use Rattle.std.specs.Prelude.{ℕ, zero, suc, ◌*◌, List, [], ◌∷◌, length}
+use Rattle.numbering.specs.Pages.{row_or}
 use Rattle.numbering.specs.declared.pages.Pages.{Pages}
 
 -- what a function says of the first numbers, so many
@@ -11,7 +11,3 @@ firsts f (suc n) = f zero ∷ firsts (λ k. f (suc k)) n
 -- the rows of all pages, by number; one that isn't there is blank
 unfoldable pub flat : {X : Type 0} → X → Pages X → List X
 flat blank pages = firsts (row_or blank pages) (length pages.pages.items * 1024)
-
--- whether a number has a row, blank or not
-abbrev pub is_there : {X : Type 0} → Pages X → ℕ → Bool
-is_there pages n = is_some (there pages n)

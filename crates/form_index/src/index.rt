@@ -2,7 +2,7 @@ ghost use Rattle.std.specs.Prelude.{◌≡◌, ℕ, ◌<◌, ◌==◌, true, [],
 ghost use Rattle.std.specs.Prelude.{None, Some, IfSome, IfNone, OnOk, OnErr};
 ghost use Rattle.std.specs.Option.{option_copied, option_map};
 ghost use Rattle.form_index.specs.Index.{IsHeld, IsInOrder, Puts, PutsBack, TakesOut, let_go, no_index, row_under, rows_in, slot_at, taken};
-ghost use Rattle.form_index.specs.Paged.{is_there};
+ghost use Rattle.numbering.specs.Pages.{is_there};
 ghost use Rattle.form_index.specs.Candidates.{IsAnswer};
 
 use crate::among::{Among, By};
@@ -28,7 +28,7 @@ pub struct FormIndex {
 
 impl Model for FormIndex {
     ghost use Rattle.std.specs.Prelude.{is_none};
-    ghost use Rattle.form_index.specs.Paged.{is_there};
+    ghost use Rattle.numbering.specs.Pages.{is_there};
     ghost use Rattle.form_index.specs.Trimmed.{trimmed};
     ghost use Rattle.form_index.specs.Index.{Indexed, rows_in};
     ghost use Rattle.form_index.specs.Stands.{Stands};

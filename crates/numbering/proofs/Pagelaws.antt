@@ -8,7 +8,7 @@ use Rattle.std.proofs.Math.Nat.{div-add-mod}
 use Rattle.std.proofs.Math.Dec.{eqb-suc-suc}
 use Rattle.std.proofs.lemmas.Option.{unwrap_or-slice_get}
 use Rattle.numbering.specs.declared.pages.Pages.{Pages}
-use Rattle.numbering.specs.Pages.{row_in, there, row_or, with_in, with_row}
+use Rattle.numbering.specs.Pages.{row_in_page, there, row_or, with_in, with_row_under}
 
 -- a page's number and a place in it tell numbers apart
 same_number : (n m : ℕ) → n / 1024 ≡ m / 1024 → n % 1024 ≡ m % 1024 → n ≡ m
@@ -53,23 +53,23 @@ module _ {X : Type 0} where
   within_is (x ∷ xs) (suc i) h = within_is xs i (omega arith)
 
 module _ {T : Type 0} where
-  has_page : (pages : List (Vec T Global)) (i place : ℕ) → is_some (row_in (slice_get pages i) place) ≡ true → i < length pages
+  has_page : (pages : List (Vec T Global)) (i place : ℕ) → is_some (row_in_page (slice_get pages i) place) ≡ true → i < length pages
   has_page [] i place h = absurd cc
   has_page (page ∷ rest) zero place h = omega arith
   has_page (page ∷ rest) (suc i) place h = let more = has_page rest i place h in omega arith
 
   -- a page in place of the one that is there
   page_put : (pages : List (Vec T Global)) (page new : Vec T Global) (i k place : ℕ) → slice_get pages i ≡ Some page
-      → row_in (slice_get (slice_set pages i new) k) place ≡ (if i == k then slice_get new.items place else row_in (slice_get pages k) place)
-  page_put pages page new i k place e = ap (λ o. row_in o place) (get_set pages i k new) ∙ by (i == k) refl
+      → row_in_page (slice_get (slice_set pages i new) k) place ≡ (if i == k then slice_get new.items place else row_in_page (slice_get pages k) place)
+  page_put pages page new i k place e = ap (λ o. row_in_page o place) (get_set pages i k new) ∙ by (i == k) refl
     where
-      by : (b : Bool) → (i == k) ≡ b → row_in (if b then option_map (λ _. new) (slice_get pages k) else slice_get pages k) place
-          ≡ (if b then slice_get new.items place else row_in (slice_get pages k) place)
-      by true same = ap (λ o. row_in (option_map (λ _. new) o) place) (ap (slice_get pages) (sym (is_same i k same)) ∙ e)
+      by : (b : Bool) → (i == k) ≡ b → row_in_page (if b then option_map (λ _. new) (slice_get pages k) else slice_get pages k) place
+          ≡ (if b then slice_get new.items place else row_in_page (slice_get pages k) place)
+      by true same = ap (λ o. row_in_page (option_map (λ _. new) o) place) (ap (slice_get pages) (sym (is_same i k same)) ∙ e)
       by false apart = refl
 
   -- a page without rows at the end
-  page_more : (pages : List (Vec T Global)) (page : Vec T Global) (i place : ℕ) → page.items ≡ [] → row_in (slice_get (pages ++ page ∷ []) i) place ≡ row_in (slice_get pages i) place
+  page_more : (pages : List (Vec T Global)) (page : Vec T Global) (i place : ℕ) → page.items ≡ [] → row_in_page (slice_get (pages ++ page ∷ []) i) place ≡ row_in_page (slice_get pages i) place
   page_more [] page zero place none = ap (λ rows. slice_get rows place) none
   page_more [] page (suc i) place none = refl
   page_more (first ∷ rest) page zero place none = refl
@@ -83,13 +83,13 @@ module _ {T : Type 0} where
   module _ (pages : Pages T) (n : ℕ) (page : Vec T Global) (e : slice_get pages.pages.items (n / 1024) ≡ Some page) where
     pub there_is : there pages n ≡ slice_get page.items (n % 1024)
     unfolding there
-    there_is = ap (λ o. row_in o (n % 1024)) e
+    there_is = ap (λ o. row_in_page o (n % 1024)) e
 
     pub place_there : is_some (there pages n) ≡ true → n % 1024 < length page.items
     place_there h = is_within page.items (n % 1024) (ap is_some (sym there_is) ∙ h)
 
-    pub with_row_is : (row : T) → ◌≡◌ {A = Pages T} (record { pages = with_item pages.pages (n / 1024) (with_item page (n % 1024) row) }) (with_row pages n row)
-    unfolding with_row
+    pub with_row_is : (row : T) → ◌≡◌ {A = Pages T} (record { pages = with_item pages.pages (n / 1024) (with_item page (n % 1024) row) }) (with_row_under pages n row)
+    unfolding with_row_under
     with_row_is row = ap (λ o. with_in pages o (n / 1024) (n % 1024) row) (sym e)
 
     -- another page in its place
@@ -100,7 +100,7 @@ module _ {T : Type 0} where
 
     is_its : (m : ℕ) → ((n / 1024) == (m / 1024)) ≡ true → there pages m ≡ slice_get page.items (m % 1024)
     unfolding there
-    is_its m same = ap (λ o. row_in o (m % 1024)) (ap (slice_get pages.pages.items) (sym (is_same (n / 1024) (m / 1024) same)) ∙ e)
+    is_its m same = ap (λ o. row_in_page o (m % 1024)) (ap (slice_get pages.pages.items) (sym (is_same (n / 1024) (m / 1024) same)) ∙ e)
 
     module _ (new : Vec T Global) (m : ℕ) where
       pub same_put : (blank : T) → ((i : ℕ) → slice_index_or new.items i blank ≡ slice_index_or page.items i blank)
@@ -128,20 +128,20 @@ module _ {T : Type 0} where
 
   pub there_more : (old new : Pages T) (page : Vec T Global) → new.pages.items ≡ old.pages.items ++ page ∷ [] → page.items ≡ [] → (m : ℕ) → there new m ≡ there old m
   unfolding there
-  there_more old new page e none m = ap (λ pages. row_in (slice_get pages (m / 1024)) (m % 1024)) e ∙ page_more old.pages.items page (m / 1024) (m % 1024) none
+  there_more old new page e none m = ap (λ pages. row_in_page (slice_get pages (m / 1024)) (m % 1024)) e ∙ page_more old.pages.items page (m / 1024) (m % 1024) none
 
   pub there_same : (old new : Pages T) → new.pages.items ≡ old.pages.items → (m : ℕ) → there new m ≡ there old m
   unfolding there
-  there_same old new e m = ap (λ pages. row_in (slice_get pages (m / 1024)) (m % 1024)) e
+  there_same old new e m = ap (λ pages. row_in_page (slice_get pages (m / 1024)) (m % 1024)) e
 
   -- ---- a row in place of one
 
   written : (pages : Pages T) (n m : ℕ) (row : T) (o : Option (Vec T Global)) → slice_get pages.pages.items (n / 1024) ≡ o → (b : Bool) → (n == m) ≡ b
-      → there (with_row pages n row) m ≡ (if b then option_map (λ _. row) (there pages n) else there pages m)
-  unfolding there with_row
+      → there (with_row_under pages n row) m ≡ (if b then option_map (λ _. row) (there pages n) else there pages m)
+  unfolding there with_row_under
   written pages n m row None e true is =
-      ap (λ o. there (with_in pages o (n / 1024) (n % 1024) row) m) e ∙ ap (there pages) (sym (is_same n m is)) ∙ ap (λ o. row_in o (n % 1024)) e
-      ∙ sym (ap (λ o. option_map (λ _. row) (row_in o (n % 1024))) e)
+      ap (λ o. there (with_in pages o (n / 1024) (n % 1024) row) m) e ∙ ap (there pages) (sym (is_same n m is)) ∙ ap (λ o. row_in_page o (n % 1024)) e
+      ∙ sym (ap (λ o. option_map (λ _. row) (row_in_page o (n % 1024))) e)
   written pages n m row None e false apart = ap (λ o. there (with_in pages o (n / 1024) (n % 1024) row) m) e
   written pages n m row (Some page) e b is =
       let new = with_item page (n % 1024) row in
@@ -164,11 +164,11 @@ module _ {T : Type 0} where
       by known false apart false other = refl
 
   -- what is written under a number that is there stands under it, and no other row changes
-  pub there_with_row : (pages : Pages T) (n m : ℕ) (row : T) → there (with_row pages n row) m ≡ (if n == m then option_map (λ _. row) (there pages n) else there pages m)
+  pub there_with_row : (pages : Pages T) (n m : ℕ) (row : T) → there (with_row_under pages n row) m ≡ (if n == m then option_map (λ _. row) (there pages n) else there pages m)
   there_with_row pages n m row = written pages n m row (slice_get pages.pages.items (n / 1024)) refl (n == m) refl
 
   pub row_or_with_row : (blank : T) (pages : Pages T) (n m : ℕ) (row : T) → is_some (there pages n) ≡ true
-      → row_or blank (with_row pages n row) m ≡ (if n == m then row else row_or blank pages m)
+      → row_or blank (with_row_under pages n row) m ≡ (if n == m then row else row_or blank pages m)
   row_or_with_row blank pages n m row h = ap (λ o. unwrap_or o blank) (there_with_row pages n m row) ∙ by (there pages n) h (n == m)
     where
       by : (o : Option T) → is_some o ≡ true → (b : Bool) → unwrap_or (if b then option_map (λ _. row) o else there pages m) blank ≡ (if b then row else row_or blank pages m)

@@ -1,5 +1,5 @@
 -- Rows by number, in pages of 1,024: the row of a number, if its page is there.
-use Rattle.std.specs.Prelude.{ℕ, ◌/◌, ◌%◌, Option, Some, None, Vec, slice_get, unwrap_or}
+use Rattle.std.specs.Prelude.{ℕ, ◌/◌, ◌%◌, Bool, Option, Some, None, is_some, Vec, slice_get, unwrap_or}
 use Rattle.std.specs.Borrow.{Lends, LendsIf, MutBor, Fml, RattleType}
 use Rattle.std.specs.Vec.{with_item}
 use Rattle.std.specs.declared.alloc.Global.{Global}
@@ -8,13 +8,17 @@ use Rattle.numbering.specs.contracts.pages.Pages.{the_row}
 
 module _ {T : Type 0} where
   -- the row at a place of a page
-  abbrev pub row_in : Option (Vec T Global) → ℕ → Option T
-  row_in None place = None
-  row_in (Some page) place = slice_get page.items place
+  abbrev pub row_in_page : Option (Vec T Global) → ℕ → Option T
+  row_in_page None place = None
+  row_in_page (Some page) place = slice_get page.items place
 
   -- the row of a number, if it is there
   unfoldable pub there : Pages T → ℕ → Option T
-  there pages n = row_in (slice_get pages.pages.items (n / 1024)) (n % 1024)
+  there pages n = row_in_page (slice_get pages.pages.items (n / 1024)) (n % 1024)
+
+  -- whether a number has a row, blank or not
+  abbrev pub is_there : Pages T → ℕ → Bool
+  is_there pages n = is_some (there pages n)
 
   -- the row of a number, or the blank one
   abbrev pub row_or : T → Pages T → ℕ → T
@@ -26,14 +30,14 @@ module _ {T : Type 0} where
   with_in pages (Some page) number place row = record { pages = with_item pages.pages number (with_item page place row) }
 
   -- the pages with this row under the number, where one is there
-  unfoldable pub with_row : Pages T → ℕ → T → Pages T
-  with_row pages n row = with_in pages (slice_get pages.pages.items (n / 1024)) (n / 1024) (n % 1024) row
+  unfoldable pub with_row_under : Pages T → ℕ → T → Pages T
+  with_row_under pages n row = with_in pages (slice_get pages.pages.items (n / 1024)) (n / 1024) (n % 1024) row
 
 module _ (T : RattleType) (pages : MutBor (Pages T.Denot)) (n : ℕ) where
   -- once the borrow r ends, the number has the last row written through r
   abbrev pub lends_row : MutBor T.Denot → Fml
-  lends_row r = Lends (the_row T) T pages r (with_row pages.now n)
+  lends_row r = Lends (the_row T) T pages r (with_row_under pages.now n)
 
   -- the same where r is a reference, and at `None` the pages stay as they are
   abbrev pub lends_get : Option (MutBor T.Denot) → Fml
-  lends_get r = LendsIf (the_row T) T pages r (with_row pages.now n) pages.now
+  lends_get r = LendsIf (the_row T) T pages r (with_row_under pages.now n) pages.now

@@ -1,4 +1,4 @@
-ghost use Rattle.std.specs.Prelude.{◌≡◌, ◌<◌, ◌≤◌, ℕ, None, Some, true, is_some, length, slice_get, slice_index_or, option_copied, OnOk, vec_len};
+ghost use Rattle.std.specs.Prelude.{◌≡◌, ◌<◌, ◌≤◌, ℕ, None, Some, true, length, slice_index_or, option_copied, OnOk};
 ghost use Rattle.std.specs.Option.{option_copied_mut};
 ghost use Rattle.std.specs.Borrow.{sem};
 
@@ -48,7 +48,7 @@ fn fill<T: Blank>(alloc: Global, page: &mut Vec<T>) -> Result<(), NoMemory>
 }
 
 impl<T> Pages<T> {
-    ghost use Rattle.numbering.specs.Pages.{there, lends_row, lends_get};
+    ghost use Rattle.numbering.specs.Pages.{there, is_there, lends_row, lends_get};
 
     /// No row is there.
     #[tactic(auto, unfolding(crate::specs::Pages::there))]
@@ -71,7 +71,7 @@ impl<T> Pages<T> {
 
     /// The row of a number that is there, for writing.
     pub fn row_mut(&mut self, n: u32) -> &mut T
-        requires { is_some (there self.old n) ≡ true }
+        requires { is_there self.old n ≡ true }
         ensures* writes_back { sem 𝓛 (lends_row T.row self.entry n result) }
         ensures value { Some result.now ≡ there self.old n }
     {
@@ -105,13 +105,13 @@ impl<T> Pages<T> {
 }
 
 impl<T: Blank> Pages<T> {
-    ghost use Rattle.numbering.specs.Pages.{there, row_or};
+    ghost use Rattle.numbering.specs.Pages.{there, is_there, row_or};
 
     /// Makes the row of a number be there: it and the others of its page that aren't there are blank. `NoMemory` changes no row.
     pub fn reach(&mut self, alloc: Global, n: u32) -> Result<(), NoMemory>
         ensures same { (m : ℕ) → row_or T.blank self.new m ≡ row_or T.blank self.old m }
-        ensures stays { (m : ℕ) → is_some (there self.old m) ≡ true → is_some (there self.new m) ≡ true }
-        ensures there { OnOk result (is_some (there self.new n) ≡ true) }
+        ensures stays { (m : ℕ) → is_there self.old m ≡ true → is_there self.new m ≡ true }
+        ensures there { OnOk result (is_there self.new n ≡ true) }
     {
         let page = n as usize / PAGE;
         self.lengthen(alloc, page)?;

@@ -14,6 +14,7 @@ same_but_itself a names = record {
   ins = λ n. omega arith;
   outs = λ n. omega arith;
   log_counts = λ n. omega arith;
+  promises = λ n. refl;
 }
 
 -- one call after the other
@@ -27,6 +28,7 @@ same_but_then a b c names first second = record {
   ins = λ n. omega (arith, first.ins n, second.ins n);
   outs = λ n. omega (arith, first.outs n, second.outs n);
   log_counts = λ n. omega (arith, first.log_counts n, second.log_counts n);
+  promises = λ n. second.promises n ∙ first.promises n;
 }
 
 -- the same but for names that are all among these
@@ -41,6 +43,7 @@ same_but_more a b names more fewer same = record {
   ins = same.ins;
   outs = same.outs;
   log_counts = same.log_counts;
+  promises = same.promises;
 }
 
 -- where nothing changed

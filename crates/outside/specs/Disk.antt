@@ -25,6 +25,10 @@ pub record DiskView : Type 1 where
 abbrev pub longest_disk : ℕ
 longest_disk = 2 ^ 40
 
+-- the most bytes that one write takes
+abbrev pub longest_write : ℕ
+longest_write = 2 ^ 32
+
 -- the content with these bytes at this place, over what is there and past the end
 abbrev pub patch : ℕ → List ℕ → List ℕ → List ℕ
 patch at bytes old = take at old ++ bytes ++ drop (at + length bytes) old

@@ -1,11 +1,18 @@
 -- What clauses see of a room.
-use Rattle.std.specs.Prelude.{◌≡◌, ◌≢◌, ℕ, ◌≤◌, List, [], ◌∷◌, Option, Some, None, Bool, true}
+use Rattle.std.specs.Prelude.{◌≡◌, ◌≢◌, ◌⊎◌, ℕ, ◌≤◌, List, [], ◌∷◌, length, Option, Some, None, Bool, true}
 use Rattle.outside.specs.Disk.{DiskView, SameDisk}
 
 -- how a name is open, other than as input
 pub data OpenSort : Type 0 where
   AsOutput : OpenSort
   AsLog : OpenSort
+
+-- what a room promises of a name: nothing; or that its inputs have no fault; or that its outputs and logs have none before its file has so
+-- many bytes
+pub data Promise : Type 0 where
+  Unpromised : Promise
+  ReadsAlways : Promise
+  HoldsUpTo : ℕ → Promise
 
 -- a room: its files and closed logs by name, the names that are open, and each name's counts of faults.
 pub record RoomView : Type 1 where
@@ -27,18 +34,30 @@ pub record RoomView : Type 1 where
   pub log_faults : List ℕ → ℕ
   -- what each input that was closed had left then, the newest first; none where its source doesn't tell
   pub lefts : List (Option (List ℕ))
+  -- what it promises of the name, which no call changes
+  pub promise : List ℕ → Promise
 
 -- the bytes of a file, none where there is no file
 abbrev pub bytes_or_none : Option (List ℕ) → List ℕ
 bytes_or_none None = []
 bytes_or_none (Some bytes) = bytes
 
+-- no output or log of the name had a fault, or its file has so many bytes
+abbrev pub HasHeld : RoomView → List ℕ → ℕ → Type 0
+HasHeld room name most = ((room.out_faults name ≡ 0) × (room.log_faults name ≡ 0)) ⊎ (most ≤ length (bytes_or_none (room.file name)))
+
+-- a promise of a room is kept
+abbrev pub IsPromiseKept : RoomView → List ℕ → Promise → Type 0
+IsPromiseKept room name Unpromised = Unit {0}
+IsPromiseKept room name ReadsAlways = room.in_faults name ≡ 0
+IsPromiseKept room name (HoldsUpTo most) = HasHeld room name most
+
 -- a name that differs from each of these
 abbrev pub IsNoneOf : List ℕ → List (List ℕ) → Type 0
 IsNoneOf name [] = Unit {0}
 IsNoneOf name (other ∷ others) = (name ≢ other) × IsNoneOf name others
 
--- no file, closed log or open name but of these names changes, and no count falls
+-- no file, closed log or open name but of these names changes, no count falls, and the promises stay
 pub record SameBut (old new : RoomView) (names : List (List ℕ)) : Type 0 where
   pub tells : new.tells ≡ old.tells
   pub files : (n : List ℕ) → IsNoneOf n names → new.file n ≡ old.file n
@@ -48,3 +67,4 @@ pub record SameBut (old new : RoomView) (names : List (List ℕ)) : Type 0 where
   pub ins : (n : List ℕ) → old.in_faults n ≤ new.in_faults n
   pub outs : (n : List ℕ) → old.out_faults n ≤ new.out_faults n
   pub log_counts : (n : List ℕ) → old.log_faults n ≤ new.log_faults n
+  pub promises : (n : List ℕ) → new.promise n ≡ old.promise n

@@ -1,12 +1,15 @@
 ghost use Rattle.std.specs.Prelude.{◌≡◌, ℕ, ◌+◌, ◌-◌, ◌<◌, ◌≤◌, ◌↔◌, List, length, take, drop, max, Option, Some, None, true, false, IsErr, IfOk, OnOk, OnErr};
 ghost use Rattle.std.specs.Option.{option_map};
 ghost use Rattle.outside.specs.Fault.{HasCause};
-ghost use Rattle.outside.specs.Disk.{DiskView, longest_disk, patch, Torn, TornCut, Follows, ContentFollows, NoNewImage, OnlyContent, Elapses, SameSyncs, SyncsNow, Unchanged};
+ghost use Rattle.outside.specs.Disk.{DiskView, longest_disk, longest_write, patch, Torn, TornCut, Follows, ContentFollows, NoNewImage, OnlyContent, Elapses, SameSyncs, SyncsNow, Unchanged};
 
 use crate::Failed;
 
 /// The most bytes that a disk has.
 pub const LONGEST_DISK: u64 = 1 << 40;
+
+/// The most bytes that one write takes.
+pub const LONGEST_WRITE: u64 = 1 << 32;
 
 /// Bytes that outlast a crash, as far as they are synced. A call that fails may have happened in any part.
 pub trait Disk {
@@ -29,10 +32,11 @@ pub trait Disk {
         ensures unchanged { Unchanged (seen self.old) (seen self.new) }
         ensures cause { HasCause (seen self.old).faults (seen self.new).faults result };
 
-    /// Writes the bytes from `at` on, over what is there and past the end. Until a sync succeeds, a crash may leave any
+    /// Writes the bytes from `at` on, at most [`LONGEST_WRITE`], over what is there and past the end. Until a sync succeeds, a crash may leave any
     /// bytes in their place. Where they would pass [`LONGEST_DISK`], it fails and changes nothing.
     fn write_at(&mut self, at: u64, bytes: &[u8]) -> Result<(), Failed>
-        requires { at ≤ (seen self.old).len }
+        requires within { at ≤ (seen self.old).len }
+        requires at_most { length bytes.now ≤ longest_write }
         ensures content { OnOk result ((seen self.new).content ≡ option_map (patch at bytes.now) (seen self.old).content) }
         ensures len { OnOk result ((seen self.new).len ≡ max (seen self.old).len (at + length bytes.now)) }
         ensures too_long { longest_disk < at + length bytes.now → IsErr result }

@@ -18,7 +18,7 @@ mod source;
 
 pub use bytes::Bytes;
 pub use closed::GivenUp;
-pub use disk::{Disk, LONGEST_DISK};
+pub use disk::{Disk, LONGEST_DISK, LONGEST_WRITE};
 pub use fault::{Failed, WriteFault};
 pub use gate::{Gate, LARGEST_BATCH};
 pub use memory::NoMemory;

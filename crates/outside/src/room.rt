@@ -1,7 +1,7 @@
 ghost use Rattle.std.specs.Prelude.{◌≡◌, ℕ, List, [], Option, true, false, Some, None, IsSome, IfOk, OnOk, OnErr, ◌∷◌};
 ghost use Rattle.outside.specs.Fault.{HasCause, count_sum};
 ghost use Rattle.outside.specs.Disk.{SameDisk};
-ghost use Rattle.outside.specs.Room.{RoomView, AsOutput, AsLog, bytes_or_none, SameBut};
+ghost use Rattle.outside.specs.Room.{RoomView, AsOutput, AsLog, bytes_or_none, SameBut, IsPromiseKept};
 ghost use Rattle.outside.specs.Sink.{HasFront};
 
 use crate::{Disk, Failed, Sink, Source};
@@ -14,7 +14,8 @@ pub trait Room {
 
     type Log: Disk + Send;
 
-    // What a room is, for the clauses: its files, closed logs, open names, counts of faults, and what closed inputs had left.
+    // What a room is, for the clauses: its files, closed logs, open names, counts of faults, what closed inputs had left, and what it
+    // promises.
     ghost seen: { Self → RoomView };
 
     /// Opens the file of that name to be read. It fails where there is no such file.
@@ -102,4 +103,7 @@ pub trait Room {
     ghost open_untold: { (room : Self) (name : List ℕ) → IsSome ((seen room).open_as name) → (seen room).file name ≡ None };
 
     ghost open_unlogged: { (room : Self) (name : List ℕ) → IsSome ((seen room).open_as name) → (seen room).has_log name ≡ false };
+
+    // What it promises holds.
+    ghost promised: { (room : Self) (name : List ℕ) → IsPromiseKept (seen room) name ((seen room).promise name) };
 }

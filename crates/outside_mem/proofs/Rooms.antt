@@ -30,6 +30,7 @@ stays_same old new same ins outs logs = record {
   ins = λ n. ins;
   outs = λ n. outs;
   log_counts = λ n. logs;
+  promises = λ n. refl;
 }
 
 pub apart_same : (old new : MemRoom) (name : List ℕ) → SameFiles old new → in_count old ≤ in_count new → out_count old ≤ out_count new → log_count old ≤ log_count new
@@ -48,6 +49,7 @@ apart_changed old new name file changed ins outs logs = record {
   ins = λ n. ins;
   outs = λ n. outs;
   log_counts = λ n. logs;
+  promises = λ n. refl;
 }
 
 -- the disk that was closed is the closed log

@@ -2,7 +2,7 @@
 use Rattle.std.specs.Prelude.{◌≡◌, ◌≢◌, ℕ, ◌-◌, ◌^◌, List, [], Option, Some, None, IsSome, Bool, true, false, refl}
 use Rattle.std.proofs.Common.{true≢false, sym}
 use Rattle.outside.specs.Disk.{DiskView}
-use Rattle.outside.specs.Room.{RoomView, OpenSort, AsOutput, AsLog, bytes_or_none}
+use Rattle.outside.specs.Room.{RoomView, OpenSort, AsOutput, AsLog, Unpromised, bytes_or_none}
 use Rattle.outside_mem.specs.Disk.{view_of}
 use Rattle.outside_mem.specs.declared.disk.MemDisk.{MemDisk}
 use Rattle.outside_mem.specs.MemDisk.{disk_view}
@@ -53,6 +53,7 @@ room_view room = record {
   out_faults = λ _. room.out_faults;
   log_faults = λ _. room.log_faults;
   lefts = room.closed;
+  promise = λ _. Unpromised;
 }
 
 -- an open name tells no file

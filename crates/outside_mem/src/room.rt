@@ -315,4 +315,6 @@ impl Room for MemRoom {
     ghost open_untold = { λ room name. open_is_untold (file_under room name).state };
 
     ghost open_unlogged = { λ room name. open_is_unlogged (file_under room name).state };
+
+    ghost promised = { λ room name. tt };
 }

@@ -1,7 +1,7 @@
 -- What clauses see of real files: a room tells no file, and one count of faults per sort stands for every name.
 use Rattle.std.specs.Prelude.{◌≡◌, ℕ, Bool, false, List, Option, Some, None, if◌then◌else◌}
 use Rattle.outside.specs.Disk.{DiskView}
-use Rattle.outside.specs.Room.{RoomView, OpenSort, AsOutput, AsLog}
+use Rattle.outside.specs.Room.{RoomView, OpenSort, AsOutput, AsLog, Unpromised}
 use Rattle.outside_real.specs.declared.disk.FileDisk.{FileDisk}
 use Rattle.outside_real.specs.declared.room.FileRoom.{FileRoom}
 use Rattle.std.specs.BTreeSet.{contains_text}
@@ -38,6 +38,7 @@ untold_room is_output is_log ins outs logs lefts = record {
   out_faults = λ _. outs;
   log_faults = λ _. logs;
   lefts = lefts;
+  promise = λ _. Unpromised;
 }
 
 -- a room over real files as any room is seen

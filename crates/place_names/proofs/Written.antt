@@ -5,7 +5,7 @@ use Rattle.std.specs.Cmp.{unsigned_Decides}
 use Rattle.std.specs.List.{count_by}
 use Rattle.std.proofs.lemmas.List.Sums.{sum_by_more}
 use Rattle.numbering.specs.declared.pages.Pages.{Pages}
-use Rattle.numbering.specs.Pages.{there, row_or, with_row}
+use Rattle.numbering.specs.Pages.{there, row_or, with_row_under}
 use Rattle.numbering.proofs.Pagelaws.{row_or_with_row}
 use Rattle.place_names.specs.declared.slot.Slot.{Slot}
 use Rattle.place_names.specs.declared.record_slots.RecordSlots.{RecordSlots}
@@ -22,23 +22,23 @@ was_there : {T : Type 0} (blank : T) (pages : Pages T) (number n : ℕ) (was : T
 was_there blank pages number n was at same =
     ap (row_or blank pages) (sym ((unsigned_Decides number n).0 same)) ∙ ap (λ o. unwrap_or o blank) (sym at)
 
-is_there : {T : Type 0} (pages : Pages T) (number : ℕ) (was : T) → Some was ≡ there pages number → is_some (there pages number) ≡ true
-is_there pages number was at = ap is_some (sym at)
+has_row : {T : Type 0} (pages : Pages T) (number : ℕ) (was : T) → Some was ≡ there pages number → is_some (there pages number) ≡ true
+has_row pages number was at = ap is_some (sym at)
 
 module _ {R : Type 0} (pages : Pages (RecordSlots R)) (number : ℕ) (was now : RecordSlots R) (at : Some was ≡ there pages number) where
   pub changed_under : (field : ℕ) (change : Option (Slot R) → Option (Slot R)) → IsChanged field change (slot_in was) (slot_in now)
-      → IsChangedUnder number field change (slot_under pages) (slot_under (with_row pages number now))
+      → IsChangedUnder number field change (slot_under pages) (slot_under (with_row_under pages number now))
   changed_under field change step n f =
-      ap (λ row. slot_in row f) (row_or_with_row slots.Empty pages number n now (is_there pages number was at)) ∙ by (nat_eq number n) refl
+      ap (λ row. slot_in row f) (row_or_with_row slots.Empty pages number n now (has_row pages number was at)) ∙ by (nat_eq number n) refl
     where
       by : (b : Bool) → nat_eq number n ≡ b → slot_in (if b then now else row_or slots.Empty pages n) f
           ≡ (if b && nat_eq field f then change (slot_under pages n f) else slot_under pages n f)
       by true same = step f ∙ ap (λ row. if nat_eq field f then change (slot_in row f) else slot_in row f) (sym (was_there slots.Empty pages number n was at same))
       by false apart = refl
 
-  pub same_under : IsSame (slot_in was) (slot_in now) → IsSameUnder (slot_under pages) (slot_under (with_row pages number now))
+  pub same_under : IsSame (slot_in was) (slot_in now) → IsSameUnder (slot_under pages) (slot_under (with_row_under pages number now))
   same_under same n f =
-      ap (λ row. slot_in row f) (row_or_with_row slots.Empty pages number n now (is_there pages number was at)) ∙ by (nat_eq number n) refl
+      ap (λ row. slot_in row f) (row_or_with_row slots.Empty pages number n now (has_row pages number was at)) ∙ by (nat_eq number n) refl
     where
       by : (b : Bool) → nat_eq number n ≡ b → slot_in (if b then now else row_or slots.Empty pages n) f ≡ slot_under pages n f
       by true its = same f ∙ ap (λ row. slot_in row f) (sym (was_there slots.Empty pages number n was at its))
@@ -76,8 +76,8 @@ stays_by true new here was old e its step = let same = its refl in omega arith
 stays_by false new here was old e its step = e
 
 module _ {P : Type 0} (same : P → P → Bool) (pages : Pages (Group P)) (name : ℕ) (was now : Group P) (at : Some was ≡ there pages name) where
-  written_times : (n : ℕ) (p : P) → times same (with_row pages name now) n p ≡ (if nat_eq name n then times_in same now p else times same pages n p)
-  written_times n p = ap (λ row. times_in same row p) (row_or_with_row groups.Empty pages name n now (is_there pages name was at)) ∙ by (nat_eq name n)
+  written_times : (n : ℕ) (p : P) → times same (with_row_under pages name now) n p ≡ (if nat_eq name n then times_in same now p else times same pages n p)
+  written_times n p = ap (λ row. times_in same row p) (row_or_with_row groups.Empty pages name n now (has_row pages name was at)) ∙ by (nat_eq name n)
     where
       by : (b : Bool) → times_in same (if b then now else row_or groups.Empty pages n) p ≡ (if b then times_in same now p else times same pages n p)
       by true = refl
@@ -87,16 +87,16 @@ module _ {P : Type 0} (same : P → P → Bool) (pages : Pages (Group P)) (name 
   were_times n p its = ap (λ row. times_in same row p) (was_there groups.Empty pages name n was at its)
 
   pub more_under : (thing : P) → ((p : P) → times_in same now p ≡ times_in same was p + (if same thing p then 1 else 0))
-      → TimesMore (once nat_eq same name thing) (times same pages) (times same (with_row pages name now))
+      → TimesMore (once nat_eq same name thing) (times same pages) (times same (with_row_under pages name now))
   more_under thing step n p =
       more_by (nat_eq name n) (same thing p) _ (times_in same now p) (times_in same was p) (times same pages n p) (written_times n p) (were_times n p) (step p)
 
   pub less_under : (thing : P) → ((p : P) → times_in same now p ≡ times_in same was p - (if same thing p then 1 else 0))
-      → TimesLess (once nat_eq same name thing) (times same pages) (times same (with_row pages name now))
+      → TimesLess (once nat_eq same name thing) (times same pages) (times same (with_row_under pages name now))
   less_under thing step n p =
       less_by (nat_eq name n) (same thing p) _ (times_in same now p) (times_in same was p) (times same pages n p) (written_times n p) (were_times n p) (step p)
 
-  pub stay_under : ((p : P) → times_in same now p ≡ times_in same was p) → TimesSame (times same pages) (times same (with_row pages name now))
+  pub stay_under : ((p : P) → times_in same now p ≡ times_in same was p) → TimesSame (times same pages) (times same (with_row_under pages name now))
   stay_under step n p = stays_by (nat_eq name n) _ (times_in same now p) (times_in same was p) (times same pages n p) (written_times n p) (were_times n p) (step p)
 
 module _ {P : Type 0} (same : P → P → Bool) (first old new : Pages (Group P)) (stay : (n : ℕ) → row_or groups.Empty old n ≡ row_or groups.Empty first n) where

@@ -4,9 +4,9 @@ use Rattle.place_names.specs.declared.slot.Slot.{Slot}
 
 module _ {R : Type 0} where
   -- the row in a slot that may be none
-  abbrev pub row_in : Option (Slot R) → Option R
-  row_in None = None
-  row_in (Some slot) = slot.row
+  abbrev pub slot_row : Option (Slot R) → Option R
+  slot_row None = None
+  slot_row (Some slot) = slot.row
 
   -- how many rows have room there
   abbrev pub rooms_in : Option (Slot R) → ℕ
@@ -14,13 +14,13 @@ module _ {R : Type 0} where
   rooms_in (Some slot) = slot.rooms
 
   -- the slot with this row, or with none
-  abbrev pub with_row : Option R → Slot R → Slot R
-  with_row row slot = record { field = slot.field; rooms = slot.rooms; row = row }
+  abbrev pub slot_with : Option R → Slot R → Slot R
+  slot_with row slot = record { field = slot.field; rooms = slot.rooms; row = row }
 
   -- the row of a slot is exchanged
   abbrev pub exchanged : Option R → Option (Slot R) → Option (Slot R)
   exchanged row None = None
-  exchanged row (Some slot) = Some (with_row row slot)
+  exchanged row (Some slot) = Some (slot_with row slot)
 
   -- there is room for one more row
   abbrev pub roomier : ℕ → Option (Slot R) → Option (Slot R)

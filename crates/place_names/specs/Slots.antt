@@ -6,7 +6,7 @@ use Rattle.numbering.specs.declared.seat.Seat.{Seat}
 use Rattle.numbering.specs.Seats.{same_seat}
 use Rattle.place_names.specs.declared.slot.Slot.{Slot}
 use Rattle.place_names.specs.declared.slots.Slots.{Slots}
-use Rattle.place_names.specs.Slot.{row_in, rooms_in}
+use Rattle.place_names.specs.Slot.{slot_row, rooms_in}
 use Rattle.place_names.specs.RecordSlots.{slot_under}
 
 -- what stands for the class
@@ -22,7 +22,7 @@ module _ {R : Type 0} where
 
   -- the row that stands for the seat
   abbrev pub row_at : Slots R → Seat → Option R
-  row_at slots seat = row_in (slot_at slots seat)
+  row_at slots seat = slot_row (slot_at slots seat)
 
   -- how many rows of the seat there are, standing or taken
   abbrev pub rooms_at : Slots R → Seat → ℕ

@@ -1,5 +1,5 @@
 ghost use Rattle.std.specs.Prelude.{◌≡◌, ℕ, None, OnOk, OnErr, option_copied};
-ghost use Rattle.place_names.specs.Slot.{exchanged, let_go, roomier, row_in};
+ghost use Rattle.place_names.specs.Slot.{exchanged, let_go, roomier, slot_row};
 ghost use Rattle.place_names.specs.RecordSlots.{IsChangedUnder, IsSameUnder, slot_under};
 
 use crate::record_slots::RecordSlots;
@@ -25,7 +25,7 @@ impl<R: Drop> ClassSlots<R> {
 
     /// The row that stands for a field of a record.
     pub(crate) fn row(&self, number: u32, field: u32) -> Option<&R>
-        ensures { option_copied result ≡ row_in (slot_under self.now.records number field) }
+        ensures { option_copied result ≡ slot_row (slot_under self.now.records number field) }
     {
         let record = self.records.get(number)?;
         record.row(field)
@@ -33,7 +33,7 @@ impl<R: Drop> ClassSlots<R> {
 
     /// Puts this row, or none, in place of the one that stands for a field of a record, and gives that.
     pub(crate) fn exchange(&mut self, number: u32, field: u32, row: Option<R>) -> Option<R>
-        ensures before { result ≡ row_in (slot_under self.old.records number field) }
+        ensures before { result ≡ slot_row (slot_under self.old.records number field) }
         ensures now { IsChangedUnder number field (exchanged row) (slot_under self.old.records) (slot_under self.new.records) }
     {
         let record = self.records.get_mut(number)?;

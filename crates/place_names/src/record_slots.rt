@@ -1,6 +1,6 @@
 ghost use Rattle.std.specs.Prelude.{◌≡◌, ℕ, false, None, OnOk, OnErr, option_copied};
 ghost use Rattle.std.specs.Bool.{OnTrue};
-ghost use Rattle.place_names.specs.Slot.{IsChanged, IsSame, exchanged, let_go, roomier, row_in};
+ghost use Rattle.place_names.specs.Slot.{IsChanged, IsSame, exchanged, let_go, roomier, slot_row};
 ghost use Rattle.place_names.specs.RecordSlots.{has_other, slot_in};
 
 use crate::slot::Slot;
@@ -31,7 +31,7 @@ impl<R: Drop> Blank for RecordSlots<R> {
 impl<R: Drop> RecordSlots<R> {
     /// The row that stands for the field.
     pub(crate) fn row(&self, field: u32) -> Option<&R>
-        ensures { option_copied result ≡ row_in (slot_in self.now field) }
+        ensures { option_copied result ≡ slot_row (slot_in self.now field) }
     {
         match self {
             RecordSlots::Empty => None,
@@ -47,7 +47,7 @@ impl<R: Drop> RecordSlots<R> {
 
     /// Puts this row, or none, in place of the one that stands for the field, and gives that.
     pub(crate) fn exchange(&mut self, field: u32, row: Option<R>) -> Option<R>
-        ensures before { result ≡ row_in (slot_in self.old field) }
+        ensures before { result ≡ slot_row (slot_in self.old field) }
         ensures now { IsChanged field (exchanged row) (slot_in self.old) (slot_in self.new) }
     {
         match self {

@@ -1,5 +1,5 @@
 ghost use Rattle.std.specs.Prelude.{◌≡◌, ◌+◌, OnOk, OnErr, None};
-ghost use Rattle.place_names.specs.Slot.{with_row};
+ghost use Rattle.place_names.specs.Slot.{slot_with};
 
 use marc_types::NoMemory;
 use std::mem;
@@ -27,7 +27,7 @@ impl<R: Drop> Slot<R> {
     /// Puts this row, or none, in place of the one that stands, and gives that.
     pub(crate) fn exchange(&mut self, row: Option<R>) -> Option<R>
         ensures before { result ≡ self.old.row }
-        ensures now { self.new ≡ with_row row self.old }
+        ensures now { self.new ≡ slot_with row self.old }
     {
         mem::replace(&mut self.row, row)
     }

@@ -1,6 +1,6 @@
 ghost use Rattle.std.specs.Prelude.{◌≡◌, ◌<◌, [], ◌∷◌, vec_capacity, OnOk, OnErr, IfOk, IfErr, option_copied};
 ghost use Rattle.std.specs.Bool.{OnTrue};
-ghost use Rattle.place_names.specs.Slot.{IsAt, IsChanged, IsGap, IsRising, IsSame, exchanged, let_go, roomier, row_in, slot_among};
+ghost use Rattle.place_names.specs.Slot.{IsAt, IsChanged, IsGap, IsRising, IsSame, exchanged, let_go, roomier, slot_row, slot_among};
 
 use crate::slot::Slot;
 use marc_types::NoMemory;
@@ -42,7 +42,7 @@ impl<R: Drop> SlotList<R> {
 
     /// The row that stands for the field.
     pub(crate) fn row(&self, field: u32) -> Option<&R>
-        ensures { option_copied result ≡ row_in (slot_among self.now.slots.items field) }
+        ensures { option_copied result ≡ slot_row (slot_among self.now.slots.items field) }
     {
         match self.search(field) {
             Ok(place) => self.slots[place].row.as_ref(),
@@ -52,7 +52,7 @@ impl<R: Drop> SlotList<R> {
 
     /// Puts this row, or none, in place of the one that stands for the field, and gives that.
     pub(crate) fn exchange(&mut self, field: u32, row: Option<R>) -> Option<R>
-        ensures before { result ≡ row_in (slot_among self.old.slots.items field) }
+        ensures before { result ≡ slot_row (slot_among self.old.slots.items field) }
         ensures now { IsChanged field (exchanged row) (slot_among self.old.slots.items) (slot_among self.new.slots.items) }
     {
         match self.search(field) {

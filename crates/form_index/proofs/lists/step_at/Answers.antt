@@ -1,6 +1,6 @@
 use Rattle.std.proofs.Common.{sym, ap, subst}
 use Rattle.std.specs.Prelude.{is_some}
-use Rattle.numbering.specs.Pages.{with_row}
+use Rattle.numbering.specs.Pages.{with_row_under}
 use Rattle.form_index.specs.Listed.{SteppedAt, lists_in, stepped}
 use Rattle.form_index.proofs.Stepping.{order_at, order_in, step_in, step_out, step_stays}
 use Rattle.form_index.proofs.lists.step_at.Goals as goal
@@ -11,7 +11,7 @@ step-requires-clause-ascends c = order_at c.args.keys.now c.args.lists.now c.arg
 pub returns-in-Some-clause-stepped : goal.returns-in-Some-clause-stepped
 returns-in-Some-clause-stepped c =
     let step = stepped c.args.keys.now c.args.number c.args.step in
-    subst (λ l. SteppedAt c.args.form step (lists_in c.args.lists.now) (lists_in (with_row c.args.lists.now c.args.form l))) (sym c.step.ensures.stepped)
+    subst (λ l. SteppedAt c.args.form step (lists_in c.args.lists.now) (lists_in (with_row_under c.args.lists.now c.args.form l))) (sym c.step.ensures.stepped)
     (step_in c.args.lists.now c.args.form step c.in-Some.list.now (sym c.in-Some.ensures.value))
 
 pub returns-in-Some-clause-ordered : goal.returns-in-Some-clause-ordered

@@ -1,7 +1,7 @@
 use Rattle.std.proofs.Common.{subst}
 use Rattle.form_index.specs.Index.{IsBlankScan, IsScan, rows_in}
 use Rattle.form_index.specs.declared.among.By.TheVariants.{Established, SeeFrom}
-use Rattle.form_index.specs.Paged.{is_there}
+use Rattle.numbering.specs.Pages.{is_there}
 use Rattle.form_index.proofs.Indexing.{empty_is, filled_is, scans, scans_none}
 use Rattle.form_index.proofs.index.FormIndex.candidates.Goals as goal
 

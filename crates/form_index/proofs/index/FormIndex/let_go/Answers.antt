@@ -1,6 +1,6 @@
 use Rattle.std.proofs.Common.{sym, subst}
 use Rattle.form_index.specs.Index.{ListingInOrder, rows_in}
-use Rattle.form_index.specs.Paged.{is_there}
+use Rattle.numbering.specs.Pages.{is_there}
 use Rattle.form_index.proofs.Indexing.{release_ordered, release_stands}
 use Rattle.form_index.proofs.index.FormIndex.let_go.Goals as goal
 

@@ -1,7 +1,7 @@
 use Rattle.std.proofs.Common.{◌≡◌, ◌==◌, ◌∙◌, sym, ap, subst, Some, None}
 use Rattle.std.specs.Prelude.{if◌then◌else◌}
 use Rattle.form_index.specs.Index.{ListingInOrder, Puts, row_under, rows_in, slot_at, taken}
-use Rattle.form_index.specs.Paged.{is_there}
+use Rattle.numbering.specs.Pages.{is_there}
 use Rattle.form_index.specs.Stands.{Stands}
 use Rattle.form_index.proofs.Indexing.{hold_fits, hold_held, hold_ordered, hold_slots, on_err, put_puts, reached_stands, rows_same, same_slots, enter_stands, shown, slots_at}
 use Rattle.form_index.proofs.index.FormIndex.put.Goals as goal

@@ -1,7 +1,7 @@
 use Rattle.std.proofs.Common.{◌≡◌, ◌∙◌, sym, ap, subst, None}
 use Rattle.std.specs.Prelude.{true}
 use Rattle.form_index.specs.Index.{IsHeld, ListingInOrder, PutsBack, Taken, row_under, rows_in, slot_at, taken}
-use Rattle.form_index.specs.Paged.{is_there}
+use Rattle.numbering.specs.Pages.{is_there}
 use Rattle.form_index.proofs.Indexing.{held_slot, enter_puts_back, enter_stands, shown, slots_at}
 use Rattle.form_index.proofs.index.FormIndex.put_back.Goals as goal
 

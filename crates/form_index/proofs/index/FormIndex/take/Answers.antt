@@ -1,7 +1,7 @@
 use Rattle.std.proofs.Common.{◌≡◌, ◌∙◌, sym, ap, subst, Some, None}
 use Rattle.std.specs.Option.{option_map}
 use Rattle.form_index.specs.Index.{ListingInOrder, TakesOut, row_under, rows_in, slot_at, taken}
-use Rattle.form_index.specs.Paged.{is_there}
+use Rattle.numbering.specs.Pages.{is_there}
 use Rattle.form_index.proofs.Indexing.{none_taken, row_there, rows_same, shown, slots_at, take_stands, take_takes}
 use Rattle.form_index.proofs.index.FormIndex.take.Goals as goal
 
