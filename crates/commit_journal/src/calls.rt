@@ -1,6 +1,6 @@
 ghost use Rattle.std.specs.Prelude.{◌≡◌, ℕ, ◌+◌, ◌<◌, ◌≤◌, List, length, take, drop, max, Some, OnOk};
 ghost use Rattle.std.specs.Option.{option_map};
-ghost use Rattle.outside.specs.Disk.{patch, Torn, TornCut, OnlyContent, Unchanged};
+ghost use Rattle.outside.specs.Disk.{longest_write, patch, Torn, TornCut, OnlyContent, Unchanged};
 ghost use Rattle.outside.specs.Fault.{HasCause};
 ghost use Rattle.commit_journal.specs.Journal.{Steps};
 
@@ -24,7 +24,8 @@ pub fn read_exactly<D: Disk>(disk: &mut D, at: u64, buffer: &mut [u8]) -> Result
 
 /// Writes the bytes, and syncs.
 pub fn write_synced<D: Disk>(disk: &mut D, at: u64, bytes: &[u8]) -> Result<(), Failed>
-    requires { at ≤ (D.seen disk.old).len }
+    requires within { at ≤ (D.seen disk.old).len }
+    requires at_most { length bytes.now ≤ longest_write }
     ensures content { OnOk result ((D.seen disk.new).content ≡ option_map (patch at bytes.now) (D.seen disk.old).content) }
     ensures len { OnOk result ((D.seen disk.new).len ≡ max (D.seen disk.old).len (at + length bytes.now)) }
     ensures durable { OnOk result (OnlyContent (D.seen disk.new)) }
