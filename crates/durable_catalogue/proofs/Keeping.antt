@@ -1,6 +1,7 @@
 -- What a catalogue over a disk keeps as its disk changes.
-use Rattle.std.proofs.Common.{◌≡◌, ◌⊎◌, inl, inr, ℕ, ◌+◌, ◌≤◌, true, List, [], ◌++◌, length, Option, Some, None, is_some, refl, sym, ap, subst, ◌∙◌, arith, length-append}
+use Rattle.std.proofs.Common.{◌≡◌, ◌⊎◌, inl, inr, ℕ, ◌+◌, ◌≤◌, true, List, [], ◌++◌, length, take, Option, Some, None, is_some, refl, sym, ap, subst, ◌∙◌, arith, length-append}
 use Rattle.std.proofs.Math.Logic.{∥∥₁_map}
+use Rattle.std.proofs.lemmas.List.{take-append-le}
 use Rattle.marc_types.specs.declared.entry.Entry.{Entry}
 use Rattle.marc_types.specs.declared.entry.Limits.{Limits}
 use Rattle.outside.specs.Disk.{DiskView, OnlyContent, LeavesOnly}
@@ -13,8 +14,9 @@ use Rattle.commit_journal.proofs.Logs.{version_two}
 use Rattle.entry_history.specs.Batches.{batch_payload}
 use Rattle.entry_history.specs.Payloads.{Holds}
 use Rattle.durable_catalogue.specs.Logs.{IsLogOf, HasHistory}
-use Rattle.durable_catalogue.specs.Images.{Reaches, HasFrameOrNot}
+use Rattle.durable_catalogue.specs.Images.{Reaches, HasFrameOrNot, framed_lengths}
 use Rattle.durable_catalogue.specs.Durables.{IsKept, IsLeft, opening}
+use Rattle.durable_catalogue.proofs.Framed.{framed_append, held_together}
 use Rattle.durable_catalogue.proofs.Readings.{either_reading, longer_reading}
 use Rattle.durable_catalogue.proofs.Images.{front_of, front_reaches, front_longer, whole_front, whole_is, either_reaches, either_front}
 
@@ -47,6 +49,19 @@ module _ (opened : ℕ) (entries : List Entry) (before first old : DiskView) (ke
     pub left_either : (log c : List ℕ) → old.content ≡ Some log → journal.HasFrameOrNot log frame c → ∥ IsLogOf entries c ⊎ IsLogOf (entries ++ more) c ∥₁
     left_either log c told left = ∥∥₁_map (told_history log told) (λ is. either_reading entries more log c frame (held_in log told) left is)
 
+    -- it is no longer than what the opening left, with a frame for each entry since then
+    no_longer : (log c : List ℕ) → old.content ≡ Some log → journal.HasFrameOrNot log frame c
+        → length c + framed_lengths (take opened entries) ≤ first.len + framed_lengths (entries ++ more)
+    no_longer log c told left =
+        omega (
+          arith,
+          kept.longest log (told_before log told) (disk.content_is_image log told),
+          left.no_longer,
+          held_together entries more frame.payload held,
+          framed_append entries [],
+          framed_append entries more,
+        )
+
     module _ (new : DiskView) (continues : Continues old new) (bounded : (s : ℕ) → first.synced before.moment ≡ Some s → s ≤ first.moment)
         (leaves : (log : List ℕ) → old.content ≡ Some log → LeavesOnly old new (journal.HasFrameOrNot log frame)) (later : old.faults ≤ new.faults) where
       tells_still : is_some new.content ≡ is_some before.content
@@ -67,6 +82,7 @@ module _ (opened : ℕ) (entries : List Entry) (before first old : DiskView) (ke
         since = λ s c told synced left.
             let now = told_now told in
             since_left c (left_either now.0 c now.1) (kept.since s c told synced) ((leaves now.0 now.1).since s c (since_then s synced) left);
+        longest = λ c told image. let now = told_now told in no_longer now.0 c now.1 ((leaves now.0 now.1).now c image);
         syncs = syncs_still;
         tells = tells_still;
         dated = continues.dated ∙ kept.dated;
@@ -98,6 +114,10 @@ module _ (opened : ℕ) (entries : List Entry) (before first old : DiskView) (ke
         since = λ s c told synced left.
             let now = told_now told in
             since_left c (left_either now.0 c now.1) (kept.since s c told synced) ((leaves now.0 now.1).since s c (since_then s synced) left);
+        longest = λ c told image.
+            let now = told_now told in
+            let bound = no_longer now.0 c now.1 ((leaves now.0 now.1).now c image) in
+            omega (arith, bound, ap framed_lengths (take-append-le opened entries more kept.opened_is), framed_append (entries ++ more) []);
         syncs = syncs_still;
         tells = tells_still;
         dated = continues.dated ∙ kept.dated;
@@ -157,6 +177,7 @@ pub left_of : (limits : Limits) (run opened : ℕ) (entries more : List Entry) (
 left_of limits run opened entries more before first now kept = record {
   images = λ c told image. kept.images c told image;
   since = λ s c told synced left. kept.since s c told synced left;
+  longest = λ c told image. kept.longest c told image;
   syncs = kept.syncs;
   tells = kept.tells;
   dated = kept.dated;

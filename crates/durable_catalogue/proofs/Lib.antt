@@ -1,6 +1,7 @@
 pub mod Answered
 pub mod Called
 pub mod Fits
+pub mod Framed
 pub mod Frames
 pub mod Histories
 pub mod Images

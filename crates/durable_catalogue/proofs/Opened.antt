@@ -1,7 +1,8 @@
 -- What an opening leaves.
-use Rattle.std.proofs.Common.{◌≡◌, ◌⊎◌, inl, inr, ℕ, ◌<◌, ◌≤◌, Bool, true, false, List, [], length, Some, Ok, refl, sym, subst, ◌∙◌, arith}
+use Rattle.std.proofs.Common.{◌≡◌, ◌⊎◌, inl, inr, ℕ, ◌<◌, ◌≤◌, Bool, true, false, List, [], length, Some, Ok, refl, sym, ap, subst, ◌∙◌, arith}
 use Rattle.std.specs.Prelude.{◌==◌, ◌≢◌, slice_index, nat_eq}
 use Rattle.std.proofs.lemmas.Bool.Decides.{nat_tests}
+use Rattle.std.proofs.lemmas.List.{take_all}
 use Rattle.marc_types.specs.declared.entry.Entry.{Entry}
 use Rattle.marc_types.specs.declared.entry.Limits.{Limits}
 use Rattle.outside.specs.Disk.{DiskView}
@@ -19,10 +20,11 @@ use Rattle.entry_history.specs.Payloads.{IsHistory, CanFollow}
 use Rattle.durable_catalogue.specs.declared.fault.OpenFault.{OpenFault}
 use Rattle.durable_catalogue.specs.declared.fault.OpenFault.TheVariants.{DeviceFault, NotAJournal, OldVersion, Full, NoMemory}
 use Rattle.durable_catalogue.specs.Logs.{payloads_of, IsLogOf}
-use Rattle.durable_catalogue.specs.Images.{Reaches}
+use Rattle.durable_catalogue.specs.Images.{Reaches, framed_lengths}
 use Rattle.durable_catalogue.specs.Durables.{IsKept}
 use Rattle.durable_catalogue.specs.Openings.{IsBadFrame, IsUnloaded, NoGate, NoPayload, IsUnopened, IsOpening}
 use Rattle.durable_catalogue.specs.Faults.{open_fault}
+use Rattle.durable_catalogue.proofs.Framed.{framed_append}
 use Rattle.durable_catalogue.proofs.Histories.{runs_bounded}
 use Rattle.durable_catalogue.proofs.Images.{front_reaches, whole_front}
 use Rattle.durable_catalogue.proofs.Keeping.{some_of}
@@ -58,6 +60,12 @@ module _ (frames : List Frame) (place : ℕ) (old new : DiskView) (entries : Lis
         let now = some_of new.content (opens.continues.tells ∙ told) in
         ∣ whole c (subst (IsLogOf entries) (sym (recovered.settled.only now.0 c now.1 image)) (now_reading now.0 now.1)) ∣₁;
     since = λ s c told synced left. let was = some_of old.content told in ∣ whole c (same_log entries was.0 c (opens.crash s was.0 c synced was.1 left).same (was_reading was.0 was.1)) ∣₁;
+    longest = λ c told image.
+        let now = some_of new.content (opens.continues.tells ∙ told) in
+        let is = recovered.settled.only now.0 c now.1 image in
+        let end = (recovered.settled.ends now.0 now.1).end in
+        let all = take_all (length entries) entries (omega arith) in
+        omega (arith, recovered.settled.len, end, ap length is, ap framed_lengths all, framed_append entries []);
     syncs = λ s synced. synced;
     tells = opens.continues.tells;
     dated = opens.continues.dated;

@@ -1,5 +1,5 @@
 -- What a catalogue over a journal keeps. The rules are this project's own.
-use Rattle.std.specs.Prelude.{◌≡◌, ◌≢◌, ℕ, ◌≤◌, Bool, true, false, List, [], ◌∷◌, ◌++◌, length, Option, Some, None, is_some}
+use Rattle.std.specs.Prelude.{◌≡◌, ◌≢◌, ℕ, ◌+◌, ◌≤◌, Bool, true, false, List, [], ◌∷◌, ◌++◌, length, take, Option, Some, None, is_some}
 use Rattle.std.specs.Option.{option_map}
 use Rattle.std.specs.declared.snapshot.Snapshot.{Snapshot}
 use Rattle.marc_types.specs.declared.entry.Entry.{Entry}
@@ -12,7 +12,7 @@ use Rattle.entry_history.specs.Events.{committed}
 use Rattle.entry_history.specs.declared.event.Event.{Event}
 use Rattle.entry_history.specs.declared.reply.BatchReply.{BatchReply}
 use Rattle.entry_history.specs.declared.event.Event.TheVariants.{Broke}
-use Rattle.durable_catalogue.specs.Images.{Holds}
+use Rattle.durable_catalogue.specs.Images.{Holds, framed_lengths}
 
 -- the frame that a device failed to take, as its entries
 abbrev pub mark_of : Option (Snapshot (List Entry)) → Option (List Entry)
@@ -43,12 +43,13 @@ is_taken (Some Broken) = false
 abbrev pub TookNothing : BatchReply → Type 0
 TookNothing reply = (reply.receipts ≡ []) × (reply.end ≢ Some DeviceFault)
 
--- what an opening leaves and no commit changes: the limits and the run; how many entries there were; whether the disk told its
--- content and its moments, when it was handed over, and how many faults it had had; and the moment of the first sync since then,
--- where the disk tells its moments
+-- what an opening leaves and no commit changes: the limits and the run; how many entries there were, and how many bytes the log had
+-- when it was open; whether the disk told its content and its moments, when it was handed over, and how many faults it had had; and
+-- the moment of the first sync since then, where the disk tells its moments
 pub record Opening : Type 0 where
   pub origin : Origin
   pub opened : ℕ
+  pub length : ℕ
   pub tells : Bool
   pub dated : Bool
   pub moment : ℕ
@@ -59,6 +60,7 @@ abbrev pub opening : Limits → ℕ → ℕ → DiskView → DiskView → Openin
 opening limits run opened before first = record {
   origin = record { limits = limits; run = run };
   opened = opened;
+  length = first.len;
   tells = is_some before.content;
   dated = before.dated;
   moment = before.moment;
@@ -67,10 +69,13 @@ opening limits run opened before first = record {
 }
 
 -- Where the disk told its content when it was handed over: each image has all entries, and each since the opening's first sync has
--- those of the opening. The opening's first sync stays the first. Before is that disk, first the one that the opening left.
+-- those of the opening; none is longer than the log when it was open, with a frame for each entry since then and for each marked one.
+-- The opening's first sync stays the first. Before is that disk, first the one that the opening left.
 pub record IsKept (opened : ℕ) (entries more : List Entry) (before first now : DiskView) : Type 0 where
   pub images : (c : List ℕ) → is_some before.content ≡ true → now.image c → Holds (length entries) entries more c
   pub since : (s : ℕ) (c : List ℕ) → is_some before.content ≡ true → first.synced before.moment ≡ Some s → now.left s c → Holds opened entries more c
+  pub longest : (c : List ℕ) → is_some before.content ≡ true → now.image c
+      → length c + framed_lengths (take opened entries) ≤ first.len + framed_lengths (entries ++ more)
   pub syncs : (s : ℕ) → first.synced before.moment ≡ Some s → now.synced before.moment ≡ Some s
   pub tells : is_some now.content ≡ is_some before.content
   pub dated : now.dated ≡ before.dated
@@ -80,10 +85,12 @@ pub record IsKept (opened : ℕ) (entries more : List Entry) (before first now :
   pub opened_is : opened ≤ length entries
 
 -- Of a disk that a catalogue of these entries gives back, with those of a frame that it failed to take: where it told its content
--- at the opening, each image has all entries, and each since the opening's first sync has those of the opening.
+-- at the opening, each image has all entries, and each since the opening's first sync has those of the opening; none is longer than
+-- the log when it was open, with a frame for each entry since then and for each of that frame.
 pub record IsLeft (o : Opening) (entries more : List Entry) (disk : DiskView) : Type 0 where
   pub images : (c : List ℕ) → o.tells ≡ true → disk.image c → Holds (length entries) entries more c
   pub since : (s : ℕ) (c : List ℕ) → o.tells ≡ true → o.synced ≡ Some s → disk.left s c → Holds o.opened entries more c
+  pub longest : (c : List ℕ) → o.tells ≡ true → disk.image c → length c + framed_lengths (take o.opened entries) ≤ o.length + framed_lengths (entries ++ more)
   pub syncs : (s : ℕ) → o.synced ≡ Some s → disk.synced o.moment ≡ Some s
   pub tells : is_some disk.content ≡ o.tells
   pub dated : disk.dated ≡ o.dated

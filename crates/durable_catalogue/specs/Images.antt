@@ -1,7 +1,8 @@
 -- What a crash leaves of a catalogue's log. The rules are this project's own.
-use Rattle.std.specs.Prelude.{◌≡◌, ◌⊎◌, ℕ, ◌+◌, ◌<◌, ◌≤◌, List, ◌++◌, length, take}
+use Rattle.std.specs.Prelude.{◌≡◌, ◌⊎◌, ℕ, ◌+◌, ◌<◌, ◌≤◌, List, [], ◌∷◌, ◌++◌, length, take}
 use Rattle.marc_types.specs.declared.entry.Entry.{Entry}
 use Rattle.commit_journal.specs.declared.format.TheConstants.{LENGTH_BYTES}
+use Rattle.entry_record.specs.Payload.{payload_of}
 use Rattle.entry_history.specs.Batches.{batch_payload}
 use Rattle.durable_catalogue.specs.Logs.{IsLogOf}
 
@@ -21,3 +22,12 @@ Holds least entries marked image = ∥ Reaches least entries marked image ∥₁
 pub record HasFrameOrNot (before frame : List Entry) (log image : List ℕ) : Type 0 where
   pub history : ∥ IsLogOf before image ⊎ IsLogOf (before ++ frame) image ∥₁
   pub no_longer : length image ≤ length log + LENGTH_BYTES + length (batch_payload frame) + 1
+
+-- how many bytes a frame for this entry alone has: the length of its payload, the payload, and a gate
+abbrev pub framed_length : Entry → ℕ
+framed_length e = LENGTH_BYTES + length (payload_of e) + 1
+
+-- and a frame for each of these
+abbrev pub framed_lengths : List Entry → ℕ
+framed_lengths [] = 0
+framed_lengths (e ∷ es) = framed_length e + framed_lengths es

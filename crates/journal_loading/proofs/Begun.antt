@@ -17,7 +17,7 @@ use Rattle.parallel_loading.specs.declared.input.InputFile.{InputFile}
 use Rattle.parallel_loading.specs.Files.{EachLoaded, AreOfOneFile, AreLoaded}
 use Rattle.room_files.specs.Faults.{fault_of_opening}
 use Rattle.room_files.specs.Journals.{journal_limits, IsOpenedFrom, IsClosedTo}
-use Rattle.journal_loading.specs.Inputs.{AreInputs, IsFresh, RisesFrom, lefts_of}
+use Rattle.journal_loading.specs.Inputs.{AreInputs, IsFresh, RisesFrom, lefts_of_inputs}
 use Rattle.journal_loading.specs.Outcomes.{any_ends, loading_fault, AreLoadedBehind, IsLoadedWhole, AreUnread, IsUnbegun, Unbegun, IsLoadingFault, NotBegun, InPart, IsFinished, IsStopped, Unloaded, Faulty}
 use Rattle.journal_loading.proofs.Loaded.{inputs_count, libraries_loaded, libraries_read, none_failed, results_count, after_count, has_mark, had_fault, each_failed, HadFault}
 use Rattle.journal_loading.proofs.Opened.{unread, take_all}
@@ -168,17 +168,17 @@ module _ {S : Type 0} (left : S → Option (List ℕ)) (faults : S → ℕ) (roo
       }
 
   -- all files were opened, and nothing was read of them
-  none_read : (new : RoomView) → after ≡ files → new.lefts ≡ lefts_of left after ++ room.lefts → AreUnread room new libraries
+  none_read : (new : RoomView) → after ≡ files → new.lefts ≡ lefts_of_inputs left after ++ room.lefts → AreUnread room new libraries
   none_read new same_files lefts = record {
     count = length libraries;
-    lefts_are = lefts ∙ ap (λ inputs. lefts_of left inputs ++ room.lefts) same_files ∙ ap (λ ls. ls ++ room.lefts)
+    lefts_are = lefts ∙ ap (λ inputs. lefts_of_inputs left inputs ++ room.lefts) same_files ∙ ap (λ ls. ls ++ room.lefts)
         (unread left room tells libraries files inputs ∙ ap (map (λ (l : Library). room.file l.file)) (sym (take_all libraries (length libraries) refl)));
   }
 
   pub loaded_part : (new : RoomView) (why : Fault) (results : Result (List FileResult) NoMemory)
       → IfOk results (λ rs. AreLoaded left faults limits before files after rs entries mark) → OnErr results (entries ≡ before) → OnErr results (mark ≡ None)
       → OnErr results (after ≡ files) → IsStopped why results → (o.tells ≡ true → IsClosedTo new journal entries mark o)
-      → new.lefts ≡ lefts_of left after ++ room.lefts → All (IsFresh faults) files → RisesFrom faults 0 libraries after room new
+      → new.lefts ≡ lefts_of_inputs left after ++ room.lefts → All (IsFresh faults) files → RisesFrom faults 0 libraries after room new
       → IsLoadingFault room new journal libraries why
   unfolding loaded_behind
   loaded_part new why (Err e) loaded kept unmarked same_files (Unloaded e' is) closed lefts fresh rises =
@@ -194,7 +194,7 @@ module _ {S : Type 0} (left : S → Option (List ℕ)) (faults : S → ℕ) (roo
     faulty = is;
     unmarked = λ other. loaded.unmarked (none_failed results (none_by_a_device results why is other));
     closed = subst (λ es. IsClosedTo new journal es mark o) loaded.after_is (closed (opened.tells tells));
-    lefts = lefts_of left after;
+    lefts = lefts_of_inputs left after;
     lefts_are = lefts;
     read_to = libraries_read left faults room before loaded.added mark 0 libraries files after results tells inputs
         (subst (λ most. EachLoaded left faults most before loaded.added mark 0 files after results) same loaded.each);

@@ -14,7 +14,7 @@ use Rattle.parallel_loading.specs.declared.input.InputFile.{InputFile}
 use Rattle.parallel_loading.specs.Files.{IsFileLoaded, LoadsFile, EachLoaded, NoFile, OneMore}
 use Rattle.room_files.specs.Journals.{journal_limits}
 use Rattle.file_entries.specs.Files.{IsJudged}
-use Rattle.journal_loading.specs.Inputs.{IsInputOf, AreInputs, NoInput, OneInput, IsFresh, lefts_of}
+use Rattle.journal_loading.specs.Inputs.{IsInputOf, AreInputs, NoInput, OneInput, IsFresh, lefts_of_inputs}
 use Rattle.journal_loading.specs.Outcomes.{IsLibraryLoaded, AreLibrariesLoaded, NoLibrary, OneLibrary, AreReadTo, ends_so, any_ends}
 
 pub there_is : (o : Option (List ℕ)) → IsSome o → (b : List ℕ) × (o ≡ Some b)
@@ -74,7 +74,7 @@ module _ {S : Type 0} (left : S → Option (List ℕ)) (faults : S → ℕ) (roo
     -- and was read as far as its input gave it
     pub libraries_read : (loader : ℕ) (libraries : List Library) (old new : List (InputFile S)) (results : List FileResult) (tells : room.tells ≡ true)
         → (are : AreInputs left room libraries old) → (each : EachLoaded left faults journal_limits before added mark loader old new results)
-        → AreReadTo (libraries_loaded loader libraries old new results tells are each) (lefts_of left new)
+        → AreReadTo (libraries_loaded loader libraries old new results tells are each) (lefts_of_inputs left new)
     unfolding libraries_loaded library_loaded
     libraries_read _ _ _ _ _ tells NoInput (NoFile loader) = tt
     libraries_read _ _ _ _ _ tells (OneInput ls is l i one are) (OneMore loader fs bs rs o n r did each) =

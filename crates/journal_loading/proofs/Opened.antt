@@ -7,7 +7,7 @@ use Rattle.outside.specs.Fault.{Rose}
 use Rattle.outside.specs.Room.{RoomView, SameBut}
 use Rattle.command_words.specs.declared.library.Library.{Library}
 use Rattle.parallel_loading.specs.declared.input.InputFile.{InputFile}
-use Rattle.journal_loading.specs.Inputs.{IsInputFault, IsInputOf, AreInputs, NoInput, OneInput, RisesFrom, lefts_of}
+use Rattle.journal_loading.specs.Inputs.{IsInputFault, IsInputOf, AreInputs, NoInput, OneInput, RisesFrom, lefts_of_inputs}
 
 some_same : {A : Type 0} {x y : A} → Some x ≡ Some y → x ≡ y
 some_same is = cc
@@ -129,18 +129,18 @@ drop_at (y ∷ xs) (suc n) x is = drop_at xs n x is
 
 -- one more input is closed, in front of those behind it
 pub lefts_more : {S : Type 0} (left : S → Option (List ℕ)) (all : List (InputFile S)) (n : ℕ) (last : InputFile S) (old now new : List (Option (List ℕ)))
-    → slice_get all n ≡ Some last → now ≡ lefts_of left (drop (n + 1) all) ++ old → new ≡ left last.source ∷ now → new ≡ lefts_of left (drop n all) ++ old
+    → slice_get all n ≡ Some last → now ≡ lefts_of_inputs left (drop (n + 1) all) ++ old → new ≡ left last.source ∷ now → new ≡ lefts_of_inputs left (drop n all) ++ old
 lefts_more left all n last old now new at was is =
     let next : n + 1 ≡ suc n = omega arith in
-    is ∙ ap (λ ls. left last.source ∷ ls) (was ∙ ap (λ k. lefts_of left (drop k all) ++ old) next)
-    ∙ sym (ap (λ inputs. lefts_of left inputs ++ old) (drop_at all n last at))
+    is ∙ ap (λ ls. left last.source ∷ ls) (was ∙ ap (λ k. lefts_of_inputs left (drop k all) ++ old) next)
+    ∙ sym (ap (λ inputs. lefts_of_inputs left inputs ++ old) (drop_at all n last at))
 
 -- what inputs have left of which nothing was read
 pub unread : {S : Type 0} (left : S → Option (List ℕ)) (room : RoomView) → room.tells ≡ true → (libraries : List Library) (inputs : List (InputFile S))
-    → AreInputs left room libraries inputs → lefts_of left inputs ≡ map (λ (library : Library). room.file library.file) libraries
+    → AreInputs left room libraries inputs → lefts_of_inputs left inputs ≡ map (λ (library : Library). room.file library.file) libraries
 unread left room tells _ _ NoInput = refl
 unread left room tells _ _ (OneInput ls is l i one are) =
-    ap (λ x. x ∷ lefts_of left is) (one.bytes tells) ∙ ap (λ xs. room.file l.file ∷ xs) (unread left room tells ls is are)
+    ap (λ x. x ∷ lefts_of_inputs left is) (one.bytes tells) ∙ ap (λ xs. room.file l.file ∷ xs) (unread left room tells ls is are)
 
 -- counts that rose between other calls rose in all of them
 pub rises_around : {S : Type 0} (faults : S → ℕ) (libraries : List Library) (inputs : List (InputFile S)) (old now new last : RoomView)
@@ -154,7 +154,7 @@ rises_around faults libraries inputs old now new last before rises behind index 
 
 -- none is closed at first
 pub lefts_none : {S : Type 0} (left : S → Option (List ℕ)) (all : List (InputFile S)) (old : List (Option (List ℕ)))
-    → old ≡ lefts_of left (drop (length all) all) ++ old
+    → old ≡ lefts_of_inputs left (drop (length all) all) ++ old
 lefts_none left [] old = refl
 lefts_none left (i ∷ all) old = lefts_none left all old
 

@@ -38,8 +38,8 @@ module _ {S : Type 0} (left : S → Option (List ℕ)) where
         → AreInputs room libraries inputs → AreInputs room (library ∷ libraries) (input ∷ inputs)
 
 -- what these inputs have left
-abbrev pub lefts_of : {S : Type 0} → (S → Option (List ℕ)) → List (InputFile S) → List (Option (List ℕ))
-lefts_of left inputs = map (λ input. left input.source) inputs
+abbrev pub lefts_of_inputs : {S : Type 0} → (S → Option (List ℕ)) → List (InputFile S) → List (Option (List ℕ))
+lefts_of_inputs left inputs = map (λ input. left input.source) inputs
 
 -- an input that had no fault yet, of a file with a proper code
 pub record IsFresh {S : Type 0} (faults : S → ℕ) (input : InputFile S) : Type 0 where

@@ -38,8 +38,8 @@ pub data AreLibrariesLoaded (room : RoomView) (before added : List Entry) (mark 
       → IsLibraryLoaded room before added mark library loader result → AreLibrariesLoaded room before added mark (loader + 1) libraries results
       → AreLibrariesLoaded room before added mark loader (library ∷ libraries) (result ∷ results)
 
--- How far each file was read, of whose input this was left: where it failed, no item is left out that ends, with its terminator, within the
--- bytes that it gave.
+-- How far each file was read, of whose input this was left: where the file's end is a read fault, no item is left out that ends, with its
+-- terminator, within the bytes that the input gave.
 abbrev pub AreReadTo : {room : RoomView} {before added : List Entry} {mark : Option (List Entry)} {loader : ℕ} {libraries : List Library}
     {results : List FileResult} → AreLibrariesLoaded room before added mark loader libraries results → List (Option (List ℕ)) → Type 0
 AreReadTo (NoLibrary loader) [] = Unit {0}

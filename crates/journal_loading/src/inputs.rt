@@ -3,7 +3,7 @@ ghost use Rattle.std.specs.Prelude.{◌≡◌, ◌≢◌, ◌≤◌, None, All, 
 ghost use Rattle.marc_types.specs.Valid.{is_code};
 ghost use Rattle.outside.specs.Fault.{Rose};
 ghost use Rattle.outside.specs.Room.{SameBut};
-ghost use Rattle.journal_loading.specs.Inputs.{AreProper, IsInputFault, IsInputOf, AreInputs, IsFresh, RisesFrom, lefts_of};
+ghost use Rattle.journal_loading.specs.Inputs.{AreProper, IsInputFault, IsInputOf, AreInputs, IsFresh, RisesFrom, lefts_of_inputs};
 
 use command_words::Library;
 use console_lines::Fault;
@@ -83,7 +83,7 @@ fn close_input<R: Room>(room: &mut R, library: &Library, input: InputFile<R::In>
 pub fn close_inputs<R: Room>(room: &mut R, libraries: &[Library], inputs: InputFiles<R::In>)
     requires { length inputs ≤ length libraries.now }
     ensures stays { SameBut (R.seen room.old) (R.seen room.new) [] }
-    ensures lefts { (R.seen room.new).lefts ≡ lefts_of R.In.left inputs ++ (R.seen room.old).lefts }
+    ensures lefts { (R.seen room.new).lefts ≡ lefts_of_inputs R.In.left inputs ++ (R.seen room.old).lefts }
     ensures rose { RisesFrom R.In.faults 0 libraries.now inputs (R.seen room.old) (R.seen room.new) }
 {
     let mut inputs = inputs.into_vec();

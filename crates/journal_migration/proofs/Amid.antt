@@ -7,11 +7,9 @@ use Rattle.marc_types.specs.declared.entry.Entry.{Entry}
 use Rattle.commit_journal.specs.declared.format.TheConstants.{BLANK_LENGTH}
 use Rattle.commit_journal.specs.Log.{version_of}
 use Rattle.durable_catalogue.specs.Logs.{IsLogOf}
-use Rattle.journal_migration.specs.Migrations.{IsAmid, Before, Behind, framed_length, framed_lengths}
-
-pub framed_append : (entries more : List Entry) → framed_lengths (entries ++ more) ≡ framed_lengths entries + framed_lengths more
-framed_append [] more = omega arith
-framed_append (e ∷ es) more = let rest = framed_append es more in omega (arith, rest)
+use Rattle.durable_catalogue.specs.Images.{framed_length, framed_lengths}
+use Rattle.durable_catalogue.proofs.Framed.{framed_append}
+use Rattle.journal_migration.specs.Migrations.{IsAmid, Before, Behind}
 
 module _ (history : List Entry) (at : ℕ) (e : Entry) (there : slice_get history at ≡ Some e) where
   pub entry_within : at < length history

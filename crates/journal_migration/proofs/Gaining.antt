@@ -17,13 +17,15 @@ use Rattle.entry_record.specs.Payload.{payload_of}
 use Rattle.entry_history.specs.Payloads.{IsEntry, CanFollow, Holds}
 use Rattle.entry_payload.proofs.Payloads.{held_alone}
 use Rattle.durable_catalogue.specs.Logs.{HasHistory}
+use Rattle.durable_catalogue.specs.Images.{framed_lengths}
+use Rattle.durable_catalogue.proofs.Framed.{framed_append}
 use Rattle.durable_catalogue.proofs.Keeping.{some_of}
 use Rattle.durable_catalogue.proofs.Readings.{either_reading, longer_reading}
 use Rattle.journal_migration.specs.declared.fault.MigrateFault.{MigrateFault}
 use Rattle.journal_migration.specs.declared.fault.MigrateFault.TheVariants.{DeviceFault}
-use Rattle.journal_migration.specs.Migrations.{IsAmid, Before, framed_lengths}
+use Rattle.journal_migration.specs.Migrations.{IsAmid, Before}
 use Rattle.journal_migration.specs.Fronts.{EachFollows, Brings, BringsRest, HasGained, HasBrought, HasOneMoreOrNot, TriesEntry, AddsEntry}
-use Rattle.journal_migration.proofs.Amid.{framed_append, entry_within, one_more, split_at, amid_either, amid_where}
+use Rattle.journal_migration.proofs.Amid.{entry_within, one_more, split_at, amid_either, amid_where}
 use Rattle.journal_migration.proofs.Following.{follows_at}
 
 -- what follows from three facts about a success

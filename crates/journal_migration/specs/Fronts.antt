@@ -9,8 +9,9 @@ use Rattle.commit_journal.specs.Log.{version_of}
 use Rattle.entry_history.specs.Payloads.{CanFollow, IsHistory}
 use Rattle.entry_history.specs.Readers.{IsVersion}
 use Rattle.durable_catalogue.specs.Logs.{payloads_of, IsLogOf, HasHistory}
+use Rattle.durable_catalogue.specs.Images.{framed_length, framed_lengths}
 use Rattle.durable_catalogue.specs.Openings.{IsBadFrame}
-use Rattle.journal_migration.specs.Migrations.{Begins, AreWithin, IsAmid, framed_length, framed_lengths}
+use Rattle.journal_migration.specs.Migrations.{Begins, AreWithin, IsAmid}
 use Rattle.journal_migration.specs.declared.fault.MigrateFault.{MigrateFault}
 use Rattle.journal_migration.specs.declared.fault.MigrateFault.TheVariants.{DeviceFault, NotAJournal, OldVersion, Full, NotPrefix, NoMemory}
 

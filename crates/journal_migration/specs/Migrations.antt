@@ -4,12 +4,12 @@ use Rattle.marc_types.specs.declared.entry.Entry.{Entry}
 use Rattle.marc_types.specs.declared.entry.Limits.{Limits}
 use Rattle.outside.specs.Disk.{DiskView, OnlyContent, SameDisk}
 use Rattle.outside.specs.Fault.{Rose}
-use Rattle.commit_journal.specs.declared.format.TheConstants.{BLANK_LENGTH, LENGTH_BYTES}
+use Rattle.commit_journal.specs.declared.format.TheConstants.{BLANK_LENGTH}
 use Rattle.commit_journal.specs.Log.{walk_of, version_of}
 use Rattle.commit_journal.specs.Journal.{EndsAt, LeavesLog}
 use Rattle.entry_record.specs.History.{IsWithin}
-use Rattle.entry_record.specs.Payload.{payload_of}
 use Rattle.durable_catalogue.specs.Logs.{IsLogOf, HasHistory}
+use Rattle.durable_catalogue.specs.Images.{framed_lengths}
 use Rattle.durable_catalogue.specs.Openings.{IsNoJournal}
 use Rattle.durable_catalogue.specs.Refused.{LeavesAlone}
 use Rattle.journal_migration.specs.declared.fault.MigrateFault.{MigrateFault}
@@ -62,14 +62,6 @@ pub record IsBrought (history : List Entry) (log : List ℕ) : Type 0 where
   pub has : HasHistory history log
   pub newest : version_of log ≡ 2
   pub ended : EndsAt (walk_of log).place log
-
--- the bytes of an entry in a frame of its own: the payload behind its length, and a gate
-abbrev pub framed_length : Entry → ℕ
-framed_length e = LENGTH_BYTES + length (payload_of e) + 1
-
-abbrev pub framed_lengths : List Entry → ℕ
-framed_lengths [] = 0
-framed_lengths (e ∷ es) = framed_length e + framed_lengths es
 
 -- An image has these entries, in no more bytes than the log or a blank one; or, where it may have more and a history begins with them,
 -- these and a front of what that has behind them, in no more bytes than with a frame for each entry there. Where it may have more it is

@@ -1,11 +1,12 @@
 -- A journal as it is opened and closed again.
-use Rattle.std.proofs.Common.{◌≡◌, ◌⊎◌, inl, inr, ⊎_elim, ◌∙◌, ℕ, ◌<◌, ◌≤◌, Bool, true, false, List, length, Option, Some, None, is_some, refl, sym, ap, subst, arith, []}
+use Rattle.std.proofs.Common.{◌≡◌, ◌⊎◌, inl, inr, ⊎_elim, ◌∙◌, ℕ, ◌<◌, ◌≤◌, max, Bool, true, false, List, length, Option, Some, None, is_some, refl, sym, ap, subst, arith, []}
 use Rattle.std.proofs.Math.Logic.{∥∥₁_map}
 use Rattle.marc_types.specs.declared.entry.Entry.{Entry}
 use Rattle.outside.specs.Disk.{DiskView, SameDisk, Unchanged, OnlyContent}
 use Rattle.outside.specs.Fault.{Rose, count_sum}
 use Rattle.outside.specs.Room.{RoomView, SameBut, bytes_or_none}
 use Rattle.outside.proofs.Counts.{rose_closed}
+use Rattle.commit_journal.specs.declared.format.TheConstants.{BLANK_LENGTH}
 use Rattle.commit_journal.specs.Journal.{IsSettled, EndsAt, LeavesLog}
 use Rattle.commit_journal.proofs.Logs.{version_two}
 use Rattle.durable_catalogue.specs.Logs.{HasHistory}
@@ -182,6 +183,13 @@ keeps_where failed also old new name is (Opened closed) = Opened (record {
   settled = λ other. closed.settled (λ f. other (is f));
 })
 
+-- an opening leaves the log no longer than it was, or than a blank one
+pub opened_length : (old new : DiskView) (log : List ℕ) → old.content ≡ Some log → IsOpenedDisk old new
+    → ((b : List ℕ) → new.content ≡ Some b → length b ≡ new.len) → new.len ≤ max BLANK_LENGTH (length log)
+opened_length old new log told opened counts =
+    let now = some_of new.content (opened.crash.tells ∙ ap is_some told) in
+    omega (arith, counts now.0 now.1, (opened.in_order.leaves log now.0 told now.1).same.no_longer)
+
 -- the same disk is left
 left_same : (o : Opening) (entries more : List Entry) (disk now : DiskView) → SameDisk disk now → IsLeft o entries more disk → IsLeft o entries more now
 left_same o entries more disk now same left =
@@ -189,6 +197,7 @@ left_same o entries more disk now same left =
     record {
       images = λ c told image. left.images c told ((unchanged.images c).0 image);
       since = λ s c told synced was. left.since s c told synced ((unchanged.lefts s c).0 was);
+      longest = λ c told image. left.longest c told ((unchanged.images c).0 image);
       syncs = λ s synced. unchanged.syncs o.moment ∙ left.syncs s synced;
       tells = ap is_some unchanged.content ∙ left.tells;
       dated = unchanged.dated ∙ left.dated;
@@ -211,6 +220,7 @@ closed_to room name entries mark o disk place left few settled tells image is_lo
       file = file ∙ bytes.1;
       content = same.unchanged.content ∙ bytes.1;
       holds = left.images bytes.0 tells (image bytes.0 bytes.1);
+      longest = left.longest bytes.0 tells (image bytes.0 bytes.1);
       few = few;
       ended = λ none. let ends = (settled none).ends bytes.0 bytes.1 in subst (λ p. EndsAt p bytes.0) (sym ends.gate) ends;
       newest = λ none. version_two bytes.0 ((settled none).header bytes.0 bytes.1);

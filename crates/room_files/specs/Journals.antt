@@ -1,16 +1,17 @@
 -- A journal in a room: as it is opened, and as it is closed again. The rules are this project's own.
-use Rattle.std.specs.Prelude.{◌≡◌, ℕ, ◌≤◌, true, List, length, Option, Some, None, is_some}
+use Rattle.std.specs.Prelude.{◌≡◌, ℕ, ◌+◌, ◌≤◌, max, true, List, ◌++◌, length, take, Option, Some, None, is_some}
 use Rattle.marc_types.specs.declared.entry.Entry.{Entry}
 use Rattle.marc_types.specs.declared.entry.Limits.{Limits}
 use Rattle.marc_types.specs.Limits.{greatest_limits}
 use Rattle.outside.specs.Disk.{DiskView, SameDisk, OnlyContent}
 use Rattle.outside.specs.Fault.{Rose}
 use Rattle.outside.specs.Room.{RoomView, AsLog, bytes_or_none}
+use Rattle.commit_journal.specs.declared.format.TheConstants.{BLANK_LENGTH}
 use Rattle.commit_journal.specs.Log.{walk_of, version_of}
 use Rattle.commit_journal.specs.Journal.{EndsAt, LeavesLog, in_order}
 use Rattle.entry_record.specs.History.{next_run, IsWithin}
 use Rattle.durable_catalogue.specs.Logs.{HasHistory}
-use Rattle.durable_catalogue.specs.Images.{Holds}
+use Rattle.durable_catalogue.specs.Images.{Holds, framed_lengths}
 use Rattle.durable_catalogue.specs.declared.fault.OpenFault.{OpenFault}
 use Rattle.durable_catalogue.specs.declared.fault.OpenFault.TheVariants.{DeviceFault}
 use Rattle.durable_catalogue.specs.Openings.{IsUnopened}
@@ -26,8 +27,8 @@ journal_limits = greatest_limits
 abbrev pub log_bytes : RoomView → List ℕ → List ℕ
 log_bytes room name = bytes_or_none (room.file name)
 
--- A catalogue of these entries was opened over the log of that name in a room. Its opening's time begins with the log's, and the
--- opening synced, where the log tells its moments.
+-- A catalogue of these entries was opened over the log of that name in a room. Its opening left the log no longer than it was, or than a
+-- blank one; its time begins with the log's; and it synced, where the log tells its moments.
 pub record IsOpenedFrom (room : RoomView) (name : List ℕ) (entries : List Entry) (mark : Option (List Entry)) (o : Opening) : Type 0 where
   pub history : room.tells ≡ true → HasHistory entries (log_bytes room name)
   pub version : room.tells ≡ true → version_of (log_bytes room name) ≡ 2
@@ -36,14 +37,15 @@ pub record IsOpenedFrom (room : RoomView) (name : List ℕ) (entries : List Entr
   pub limits : o.origin.limits ≡ journal_limits
   pub run : o.origin.run ≡ next_run entries
   pub opened : o.opened ≡ length entries
+  pub length : room.tells ≡ true → o.length ≤ max BLANK_LENGTH (length (log_bytes room name))
   pub tells : room.tells ≡ true → o.tells ≡ true
   pub moment : o.moment ≡ 0
   pub faults : o.faults ≡ 0
   pub synced : o.dated ≡ true → is_some o.synced ≡ true
 
 -- A catalogue of these entries, with those of a frame that a device failed to take, at most 32, was closed as the log of that name:
--- what a crash may leave of it, and the file. Without a mark the file ends with its first closed gate, is of version 2, and is all that a
--- crash may leave.
+-- what a crash may leave of it, and the file. The file is no longer than the log when it was open, with a frame for each entry since then and
+-- for each of that frame. Without a mark it ends with its first closed gate, is of version 2, and is all that a crash may leave.
 pub record IsClosedTo (room : RoomView) (name : List ℕ) (entries : List Entry) (mark : Option (List Entry)) (o : Opening) : Type 0 where
   pub closed : room.has_log name ≡ true
   pub left : IsLeft o entries (marked mark) (room.log name)
@@ -51,6 +53,7 @@ pub record IsClosedTo (room : RoomView) (name : List ℕ) (entries : List Entry)
   pub file : room.file name ≡ Some bytes
   pub content : (room.log name).content ≡ Some bytes
   pub holds : Holds (length entries) entries (marked mark) bytes
+  pub longest : length bytes + framed_lengths (take o.opened entries) ≤ o.length + framed_lengths (entries ++ marked mark)
   pub few : length (marked mark) ≤ 32
   pub ended : mark ≡ None → EndsAt (walk_of bytes).place bytes
   pub newest : mark ≡ None → version_of bytes ≡ 2

@@ -1,7 +1,7 @@
 use Rattle.std.proofs.Common.{rules, ◌≡◌, ◌∷◌, [], ◌++◌, drop, ◌+◌, ◌<◌, get_or, length, Some, slice_get, refl, sym, ap, subst, ◌∙◌, arith, length-append}
 use Rattle.outside.proofs.Rooms.{same_but_itself, same_but_then}
 use Rattle.journal_loading.proofs.Opened.{at_end, at_before, closed_more, got, rises_none, lefts_more, lefts_none}
-use Rattle.journal_loading.specs.Inputs.{lefts_of}
+use Rattle.journal_loading.specs.Inputs.{lefts_of_inputs}
 use Rattle.journal_loading.proofs.inputs.close_inputs.Goals as goal
 
 pub loop-input-preserved : goal.loop-input-preserved
@@ -26,7 +26,7 @@ loop-input-preserved g c =
       closed_more g.R.In.Source.faults libraries all left library last (g.R.Room.seen c.args.room.now) (g.R.Room.seen c.loop-input.room) (g.R.Room.seen c.close_input.new.room)
           (λ index library input from named is had. rises index library input (omega (arith, len, from)) named is had) stays still of c.close_input.ensures.rose at,
       lefts_more g.R.In.Source.left all (length left) last (g.R.Room.seen c.args.room.now).lefts (g.R.Room.seen c.loop-input.room).lefts (g.R.Room.seen c.close_input.new.room).lefts
-          at (subst (λ n. (g.R.Room.seen c.loop-input.room).lefts ≡ lefts_of g.R.In.Source.left (drop n all) ++ (g.R.Room.seen c.args.room.now).lefts) len lefts) c.close_input.ensures.left,
+          at (subst (λ n. (g.R.Room.seen c.loop-input.room).lefts ≡ lefts_of_inputs g.R.In.Source.left (drop n all) ++ (g.R.Room.seen c.args.room.now).lefts) len lefts) c.close_input.ensures.left,
     )
 
 pub returns-clause-rose : goal.returns-clause-rose
@@ -41,8 +41,8 @@ returns-clause-lefts g c =
     let (stays, few, same, rises, lefts) = c.loop-input.invariant in
     let none = c.in_default.ensures.items in
     let empty : length c.loop-input.inputs.items ≡ 0 = search rules in
-    let all = subst (λ n. (g.R.Room.seen c.loop-input.room).lefts ≡ lefts_of g.R.In.Source.left (drop n c.into_vec-inputs.result.items) ++ (g.R.Room.seen c.args.room.now).lefts) empty lefts in
-    subst (λ inputs. (g.R.Room.seen c.loop-input.room).lefts ≡ lefts_of g.R.In.Source.left inputs ++ (g.R.Room.seen c.args.room.now).lefts) (c.into_vec-inputs.ensures) all
+    let all = subst (λ n. (g.R.Room.seen c.loop-input.room).lefts ≡ lefts_of_inputs g.R.In.Source.left (drop n c.into_vec-inputs.result.items) ++ (g.R.Room.seen c.args.room.now).lefts) empty lefts in
+    subst (λ inputs. (g.R.Room.seen c.loop-input.room).lefts ≡ lefts_of_inputs g.R.In.Source.left inputs ++ (g.R.Room.seen c.args.room.now).lefts) (c.into_vec-inputs.ensures) all
 
 pub loop-input-init : goal.loop-input-init
 loop-input-init g c = (

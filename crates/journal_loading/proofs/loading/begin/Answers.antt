@@ -5,7 +5,7 @@ use Rattle.outside.proofs.Rooms.{same_but_then, same_but_none}
 use Rattle.durable_catalogue.specs.Durables.{mark_of}
 use Rattle.durable_catalogue.specs.Views.{durable_view}
 use Rattle.console_lines.specs.declared.fault.Fault.TheVariants as fault
-use Rattle.journal_loading.specs.Inputs.{IsInputFault, AreInputs, IsFresh, lefts_of}
+use Rattle.journal_loading.specs.Inputs.{IsInputFault, AreInputs, IsFresh, lefts_of_inputs}
 use Rattle.journal_loading.specs.Outcomes.{Unopened}
 use Rattle.journal_loading.proofs.Opened.{inputs_after, take_all, fault_between, unread}
 use Rattle.journal_loading.proofs.Begun.{unbegun, opening_usage, opening_other_history, opening_input, opening_device}
@@ -76,8 +76,8 @@ returns-in-Some-clause-failed g c =
     let inputs = inputs_after left old (seen c.open_journal.new.room) c.args.journal.now c.open_journal.ensures.apart first opened
     (All-take (λ (l : Library). l.file ≢ c.args.journal.now) (length opened) libraries c.requires.loadable.apart) c.open_inputs-inputs.ensures.inputs in
     let lefts : old.tells ≡ true → new.lefts ≡ map (λ (l : Library). old.file l.file) first ++ old.lefts = λ tells.
-    c.close_journal.ensures.lefts ∙ (c.close_inputs.ensures.lefts ∙ (ap (λ ls. lefts_of left c.from_vec-inputs.result ++ ls) (c.open_inputs-inputs.ensures.lefts ∙ c.open_journal.ensures.lefts)
-    ∙ ap (λ ls. ls ++ old.lefts) (ap (lefts_of left) c.from_vec-inputs.ensures ∙ unread left old tells first opened inputs))) in
+    c.close_journal.ensures.lefts ∙ (c.close_inputs.ensures.lefts ∙ (ap (λ ls. lefts_of_inputs left c.from_vec-inputs.result ++ ls) (c.open_inputs-inputs.ensures.lefts ∙ c.open_journal.ensures.lefts)
+    ∙ ap (λ ls. ls ++ old.lefts) (ap (lefts_of_inputs left) c.from_vec-inputs.ensures ∙ unread left old tells first opened inputs))) in
     record {
       closed = c.close_journal.ensures.closed;
       because = λ tells.

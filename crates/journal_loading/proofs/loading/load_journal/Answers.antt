@@ -3,7 +3,7 @@ use Rattle.outside.proofs.Rooms.{same_but_none, same_but_then}
 use Rattle.durable_catalogue.specs.Durables.{mark_of}
 use Rattle.durable_catalogue.specs.Views.{durable_view}
 use Rattle.room_files.specs.Journals.{IsOpenedFrom}
-use Rattle.journal_loading.specs.Inputs.{lefts_of}
+use Rattle.journal_loading.specs.Inputs.{lefts_of_inputs}
 use Rattle.journal_loading.specs.Outcomes.{HasLoaded, NotBegun}
 use Rattle.journal_loading.proofs.Opened.{get_within, rises_around}
 use Rattle.journal_loading.proofs.Loaded.{inputs_count}
@@ -114,7 +114,7 @@ returns-clause-failed g c =
           loaded_part left faults old c.args.journal.now libraries files after d.limits d.core.history now.core.history (mark_of d.mark) (mark_of now.mark) o
           tells b.inputs_are b.catalogue.limits opened new why results load.loaded load.unbegun load.unmarked load.files stopped
           (λ told. err_at c.finish.result why at c.finish.ensures.log (c.close_inputs.ensures.stays.tells ∙ (c.in-Ok.ensures.apart.tells ∙ tells)) told)
-          (c.finish.ensures.lefts ∙ c.close_inputs.ensures.lefts ∙ ap (λ ls. lefts_of left after ++ ls) c.in-Ok.ensures.lefts)
+          (c.finish.ensures.lefts ∙ c.close_inputs.ensures.lefts ∙ ap (λ ls. lefts_of_inputs left after ++ ls) c.in-Ok.ensures.lefts)
           b.fresh (rises_around faults libraries after old (g.R.Room.seen c.begin.new.room) (g.R.Room.seen c.close_inputs.new.room) new c.in-Ok.ensures.apart.ins
           c.close_inputs.ensures.rose c.finish.ensures.apart.ins);
       device = λ is.
