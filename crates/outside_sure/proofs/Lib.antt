@@ -1,3 +1,1 @@
 pub mod Helds
-pub mod Kepts
-pub mod SureRooms

@@ -1,5 +1,4 @@
-pub mod SureStates
+pub mod SureState
+pub mod SureSink
 pub mod SureDisk
 pub mod SureLaws
-pub mod SureFiles
-pub mod SureRoom
