@@ -2,3 +2,5 @@ pub mod SureState
 pub mod SureSink
 pub mod SureDisk
 pub mod SureLaws
+pub mod SureKept
+pub mod SureFiles

@@ -92,4 +92,12 @@ impl<const ROOM: usize> Held<ROOM> {
     {
         self.buffer.truncate(len);
     }
+
+    /// No bytes, in the same memory.
+    pub fn emptied(mut self) -> Self
+        ensures { result.buffer.items ≡ [] }
+    {
+        self.cut(0);
+        self
+    }
 }

@@ -2,7 +2,10 @@
 #![tactic(auto)]
 
 mod held;
+mod kept;
+mod stored;
 mod sure_disk;
+mod sure_files;
 mod sure_sink;
 mod sure_source;
 

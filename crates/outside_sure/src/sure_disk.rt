@@ -31,6 +31,20 @@ impl<const ROOM: usize> SureDisk<ROOM> {
         })
     }
 
+    /// A disk of what is held; takes no memory.
+    pub(crate) fn of_held(held: Held<ROOM>) -> Self
+        requires { ROOM + longest_write ≤ longest_disk }
+        ensures { disk_state result ≡ record { bytes = held.entry.buffer.items; faults = 0 } }
+    {
+        SureDisk { held, faults: 0 }
+    }
+
+    pub(crate) fn into_held(self) -> Held<ROOM>
+        ensures { result ≡ self.entry.held }
+    {
+        self.held
+    }
+
     /// What it has.
     pub fn bytes(&self) -> &[u8]
         ensures { result.now ≡ (disk_state self.now).bytes }

@@ -28,6 +28,22 @@ impl<const ROOM: usize> SureSink<ROOM> {
         })
     }
 
+    /// An empty sink in this memory; takes no other.
+    pub(crate) fn of_held(held: Held<ROOM>) -> Self
+        ensures { sink_state result ≡ record { bytes = []; faults = 0 } }
+    {
+        SureSink {
+            held: held.emptied(),
+            faults: 0,
+        }
+    }
+
+    pub(crate) fn into_held(self) -> Held<ROOM>
+        ensures { result ≡ self.entry.held }
+    {
+        self.held
+    }
+
     /// What was written.
     pub fn bytes(&self) -> &[u8]
         ensures { result.now ≡ (sink_state self.now).bytes }

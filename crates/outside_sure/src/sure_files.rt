@@ -1,0 +1,160 @@
+ghost use Rattle.std.specs.Prelude.{◌≡◌, ◌≢◌, ℕ, ◌<◌, List, [], length, Some, None, IsSome, IfSome, IfNone, IfOk, OnOk, OnErr, not, is_none};
+ghost use Rattle.std.specs.Option.{option_copied};
+ghost use Rattle.outside.specs.Room.{bytes_or_none};
+ghost use Rattle.outside_sure.specs.SureKept.{told_kept, kept_sort, is_ready, kept_opened, kept_closed, IsFull, IsKeptWell};
+ghost use Rattle.outside_sure.specs.SureFiles.{kept_in, IsAt, IsUncalled, ChangesKept};
+ghost use Rattle.outside_sure.specs.declared.kept.Kept.TheVariants.{Place};
+
+use crate::held::Held;
+use crate::kept::Kept;
+use crate::stored::Stored;
+use outside::NoMemory;
+use std::alloc::Global;
+
+/// A name, and what is kept under it.
+#[derive(Debug, Drop)]
+pub struct SureFile<'a, const ROOM: usize> {
+    pub name: String,
+    pub kept: Kept<'a, ROOM>,
+}
+
+/// What a sure room keeps, by name.
+#[derive(Debug, Drop)]
+pub struct SureFiles<'a, const ROOM: usize> {
+    items: Vec<SureFile<'a, ROOM>>,
+    ghost well: { (n : List ℕ) → IsKeptWell (kept_in items.items n) },
+}
+
+// The place of the entry of that name.
+#[tactic(auto, using(crate::proofs::Kepts::place_is, crate::proofs::Kepts::none_more, crate::proofs::Kepts::none_is, crate::proofs::Kepts::none_yet))]
+fn place_of<'a, const ROOM: usize>(files: &[SureFile<'a, ROOM>], name: &str) -> Option<usize>
+    ensures found { IfSome result (IsAt files.now name.now) }
+    ensures missing { IfNone result (IsUncalled files.now name.now) }
+{
+    for place in 0..files.len() {
+        if files[place].name.as_str() == name {
+            return Some(place);
+        }
+    }
+    None
+}
+
+// Adds an entry.
+#[tactic(auto, using(crate::proofs::Kepts::kept_entered))]
+fn add<'a, const ROOM: usize>(
+    alloc: Global,
+    files: &mut Vec<SureFile<'a, ROOM>>,
+    name: &str,
+    kept: Kept<'a, ROOM>,
+) -> Result<(), NoMemory>
+    requires { IsUncalled files.old.items name.now }
+    ensures ok { OnOk result (ChangesKept files.old.items files.new.items name.now (Some kept.entry)) }
+    ensures err { OnErr result (files.new.items ≡ files.old.items) }
+{
+    let own = String::from_str(alloc, name)?;
+    files.push(SureFile { name: own, kept })?;
+    Ok(())
+}
+
+// Keeps something else at that place.
+fn replace<'a, const ROOM: usize>(
+    files: &mut Vec<SureFile<'a, ROOM>>,
+    place: usize,
+    kept: Kept<'a, ROOM>,
+)
+    requires { place < length files.old.items }
+    ensures { (name : List ℕ) → IsAt files.old.items name place → ChangesKept files.old.items files.new.items name (Some kept.entry) }
+{
+    let file = &mut files[place];
+    file.kept = kept;
+}
+
+// Opens what is kept at that place.
+fn open_at<'a, const ROOM: usize>(
+    files: &mut Vec<SureFile<'a, ROOM>>,
+    place: usize,
+    opened: Stored<ROOM>,
+) -> Option<Held<ROOM>>
+    requires { place < length files.old.items }
+    ensures none { (name : List ℕ) → IsAt files.old.items name place → is_none result ≡ not (is_ready (kept_in files.old.items name)) }
+    ensures bytes { IfSome result (λ held. (name : List ℕ) → IsAt files.old.items name place
+        → held.buffer.items ≡ bytes_or_none (told_kept (kept_in files.old.items name))) }
+    ensures now { (name : List ℕ) → IsAt files.old.items name place
+        → ChangesKept files.old.items files.new.items name (kept_opened opened.entry (kept_in files.old.items name)) }
+{
+    let file = &mut files[place];
+    file.kept.open(opened)
+}
+
+// Closes what is kept at that place.
+fn close_at<'a, const ROOM: usize>(
+    files: &mut Vec<SureFile<'a, ROOM>>,
+    place: usize,
+    closed: Stored<ROOM>,
+    more: u64,
+)
+    requires { place < length files.old.items }
+    ensures { (name : List ℕ) → IsAt files.old.items name place
+        → ChangesKept files.old.items files.new.items name (kept_closed closed.entry more (kept_in files.old.items name)) }
+{
+    let file = &mut files[place];
+    file.kept.close(closed, more);
+}
+
+impl<'a, const ROOM: usize> SureFiles<'a, ROOM> {
+    /// Nothing.
+    #[tactic(auto, using(crate::proofs::Kepts::kept_in_none, crate::proofs::Kepts::well_none))]
+    pub fn new(alloc: Global) -> Self
+        ensures { (n : List ℕ) → kept_in result.items.items n ≡ None }
+    {
+        SureFiles {
+            items: Vec::new(alloc),
+        }
+    }
+
+    /// What is kept under that name.
+    #[tactic(auto, using(crate::proofs::Kepts::kept_at, crate::proofs::Kepts::kept_nowhere))]
+    pub fn under(&self, name: &str) -> Option<&Kept<'a, ROOM>>
+        ensures { option_copied result ≡ kept_in self.now.items.items name.now }
+    {
+        let place = place_of(&self.items, name)?;
+        Some(&self.items[place].kept)
+    }
+
+    /// Keeps this under that name, in place of what was there.
+    #[tactic(auto, using(crate::proofs::Kepts::well_changed))]
+    pub fn keep(&mut self, alloc: Global, name: &str, kept: Kept<'a, ROOM>) -> Result<(), NoMemory>
+        requires { IsKeptWell (Some kept) }
+        ensures ok { OnOk result (ChangesKept self.old.items.items self.new.items.items name.now (Some kept.entry)) }
+        ensures err { OnErr result (self.new.items.items ≡ self.old.items.items) }
+    {
+        match place_of(&self.items, name) {
+            Some(place) => replace(&mut self.items, place, kept),
+            None => add(alloc, &mut self.items, name, kept)?,
+        }
+        Ok(())
+    }
+
+    /// Opens a place that has no fault, and answers its memory with the file's bytes. A place with a fault counts one more.
+    #[tactic(auto, using(crate::proofs::Kepts::well_changed, crate::proofs::Kepts::well_opened, crate::proofs::Kepts::opened_nowhere, crate::proofs::Kepts::ready_nowhere))]
+    pub fn open(&mut self, name: &str, opened: Stored<ROOM>) -> Option<Held<ROOM>>
+        ensures none { is_none result ≡ not (is_ready (kept_in self.old.items.items name.now)) }
+        ensures bytes { IfSome result (λ held. held.buffer.items ≡ bytes_or_none (told_kept (kept_in self.old.items.items name.now))) }
+        ensures now { ChangesKept self.old.items.items self.new.items.items name.now (kept_opened opened.entry (kept_in self.old.items.items name.now)) }
+    {
+        let place = place_of(&self.items, name)?;
+        open_at(&mut self.items, place, opened)
+    }
+
+    /// The place of that name, which is open, has this now, and so many faults more.
+    #[tactic(auto, using(crate::proofs::Kepts::well_changed, crate::proofs::Kepts::well_closed, crate::proofs::Kepts::closed_nowhere))]
+    pub fn close(&mut self, name: &str, closed: Stored<ROOM>, more: u64)
+        requires is_open { IsSome (kept_sort (kept_in self.old.items.items name.now)) }
+        requires full { more ≢ 0 → IsFull (Some (Place closed more)) }
+        ensures { ChangesKept self.old.items.items self.new.items.items name.now (kept_closed closed.entry more (kept_in self.old.items.items name.now)) }
+    {
+        if let Some(place) = place_of(&self.items, name) {
+            close_at(&mut self.items, place, closed, more);
+        }
+    }
+}
