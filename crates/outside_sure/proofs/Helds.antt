@@ -1,11 +1,10 @@
 -- At most so many bytes.
-use Rattle.std.proofs.Common.{◌≡◌, ℕ, zero, suc, ◌+◌, ◌-◌, ◌<◌, ◌≤◌, List, [], ◌∷◌, ◌++◌, length, take, drop, min, max, Some, refl, sym, ap, ◌∙◌, arith, append_assoc, append-nil, drop_of_length-le, take_all, inl, inr, take-append-drop, length-take-le, length-take, length-append, length-drop}
-use Rattle.std.specs.Io.KnownBytes.{Appends}
+use Rattle.std.proofs.Common.{◌≡◌, ℕ, zero, suc, ◌+◌, ◌-◌, ◌<◌, ◌≤◌, List, [], ◌∷◌, ◌++◌, length, take, drop, min, Some, sym, ap, ◌∙◌, arith, append_assoc, append-nil, drop_of_length-le, take_all, inl, inr, take-append-drop, length-take-le, length-take}
 use Rattle.std.proofs.lemmas.Bool.{cases_lt}
 use Rattle.std.proofs.lemmas.Grind.{common_steps}
 use Rattle.outside.specs.Disk.{patch, Torn}
 use Rattle.outside.specs.Sink.{WritesFront}
-use Rattle.outside.proofs.Disks.{length-patch, torn_patch, torn_self}
+use Rattle.outside.proofs.Disks.{length-patch}
 
 take_more : (k : ℕ) (xs ys : List ℕ) → length xs ≤ k → take k (xs ++ ys) ≡ xs ++ take (k - length xs) ys
 take_more k [] ys most = grind (arith, common_steps)
@@ -26,15 +25,15 @@ pub over_and_past : (at over : ℕ) (bytes held : List ℕ) → at ≤ length he
     → patch at (take over bytes) held ++ drop over bytes ≡ patch at bytes held
 over_and_past at over bytes held within is = elim (cases_lt (length held - at) (length bytes)) [
   | inl past ↦
-    let len : length (take over bytes) ≡ over = length-take-le over bytes (omega (arith, is, past)) in
-    ap (λ l. l ++ drop over bytes) (patch_past at (take over bytes) held (omega (arith, is, past, len)))
-    ∙ append_assoc (take at held) (take over bytes) (drop over bytes)
-    ∙ ap (λ l. take at held ++ l) (take-append-drop over bytes)
-    ∙ sym (patch_past at bytes held (omega (arith, past)))
+      let len : length (take over bytes) ≡ over = length-take-le over bytes (omega (arith, is, past)) in
+      ap (λ l. l ++ drop over bytes) (patch_past at (take over bytes) held (omega (arith, is, past, len)))
+      ∙ append_assoc (take at held) (take over bytes) (drop over bytes)
+      ∙ ap (λ l. take at held ++ l) (take-append-drop over bytes)
+      ∙ sym (patch_past at bytes held (omega (arith, past)))
   | inr fits ↦
-    let all : take over bytes ≡ bytes = take_all over bytes (omega (arith, is, fits)) in
-    let none : drop over bytes ≡ [] = drop_of_length-le bytes (omega (arith, is, fits)) in
-    rw (all, none) (append-nil (patch at bytes held))
+      let all : take over bytes ≡ bytes = take_all over bytes (omega (arith, is, fits)) in
+      let none : drop over bytes ≡ [] = drop_of_length-le bytes (omega (arith, is, fits)) in
+      rw (all, none) (append-nil (patch at bytes held))
 ]
 
 -- what fits is as far as there is room
@@ -42,15 +41,15 @@ pub fitting : (room at : ℕ) (bytes held : List ℕ) → at ≤ length held →
     → patch at (take (min (length bytes) (room - at)) bytes) held ≡ take room (patch at bytes held)
 fitting room at bytes held within most = elim (cases_lt (room - at) (length bytes)) [
   | inl past ↦
-    let front : length (take at held) ≡ at = length-take-le at held within in
-    let least : min (length bytes) (room - at) ≡ room - at = omega (arith, past) in
-    let len : length (take (room - at) bytes) ≡ room - at = length-take-le (room - at) bytes (omega (arith, past)) in
-    rw least (patch_past at (take (room - at) bytes) held (omega (arith, len, within, most)))
-    ∙ sym (take_more room (take at held) bytes (omega (arith, front, within, most)) ∙ ap (λ n. take at held ++ take (room - n) bytes) front)
-    ∙ ap (take room) (sym (patch_past at bytes held (omega (arith, past, within, most))))
+      let front : length (take at held) ≡ at = length-take-le at held within in
+      let least : min (length bytes) (room - at) ≡ room - at = omega (arith, past) in
+      let len : length (take (room - at) bytes) ≡ room - at = length-take-le (room - at) bytes (omega (arith, past)) in
+      rw least (patch_past at (take (room - at) bytes) held (omega (arith, len, within, most)))
+      ∙ sym (take_more room (take at held) bytes (omega (arith, front, within, most)) ∙ ap (λ n. take at held ++ take (room - n) bytes) front)
+      ∙ ap (take room) (sym (patch_past at bytes held (omega (arith, past, within, most))))
   | inr fits ↦
-    let all : take (min (length bytes) (room - at)) bytes ≡ bytes = take_all (min (length bytes) (room - at)) bytes (omega (arith, fits)) in
-    rw all (sym (take_all room (patch at bytes held) (omega (arith, length-patch at bytes held within, fits, within, most))))
+      let all : take (min (length bytes) (room - at)) bytes ≡ bytes = take_all (min (length bytes) (room - at)) bytes (omega (arith, fits)) in
+      rw all (sym (take_all room (patch at bytes held) (omega (arith, length-patch at bytes held within, fits, within, most))))
 ]
 
 -- what fits whole

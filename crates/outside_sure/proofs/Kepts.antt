@@ -1,21 +1,20 @@
 -- What a sure room keeps under each name, after one entry changed or was added.
-use Rattle.std.proofs.Common.{◌≡◌, ◌≢◌, ℕ, ◌+◌, zero, suc, ◌-◌, ◌<◌, ◌≤◌, List, [], ◌∷◌, ◌++◌, length, set, get_or, take, replicate, Option, Some, None, IfSome, IfNone, Bool, true, false, not, cond, refl, sym, ap, subst, true≢false, nat_eq, is_some, IsSome, if◌then◌else◌, ◌∙◌, arith, inl, inr}
-use Rattle.std.specs.List.{find, position, position_or_len, slice_get}
+use Rattle.std.proofs.Common.{◌≡◌, ◌≢◌, ℕ, ◌+◌, zero, suc, ◌<◌, List, [], ◌∷◌, ◌++◌, length, set, get_or, Option, Some, None, IfSome, Bool, true, false, cond, refl, sym, ap, subst, true≢false, nat_eq, is_some, IsSome, if◌then◌else◌, ◌∙◌, arith, inl, inr}
+use Rattle.std.specs.List.{find, position_or_len, slice_get}
 use Rattle.std.specs.Option.{option_or}
 use Rattle.std.specs.Str.{bytes_eq}
 use Rattle.std.specs.String.{string_bytes}
-use Rattle.std.proofs.lemmas.Option.{slice_get-get_or, slice_get_cases}
-use Rattle.std.proofs.lemmas.List.{get_or_default, length-replicate, get_or-replicate, replicate_more, take-replicate}
+use Rattle.std.proofs.lemmas.Option.{slice_get-get_or}
+use Rattle.std.proofs.lemmas.List.{get_or_default}
 use Rattle.std.proofs.lemmas.List.Folds.{find-set, find_past, find-append, find_at}
 use Rattle.std.proofs.lemmas.Bool.{cases_lt}
 use Rattle.std.proofs.lemmas.List.Sums.{passes_at_first, position_or_len_is}
 use Rattle.std.proofs.lemmas.Slice.Eq.{bytes_eq-Decides}
-use Rattle.outside.proofs.Places.{found_at, missing_at, not_both, slice_get_past}
+use Rattle.outside.proofs.Places.{not_both, slice_get_past}
 use Rattle.outside.specs.Fault.{count_sum}
 use Rattle.outside_sure.specs.declared.kept.Kept.{Kept}
 use Rattle.outside_sure.specs.declared.kept.Kept.TheVariants.{Input, Place}
 use Rattle.outside_sure.specs.declared.stored.Stored.{Stored}
-use Rattle.outside_sure.specs.declared.stored.Stored.TheVariants.{Blank, File, Log, OpenOutput, OpenLog}
 use Rattle.outside_sure.specs.declared.sure_files.SureFile.{SureFile}
 use Rattle.outside_sure.specs.SureKept.{kept_sort, stored_sort, is_ready, kept_opened, kept_closed, IsFull, IsKeptWell}
 use Rattle.outside_sure.specs.SureFiles.{is_called, kept_by, kept_in, IsAt, IsUncalled, ChangesKept}
@@ -33,8 +32,8 @@ module _ {room : ℕ} where
   none_more files name place file before is within other k d below = elim (cases_lt k place) [
     | inl earlier ↦ before k d earlier
     | inr last ↦
-      let same : k ≡ place = omega (arith, below, last) in
-      rw same (ap (is_called name) (get_or_default files place d file within ∙ sym is) ∙ other)
+        let same : k ≡ place = omega (arith, below, last) in
+        rw same (ap (is_called name) (get_or_default files place d file within ∙ sym is) ∙ other)
   ]
 
   pub place_is : (files : List (SureFile room)) (name : List ℕ) (place : ℕ) (file : SureFile room) → NoneBefore files name place → file ≡ get_or files place file

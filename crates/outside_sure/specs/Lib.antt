@@ -4,3 +4,5 @@ pub mod SureDisk
 pub mod SureLaws
 pub mod SureKept
 pub mod SureFiles
+pub mod SureRoom
+pub mod SurePromise

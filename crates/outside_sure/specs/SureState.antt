@@ -5,3 +5,7 @@ use Rattle.std.specs.Prelude.{ℕ, List}
 pub record SureState : Type 0 where
   pub bytes : List ℕ
   pub faults : ℕ
+
+-- a source has no faults
+abbrev pub source_faults : List ℕ → ℕ
+source_faults left = 0

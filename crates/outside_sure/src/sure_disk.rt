@@ -146,12 +146,12 @@ impl<const ROOM: usize> Disk for SureDisk<ROOM> {
         ensures failed { OnErr result (self.new.held.buffer.items ≡ self.old.held.buffer.items) }
         ensures count { self.new.faults ≡ counted result self.old.faults }
     {
-        if self.faults != 0 {
-            self.faults = self.faults.saturating_add(1);
-            return Err(Failed);
+        if self.faults == 0 {
+            self.held.cut(len as usize);
+            return Ok(());
         }
-        self.held.cut(len as usize);
-        Ok(())
+        self.faults = self.faults.saturating_add(1);
+        Err(Failed)
     }
 
     #[tactic(auto, using(crate::specs::SureLaws::elapses, crate::specs::SureLaws::syncs_now, crate::specs::SureLaws::same_syncs, crate::specs::SureLaws::only_content, crate::specs::SureLaws::no_new_image))]

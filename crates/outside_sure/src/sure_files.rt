@@ -140,7 +140,8 @@ impl<'a, const ROOM: usize> SureFiles<'a, ROOM> {
     pub fn open(&mut self, name: &str, opened: Stored<ROOM>) -> Option<Held<ROOM>>
         ensures none { is_none result ≡ not (is_ready (kept_in self.old.items.items name.now)) }
         ensures bytes { IfSome result (λ held. held.buffer.items ≡ bytes_or_none (told_kept (kept_in self.old.items.items name.now))) }
-        ensures now { ChangesKept self.old.items.items self.new.items.items name.now (kept_opened opened.entry (kept_in self.old.items.items name.now)) }
+        ensures now { ChangesKept self.old.items.items self.new.items.items name.now
+            (kept_opened opened.entry (kept_in self.old.items.items name.now)) }
     {
         let place = place_of(&self.items, name)?;
         open_at(&mut self.items, place, opened)
@@ -151,7 +152,8 @@ impl<'a, const ROOM: usize> SureFiles<'a, ROOM> {
     pub fn close(&mut self, name: &str, closed: Stored<ROOM>, more: u64)
         requires is_open { IsSome (kept_sort (kept_in self.old.items.items name.now)) }
         requires full { more ≢ 0 → IsFull (Some (Place closed more)) }
-        ensures { ChangesKept self.old.items.items self.new.items.items name.now (kept_closed closed.entry more (kept_in self.old.items.items name.now)) }
+        ensures { ChangesKept self.old.items.items self.new.items.items name.now
+            (kept_closed closed.entry more (kept_in self.old.items.items name.now)) }
     {
         if let Some(place) = place_of(&self.items, name) {
             close_at(&mut self.items, place, closed, more);

@@ -2,6 +2,7 @@ ghost use Rattle.std.specs.Prelude.{◌≡◌, ◌+◌, ◌<◌, ◌≤◌, [], 
 ghost use Rattle.std.specs.Io.{ReadsAtMost};
 ghost use Rattle.std.specs.Io.KnownBytes.{ReadConsumes};
 ghost use Rattle.outside.specs.Fault.{HasCause};
+ghost use Rattle.outside_sure.specs.SureState.{source_faults};
 
 use outside::{Failed, Source, copy_front};
 use std::marker::Model;
@@ -41,7 +42,7 @@ impl<'a> Source for SureSource<'a> {
 
     ghost bound = { λ s. length s };
 
-    ghost faults = { λ _. 0 };
+    ghost faults = { source_faults };
 
     fn remaining(&self) -> u64 {
         self.left.len() as u64
@@ -53,7 +54,7 @@ impl<'a> Source for SureSource<'a> {
         ensures bytes { ReadConsumes (Some self.old) (Some self.new) result buf.new }
         ensures falls { IfOk result (λ n. length self.new + n ≤ length self.old) }
         ensures bounded { length self.new ≤ length self.old }
-        ensures cause { HasCause 0 0 result }
+        ensures cause { HasCause (source_faults self.old) (source_faults self.new) result }
 
         // It never fails, and gives all that the buffer takes.
         ensures ok { IsOk result }

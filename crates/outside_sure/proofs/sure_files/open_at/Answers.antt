@@ -1,4 +1,4 @@
-use Rattle.std.proofs.Common.{refl, sym, ap, ◌∙◌, arith, not, Some, List, ℕ, ◌≡◌}
+use Rattle.std.proofs.Common.{refl, sym, ap, ◌∙◌, not, Some, List, ℕ, ◌≡◌}
 use Rattle.outside.specs.Room.{bytes_or_none}
 use Rattle.outside_sure.specs.SureKept.{told_kept, kept_opened, is_ready}
 use Rattle.outside_sure.specs.SureFiles.{IsAt, kept_in}

@@ -1,0 +1,259 @@
+ghost use Rattle.std.specs.Prelude.{◌≡◌, ℕ, ◌+◌, ◌≤◌, List, [], ◌∷◌, length, Option, Some, None, IsOk, IsSome, IfOk, IfSome, IfNone, OnOk, OnErr, is_err, is_none, not, true, false};
+ghost use Rattle.std.specs.Option.{option_copied};
+ghost use Rattle.outside.specs.Disk.{SameDisk, longest_disk, longest_write};
+ghost use Rattle.outside.specs.Fault.{HasCause, count_sum, counted};
+ghost use Rattle.outside.specs.Room.{AsOutput, AsLog, bytes_or_none, SameBut};
+ghost use Rattle.outside.specs.Sink.{HasFront};
+ghost use Rattle.outside_sure.specs.SureState.{source_faults};
+ghost use Rattle.outside_sure.specs.SureSink.{sink_state};
+ghost use Rattle.outside_sure.specs.SureDisk.{disk_state, sure_disk_view};
+ghost use Rattle.outside_sure.specs.SureKept.{told_kept, is_input, is_ready, kept_opened, kept_closed};
+ghost use Rattle.outside_sure.specs.declared.kept.Kept.TheVariants.{Input};
+ghost use Rattle.outside_sure.specs.declared.stored.Stored.TheVariants.{File, Log, OpenOutput, OpenLog};
+
+use crate::kept::Kept;
+use crate::stored::Stored;
+use crate::sure_files::SureFiles;
+use crate::{SureDisk, SureSink, SureSource};
+use outside::{Failed, GivenUp, NoMemory, Room};
+use std::alloc::Global;
+
+/// A room in memory whose outputs and logs fail for want of room alone, and which takes memory at no call of the trait. It tells its files
+/// and closed logs. Its three counts are of the openings that failed, as input, as output and as log; each place has a count of its own.
+#[derive(Debug, Drop)]
+pub struct SureRoom<'a, const ROOM: usize> {
+    alloc: Global,
+    files: SureFiles<'a, ROOM>,
+    in_faults: u64,
+    out_faults: u64,
+    log_faults: u64,
+    closed: GivenUp<SureSource<'a>>,
+    ghost short: { ROOM + longest_write ≤ longest_disk },
+}
+
+impl<'a, const ROOM: usize> SureRoom<'a, ROOM> {
+    ghost use Rattle.outside_sure.specs.SureRoom.{sure_room_view, kept_under, SameKept, KeepsUnder, MakesPlace, HasSureCounts};
+
+    /// An empty room.
+    pub fn new(alloc: Global) -> Self
+        requires { ROOM + longest_write ≤ longest_disk }
+        ensures empty { (n : List ℕ) → kept_under result n ≡ None }
+        ensures counts { HasSureCounts result 0 0 0 }
+        ensures lefts { result.closed ≡ [] }
+    {
+        SureRoom {
+            alloc,
+            files: SureFiles::new(alloc),
+            in_faults: 0,
+            out_faults: 0,
+            log_faults: 0,
+            closed: GivenUp::none(),
+        }
+    }
+
+    /// Makes the name an input of these bytes, whatever it was.
+    pub fn give(&mut self, name: &str, bytes: &'a [u8]) -> Result<(), NoMemory>
+        ensures ok { OnOk result (KeepsUnder self.old self.new name.now (Some (Input bytes.now))) }
+        ensures err { OnErr result (SameKept self.old self.new) }
+        ensures counts { HasSureCounts self.new self.old.in_faults self.old.out_faults self.old.log_faults }
+        ensures lefts { self.new.closed ≡ self.old.closed }
+    {
+        let input = Kept::Input(SureSource::new(bytes));
+        self.files.keep(self.alloc, name, input)
+    }
+
+    /// Makes the name a place for outputs and logs, with a file of these bytes or none yet, whatever it was. Takes `ROOM` bytes.
+    pub fn place(&mut self, name: &str, bytes: Option<&[u8]>) -> Result<(), NoMemory>
+        requires { IfSome (option_copied bytes) (λ b. length b ≤ ROOM) }
+        ensures ok { OnOk result (MakesPlace self.old self.new name.now (option_copied bytes.entry)) }
+        ensures err { OnErr result (SameKept self.old self.new) }
+        ensures counts { HasSureCounts self.new self.old.in_faults self.old.out_faults self.old.log_faults }
+        ensures lefts { self.new.closed ≡ self.old.closed }
+    {
+        let stored = Stored::new(self.alloc, bytes)?;
+        self.files.keep(self.alloc, name, Kept::Place(stored, 0))
+    }
+
+    /// The bytes of the file of that name, a closed log's among them, where there is one that isn't open.
+    pub fn file(&self, name: &str) -> Option<&[u8]>
+        ensures { option_copied result ≡ (sure_room_view self.now).file name.now }
+    {
+        match self.files.under(name) {
+            Some(kept) => kept.bytes(),
+            None => None,
+        }
+    }
+
+    // The input of that name.
+    fn input(&self, name: &str) -> Option<SureSource<'a>>
+        ensures none { is_none result ≡ not (is_input (kept_under self.now name.now)) }
+        ensures source { IfSome result (λ source. kept_under self.now name.now ≡ Some (Input source)) }
+    {
+        match self.files.under(name) {
+            Some(Kept::Input(source)) => Some(SureSource::new(source.bytes())),
+            Some(Kept::Place(_, _)) | None => None,
+        }
+    }
+}
+
+impl<'a, const ROOM: usize> Room for SureRoom<'a, ROOM> {
+    ghost use Rattle.outside_sure.specs.SureRoom.{sure_room_view, kept_under, SameKept, KeepsUnder, HasSureCounts};
+
+    type In = SureSource<'a>;
+
+    type Out = SureSink<ROOM>;
+
+    type Log = SureDisk<ROOM>;
+
+    ghost seen = { sure_room_view };
+
+    #[tactic(auto, using(crate::proofs::SureRooms::stays_kept))]
+    fn open_in(&mut self, name: &str) -> Result<SureSource<'a>, Failed>
+        requires { (sure_room_view self.old).open_as name.now ≡ None }
+        ensures stays { SameBut (sure_room_view self.old) (sure_room_view self.new) [] }
+        ensures lefts { (sure_room_view self.new).lefts ≡ (sure_room_view self.old).lefts }
+        ensures cause { HasCause ((sure_room_view self.old).in_faults name.now) ((sure_room_view self.new).in_faults name.now) result }
+        ensures fresh { IfOk result (λ object. source_faults object ≡ 0) }
+        ensures there { OnOk result ((sure_room_view self.old).tells ≡ true → IsSome ((sure_room_view self.old).file name.now)) }
+        ensures bytes { IfOk result (λ object. (sure_room_view self.old).tells ≡ true → Some object ≡ (sure_room_view self.old).file name.now) }
+
+        // It fails exactly where the name isn't an input, and gives the input's bytes.
+        ensures fails { is_err result ≡ not (is_input (kept_under self.old name.now)) }
+        ensures source { IfOk result (λ source. kept_under self.old name.now ≡ Some (Input source)) }
+        ensures kept { SameKept self.old self.new }
+        ensures counts { HasSureCounts self.new (counted result self.old.in_faults) self.old.out_faults self.old.log_faults }
+    {
+        match self.input(name) {
+            Some(source) => Ok(source),
+            None => {
+                self.in_faults = self.in_faults.saturating_add(1);
+                Err(Failed)
+            }
+        }
+    }
+
+    #[tactic(auto, using(crate::proofs::SureRooms::apart_opened, crate::proofs::SureRooms::stays_refused))]
+    fn open_out(&mut self, name: &str) -> Result<SureSink<ROOM>, Failed>
+        requires { (sure_room_view self.old).open_as name.now ≡ None }
+        ensures apart { SameBut (sure_room_view self.old) (sure_room_view self.new) (name.now ∷ []) }
+        ensures lefts { (sure_room_view self.new).lefts ≡ (sure_room_view self.old).lefts }
+        ensures opened { OnOk result ((sure_room_view self.new).open_as name.now ≡ Some AsOutput) }
+        ensures failed { OnErr result (SameBut (sure_room_view self.old) (sure_room_view self.new) []) }
+        ensures cause { HasCause ((sure_room_view self.old).out_faults name.now) ((sure_room_view self.new).out_faults name.now) result }
+        ensures fresh { IfOk result (λ object. object.faults ≡ 0) }
+        ensures empty { IfOk result (λ object. (sure_room_view self.old).tells ≡ true → Some object.held.buffer.items ≡ Some []) }
+
+        // It fails exactly where the name isn't a place, or has a fault.
+        ensures fails { is_err result ≡ not (is_ready (kept_under self.old name.now)) }
+        ensures sink { IfOk result (λ sink. sink_state sink ≡ record { bytes = []; faults = 0 }) }
+        ensures kept { KeepsUnder self.old self.new name.now (kept_opened OpenOutput (kept_under self.old name.now)) }
+        ensures counts { HasSureCounts self.new self.old.in_faults (counted result self.old.out_faults) self.old.log_faults }
+    {
+        match self.files.open(name, Stored::OpenOutput) {
+            Some(held) => Ok(SureSink::of_held(held)),
+            None => {
+                self.out_faults = self.out_faults.saturating_add(1);
+                Err(Failed)
+            }
+        }
+    }
+
+    #[tactic(auto, using(crate::proofs::SureRooms::apart_opened, crate::proofs::SureRooms::stays_refused))]
+    fn open_log(&mut self, name: &str) -> Result<SureDisk<ROOM>, Failed>
+        requires { (sure_room_view self.old).open_as name.now ≡ None }
+        ensures apart { SameBut (sure_room_view self.old) (sure_room_view self.new) (name.now ∷ []) }
+        ensures lefts { (sure_room_view self.new).lefts ≡ (sure_room_view self.old).lefts }
+        ensures opened { OnOk result ((sure_room_view self.new).open_as name.now ≡ Some AsLog) }
+        ensures failed { OnErr result (SameBut (sure_room_view self.old) (sure_room_view self.new) []) }
+        ensures cause { HasCause ((sure_room_view self.old).log_faults name.now) ((sure_room_view self.new).log_faults name.now) result }
+        ensures fresh { IfOk result (λ object. (sure_disk_view object).faults ≡ 0) }
+        ensures beginning { IfOk result (λ object. (sure_disk_view object).moment ≡ 0) }
+        ensures bytes { IfOk result (λ object. (sure_room_view self.old).tells ≡ true →
+            (sure_disk_view object).content ≡ Some (bytes_or_none ((sure_room_view self.old).file name.now))) }
+
+        // It fails exactly where the name isn't a place, or has a fault.
+        ensures fails { is_err result ≡ not (is_ready (kept_under self.old name.now)) }
+        ensures disk { IfOk result (λ disk. disk_state disk ≡ record { bytes = bytes_or_none (told_kept (kept_under self.old name.now)); faults = 0 }) }
+        ensures kept { KeepsUnder self.old self.new name.now (kept_opened OpenLog (kept_under self.old name.now)) }
+        ensures counts { HasSureCounts self.new self.old.in_faults self.old.out_faults (counted result self.old.log_faults) }
+    {
+        match self.files.open(name, Stored::OpenLog) {
+            Some(held) => Ok(SureDisk::of_held(held)),
+            None => {
+                self.log_faults = self.log_faults.saturating_add(1);
+                Err(Failed)
+            }
+        }
+    }
+
+    // A sure source has no faults to add.
+    #[tactic(auto, using(crate::proofs::SureRooms::stays_kept, crate::proofs::SureRooms::counts_none))]
+    fn close_in(&mut self, _name: &str, object: SureSource<'a>)
+        ensures stays { SameBut (sure_room_view self.old) (sure_room_view self.new) [] }
+        ensures left { (sure_room_view self.new).lefts ≡ Some object.entry ∷ (sure_room_view self.old).lefts }
+        ensures counted { (sure_room_view self.new).in_faults _name.now
+            ≡ count_sum ((sure_room_view self.old).in_faults _name.now) (source_faults object.entry) }
+        ensures kept { SameKept self.old self.new }
+        ensures counts { HasSureCounts self.new self.old.in_faults self.old.out_faults self.old.log_faults }
+    {
+        self.in_faults = self.in_faults.saturating_add(0);
+        self.closed.give_up(&object);
+    }
+
+    #[tactic(auto, using(crate::proofs::SureRooms::apart_closed, crate::proofs::SureRooms::closed_counts, crate::proofs::SureRooms::closed_sort, crate::proofs::SureRooms::closed_told, crate::proofs::SureRooms::closed_is_log))]
+    fn close_out(&mut self, name: &str, object: SureSink<ROOM>) -> Result<(), Failed>
+        requires { (sure_room_view self.old).open_as name.now ≡ Some AsOutput }
+        ensures apart { SameBut (sure_room_view self.old) (sure_room_view self.new) (name.now ∷ []) }
+        ensures lefts { (sure_room_view self.new).lefts ≡ (sure_room_view self.old).lefts }
+        ensures closed { (sure_room_view self.new).open_as name.now ≡ None }
+        ensures bytes { OnOk result ((sure_room_view self.old).tells ≡ true
+            → (sure_room_view self.new).file name.now ≡ Some object.entry.held.buffer.items) }
+        ensures front { OnErr result ((sure_room_view self.old).tells ≡ true
+            → HasFront ((sure_room_view self.new).file name.now) (Some object.entry.held.buffer.items)) }
+        ensures no_log { (sure_room_view self.new).has_log name.now ≡ false }
+        ensures counted { OnOk result ((sure_room_view self.new).out_faults name.now
+            ≡ count_sum ((sure_room_view self.old).out_faults name.now) object.entry.faults) }
+        ensures cause { HasCause (count_sum ((sure_room_view self.old).out_faults name.now) object.entry.faults)
+            ((sure_room_view self.new).out_faults name.now) result }
+
+        // It never fails, and the place has a file of what was written.
+        ensures ok { IsOk result }
+        ensures kept { KeepsUnder self.old self.new name.now (kept_closed (File object.entry.held) object.entry.faults (kept_under self.old name.now)) }
+        ensures counts { HasSureCounts self.new self.old.in_faults self.old.out_faults self.old.log_faults }
+    {
+        let faults = object.faults();
+        self.files
+            .close(name, Stored::File(object.into_held()), faults);
+        Ok(())
+    }
+
+    #[tactic(auto, using(crate::proofs::SureRooms::apart_closed, crate::proofs::SureRooms::closed_counts, crate::proofs::SureRooms::closed_sort, crate::proofs::SureRooms::closed_told, crate::proofs::SureRooms::closed_is_log, crate::proofs::SureRooms::closed_log))]
+    fn close_log(&mut self, name: &str, object: SureDisk<ROOM>)
+        requires { (sure_room_view self.old).open_as name.now ≡ Some AsLog }
+        ensures apart { SameBut (sure_room_view self.old) (sure_room_view self.new) (name.now ∷ []) }
+        ensures lefts { (sure_room_view self.new).lefts ≡ (sure_room_view self.old).lefts }
+        ensures closed { (sure_room_view self.new).open_as name.now ≡ None }
+        ensures bytes { (sure_room_view self.old).tells ≡ true → (sure_room_view self.new).file name.now ≡ (sure_disk_view object.entry).content }
+        ensures log { (sure_room_view self.old).tells ≡ true → (sure_room_view self.new).has_log name.now ≡ true }
+        ensures moments { (sure_room_view self.old).tells ≡ true → SameDisk (sure_disk_view object.entry) ((sure_room_view self.new).log name.now) }
+        ensures counted { (sure_room_view self.new).log_faults name.now
+            ≡ count_sum ((sure_room_view self.old).log_faults name.now) (sure_disk_view object.entry).faults }
+
+        // The place has the disk as its closed log.
+        ensures kept { KeepsUnder self.old self.new name.now (kept_closed (Log object.entry) object.entry.faults (kept_under self.old name.now)) }
+        ensures counts { HasSureCounts self.new self.old.in_faults self.old.out_faults self.old.log_faults }
+    {
+        let faults = object.faults();
+        self.files.close(name, Stored::Log(object), faults);
+    }
+
+    ghost use Rattle.outside_sure.specs.SureRoom.{kept_untold, kept_unlogged};
+    ghost use Rattle.outside_sure.specs.SurePromise.{keeps_promise};
+    ghost use Rattle.std.proofs.Common.{refl};
+
+    ghost open_untold = { λ room name. kept_untold (kept_under room name) };
+
+    ghost open_unlogged = { λ room name. kept_unlogged (kept_under room name) };
+
+    ghost promised = { λ room name. keeps_promise room name (kept_under room name) refl (room.files.well name) };
+}
