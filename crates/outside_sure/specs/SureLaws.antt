@@ -59,8 +59,12 @@ no_new_image old new f g same c image = cc
 pub follows : (step : List ℕ → List ℕ → Type 0) (old new : List ℕ) (f g : ℕ) → step old new → Follows step (sure_view old f) (sure_view new g)
 follows step old new f g made c image = (old, refl, subst (step old) (sym image) made)
 
-pub content_follows : (step : List ℕ → List ℕ → Type 0) (old new : List ℕ) (f g : ℕ) → step old new → ContentFollows step (sure_view old f) (sure_view new g)
-content_follows step old new f g made b c was is = let same : old ≡ b = cc in let now : new ≡ c = cc in subst (step b) now (subst (λ d. step d new) same made)
+pub content_follows : (step : List ℕ → List ℕ → Type 0) (old new : List ℕ) (f g : ℕ) → step old new
+    → ContentFollows step (sure_view old f) (sure_view new g)
+content_follows step old new f g made b c was is =
+    let same : old ≡ b = cc in
+    let now : new ≡ c = cc in
+    subst (step b) now (subst (λ d. step d new) same made)
 
 -- how long the bytes are then
 pub length_patched : (at : ℕ) (bytes old : List ℕ) → at ≤ length old → length (patch at bytes old) ≡ max (length old) (at + length bytes)
