@@ -1,7 +1,7 @@
 -- What clauses see of a disk in memory that fails for want of room alone.
 use Rattle.std.specs.Prelude.{◌≡◌, ℕ, false, List, length, Some, None}
 use Rattle.outside.specs.Disk.{DiskView}
-use Rattle.outside_sure.specs.SureStates.{SureState}
+use Rattle.outside_sure.specs.SureState.{SureState}
 use Rattle.outside_sure.specs.declared.sure_disk.SureDisk.{SureDisk}
 
 -- a disk that has these bytes, and tells its content and no moments, as any disk is seen
@@ -17,10 +17,10 @@ sure_view bytes faults = record {
   faults = faults;
 }
 
--- a sure disk's bytes, room and faults
-abbrev pub disk_state : SureDisk → SureState
-disk_state disk = record { bytes = disk.held.bytes; room = disk.held.room; faults = disk.faults }
+-- a sure disk's bytes and faults
+abbrev pub disk_state : {room : ℕ} → SureDisk room → SureState
+disk_state disk = record { bytes = disk.held.buffer.items; faults = disk.faults }
 
 -- a sure disk as any disk is seen
-abbrev pub sure_disk_view : SureDisk → DiskView
-sure_disk_view disk = sure_view disk.held.bytes disk.faults
+abbrev pub sure_disk_view : {room : ℕ} → SureDisk room → DiskView
+sure_disk_view disk = sure_view disk.held.buffer.items disk.faults

@@ -1,7 +1,7 @@
 -- Why a disk that tells its content and no moments is a disk, and what its calls leave.
 use Rattle.std.specs.Prelude.{◌≡◌, ℕ, ◌+◌, ◌≤◌, max, true, false, List, length, take, Some, None, refl}
 use Rattle.std.proofs.Common.{sym, subst, true≢false, arith}
-use Rattle.outside.specs.Disk.{patch, Follows, Elapses, SameSyncs, SyncsNow, NoNewImage, OnlyContent, Unchanged}
+use Rattle.outside.specs.Disk.{longest_disk, longest_write, patch, Follows, ContentFollows, Elapses, SameSyncs, SyncsNow, NoNewImage, OnlyContent, Unchanged}
 use Rattle.std.proofs.lemmas.List.{length-take-le}
 use Rattle.outside.proofs.Disks.{length-patch}
 use Rattle.outside_sure.specs.SureDisk.{sure_view}
@@ -59,9 +59,20 @@ no_new_image old new f g same c image = cc
 pub follows : (step : List ℕ → List ℕ → Type 0) (old new : List ℕ) (f g : ℕ) → step old new → Follows step (sure_view old f) (sure_view new g)
 follows step old new f g made c image = (old, refl, subst (step old) (sym image) made)
 
+pub content_follows : (step : List ℕ → List ℕ → Type 0) (old new : List ℕ) (f g : ℕ) → step old new
+    → ContentFollows step (sure_view old f) (sure_view new g)
+content_follows step old new f g made b c was is =
+    let same : old ≡ b = cc in
+    let now : new ≡ c = cc in
+    subst (step b) now (subst (λ d. step d new) same made)
+
 -- how long the bytes are then
 pub length_patched : (at : ℕ) (bytes old : List ℕ) → at ≤ length old → length (patch at bytes old) ≡ max (length old) (at + length bytes)
 length_patched at bytes old within = length-patch at bytes old within
 
 pub length_cut : (n : ℕ) (old : List ℕ) → n ≤ length old → length (take n old) ≡ n
 length_cut n old within = length-take-le n old within
+
+-- no more bytes than a disk can have
+pub short_enough : {len room : ℕ} → len ≤ room → room + longest_write ≤ longest_disk → len ≤ longest_disk
+short_enough within short = omega (arith, within, short)

@@ -1,100 +1,103 @@
-ghost use Rattle.std.specs.Prelude.{◌≡◌, ◌+◌, ◌≤◌, [], length, take, drop, max, vec_len, IfOk};
+ghost use Rattle.std.specs.Prelude.{◌≡◌, ◌+◌, ◌≤◌, [], ◌++◌, length, take, vec_capacity, IfOk};
 ghost use Rattle.outside.specs.Disk.{patch};
-ghost use Rattle.outside_sure.specs.SureStates.{HeldState};
 
 use outside::NoMemory;
-use std::alloc::{AllocError, Global};
-use std::marker::Model;
+use std::alloc::Global;
 
-/// Bytes with room for a fixed number of them. No change takes memory.
+/// At most `ROOM` bytes. Their memory is taken when it is made, and no change takes more.
 #[derive(Debug, Drop)]
-pub struct Held {
+pub struct Held<const ROOM: usize> {
     buffer: Vec<u8>,
-    len: usize,
+    ghost within: { length buffer.items ≤ ROOM },
+    ghost taken: { ROOM ≤ vec_capacity buffer },
 }
 
-impl Model for Held {
-    ghost use Rattle.std.specs.Prelude.{◌≤◌, take, length};
-    ghost use Rattle.outside_sure.specs.SureStates.{HeldState};
-
-    ghost Value = { HeldState };
-
-    ghost view = { λ h. record { bytes = take h.len h.buffer.items; room = length h.buffer.items } };
-
-    ghost invariant = { λ h. h.len ≤ length h.buffer.items };
-}
-
-fn zeros(alloc: Global, count: usize) -> Result<Vec<u8>, AllocError>
-    ensures { IfOk result (λ bytes. length bytes.items ≡ count) }
-{
-    vec![in alloc; 0; count]
-}
-
-fn write_over(buffer: &mut [u8], at: usize, bytes: &[u8])
-    requires { at + length bytes.now ≤ length buffer.old }
-    ensures { buffer.new ≡ patch at bytes.now buffer.old }
+// Writes over what stands there.
+#[tactic(auto, using(crate::proofs::Helds::over_len))]
+fn write_over(buffer: &mut Vec<u8>, at: usize, bytes: &[u8])
+    requires { at + length bytes.now ≤ length buffer.old.items }
+    ensures items { buffer.new.items ≡ patch at bytes.now buffer.old.items }
+    ensures len { length buffer.new.items ≡ length buffer.old.items }
+    ensures capacity { vec_capacity buffer.new ≡ vec_capacity buffer.old }
 {
     buffer[at..at + bytes.len()].copy_from_slice(bytes);
 }
 
-impl Held {
-    /// No bytes, and room for so many.
-    pub fn new(alloc: Global, room: usize) -> Result<Self, NoMemory>
-        ensures { IfOk result (λ held. held ≡ record { bytes = []; room = room }) }
+// Adds the bytes at the end; there is room, so that it takes no memory and doesn't fail.
+fn append(buffer: &mut Vec<u8>, bytes: &[u8])
+    requires { length buffer.old.items + length bytes.now ≤ vec_capacity buffer.old }
+    ensures items { buffer.new.items ≡ buffer.old.items ++ bytes.now }
+    ensures capacity { vec_capacity buffer.old ≤ vec_capacity buffer.new }
+{
+    let _ = buffer.extend_from_slice(bytes);
+}
+
+// Writes over what stands there, and the rest past the end.
+#[tactic(auto, using(crate::proofs::Helds::over_and_past))]
+fn write_past(buffer: &mut Vec<u8>, at: usize, bytes: &[u8])
+    requires within { at ≤ length buffer.old.items }
+    requires room { at + length bytes.now ≤ vec_capacity buffer.old }
+    ensures items { buffer.new.items ≡ patch at bytes.now buffer.old.items }
+    ensures capacity { vec_capacity buffer.old ≤ vec_capacity buffer.new }
+{
+    let (over, past) = bytes.split_at(bytes.len().min(buffer.len() - at));
+    write_over(buffer, at, over);
+    append(buffer, past);
+}
+
+impl<const ROOM: usize> Held<ROOM> {
+    /// No bytes.
+    pub fn new(alloc: Global) -> Result<Self, NoMemory>
+        ensures { IfOk result (λ held. held.buffer.items ≡ []) }
     {
         Ok(Held {
-            buffer: zeros(alloc, room)?,
-            len: 0,
+            buffer: Vec::with_capacity(alloc, ROOM)?,
         })
     }
 
-    /// These bytes, and room for so many, at least for these.
-    pub fn from_bytes(alloc: Global, bytes: &[u8], room: usize) -> Result<Self, NoMemory>
-        ensures { IfOk result (λ held. held ≡ record { bytes = bytes.now; room = max (length bytes.now) room }) }
+    /// These bytes.
+    pub fn of_bytes(alloc: Global, bytes: &[u8]) -> Result<Self, NoMemory>
+        requires { length bytes.now ≤ ROOM }
+        ensures { IfOk result (λ held. held.buffer.items ≡ bytes.now) }
     {
-        let mut held = Held::new(alloc, bytes.len().max(room))?;
+        let mut held = Held::new(alloc)?;
         held.write_at(0, bytes);
         Ok(held)
     }
 
     pub fn bytes(&self) -> &[u8]
-        ensures { result.now ≡ self.now.bytes }
+        ensures { result.now ≡ self.now.buffer.items }
     {
-        &self.buffer[..self.len]
+        self.buffer.as_slice()
     }
 
     pub fn len(&self) -> usize
-        ensures result { result ≡ length self.now.bytes }
-        ensures within { length self.now.bytes ≤ self.now.room }
-    {
-        self.len
-    }
-
-    /// How many bytes there may be.
-    pub fn room(&self) -> usize
-        ensures result { result ≡ self.now.room }
-        ensures within { length self.now.bytes ≤ self.now.room }
+        ensures { result ≡ length self.now.buffer.items }
     {
         self.buffer.len()
     }
 
-    /// Writes the bytes over what is there and past the end.
-    #[tactic(auto, using(crate::proofs::Helds::written_len))]
+    /// Writes the bytes over what is there and past the end, as far as there is room.
+    #[tactic(auto, using(crate::proofs::Helds::fitting, crate::proofs::Helds::fits))]
     pub fn write_at(&mut self, at: usize, bytes: &[u8])
-        requires within { at ≤ length self.old.bytes }
-        requires room { at + length bytes.now ≤ self.old.room }
-        ensures { self.new ≡ record { bytes = patch at bytes.now self.old.bytes; room = self.old.room } }
+        requires { at ≤ length self.old.buffer.items }
+        ensures { self.new.buffer.items ≡ take ROOM (patch at bytes.now self.old.buffer.items) }
     {
-        write_over(&mut self.buffer, at, bytes);
-        self.len = self.len.max(at + bytes.len());
+        write_past(&mut self.buffer, at, &bytes[..bytes.len().min(ROOM - at)]);
     }
 
     /// Cuts the bytes from there on off.
-    #[tactic(auto, using(crate::proofs::Helds::cut))]
     pub fn cut(&mut self, len: usize)
-        requires { len ≤ length self.old.bytes }
-        ensures { self.new ≡ record { bytes = take len self.old.bytes; room = self.old.room } }
+        ensures { self.new.buffer.items ≡ take len self.old.buffer.items }
     {
-        self.len = len;
+        self.buffer.truncate(len);
+    }
+
+    /// No bytes, in the same memory.
+    pub fn emptied(mut self) -> Self
+        ensures { result.buffer.items ≡ [] }
+    {
+        self.cut(0);
+        self
     }
 }

@@ -1,9 +1,9 @@
 //! The outside in memory without faults: sources, sinks, disks and a room that fail for want of room alone.
 #![tactic(auto)]
 
-mod copied;
 mod held;
-mod shelf;
+mod kept;
+mod stored;
 mod sure_disk;
 mod sure_files;
 mod sure_room;

@@ -1,123 +1,162 @@
-ghost use Rattle.std.specs.Prelude.{◌≡◌, ◌≢◌, ℕ, ◌<◌, ◌==◌, List, vec_len, vec_capacity, Some, None, is_none, IfSome, IfNone};
-ghost use Rattle.std.specs.List.{position};
+ghost use Rattle.std.specs.Prelude.{◌≡◌, ◌≢◌, ℕ, ◌<◌, List, [], length, Some, None, IsSome, IfSome, IfNone, IfOk, OnOk, OnErr, not, is_none};
 ghost use Rattle.std.specs.Option.{option_copied};
-ghost use Rattle.outside_sure.specs.SureFiles.{is_called, kept_in, told_kept, held_kept, copies_left, one_fewer, IsAt, IsUncalled, ChangesKept};
+ghost use Rattle.outside.specs.Room.{bytes_or_none};
+ghost use Rattle.outside_sure.specs.SureKept.{told_kept, kept_sort, is_ready, kept_opened, kept_closed, IsFull, IsKeptWell};
+ghost use Rattle.outside_sure.specs.SureFiles.{kept_in, IsAt, IsUncalled, ChangesKept};
+ghost use Rattle.outside_sure.specs.declared.kept.Kept.TheVariants.{Place};
 
-use crate::copied::Copied;
 use crate::held::Held;
-use crate::{SureDisk, SureSource};
-use std::mem;
-
-/// What is kept under a name.
-#[derive(Debug, Drop)]
-pub enum Kept {
-    /// A file with these bytes, and copies to open.
-    Closed(Copied),
-    /// What was closed as a log.
-    ClosedLog(SureDisk),
-    /// What is open as output.
-    OpenOutput,
-    /// What is open as a log.
-    OpenLog,
-}
-
-impl Kept {
-    /// The bytes of a file that isn't open.
-    pub fn bytes(&self) -> Option<&[u8]>
-        ensures { option_copied result ≡ told_kept (Some self.now) }
-    {
-        match self {
-            Kept::Closed(file) => Some(file.bytes()),
-            Kept::ClosedLog(disk) => Some(disk.bytes()),
-            Kept::OpenOutput | Kept::OpenLog => None,
-        }
-    }
-
-    /// A copy of the file, where one is left.
-    pub fn take_copy(&mut self) -> Option<SureSource>
-        ensures none { is_none result ≡ (copies_left (Some self.old) == 0) }
-        ensures source { IfSome result (λ source. told_kept (Some self.old) ≡ Some source) }
-        ensures fewer { Some self.new ≡ one_fewer (Some self.old) }
-    {
-        match self {
-            Kept::Closed(file) => file.take_copy(),
-            Kept::ClosedLog(_) | Kept::OpenOutput | Kept::OpenLog => None,
-        }
-    }
-
-    /// The bytes and the room of a file that isn't open.
-    pub fn into_held(self) -> Option<Held>
-        ensures { result ≡ held_kept self }
-    {
-        match self {
-            Kept::Closed(file) => Some(file.into_held()),
-            Kept::ClosedLog(disk) => Some(disk.into_held()),
-            Kept::OpenOutput | Kept::OpenLog => None,
-        }
-    }
-}
+use crate::kept::Kept;
+use crate::stored::Stored;
+use outside::NoMemory;
+use std::alloc::Global;
 
 /// A name, and what is kept under it.
 #[derive(Debug, Drop)]
-pub struct SureFile {
+pub struct SureFile<'a, const ROOM: usize> {
     pub name: String,
-    pub kept: Kept,
+    pub kept: Kept<'a, ROOM>,
 }
 
-fn position_of(files: &[SureFile], name: &str) -> Option<usize>
-    ensures { result ≡ position (is_called name.now) files.now }
-{
-    files.iter().position(|file| file.name.as_str() == name)
+/// What a sure room keeps, by name.
+#[derive(Debug, Drop)]
+pub struct SureFiles<'a, const ROOM: usize> {
+    items: Vec<SureFile<'a, ROOM>>,
+    ghost well: { (n : List ℕ) → IsKeptWell (kept_in items.items n) },
 }
 
-/// The place of the entry of that name.
-#[tactic(auto, using(crate::proofs::Kepts::place_found, crate::proofs::Kepts::place_missing, crate::proofs::Kepts::kept_missing))]
-pub fn place_of(files: &[SureFile], name: &str) -> Option<usize>
+// The place of the entry of that name.
+#[tactic(auto, using(crate::proofs::Kepts::place_is, crate::proofs::Kepts::none_more, crate::proofs::Kepts::none_is, crate::proofs::Kepts::none_yet))]
+fn place_of<'a, const ROOM: usize>(files: &[SureFile<'a, ROOM>], name: &str) -> Option<usize>
     ensures found { IfSome result (IsAt files.now name.now) }
     ensures missing { IfNone result (IsUncalled files.now name.now) }
-    ensures none { IfNone result (kept_in files.now name.now ≡ None) }
 {
-    position_of(files, name)
+    for place in 0..files.len() {
+        if files[place].name.as_str() == name {
+            return Some(place);
+        }
+    }
+    None
 }
 
-/// What is kept under that name.
-#[tactic(auto, using(crate::proofs::Kepts::kept_at))]
-pub fn kept_under<'a>(files: &'a [SureFile], name: &str) -> Option<&'a Kept>
-    ensures { option_copied result ≡ kept_in files.now name.now }
+// Adds an entry.
+#[tactic(auto, using(crate::proofs::Kepts::kept_entered))]
+fn add<'a, const ROOM: usize>(
+    alloc: Global,
+    files: &mut Vec<SureFile<'a, ROOM>>,
+    name: &str,
+    kept: Kept<'a, ROOM>,
+) -> Result<(), NoMemory>
+    requires { IsUncalled files.old.items name.now }
+    ensures ok { OnOk result (ChangesKept files.old.items files.new.items name.now (Some kept.entry)) }
+    ensures err { OnErr result (files.new.items ≡ files.old.items) }
 {
-    let place = place_of(files, name)?;
-    Some(&files[place].kept)
+    let own = String::from_str(alloc, name)?;
+    files.push(SureFile { name: own, kept })?;
+    Ok(())
 }
 
-/// Keeps something else at that place, and answers what was kept there.
-pub fn replace(files: &mut Vec<SureFile>, place: usize, kept: Kept) -> Kept
-    requires { place < vec_len files.old }
-    ensures was { (name : List ℕ) → IsAt files.old.items name place → kept_in files.old.items name ≡ Some result }
-    ensures now { (name : List ℕ) → IsAt files.old.items name place → ChangesKept files.old.items files.new.items name kept }
-    ensures len { vec_len files.new ≡ vec_len files.old }
-    ensures capacity { vec_capacity files.new ≡ vec_capacity files.old }
-{
-    let file = &mut files[place];
-    mem::replace(&mut file.kept, kept)
-}
-
-/// Room for a name that isn't used yet, and for a file of it.
-#[derive(Debug, Drop)]
-pub struct Spare {
-    pub name: String,
-    pub held: Held,
-}
-
-/// A copy of what is kept at that place, where one is left.
-pub fn take_copy(files: &mut Vec<SureFile>, place: usize) -> Option<SureSource>
-    requires { place < vec_len files.old }
-    ensures none { (name : List ℕ) → IsAt files.old.items name place → is_none result ≡ (copies_left (kept_in files.old.items name) == 0) }
-    ensures source { IfSome result (λ source. (name : List ℕ) → IsAt files.old.items name place → told_kept (kept_in files.old.items name) ≡ Some source) }
-    ensures here { (name : List ℕ) → IsAt files.old.items name place → kept_in files.new.items name ≡ one_fewer (kept_in files.old.items name) }
-    ensures others { (name n : List ℕ) → IsAt files.old.items name place → n ≢ name → kept_in files.new.items n ≡ kept_in files.old.items n }
-    ensures len { vec_len files.new ≡ vec_len files.old }
-    ensures capacity { vec_capacity files.new ≡ vec_capacity files.old }
+// Keeps something else at that place.
+fn replace<'a, const ROOM: usize>(
+    files: &mut Vec<SureFile<'a, ROOM>>,
+    place: usize,
+    kept: Kept<'a, ROOM>,
+)
+    requires { place < length files.old.items }
+    ensures { (name : List ℕ) → IsAt files.old.items name place → ChangesKept files.old.items files.new.items name (Some kept.entry) }
 {
     let file = &mut files[place];
-    file.kept.take_copy()
+    file.kept = kept;
+}
+
+// Opens what is kept at that place.
+fn open_at<'a, const ROOM: usize>(
+    files: &mut Vec<SureFile<'a, ROOM>>,
+    place: usize,
+    opened: Stored<ROOM>,
+) -> Option<Held<ROOM>>
+    requires { place < length files.old.items }
+    ensures none { (name : List ℕ) → IsAt files.old.items name place → is_none result ≡ not (is_ready (kept_in files.old.items name)) }
+    ensures bytes { IfSome result (λ held. (name : List ℕ) → IsAt files.old.items name place
+        → held.buffer.items ≡ bytes_or_none (told_kept (kept_in files.old.items name))) }
+    ensures now { (name : List ℕ) → IsAt files.old.items name place
+        → ChangesKept files.old.items files.new.items name (kept_opened opened.entry (kept_in files.old.items name)) }
+{
+    let file = &mut files[place];
+    file.kept.open(opened)
+}
+
+// Closes what is kept at that place.
+fn close_at<'a, const ROOM: usize>(
+    files: &mut Vec<SureFile<'a, ROOM>>,
+    place: usize,
+    closed: Stored<ROOM>,
+    more: u64,
+)
+    requires { place < length files.old.items }
+    ensures { (name : List ℕ) → IsAt files.old.items name place
+        → ChangesKept files.old.items files.new.items name (kept_closed closed.entry more (kept_in files.old.items name)) }
+{
+    let file = &mut files[place];
+    file.kept.close(closed, more);
+}
+
+impl<'a, const ROOM: usize> SureFiles<'a, ROOM> {
+    /// Nothing.
+    #[tactic(auto, using(crate::proofs::Kepts::kept_in_none, crate::proofs::Kepts::well_none))]
+    pub fn new(alloc: Global) -> Self
+        ensures { (n : List ℕ) → kept_in result.items.items n ≡ None }
+    {
+        SureFiles {
+            items: Vec::new(alloc),
+        }
+    }
+
+    /// What is kept under that name.
+    #[tactic(auto, using(crate::proofs::Kepts::kept_at, crate::proofs::Kepts::kept_nowhere))]
+    pub fn under(&self, name: &str) -> Option<&Kept<'a, ROOM>>
+        ensures { option_copied result ≡ kept_in self.now.items.items name.now }
+    {
+        let place = place_of(&self.items, name)?;
+        Some(&self.items[place].kept)
+    }
+
+    /// Keeps this under that name, in place of what was there.
+    #[tactic(auto, using(crate::proofs::Kepts::well_changed))]
+    pub fn keep(&mut self, alloc: Global, name: &str, kept: Kept<'a, ROOM>) -> Result<(), NoMemory>
+        requires { IsKeptWell (Some kept) }
+        ensures ok { OnOk result (ChangesKept self.old.items.items self.new.items.items name.now (Some kept.entry)) }
+        ensures err { OnErr result (self.new.items.items ≡ self.old.items.items) }
+    {
+        match place_of(&self.items, name) {
+            Some(place) => replace(&mut self.items, place, kept),
+            None => add(alloc, &mut self.items, name, kept)?,
+        }
+        Ok(())
+    }
+
+    /// Opens a place that has no fault, and answers its memory with the file's bytes. A place with a fault counts one more.
+    #[tactic(auto, using(crate::proofs::Kepts::well_changed, crate::proofs::Kepts::well_opened, crate::proofs::Kepts::opened_nowhere, crate::proofs::Kepts::ready_nowhere))]
+    pub fn open(&mut self, name: &str, opened: Stored<ROOM>) -> Option<Held<ROOM>>
+        ensures none { is_none result ≡ not (is_ready (kept_in self.old.items.items name.now)) }
+        ensures bytes { IfSome result (λ held. held.buffer.items ≡ bytes_or_none (told_kept (kept_in self.old.items.items name.now))) }
+        ensures now { ChangesKept self.old.items.items self.new.items.items name.now
+            (kept_opened opened.entry (kept_in self.old.items.items name.now)) }
+    {
+        let place = place_of(&self.items, name)?;
+        open_at(&mut self.items, place, opened)
+    }
+
+    /// The place of that name, which is open, has this now, and so many faults more.
+    #[tactic(auto, using(crate::proofs::Kepts::well_changed, crate::proofs::Kepts::well_closed, crate::proofs::Kepts::closed_nowhere))]
+    pub fn close(&mut self, name: &str, closed: Stored<ROOM>, more: u64)
+        requires is_open { IsSome (kept_sort (kept_in self.old.items.items name.now)) }
+        requires full { more ≢ 0 → IsFull (Some (Place closed more)) }
+        ensures { ChangesKept self.old.items.items self.new.items.items name.now
+            (kept_closed closed.entry more (kept_in self.old.items.items name.now)) }
+    {
+        if let Some(place) = place_of(&self.items, name) {
+            close_at(&mut self.items, place, closed, more);
+        }
+    }
 }

@@ -1,178 +1,129 @@
-ghost use Rattle.std.specs.Prelude.{◌≡◌, ◌≢◌, ℕ, ◌+◌, ◌-◌, ◌<◌, ◌≤◌, ◌==◌, List, [], max, length, Option, Some, None, IsOk, IfOk, IfSome, IfNone, OnOk, OnErr, OnSome, is_err, is_none, true, false, ◌||◌, nat_lt, if◌then◌else◌, ◌∷◌};
+ghost use Rattle.std.specs.Prelude.{◌≡◌, ℕ, ◌+◌, ◌≤◌, List, [], ◌∷◌, length, Option, Some, None, IsOk, IsSome, IfOk, IfSome, IfNone, OnOk, OnErr, is_err, is_none, not, true, false};
 ghost use Rattle.std.specs.Option.{option_copied};
-ghost use Rattle.outside.specs.Disk.{SameDisk, longest_disk};
+ghost use Rattle.outside.specs.Disk.{SameDisk, longest_disk, longest_write};
 ghost use Rattle.outside.specs.Fault.{HasCause, count_sum, counted};
 ghost use Rattle.outside.specs.Room.{AsOutput, AsLog, bytes_or_none, SameBut};
+ghost use Rattle.outside.specs.Sink.{HasFront};
+ghost use Rattle.outside_sure.specs.SureState.{source_faults};
+ghost use Rattle.outside_sure.specs.SureSink.{sink_state};
 ghost use Rattle.outside_sure.specs.SureDisk.{disk_state, sure_disk_view};
-ghost use Rattle.outside_sure.specs.SureFiles.{told_kept, copies_left};
-ghost use Rattle.outside_sure.specs.SureRoom.{sure_room_view, kept_under, free_places, kept_log, room_kept, lacks_place, lacks_log, places_after, SameKept, KeepsUnder, HasTaken, HasSureCounts};
-ghost use Rattle.outside_sure.specs.declared.sure_files.Kept.TheVariants.{Closed, ClosedLog, OpenOutput, OpenLog};
+ghost use Rattle.outside_sure.specs.SureKept.{told_kept, is_input, is_ready, kept_opened, kept_closed};
+ghost use Rattle.outside_sure.specs.declared.kept.Kept.TheVariants.{Input};
+ghost use Rattle.outside_sure.specs.declared.stored.Stored.TheVariants.{File, Log, OpenOutput, OpenLog};
 
-use crate::copied::Copied;
-use crate::held::Held;
-use crate::shelf::Shelf;
-use crate::sure_files::{self, Kept};
+use crate::kept::Kept;
+use crate::stored::Stored;
+use crate::sure_files::SureFiles;
 use crate::{SureDisk, SureSink, SureSource};
-use outside::{Failed, GivenUp, LONGEST_DISK, NoMemory, Room, Source};
+use outside::{Failed, GivenUp, NoMemory, Room};
 use std::alloc::Global;
 
-/// A room in memory that fails for want of room alone, and takes memory at no call of the trait. It tells its files and
-/// closed logs, and keeps one count of faults per sort, which stands for every name.
+/// A room in memory whose outputs and logs fail for want of room alone, and which takes memory at no call of the trait. It tells its files
+/// and closed logs. Its three counts are of the openings that failed, as input, as output and as log; each place has a count of its own.
 #[derive(Debug, Drop)]
-pub struct SureRoom {
+pub struct SureRoom<'a, const ROOM: usize> {
     alloc: Global,
-    shelf: Shelf,
+    files: SureFiles<'a, ROOM>,
     in_faults: u64,
     out_faults: u64,
     log_faults: u64,
-    closed: GivenUp<SureSource>,
+    closed: GivenUp<SureSource<'a>>,
+    ghost short: { ROOM + longest_write ≤ longest_disk },
 }
 
-impl SureRoom {
-    /// An empty room, with places for so many names that are opened, each with room for so many bytes in the name and in
-    /// the file.
-    #[tactic(auto, using(crate::proofs::Kepts::kept_in_none))]
-    pub fn new(alloc: Global, files: u32, room: usize) -> Result<Self, NoMemory>
-        ensures empty { IfOk result (λ made. (n : List ℕ) → kept_under made n ≡ None) }
-        ensures counts { IfOk result (λ made. HasSureCounts made room files 0 0 0) }
+impl<'a, const ROOM: usize> SureRoom<'a, ROOM> {
+    ghost use Rattle.outside_sure.specs.SureRoom.{sure_room_view, kept_under, SameKept, KeepsUnder, MakesPlace, HasSureCounts};
+
+    /// An empty room.
+    pub fn new(alloc: Global) -> Self
+        requires { ROOM + longest_write ≤ longest_disk }
+        ensures empty { (n : List ℕ) → kept_under result n ≡ None }
+        ensures counts { HasSureCounts result 0 0 0 }
+        ensures lefts { result.closed ≡ [] }
     {
-        Ok(SureRoom {
+        SureRoom {
             alloc,
-            shelf: Shelf::new(alloc, files, room)?,
+            files: SureFiles::new(alloc),
             in_faults: 0,
             out_faults: 0,
             log_faults: 0,
             closed: GivenUp::none(),
-        })
+        }
     }
 
-    /// Makes a file of these bytes, in none of the places, with so many copies to open. Its room is that of a place, at
-    /// least for its bytes.
-    pub fn put(&mut self, name: &str, bytes: Vec<u8>, openings: u32) -> Result<(), NoMemory>
-        requires { (sure_room_view self.old).open_as name.now ≡ None }
-        ensures ok { OnOk result (KeepsUnder self.old self.new name.now
-            (Closed (record { bytes = bytes.items; room = max (length bytes.items) self.old.shelf.room; copies = openings }))) }
+    /// Makes the name an input of these bytes, whatever it was.
+    pub fn give(&mut self, name: &str, bytes: &'a [u8]) -> Result<(), NoMemory>
+        ensures ok { OnOk result (KeepsUnder self.old self.new name.now (Some (Input bytes.now))) }
         ensures err { OnErr result (SameKept self.old self.new) }
-        ensures counts { HasSureCounts self.new self.old.shelf.room (free_places self.old) self.old.in_faults self.old.out_faults self.old.log_faults }
+        ensures counts { HasSureCounts self.new self.old.in_faults self.old.out_faults self.old.log_faults }
+        ensures lefts { self.new.closed ≡ self.old.closed }
     {
-        let file = Copied::new(self.alloc, bytes.as_slice(), self.shelf.room(), openings)?;
-        match sure_files::place_of(&self.shelf.files, name) {
-            Some(place) => {
-                sure_files::replace(&mut self.shelf.files, place, Kept::Closed(file));
-            }
-            None => self.shelf.add(self.alloc, name, Kept::Closed(file))?,
-        }
-        Ok(())
+        let input = Kept::Input(SureSource::new(bytes));
+        self.files.keep(self.alloc, name, input)
+    }
+
+    /// Makes the name a place for outputs and logs, with a file of these bytes or none yet, whatever it was. Takes `ROOM` bytes.
+    pub fn place(&mut self, name: &str, bytes: Option<&[u8]>) -> Result<(), NoMemory>
+        requires { IfSome (option_copied bytes) (λ b. length b ≤ ROOM) }
+        ensures ok { OnOk result (MakesPlace self.old self.new name.now (option_copied bytes.entry)) }
+        ensures err { OnErr result (SameKept self.old self.new) }
+        ensures counts { HasSureCounts self.new self.old.in_faults self.old.out_faults self.old.log_faults }
+        ensures lefts { self.new.closed ≡ self.old.closed }
+    {
+        let stored = Stored::new(self.alloc, bytes)?;
+        self.files.keep(self.alloc, name, Kept::Place(stored, 0))
     }
 
     /// The bytes of the file of that name, a closed log's among them, where there is one that isn't open.
     pub fn file(&self, name: &str) -> Option<&[u8]>
         ensures { option_copied result ≡ (sure_room_view self.now).file name.now }
     {
-        match sure_files::kept_under(&self.shelf.files, name) {
+        match self.files.under(name) {
             Some(kept) => kept.bytes(),
             None => None,
         }
     }
-}
 
-impl SureRoom {
-    /// Keeps something else under the name, and answers the file's bytes and their room: no bytes and a place's room where
-    /// the name is new.
-    fn exchange(&mut self, name: &str, kept: Kept) -> Option<Held>
-        requires { (sure_room_view self.old).open_as name.now ≡ None }
-        ensures closed { self.new.closed ≡ self.old.closed }
-        ensures none { is_none result ≡ lacks_place self.old name.now }
-        ensures bytes { IfSome result (λ held. held.bytes ≡ bytes_or_none (told_kept (kept_under self.old name.now))) }
-        ensures held_room { IfSome result (λ held. held.room ≡ room_kept self.old.shelf.room (kept_under self.old name.now)) }
-        ensures kept { OnSome result (KeepsUnder self.old self.new name.now kept) }
-        ensures same { IfNone result (SameKept self.old self.new) }
-        ensures counts { HasSureCounts self.new self.old.shelf.room (places_after self.old name.now (is_none result)) self.old.in_faults self.old.out_faults self.old.log_faults }
+    // The input of that name.
+    fn input(&self, name: &str) -> Option<SureSource<'a>>
+        ensures none { is_none result ≡ not (is_input (kept_under self.now name.now)) }
+        ensures source { IfSome result (λ source. kept_under self.now name.now ≡ Some (Input source)) }
     {
-        match sure_files::place_of(&self.shelf.files, name) {
-            Some(place) => sure_files::replace(&mut self.shelf.files, place, kept).into_held(),
-            None => self.shelf.enter(name, kept),
+        match self.files.under(name) {
+            Some(Kept::Input(source)) => Some(SureSource::new(source.bytes())),
+            Some(Kept::Place(_, _)) | None => None,
         }
-    }
-
-    fn start_output(&mut self, name: &str) -> Option<SureSink>
-        requires { (sure_room_view self.old).open_as name.now ≡ None }
-        ensures closed { self.new.closed ≡ self.old.closed }
-        ensures none { is_none result ≡ lacks_place self.old name.now }
-        ensures sink { IfSome result (λ sink. sink ≡ record { bytes = []; room = room_kept self.old.shelf.room (kept_under self.old name.now); faults = 0 }) }
-        ensures open { OnSome result (KeepsUnder self.old self.new name.now OpenOutput) }
-        ensures same { IfNone result (SameKept self.old self.new) }
-        ensures counts { HasSureCounts self.new self.old.shelf.room (places_after self.old name.now (is_none result)) self.old.in_faults self.old.out_faults self.old.log_faults }
-    {
-        let mut held = self.exchange(name, Kept::OpenOutput)?;
-        held.cut(0);
-        Some(SureSink::of_held(held))
-    }
-
-    /// Whether the file of that name is longer than a disk can be.
-    fn is_too_long(&self, name: &str) -> bool
-        ensures { result ≡ nat_lt longest_disk (length (bytes_or_none (told_kept (kept_under self.now name.now)))) }
-    {
-        match self.file(name) {
-            Some(bytes) => bytes.len() as u64 > LONGEST_DISK,
-            None => false,
-        }
-    }
-
-    fn start_log(&mut self, name: &str) -> Option<SureDisk>
-        requires { (sure_room_view self.old).open_as name.now ≡ None }
-        ensures closed { self.new.closed ≡ self.old.closed }
-        ensures none { is_none result ≡ lacks_log self.old name.now }
-        ensures disk { IfSome result (λ disk. disk_state disk ≡ record {
-          bytes = bytes_or_none (told_kept (kept_under self.old name.now));
-          room = room_kept self.old.shelf.room (kept_under self.old name.now);
-          faults = 0;
-        }) }
-        ensures open { OnSome result (KeepsUnder self.old self.new name.now OpenLog) }
-        ensures same { IfNone result (SameKept self.old self.new) }
-        ensures counts { HasSureCounts self.new self.old.shelf.room (places_after self.old name.now (is_none result)) self.old.in_faults self.old.out_faults self.old.log_faults }
-    {
-        if self.is_too_long(name) {
-            return None;
-        }
-        Some(SureDisk::of_held(self.exchange(name, Kept::OpenLog)?))
-    }
-
-    fn take_copy(&mut self, name: &str) -> Option<SureSource>
-        ensures closed { self.new.closed ≡ self.old.closed }
-        ensures none { is_none result ≡ (copies_left (kept_under self.old name.now) == 0) }
-        ensures source { IfSome result (λ source. told_kept (kept_under self.old name.now) ≡ Some source) }
-        ensures taken { HasTaken self.old self.new name.now }
-        ensures counts { HasSureCounts self.new self.old.shelf.room (free_places self.old) self.old.in_faults self.old.out_faults self.old.log_faults }
-    {
-        let place = sure_files::place_of(&self.shelf.files, name)?;
-        sure_files::take_copy(&mut self.shelf.files, place)
     }
 }
 
-impl Room for SureRoom {
-    type In = SureSource;
+impl<'a, const ROOM: usize> Room for SureRoom<'a, ROOM> {
+    ghost use Rattle.outside_sure.specs.SureRoom.{sure_room_view, kept_under, SameKept, KeepsUnder, HasSureCounts};
 
-    type Out = SureSink;
+    type In = SureSource<'a>;
 
-    type Log = SureDisk;
+    type Out = SureSink<ROOM>;
+
+    type Log = SureDisk<ROOM>;
 
     ghost seen = { sure_room_view };
 
-    #[tactic(auto, using(crate::proofs::SureRooms::stays_taken))]
-    fn open_in(&mut self, name: &str) -> Result<SureSource, Failed>
+    #[tactic(auto, using(crate::proofs::SureRooms::stays_kept))]
+    fn open_in(&mut self, name: &str) -> Result<SureSource<'a>, Failed>
         requires { (sure_room_view self.old).open_as name.now ≡ None }
         ensures stays { SameBut (sure_room_view self.old) (sure_room_view self.new) [] }
+        ensures lefts { (sure_room_view self.new).lefts ≡ (sure_room_view self.old).lefts }
         ensures cause { HasCause ((sure_room_view self.old).in_faults name.now) ((sure_room_view self.new).in_faults name.now) result }
+        ensures fresh { IfOk result (λ object. source_faults object ≡ 0) }
+        ensures there { OnOk result ((sure_room_view self.old).tells ≡ true → IsSome ((sure_room_view self.old).file name.now)) }
+        ensures bytes { IfOk result (λ object. (sure_room_view self.old).tells ≡ true → Some object ≡ (sure_room_view self.old).file name.now) }
 
-        // It fails exactly where the name has no copy left, and else gives one of them.
-        ensures fails { is_err result ≡ (copies_left (kept_under self.old name.now) == 0) }
-        ensures source { IfOk result (λ source. told_kept (kept_under self.old name.now) ≡ Some source) }
-        ensures taken { HasTaken self.old self.new name.now }
-        ensures counts { HasSureCounts self.new self.old.shelf.room (free_places self.old) (counted result self.old.in_faults) self.old.out_faults self.old.log_faults }
-        ensures lefts { self.new.closed ≡ self.old.closed }
+        // It fails exactly where the name isn't an input, and gives the input's bytes.
+        ensures fails { is_err result ≡ not (is_input (kept_under self.old name.now)) }
+        ensures source { IfOk result (λ source. kept_under self.old name.now ≡ Some (Input source)) }
+        ensures kept { SameKept self.old self.new }
+        ensures counts { HasSureCounts self.new (counted result self.old.in_faults) self.old.out_faults self.old.log_faults }
     {
-        match self.take_copy(name) {
+        match self.input(name) {
             Some(source) => Ok(source),
             None => {
                 self.in_faults = self.in_faults.saturating_add(1);
@@ -181,23 +132,25 @@ impl Room for SureRoom {
         }
     }
 
-    #[tactic(auto, using(crate::proofs::SureRooms::stays_kept, crate::proofs::SureRooms::apart_kept, crate::proofs::SureRooms::apart_same))]
-    fn open_out(&mut self, name: &str) -> Result<SureSink, Failed>
+    #[tactic(auto, using(crate::proofs::SureRooms::apart_opened, crate::proofs::SureRooms::stays_refused))]
+    fn open_out(&mut self, name: &str) -> Result<SureSink<ROOM>, Failed>
         requires { (sure_room_view self.old).open_as name.now ≡ None }
         ensures apart { SameBut (sure_room_view self.old) (sure_room_view self.new) (name.now ∷ []) }
-        ensures stays { OnErr result (SameBut (sure_room_view self.old) (sure_room_view self.new) []) }
+        ensures lefts { (sure_room_view self.new).lefts ≡ (sure_room_view self.old).lefts }
+        ensures opened { OnOk result ((sure_room_view self.new).open_as name.now ≡ Some AsOutput) }
+        ensures failed { OnErr result (SameBut (sure_room_view self.old) (sure_room_view self.new) []) }
         ensures cause { HasCause ((sure_room_view self.old).out_faults name.now) ((sure_room_view self.new).out_faults name.now) result }
+        ensures fresh { IfOk result (λ object. object.faults ≡ 0) }
+        ensures empty { IfOk result (λ object. (sure_room_view self.old).tells ≡ true → Some object.held.buffer.items ≡ Some []) }
 
-        // It fails exactly where the name is new, and no place is left or the name is too long for it.
-        ensures fails { is_err result ≡ lacks_place self.old name.now }
-        ensures sink { IfOk result (λ sink. sink ≡ record { bytes = []; room = room_kept self.old.shelf.room (kept_under self.old name.now); faults = 0 }) }
-        ensures open { OnOk result (KeepsUnder self.old self.new name.now OpenOutput) }
-        ensures failed { OnErr result (SameKept self.old self.new) }
-        ensures counts { HasSureCounts self.new self.old.shelf.room (places_after self.old name.now (is_err result)) self.old.in_faults (counted result self.old.out_faults) self.old.log_faults }
-        ensures lefts { self.new.closed ≡ self.old.closed }
+        // It fails exactly where the name isn't a place, or has a fault.
+        ensures fails { is_err result ≡ not (is_ready (kept_under self.old name.now)) }
+        ensures sink { IfOk result (λ sink. sink_state sink ≡ record { bytes = []; faults = 0 }) }
+        ensures kept { KeepsUnder self.old self.new name.now (kept_opened OpenOutput (kept_under self.old name.now)) }
+        ensures counts { HasSureCounts self.new self.old.in_faults (counted result self.old.out_faults) self.old.log_faults }
     {
-        match self.start_output(name) {
-            Some(sink) => Ok(sink),
+        match self.files.open(name, Stored::OpenOutput) {
+            Some(held) => Ok(SureSink::of_held(held)),
             None => {
                 self.out_faults = self.out_faults.saturating_add(1);
                 Err(Failed)
@@ -205,27 +158,27 @@ impl Room for SureRoom {
         }
     }
 
-    #[tactic(auto, using(crate::proofs::SureRooms::stays_kept, crate::proofs::SureRooms::apart_kept, crate::proofs::SureRooms::apart_same))]
-    fn open_log(&mut self, name: &str) -> Result<SureDisk, Failed>
+    #[tactic(auto, using(crate::proofs::SureRooms::apart_opened, crate::proofs::SureRooms::stays_refused))]
+    fn open_log(&mut self, name: &str) -> Result<SureDisk<ROOM>, Failed>
         requires { (sure_room_view self.old).open_as name.now ≡ None }
         ensures apart { SameBut (sure_room_view self.old) (sure_room_view self.new) (name.now ∷ []) }
-        ensures stays { OnErr result (SameBut (sure_room_view self.old) (sure_room_view self.new) []) }
+        ensures lefts { (sure_room_view self.new).lefts ≡ (sure_room_view self.old).lefts }
+        ensures opened { OnOk result ((sure_room_view self.new).open_as name.now ≡ Some AsLog) }
+        ensures failed { OnErr result (SameBut (sure_room_view self.old) (sure_room_view self.new) []) }
         ensures cause { HasCause ((sure_room_view self.old).log_faults name.now) ((sure_room_view self.new).log_faults name.now) result }
+        ensures fresh { IfOk result (λ object. (sure_disk_view object).faults ≡ 0) }
+        ensures beginning { IfOk result (λ object. (sure_disk_view object).moment ≡ 0) }
+        ensures bytes { IfOk result (λ object. (sure_room_view self.old).tells ≡ true →
+            (sure_disk_view object).content ≡ Some (bytes_or_none ((sure_room_view self.old).file name.now))) }
 
-        // It fails exactly where an output would, and where the file is longer than a disk can be.
-        ensures fails { is_err result ≡ lacks_log self.old name.now }
-        ensures disk { IfOk result (λ disk. disk_state disk ≡ record {
-          bytes = bytes_or_none (told_kept (kept_under self.old name.now));
-          room = room_kept self.old.shelf.room (kept_under self.old name.now);
-          faults = 0;
-        }) }
-        ensures open { OnOk result (KeepsUnder self.old self.new name.now OpenLog) }
-        ensures failed { OnErr result (SameKept self.old self.new) }
-        ensures counts { HasSureCounts self.new self.old.shelf.room (places_after self.old name.now (is_err result)) self.old.in_faults self.old.out_faults (counted result self.old.log_faults) }
-        ensures lefts { self.new.closed ≡ self.old.closed }
+        // It fails exactly where the name isn't a place, or has a fault.
+        ensures fails { is_err result ≡ not (is_ready (kept_under self.old name.now)) }
+        ensures disk { IfOk result (λ disk. disk_state disk ≡ record { bytes = bytes_or_none (told_kept (kept_under self.old name.now)); faults = 0 }) }
+        ensures kept { KeepsUnder self.old self.new name.now (kept_opened OpenLog (kept_under self.old name.now)) }
+        ensures counts { HasSureCounts self.new self.old.in_faults self.old.out_faults (counted result self.old.log_faults) }
     {
-        match self.start_log(name) {
-            Some(disk) => Ok(disk),
+        match self.files.open(name, Stored::OpenLog) {
+            Some(held) => Ok(SureDisk::of_held(held)),
             None => {
                 self.log_faults = self.log_faults.saturating_add(1);
                 Err(Failed)
@@ -234,57 +187,73 @@ impl Room for SureRoom {
     }
 
     // A sure source has no faults to add.
-    #[tactic(auto, using(crate::proofs::SureRooms::stays_kept))]
-    fn close_in(&mut self, _name: &str, object: SureSource)
+    #[tactic(auto, using(crate::proofs::SureRooms::stays_kept, crate::proofs::SureRooms::counts_none))]
+    fn close_in(&mut self, _name: &str, object: SureSource<'a>)
         ensures stays { SameBut (sure_room_view self.old) (sure_room_view self.new) [] }
+        ensures left { (sure_room_view self.new).lefts ≡ Some object.entry ∷ (sure_room_view self.old).lefts }
+        ensures counted { (sure_room_view self.new).in_faults _name.now
+            ≡ count_sum ((sure_room_view self.old).in_faults _name.now) (source_faults object.entry) }
         ensures kept { SameKept self.old self.new }
-        ensures counts { HasSureCounts self.new self.old.shelf.room (free_places self.old) self.old.in_faults self.old.out_faults self.old.log_faults }
-        ensures counted { self.new.in_faults ≡ count_sum self.old.in_faults 0 }
-        ensures left { self.new.closed ≡ ⟦<SureSource as Source>⟧.left object ∷ self.old.closed }
+        ensures counts { HasSureCounts self.new self.old.in_faults self.old.out_faults self.old.log_faults }
     {
         self.in_faults = self.in_faults.saturating_add(0);
         self.closed.give_up(&object);
     }
 
-    #[tactic(auto, using(crate::proofs::SureRooms::apart_kept))]
-    fn close_out(&mut self, name: &str, object: SureSink) -> Result<(), Failed>
+    #[tactic(auto, using(crate::proofs::SureRooms::apart_closed, crate::proofs::SureRooms::closed_counts, crate::proofs::SureRooms::closed_sort, crate::proofs::SureRooms::closed_told, crate::proofs::SureRooms::closed_is_log))]
+    fn close_out(&mut self, name: &str, object: SureSink<ROOM>) -> Result<(), Failed>
         requires { (sure_room_view self.old).open_as name.now ≡ Some AsOutput }
         ensures apart { SameBut (sure_room_view self.old) (sure_room_view self.new) (name.now ∷ []) }
+        ensures lefts { (sure_room_view self.new).lefts ≡ (sure_room_view self.old).lefts }
+        ensures closed { (sure_room_view self.new).open_as name.now ≡ None }
+        ensures bytes { OnOk result ((sure_room_view self.old).tells ≡ true
+            → (sure_room_view self.new).file name.now ≡ Some object.entry.held.buffer.items) }
+        ensures front { OnErr result ((sure_room_view self.old).tells ≡ true
+            → HasFront ((sure_room_view self.new).file name.now) (Some object.entry.held.buffer.items)) }
+        ensures no_log { (sure_room_view self.new).has_log name.now ≡ false }
+        ensures counted { OnOk result ((sure_room_view self.new).out_faults name.now
+            ≡ count_sum ((sure_room_view self.old).out_faults name.now) object.entry.faults) }
+        ensures cause { HasCause (count_sum ((sure_room_view self.old).out_faults name.now) object.entry.faults)
+            ((sure_room_view self.new).out_faults name.now) result }
 
-        // It never fails, and the name has a file of what was written, in the sink's room, without copies.
+        // It never fails, and the place has a file of what was written.
         ensures ok { IsOk result }
-        ensures closed { KeepsUnder self.old self.new name.now (Closed (record { bytes = object.bytes; room = object.room; copies = 0 })) }
-        ensures counts { HasSureCounts self.new self.old.shelf.room (free_places self.old) self.old.in_faults (count_sum self.old.out_faults object.faults) self.old.log_faults }
-        ensures lefts { self.new.closed ≡ self.old.closed }
+        ensures kept { KeepsUnder self.old self.new name.now (kept_closed (File object.entry.held) object.entry.faults (kept_under self.old name.now)) }
+        ensures counts { HasSureCounts self.new self.old.in_faults self.old.out_faults self.old.log_faults }
     {
-        self.out_faults = self.out_faults.saturating_add(object.faults());
-        if let Some(place) = sure_files::place_of(&self.shelf.files, name) {
-            let file = Copied::of_held(self.alloc, object.into_held());
-            sure_files::replace(&mut self.shelf.files, place, Kept::Closed(file));
-        }
+        let faults = object.faults();
+        self.files
+            .close(name, Stored::File(object.into_held()), faults);
         Ok(())
     }
 
-    #[tactic(auto, using(crate::proofs::SureRooms::apart_kept, crate::proofs::SureRooms::closed_log))]
-    fn close_log(&mut self, name: &str, object: SureDisk)
+    #[tactic(auto, using(crate::proofs::SureRooms::apart_closed, crate::proofs::SureRooms::closed_counts, crate::proofs::SureRooms::closed_sort, crate::proofs::SureRooms::closed_told, crate::proofs::SureRooms::closed_is_log, crate::proofs::SureRooms::closed_log))]
+    fn close_log(&mut self, name: &str, object: SureDisk<ROOM>)
         requires { (sure_room_view self.old).open_as name.now ≡ Some AsLog }
         ensures apart { SameBut (sure_room_view self.old) (sure_room_view self.new) (name.now ∷ []) }
+        ensures lefts { (sure_room_view self.new).lefts ≡ (sure_room_view self.old).lefts }
+        ensures closed { (sure_room_view self.new).open_as name.now ≡ None }
+        ensures bytes { (sure_room_view self.old).tells ≡ true → (sure_room_view self.new).file name.now ≡ (sure_disk_view object.entry).content }
+        ensures log { (sure_room_view self.old).tells ≡ true → (sure_room_view self.new).has_log name.now ≡ true }
+        ensures moments { (sure_room_view self.old).tells ≡ true → SameDisk (sure_disk_view object.entry) ((sure_room_view self.new).log name.now) }
+        ensures counted { (sure_room_view self.new).log_faults name.now
+            ≡ count_sum ((sure_room_view self.old).log_faults name.now) (sure_disk_view object.entry).faults }
 
-        // The name has the disk as its closed log.
-        ensures moments { SameDisk (sure_disk_view object) (kept_log (kept_under self.new name.now)) }
-        ensures closed { KeepsUnder self.old self.new name.now (ClosedLog object) }
-        ensures counts { HasSureCounts self.new self.old.shelf.room (free_places self.old) self.old.in_faults self.old.out_faults (count_sum self.old.log_faults object.faults) }
-        ensures lefts { self.new.closed ≡ self.old.closed }
+        // The place has the disk as its closed log.
+        ensures kept { KeepsUnder self.old self.new name.now (kept_closed (Log object.entry) object.entry.faults (kept_under self.old name.now)) }
+        ensures counts { HasSureCounts self.new self.old.in_faults self.old.out_faults self.old.log_faults }
     {
-        self.log_faults = self.log_faults.saturating_add(object.faults());
-        if let Some(place) = sure_files::place_of(&self.shelf.files, name) {
-            sure_files::replace(&mut self.shelf.files, place, Kept::ClosedLog(object));
-        }
+        let faults = object.faults();
+        self.files.close(name, Stored::Log(object), faults);
     }
 
     ghost use Rattle.outside_sure.specs.SureRoom.{kept_untold, kept_unlogged};
+    ghost use Rattle.outside_sure.specs.SurePromise.{keeps_promise};
+    ghost use Rattle.std.proofs.Common.{refl};
 
     ghost open_untold = { λ room name. kept_untold (kept_under room name) };
 
     ghost open_unlogged = { λ room name. kept_unlogged (kept_under room name) };
+
+    ghost promised = { λ room name. keeps_promise room name (kept_under room name) refl (room.files.well name) };
 }

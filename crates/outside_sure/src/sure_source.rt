@@ -1,51 +1,60 @@
-ghost use Rattle.std.specs.Prelude.{◌≡◌, ◌<◌, ◌≤◌, [], ◌++◌, length, take, drop, min, Some, IsOk, IfOk};
+ghost use Rattle.std.specs.Prelude.{◌≡◌, ◌+◌, ◌<◌, ◌≤◌, [], ◌++◌, length, take, drop, min, Some, IsOk, IfOk};
 ghost use Rattle.std.specs.Io.{ReadsAtMost};
 ghost use Rattle.std.specs.Io.KnownBytes.{ReadConsumes};
+ghost use Rattle.outside.specs.Fault.{HasCause};
+ghost use Rattle.outside_sure.specs.SureState.{source_faults};
 
 use outside::{Failed, Source, copy_front};
 use std::marker::Model;
 
-/// A source in memory that never fails.
+/// A source of borrowed bytes, which never fails.
 #[derive(Debug, Drop)]
-pub struct SureSource {
-    bytes: Vec<u8>,
-    position: usize,
+pub struct SureSource<'a> {
+    left: &'a [u8],
 }
 
-impl Model for SureSource {
-    ghost use Rattle.std.specs.Prelude.{ℕ, ◌≤◌, List, drop, vec_len};
+impl<'a> Model for SureSource<'a> {
+    ghost use Rattle.std.specs.Prelude.{ℕ, List};
 
     ghost Value = { List ℕ };
 
-    ghost view = { λ s. drop s.position s.bytes.items };
-
-    ghost invariant = { λ s. s.position ≤ vec_len s.bytes };
+    ghost view = { λ s. s.left.now };
 }
 
-impl SureSource {
+impl<'a> SureSource<'a> {
     /// A source of these bytes.
-    pub fn new(bytes: Vec<u8>) -> Self
-        ensures { result ≡ bytes.items }
+    pub fn new(bytes: &'a [u8]) -> Self
+        ensures { result ≡ bytes.now }
     {
-        SureSource { bytes, position: 0 }
+        SureSource { left: bytes }
+    }
+
+    /// The bytes that are left.
+    pub fn bytes(&self) -> &'a [u8]
+        ensures { result.now ≡ self.now }
+    {
+        self.left
     }
 }
 
-impl Source for SureSource {
+impl<'a> Source for SureSource<'a> {
     ghost left = { λ s. Some s };
 
     ghost bound = { λ s. length s };
 
-    ghost faults = { λ _. 0 };
+    ghost faults = { source_faults };
 
     fn remaining(&self) -> u64 {
-        (self.bytes.len() - self.position) as u64
+        self.left.len() as u64
     }
 
     fn read(&mut self, buf: &mut [u8]) -> Result<usize, Failed>
         requires { 0 < length buf.old }
         ensures at_most { ReadsAtMost result buf.new }
         ensures bytes { ReadConsumes (Some self.old) (Some self.new) result buf.new }
+        ensures falls { IfOk result (λ n. length self.new + n ≤ length self.old) }
+        ensures bounded { length self.new ≤ length self.old }
+        ensures cause { HasCause (source_faults self.old) (source_faults self.new) result }
 
         // It never fails, and gives all that the buffer takes.
         ensures ok { IsOk result }
@@ -53,8 +62,8 @@ impl Source for SureSource {
         ensures buffer { IfOk result (λ n. buf.new ≡ take n self.old ++ drop n buf.old) }
         ensures left { IfOk result (λ n. self.new ≡ drop n self.old) }
     {
-        let count = copy_front(&self.bytes[self.position..], buf);
-        self.position += count;
+        let count = copy_front(self.left, buf);
+        self.left = &self.left[count..];
         Ok(count)
     }
 

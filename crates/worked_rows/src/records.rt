@@ -22,9 +22,9 @@ const LIMITS: Limits = Limits {
 };
 
 /// Commits the file's entries to a catalogue.
-fn commit_all<L: Ledger>(
+fn commit_all<'a, L: Ledger>(
     alloc: Global,
-    entries: &mut FileEntries<SureSource>,
+    entries: &mut FileEntries<SureSource<'a>>,
     core: &mut Catalogue,
     steps: &mut Steps<L>,
 ) -> Result<(), NoMemory>
@@ -47,7 +47,7 @@ fn commit_all<L: Ledger>(
 
 fn report_counted<K: Sink, L: Ledger>(
     alloc: Global,
-    bytes: Vec<u8>,
+    bytes: &[u8],
     library: Text,
     out: &mut K,
     blank: Blank,
@@ -77,5 +77,5 @@ pub fn report_of<K: Sink>(alloc: Global, bytes: Vec<u8>, out: &mut K) -> Result<
     if !can_be_code(library.as_str().as_bytes()) {
         return Err(WriteFault::NoMemory);
     }
-    report_counted::<K, Brand>(alloc, bytes, library, out, Blank::new(1))
+    report_counted::<K, Brand>(alloc, bytes.as_slice(), library, out, Blank::new(1))
 }

@@ -1,11 +1,10 @@
-use outside::{Disk, Failed, Room, Sink, Source};
+use outside::{Disk, Failed, LONGEST_WRITE, Room, Sink, Source};
 use outside_sure::{SureDisk, SureRoom, SureSink, SureSource};
 use std::test::Fail;
 
 #[test]
 fn a_sure_source_gives_all_that_the_buffer_takes(rt: HostRuntime) -> Result<(), Fail> {
-    let alloc = rt.alloc();
-    let mut source = SureSource::new(b"hello world".to_vec(alloc)?);
+    let mut source = SureSource::new(b"hello world");
     let mut buffer = [0; 8];
     assert_eq!(rt; source.read(&mut buffer), Ok(8));
     assert_eq!(rt; buffer, *b"hello wo");
@@ -16,75 +15,109 @@ fn a_sure_source_gives_all_that_the_buffer_takes(rt: HostRuntime) -> Result<(), 
 }
 
 #[test]
-fn a_sure_sink_fails_past_its_room(rt: HostRuntime) -> Result<(), Fail> {
-    let alloc = rt.alloc();
-    let mut sink = SureSink::new(alloc, 5)?;
+fn a_sure_sink_fills_up_and_fails(rt: HostRuntime) -> Result<(), Fail> {
+    let mut sink = SureSink::<5>::new(rt.alloc())?;
     let writes: [(&[u8], Result<(), Failed>, u64); 4] = [
         (b"one", Ok(()), 0),
         (b"two", Err(Failed), 1),
-        (b"to", Ok(()), 1),
+        (b"", Ok(()), 1),
         (b"!", Err(Failed), 2),
     ];
     for (piece, answer, faults) in writes {
         assert_eq!(rt; sink.write_all(piece), answer);
         assert_eq!(rt; sink.faults(), faults);
     }
-    assert_eq!(rt; sink.bytes(), b"oneto".as_slice());
+    assert_eq!(rt; sink.bytes(), b"onetw".as_slice());
     Ok(())
 }
 
 #[test]
-fn a_sure_disk_fails_past_its_room(rt: HostRuntime) -> Result<(), Fail> {
-    let alloc = rt.alloc();
-    let mut disk = SureDisk::new(alloc, b"abc".to_vec(alloc)?, 5)?;
-    let writes: [(u64, &[u8], Result<(), Failed>, &[u8]); 4] = [
+fn a_sure_disk_fills_up_and_stays_so(rt: HostRuntime) -> Result<(), Fail> {
+    let mut disk = SureDisk::<5>::new(rt.alloc(), b"abc")?;
+    let writes: [(u64, &[u8], Result<(), Failed>, &[u8]); 5] = [
         (1, b"XY", Ok(()), b"aXY"),
-        (3, b"de", Ok(()), b"aXYde"),
-        (4, b"fg", Err(Failed), b"aXYde"),
-        (5, b"", Ok(()), b"aXYde"),
+        (3, b"d", Ok(()), b"aXYd"),
+        (2, b"efgh", Err(Failed), b"aXefg"),
+        (0, b"b", Err(Failed), b"aXefg"),
+        (5, b"", Err(Failed), b"aXefg"),
     ];
     for (at, bytes, answer, content) in writes {
         assert!(rt; at <= disk.len());
+        assert!(rt; bytes.len() as u64 <= LONGEST_WRITE);
         assert_eq!(rt; disk.write_at(at, bytes), answer);
         assert_eq!(rt; disk.bytes(), content);
     }
     assert_eq!(rt; disk.len(), 5);
-    assert_eq!(rt; disk.cut(2), Ok(()));
+    assert_eq!(rt; disk.cut(2), Err(Failed));
     assert_eq!(rt; disk.sync(), Ok(()));
-    let mut buffer = [0; 4];
-    assert_eq!(rt; disk.read_at(1, &mut buffer), Ok(1));
-    assert_eq!(rt; buffer, *b"X\0\0\0");
-    assert_eq!(rt; disk.read_at(2, &mut buffer), Ok(0));
-    assert_eq!(rt; disk.faults(), 1);
+    let mut buffer = [0; 8];
+    assert_eq!(rt; disk.read_at(3, &mut buffer), Ok(2));
+    assert_eq!(rt; buffer, *b"fg\0\0\0\0\0\0");
+    assert_eq!(rt; disk.faults(), 4);
     Ok(())
 }
 
 #[test]
-fn a_sure_room_opens_a_copy_once(rt: HostRuntime) -> Result<(), Fail> {
-    let alloc = rt.alloc();
-    let mut room = SureRoom::new(alloc, 0, 2)?;
-    room.put("in", b"bytes".to_vec(alloc)?, 1)?;
+fn a_sure_disk_is_cut(rt: HostRuntime) -> Result<(), Fail> {
+    let mut disk = SureDisk::<5>::new(rt.alloc(), b"abc")?;
+    assert_eq!(rt; disk.cut(2), Ok(()));
+    assert_eq!(rt; disk.bytes(), b"ab".as_slice());
+    Ok(())
+}
+
+#[test]
+fn a_sure_room_opens_an_input_again_and_again(rt: HostRuntime) -> Result<(), Fail> {
+    let mut room = SureRoom::<4>::new(rt.alloc());
+    room.give("in", b"bytes")?;
     let mut source = room.open_in("in")?;
-    assert!(rt; room.open_in("in").is_err());
+    let again = room.open_in("in")?;
     let mut buffer = [0; 8];
     assert_eq!(rt; source.read(&mut buffer), Ok(5));
     room.close_in("in", source);
+    room.close_in("in", again);
+    assert!(rt; room.open_out("in").is_err());
+    assert!(rt; room.open_log("in").is_err());
     assert_eq!(rt; room.file("in"), Some(b"bytes".as_slice()));
     Ok(())
 }
 
 #[test]
-fn a_sure_room_opens_new_names_in_its_places(rt: HostRuntime) -> Result<(), Fail> {
-    let alloc = rt.alloc();
-    let mut full = SureRoom::new(alloc, 0, 4)?;
-    assert!(rt; full.open_out("out").is_err());
-    let mut narrow = SureRoom::new(alloc, 1, 2)?;
-    assert!(rt; narrow.open_log("log").is_err());
-    let mut room = SureRoom::new(alloc, 1, 4)?;
+fn a_sure_room_opens_no_name_that_it_lacks(rt: HostRuntime) -> Result<(), Fail> {
+    let mut room = SureRoom::<4>::new(rt.alloc());
+    assert!(rt; room.open_in("none").is_err());
+    assert!(rt; room.open_out("none").is_err());
+    assert!(rt; room.open_log("none").is_err());
+    Ok(())
+}
+
+#[test]
+fn a_place_with_a_fault_is_not_opened(rt: HostRuntime) -> Result<(), Fail> {
+    let mut room = SureRoom::<4>::new(rt.alloc());
+    room.place("out", None)?;
+    assert!(rt; room.open_in("out").is_err());
     let mut sink = room.open_out("out")?;
     assert_eq!(rt; sink.write_all(b"four"), Ok(()));
-    assert_eq!(rt; sink.write_all(b"!"), Err(Failed));
     room.close_out("out", sink)?;
     assert_eq!(rt; room.file("out"), Some(b"four".as_slice()));
+    let mut sink = room.open_out("out")?;
+    assert_eq!(rt; sink.write_all(b"fives"), Err(Failed));
+    room.close_out("out", sink)?;
+    assert_eq!(rt; room.file("out"), Some(b"five".as_slice()));
+    assert!(rt; room.open_out("out").is_err());
+    assert!(rt; room.open_log("out").is_err());
+    assert_eq!(rt; room.file("out"), Some(b"five".as_slice()));
+    Ok(())
+}
+
+#[test]
+fn a_place_keeps_its_log(rt: HostRuntime) -> Result<(), Fail> {
+    let mut room = SureRoom::<4>::new(rt.alloc());
+    room.place("log", Some(b"ab"))?;
+    let mut log = room.open_log("log")?;
+    assert_eq!(rt; log.write_at(2, b"c"), Ok(()));
+    room.close_log("log", log);
+    assert_eq!(rt; room.file("log"), Some(b"abc".as_slice()));
+    let log = room.open_log("log")?;
+    assert_eq!(rt; log.bytes(), b"abc".as_slice());
     Ok(())
 }

@@ -19,18 +19,20 @@ const ORDERED: &[u8] =
 /// The most files of one command.
 const MOST: u32 = 64;
 
-/// The bytes that each file of the sure room has room for.
+/// The bytes that each place of the sure room has room for, and the console.
 const ROOM: usize = 16384;
 
-/// A sure room with so many files of two records each, of which each is opened once, and places for a log and an output.
-#[tactic(auto, using(crate::proofs::Closed::sure_empty, crate::proofs::Closed::sure_closed))]
-fn with_files(alloc: Global, count: u32) -> Result<SureRoom, Fail>
+/// A sure room with so many files of two records each, and places for a log and an output.
+#[tactic(auto, using(crate::proofs::Closed::sure_empty, crate::proofs::Closed::sure_given, crate::proofs::Closed::sure_placed))]
+fn with_files<'a>(alloc: Global, count: u32, bytes: &'a [u8]) -> Result<SureRoom<'a, ROOM>, Fail>
     ensures { IfOk result (λ room. (name : List ℕ) → (sure_room_view room).open_as name ≡ None) }
 {
-    let mut room = SureRoom::new(alloc, 2, ROOM)?;
+    let mut room = SureRoom::<ROOM>::new(alloc);
+    room.place("j", None)?;
+    room.place("out", None)?;
     for index in 0..count {
         let name = format!(in alloc; "f{index}")?;
-        room.put(name.as_str(), Vec::from_slice(alloc, BOTH)?, 1)?;
+        room.give(name.as_str(), bytes)?;
     }
     Ok(room)
 }
@@ -80,7 +82,7 @@ fn copies(alloc: Global, record: &[u8], count: u32) -> Result<Vec<u8>, NoMemory>
 #[test]
 fn as_many_files_as_a_command_takes(rt: HostRuntime) -> Result<(), Fail> {
     let alloc = rt.alloc();
-    let mut room = with_files(alloc, MOST)?;
+    let mut room = with_files(alloc, MOST, BOTH)?;
     let totals = totals_of(alloc, MOST)?;
 
     // Each library's records have keys of their own.
@@ -92,7 +94,7 @@ fn as_many_files_as_a_command_takes(rt: HostRuntime) -> Result<(), Fail> {
         (export, 0, ""),
     ];
     for (words, status, told) in &table {
-        let mut console = SureSink::new(alloc, ROOM)?;
+        let mut console = SureSink::<ROOM>::new(alloc)?;
         let answer = run(&rt, alloc, words, &mut room, &mut console, &OpenGate);
         assert_eq!(rt; console.bytes(), told.as_bytes());
         assert_eq!(rt; answer, *status);
