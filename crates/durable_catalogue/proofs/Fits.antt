@@ -2,12 +2,15 @@
 use Rattle.std.proofs.Common.{◌≡◌, ℕ, ◌+◌, ◌<◌, ◌≤◌, Bool, true, false, ◌||◌, nat_lt, List, [], ◌∷◌, ◌++◌, length, take, drop, get_or, refl, sym, ap, subst, ◌∙◌, arith, append_assoc, length-append, length-take}
 use Rattle.std.proofs.lemmas.List.{append-nil, drop_more, take_more, take_all, drop_all}
 use Rattle.std.proofs.lemmas.List.Sums.{sum_by-append}
+use Rattle.std.proofs.lemmas.Bool.{or_parts, ltb-false}
 use Rattle.marc_types.specs.declared.entry.Entry.{Entry}
 use Rattle.marc_types.specs.declared.entry.Limits.{Limits}
 use Rattle.std.specs.List.{All}
 use Rattle.std.proofs.lemmas.List.Elements.{All-nil, All-cons, All-head, All-tail}
-use Rattle.entry_record.specs.History.{entry_size, entries_size, in_run, with_run, passes_limits}
+use Rattle.entry_record.specs.History.{entry_size, entries_size, in_run, with_run, passes_limits, IsWithin}
 use Rattle.entry_history.specs.Commits.{fitting}
+use Rattle.catalogue_core.specs.Catalogues.{Catalogued, all_entries}
+use Rattle.durable_catalogue.proofs.Within.{all_kept}
 
 -- so many items fit, and the rest is to be seen
 pub record IsFitting (limits : Limits) (before items : List Entry) (count entries bytes : ℕ) : Type 0 where
@@ -107,3 +110,34 @@ runs_fit limits run before (e ∷ es) all = decided (passes_limits limits before
 pub with_run_runs : (run : ℕ) (items : List Entry) → All (λ e. e.run ≡ run) (with_run run items)
 with_run_runs run [] = All-nil (λ e. e.run ≡ run)
 with_run_runs run (e ∷ es) = All-cons (λ x. x.run ≡ run) (in_run run e) (with_run run es) refl (with_run_runs run es)
+
+one_within : (limits : Limits) (before : List Entry) (e : Entry) → passes_limits limits before e ≡ false → IsWithin limits (before ++ e ∷ [])
+one_within limits before e room =
+    let parts = or_parts (nat_lt limits.entries (length before + 1)) (nat_lt limits.bytes (entries_size before + entry_size e)) room in
+    record {
+      count = omega (arith, ltb-false limits.entries (length before + 1) parts.0, length-append before (e ∷ []));
+      size = omega (arith, ltb-false limits.bytes (entries_size before + entry_size e) parts.1, size_more before e);
+    }
+
+-- all that fit stay within the limits
+fitting_within : (limits : Limits) (before items : List Entry) → IsWithin limits before → IsWithin limits (before ++ fitting limits before items)
+fitting_within limits before [] within =
+    subst (λ es. IsWithin limits (before ++ es)) (sym (no_item limits before)) (subst (λ es. IsWithin limits es) (sym (append-nil before)) within)
+fitting_within limits before (e ∷ es) within = decided (passes_limits limits before e) refl (fitting_within limits (before ++ e ∷ []) es)
+  where
+    decided : (full : Bool) → passes_limits limits before e ≡ full
+        → (IsWithin limits (before ++ e ∷ []) → IsWithin limits ((before ++ e ∷ []) ++ fitting limits (before ++ e ∷ []) es))
+        → IsWithin limits (before ++ fitting limits before (e ∷ es))
+    decided true is rest =
+        subst (λ fits. IsWithin limits (before ++ fits)) (sym (one_full limits before e es is)) (subst (λ all. IsWithin limits all) (sym (append-nil before)) within)
+    decided false is rest =
+        subst (λ fits. IsWithin limits (before ++ fits)) (sym (one_fits limits before e es is))
+        (subst (λ all. IsWithin limits all) (append_assoc before (e ∷ []) (fitting limits (before ++ e ∷ []) es)) (rest (one_within limits before e is)))
+
+-- so does the frame of a batch behind a history with nothing staged and no mark
+pub frame_within : (limits : Limits) (core : Catalogued) (more ran frame : List Entry) → core.staged ≡ [] → more ≡ [] → IsWithin limits (core.history ++ more)
+    → frame ≡ fitting limits (all_entries core) ran → IsWithin limits (core.history ++ frame)
+frame_within limits core more ran frame unstaged unmarked within is =
+    let history = core.history in
+    let whole = subst (λ es. IsWithin limits es) (ap (λ es. history ++ es) unmarked ∙ append-nil history) within in
+    subst (λ es. IsWithin limits (history ++ es)) (sym (is ∙ ap (λ es. fitting limits es ran) (all_kept core unstaged))) (fitting_within limits history ran whole)

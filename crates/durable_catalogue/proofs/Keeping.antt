@@ -11,6 +11,7 @@ use Rattle.commit_journal.specs.Log.{frames_of, version_of}
 use Rattle.commit_journal.specs.Journal as journal
 use Rattle.commit_journal.specs.Journal.{and_frame, Continues, IsSettled}
 use Rattle.commit_journal.proofs.Logs.{version_two}
+use Rattle.entry_record.specs.History.{IsWithin}
 use Rattle.entry_history.specs.Batches.{batch_payload}
 use Rattle.entry_history.specs.Payloads.{Holds}
 use Rattle.durable_catalogue.specs.Logs.{IsLogOf, HasHistory}
@@ -173,8 +174,8 @@ each_image opened entries more before first now none kept log c told image =
 
 -- what is kept of a disk, in the words of its opening
 pub left_of : (limits : Limits) (run opened : ℕ) (entries more : List Entry) (before first now : DiskView) → IsKept opened entries more before first now
-    → IsLeft (opening limits run opened before first) entries more now
-left_of limits run opened entries more before first now kept = record {
+    → IsWithin limits (entries ++ more) → IsLeft (opening limits run opened before first) entries more now
+left_of limits run opened entries more before first now kept within = record {
   images = λ c told image. kept.images c told image;
   since = λ s c told synced left. kept.since s c told synced left;
   longest = λ c told image. kept.longest c told image;
@@ -183,4 +184,5 @@ left_of limits run opened entries more before first now kept = record {
   dated = kept.dated;
   faults = kept.faults;
   opened_is = kept.opened_is;
+  within = within;
 }

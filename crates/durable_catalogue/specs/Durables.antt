@@ -7,6 +7,7 @@ use Rattle.marc_types.specs.declared.entry.Limits.{Limits}
 use Rattle.marc_types.specs.declared.entry.CommitFault.{CommitFault}
 use Rattle.marc_types.specs.declared.entry.CommitFault.TheVariants.{Full, NoMemory, DeviceFault, Broken}
 use Rattle.outside.specs.Disk.{DiskView}
+use Rattle.entry_record.specs.History.{IsWithin}
 use Rattle.entry_history.specs.Commits.{Origin}
 use Rattle.entry_history.specs.Events.{committed}
 use Rattle.entry_history.specs.declared.event.Event.{Event}
@@ -86,7 +87,8 @@ pub record IsKept (opened : ℕ) (entries more : List Entry) (before first now :
 
 -- Of a disk that a catalogue of these entries gives back, with those of a frame that it failed to take: where it told its content
 -- at the opening, each image has all entries, and each since the opening's first sync has those of the opening; none is longer than
--- the log when it was open, with a frame for each entry since then and for each of that frame.
+-- the log when it was open, with a frame for each entry since then and for each of that frame. All of it is within the limits of the
+-- opening, that frame included.
 pub record IsLeft (o : Opening) (entries more : List Entry) (disk : DiskView) : Type 0 where
   pub images : (c : List ℕ) → o.tells ≡ true → disk.image c → Holds (length entries) entries more c
   pub since : (s : ℕ) (c : List ℕ) → o.tells ≡ true → o.synced ≡ Some s → disk.left s c → Holds o.opened entries more c
@@ -96,6 +98,7 @@ pub record IsLeft (o : Opening) (entries more : List Entry) (disk : DiskView) : 
   pub dated : disk.dated ≡ o.dated
   pub faults : o.faults ≤ disk.faults
   pub opened_is : o.opened ≤ length entries
+  pub within : IsWithin o.origin.limits (entries ++ more)
 
 -- why a frame was not committed: there was no memory, or a device failed, and the frame is marked
 abbrev pub IsLostBy : CommitFault → Option (List Entry) → List Entry → Type 0

@@ -60,6 +60,7 @@ pub struct Durable<D: Disk> {
     ghost kept: { IsKept opened core.history (marked (mark_of mark)) (D.seen before.value) (D.seen first.value.disk) (D.seen journal.disk) },
     ghost rose: { is_some mark ≡ true → Rose (D.seen before.value).faults (D.seen journal.disk).faults },
     ghost few: { length (marked (mark_of mark)) ≤ 32 },
+    ghost within: { IsWithin limits (core.history ++ marked (mark_of mark)) },
 }
 
 /// A commit that added nothing.
@@ -163,6 +164,7 @@ impl<D: Disk> Durable<D> {
         requires whole { is_some self.old.mark ≡ false }
         requires some { frame ≢ [] }
         requires run { All (λ e. e.run ≡ self.old.run) frame }
+        requires within { IsWithin self.old.limits (self.old.core.history ++ frame) }
         ensures receipts { IfOk result (λ r. r ≡ receipts_behind self.old.core.history frame) }
         ensures added { OnOk result (self.new.core.history ≡ self.old.core.history ++ frame) }
         ensures unmarked { OnOk result (self.new.mark ≡ self.old.mark) }

@@ -5,6 +5,7 @@ use Rattle.marc_types.specs.declared.entry.Entry.{Entry}
 use Rattle.marc_types.specs.declared.entry.Limits.{Limits}
 use Rattle.marc_types.specs.declared.copying.NoMemory.{NoMemory}
 use Rattle.outside.specs.Room.{RoomView}
+use Rattle.entry_record.specs.History.{IsWithin}
 use Rattle.command_words.specs.declared.library.Library.{Library}
 use Rattle.console_lines.specs.declared.fault.Fault.{Fault}
 use Rattle.console_lines.specs.declared.fault.Fault.TheVariants as fault
@@ -175,6 +176,15 @@ module _ {S : Type 0} (left : S → Option (List ℕ)) (faults : S → ℕ) (roo
         (unread left room tells libraries files inputs ∙ ap (map (λ (l : Library). room.file l.file)) (sym (take_all libraries (length libraries) refl)));
   }
 
+  -- the closed journal, in the words of what it had before
+  closed_behind : {new : RoomView} (added : List Entry) → IsClosedTo new journal entries mark o → entries ≡ before ++ added → IsClosedTo new journal (before ++ added) mark o
+  closed_behind {new} added closed after = subst (λ es. IsClosedTo new journal es mark o) after closed
+
+  within_behind : {new : RoomView} (added : List Entry) → IsClosedTo new journal entries mark o → entries ≡ before ++ added
+      → IsWithin journal_limits ((before ++ added) ++ marked mark)
+  within_behind {new} added closed after =
+      subst (λ most. IsWithin most ((before ++ added) ++ marked mark)) opened.limits (subst (λ es. IsWithin o.origin.limits (es ++ marked mark)) after closed.left.within)
+
   pub loaded_part : (new : RoomView) (why : Fault) (results : Result (List FileResult) NoMemory)
       → IfOk results (λ rs. AreLoaded left faults limits before files after rs entries mark) → OnErr results (entries ≡ before) → OnErr results (mark ≡ None)
       → OnErr results (after ≡ files) → IsStopped why results → (o.tells ≡ true → IsClosedTo new journal entries mark o)
@@ -193,7 +203,8 @@ module _ {S : Type 0} (left : S → Option (List ℕ)) (faults : S → ℕ) (roo
     loaded = loaded_behind results loaded;
     faulty = is;
     unmarked = λ other. loaded.unmarked (none_failed results (none_by_a_device results why is other));
-    closed = subst (λ es. IsClosedTo new journal es mark o) loaded.after_is (closed (opened.tells tells));
+    closed = closed_behind loaded.added (closed (opened.tells tells)) loaded.after_is;
+    within = within_behind loaded.added (closed (opened.tells tells)) loaded.after_is;
     lefts = lefts_of_inputs left after;
     lefts_are = lefts;
     read_to = libraries_read left faults room before loaded.added mark 0 libraries files after results tells inputs

@@ -6,6 +6,7 @@ use Rattle.marc_types.specs.declared.copying.NoMemory.{NoMemory}
 use Rattle.outside.specs.Fault.{Rose}
 use Rattle.outside.specs.Room.{RoomView, AsLog}
 use Rattle.commit_journal.specs.Log.{version_of}
+use Rattle.entry_record.specs.History.{IsWithin}
 use Rattle.command_words.specs.declared.library.Library.{Library}
 use Rattle.console_lines.specs.declared.fault.Fault.{Fault}
 use Rattle.console_lines.specs.declared.fault.Fault.TheVariants as fault
@@ -100,6 +101,8 @@ pub record IsLoadedInPart (old new : RoomView) (journal : List ℕ) (libraries :
   pub faulty : loading_fault results ≡ Some why
   pub unmarked : why ≢ fault.Device → mark ≡ None
   pub closed : IsClosedTo new journal (before ++ added) mark o
+  -- all of it is within the journal's limits, that frame included
+  pub within : IsWithin journal_limits ((before ++ added) ++ marked mark)
   pub lefts : List (Option (List ℕ))
   pub lefts_are : new.lefts ≡ lefts ++ old.lefts
   pub read_to : AreReadTo loaded.files lefts

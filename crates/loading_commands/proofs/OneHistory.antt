@@ -60,6 +60,7 @@ module _ (old new : RoomView) (journal : List ℕ) (libraries : List Library) (b
     there = ap is_some closed.file;
     is = subst (HasHistory (before ++ added)) (sym (ap bytes_or_none closed.file)) (whole_history (before ++ added) closed.bytes closed.holds);
     images = λ c image. whole_history (before ++ added) c (closed.left.images c (opened.tells tells) image);
+    only = closed.only refl;
     ended = subst (λ b. EndsAt (walk_of b).place b) (sym (ap bytes_or_none closed.file)) (closed.ended refl);
     newest = subst (λ b. version_of b ≡ 2) (sym (ap bytes_or_none closed.file)) (closed.newest refl);
     synced = λ dated.

@@ -1,6 +1,7 @@
 -- The one history that files make which are loaded side by side. The rules are this project's own.
 use Rattle.std.specs.Prelude.{◌≡◌, ℕ, ◌+◌, true, List, [], ◌∷◌, ◌++◌, length, Some, is_some}
 use Rattle.marc_types.specs.declared.entry.Entry.{Entry}
+use Rattle.outside.specs.Disk.{OnlyContent}
 use Rattle.outside.specs.Room.{RoomView}
 use Rattle.command_words.specs.declared.library.Library.{Library}
 use Rattle.marc_stream.specs.Pieces.{items}
@@ -38,6 +39,8 @@ pub record IsOneHistory (old new : RoomView) (journal : List ℕ) (libraries : L
   pub there : is_some (new.file journal) ≡ true
   pub is : HasHistory (before ++ added) (log_bytes new journal)
   pub images : (c : List ℕ) → (new.log journal).image c → HasHistory (before ++ added) c
+  -- and the file is all that a crash now may leave
+  pub only : OnlyContent (new.log journal)
   -- and that nothing stands behind it, and the journal takes more
   pub ended : EndsAt (walk_of (log_bytes new journal)).place (log_bytes new journal)
   pub newest : version_of (log_bytes new journal) ≡ 2

@@ -203,6 +203,7 @@ left_same o entries more disk now same left =
       dated = unchanged.dated ∙ left.dated;
       faults = omega (arith, left.faults, same.faults);
       opened_is = left.opened_is;
+      within = left.within;
     }
 
 -- what a catalogue's log is once it is closed

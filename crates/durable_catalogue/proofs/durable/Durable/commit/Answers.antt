@@ -7,7 +7,7 @@ use Rattle.catalogue_core.specs.Catalogues.{all_entries}
 use Rattle.entry_history.specs.Commits.{Origin, fitting}
 use Rattle.entry_history.specs.declared.reply.BatchReply.{BatchReply}
 use Rattle.durable_catalogue.specs.Durables.{mark_of, marked, events, is_taken, IsKept}
-use Rattle.durable_catalogue.proofs.Fits.{runs_fit, with_run_runs}
+use Rattle.durable_catalogue.proofs.Fits.{runs_fit, with_run_runs, frame_within}
 use Rattle.durable_catalogue.proofs.Frames.{no_mark, none_marked}
 use Rattle.durable_catalogue.proofs.Keeping.{IsDisk, still_only, each_image}
 use Rattle.durable_catalogue.proofs.Lastings.{stays_on, goes_on, lost_untaken}
@@ -56,6 +56,12 @@ commit_frame-requires-clause-run g c =
     let self = c.args.self.now in
     let runs = subst (All (λ e. e.run ≡ self.run)) (sym c.set_run.ensures) (with_run_runs self.run c.args.batch) in
     subst (All (λ e. e.run ≡ self.run)) (sym c.in-Some.ensures.part) (runs_fit self.limits self.run (all_entries self.core) c.set_run.new.self runs)
+
+pub commit_frame-requires-clause-within : goal.commit_frame-requires-clause-within
+commit_frame-requires-clause-within g c =
+    let self = c.args.self.now in
+    let whole = sym self.broken ∙ sym c.is_broken.ensures ∙ c.if-is_broken.false in
+    frame_within self.limits self.core (marked (mark_of self.mark)) c.set_run.new.self c.in-Some.frame self.unstaged (none_marked self.mark whole) self.within c.in-Some.ensures.part
 
 pub returns-in-Ok-clause-reply : goal.returns-in-Ok-clause-reply
 returns-in-Ok-clause-reply g c =

@@ -1,7 +1,8 @@
-use Rattle.std.proofs.Common.{◌≤◌, [], length, sym, ap, subst, ◌∙◌, arith}
+use Rattle.std.proofs.Common.{◌≤◌, [], ◌++◌, length, sym, ap, subst, ◌∙◌, arith, append-nil}
 use Rattle.std.specs.List.{All}
 use Rattle.commit_journal.specs.declared.frame.Frame.{Frame}
 use Rattle.commit_journal.specs.Journal.{IsSettled}
+use Rattle.entry_record.specs.History.{IsWithin}
 use Rattle.entry_history.specs.Payloads.{IsEntry, CanFollow}
 use Rattle.durable_catalogue.specs.Durables.{IsKept}
 use Rattle.durable_catalogue.proofs.Frames.{none_marked, frame_held, kept_now, undone_now}
@@ -44,6 +45,9 @@ invariant_of-self-in-Ok-appended g c =
           (subst (λ es. IsKept self.opened es [] before first (seen c.append-appended.new.self.disk)) (sym (ap (λ core. core.history) now)) committed);
       rose = λ marked. let whole = c.requires.whole in cc;
       few = self.few;
+      within = subst (λ more. IsWithin self.limits (c.keep.new.self.history ++ more)) (sym (none_marked self.mark c.requires.whole))
+          (subst (λ es. IsWithin self.limits es) (sym (append-nil c.keep.new.self.history))
+          (subst (λ es. IsWithin self.limits es) (sym (ap (λ core. core.history) now)) c.requires.within));
     }
 
 pub invariant_of-self-in-Err : goal.invariant_of-self-in-Err
@@ -74,6 +78,8 @@ invariant_of-self-in-Err g c =
           (subst (λ es. IsKept self.opened es c.args.frame before first (seen c.append-appended.new.self.disk)) (sym (ap (λ core. core.history) now)) marked);
       rose = λ marked. omega (arith, rose, earlier);
       few = subst (λ es. length es ≤ 32) (sym c.of-mark.ensures) parts.batch.few;
+      within = subst (λ more. IsWithin self.limits (c.undo.new.self.history ++ more)) (sym c.of-mark.ensures)
+          (subst (λ es. IsWithin self.limits (es ++ c.args.frame)) (sym (ap (λ core. core.history) now)) c.requires.within);
     }
 
 pub returns-in-Ok-appended-clause-crash : goal.returns-in-Ok-appended-clause-crash

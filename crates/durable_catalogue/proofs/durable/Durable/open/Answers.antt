@@ -1,6 +1,7 @@
 use Rattle.std.proofs.Common.{◌≡◌, ◌++◌, [], length, sym, ap, subst, ◌∙◌, arith}
 use Rattle.std.proofs.lemmas.List.{append-nil}
 use Rattle.commit_journal.specs.Journal.{IsRecovered}
+use Rattle.entry_record.specs.History.{IsWithin}
 use Rattle.entry_history.specs.Readers.{IsVersion}
 use Rattle.entry_history.specs.Payloads.{IsHistory, CanFollow}
 use Rattle.durable_catalogue.specs.Logs.{payloads_of}
@@ -34,6 +35,7 @@ invariant_of-result g c =
           (subst (λ j. IsKept (length history) history [] (seen c.args.disk) (seen j.disk) (seen journal.disk)) (sym c.of-first.ensures) kept));
       rose = λ none. cc;
       few = omega arith;
+      within = subst (λ es. IsWithin c.args.limits es) (sym (append-nil history)) done.within;
     }
 
 pub returns-in-Ok-load-clause-history : goal.returns-in-Ok-load-clause-history
