@@ -14,7 +14,7 @@ use Rattle.file_entries.proofs.Every.{every_judged}
 use Rattle.durable_catalogue.specs.Logs.{HasHistory}
 use Rattle.room_files.specs.Journals.{journal_limits, log_bytes}
 use Rattle.loading_commands.specs.Merged.{AreJudged, NoFile, OneFile}
-use Rattle.union_top.specs.Complete.{FitsTogether}
+use Rattle.union_top.specs.Fits.{FitsTogether}
 
 record HaveJudgements (room : RoomView) (loader : ℕ) (libraries : List Library) : Type 0 where
   pub accepted : List (List Entry)

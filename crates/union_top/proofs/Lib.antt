@@ -2,10 +2,14 @@ mod Migrated
 mod Weights
 mod Made
 mod Crowded
+mod Framed
 mod Unopened
 mod Judgements
 mod Remaining
 mod Untroubled
+mod Fitting
 mod Complete
+mod Held
+mod Sure
 mod Asked
 mod Carried

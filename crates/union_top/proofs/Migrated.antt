@@ -1,4 +1,4 @@
--- A migration that nothing hinders ends well, or memory ran out.
+-- A migration that fits ends well, or memory ran out, where no fault of a device or of the console ended it.
 use Rattle.std.proofs.Common.{◌≡◌, ◌≢◌, ◌⊎◌, inl, inr, ℕ, true, List, [], ◌∷◌, refl, sym, ap, subst, ◌∙◌, arith}
 use Rattle.std.proofs.Math.Logic.{∥∥₁_map, ∥∥₁_elim, ∥∥₁_prop}
 use Rattle.marc_types.specs.declared.entry.Entry.{Entry}
@@ -22,7 +22,7 @@ use Rattle.journal_migration.specs.declared.fault.MigrateFault.{MigrateFault}
 use Rattle.journal_migration.specs.declared.fault.MigrateFault.TheVariants as migrating
 use Rattle.migrate_command.specs.Faults.{fault_of_migrating}
 use Rattle.migrate_command.specs.Migrates.{EndsMigrating, WhyNotFrom, NotOpened, Newest, WhyNotInto, Migrates}
-use Rattle.union_top.specs.Complete.{Around, IsUnhinderedMigrate}
+use Rattle.union_top.specs.Fits.{FitsMigrate}
 use Rattle.union_top.proofs.Unopened.{MayBe, may_be, no_journal, reading_once}
 use mathlib.Core.HLevel.{⊥_prop}
 
@@ -70,36 +70,27 @@ module _ (from into : List ℕ) (history entries : List Entry) (was : HasHistory
   migrating_well migrating.NoMemory others also why device = refl
 
 module _ (o : Outcome) where
-  abbrev seen : Around
-  seen = record { old = o.old; new = o.new; faults = o.faults; faults_now = o.faults_now }
-
-  module _ (from into : List ℕ) (m : Migrates from into o) (u : IsUnhinderedMigrate from into seen) where
-    no_device : (why : Fault) → o.end ≡ Told why → why ≡ fault.Device → ⊥
-    no_device why is device = either (m.device (is ∙ ap Told device))
-      where
-        either : Rose (o.old.log_faults from) (o.new.log_faults from) ⊎ Rose (o.old.log_faults into) (o.new.log_faults into) → ⊥
-        either (inl rose) = u.device rose
-        either (inr rose) = u.new_device rose
-
+  module _ (from into : List ℕ) (m : Migrates from into o) (f : FitsMigrate o.old from into) (no_device : o.end ≡ Told fault.Device → ⊥)
+      (no_console : o.end ≡ console_unwritten → ⊥) where
     old_fits : HasFittingHistory (log_bytes o.old from)
     old_fits =
-        ∥∥₁_elim u.fits ∥∥₁_prop (λ (fit : IsFit journal_limits u.history u.entries (log_bytes o.old into)).
-        ∥∥₁_map u.was (λ is. (u.history, is, fit.within.old_within)))
+        ∥∥₁_elim f.fits ∥∥₁_prop (λ (fit : IsFit journal_limits f.history f.entries (log_bytes o.old into)).
+        ∥∥₁_map f.was (λ is. (f.history, is, fit.within.old_within)))
 
     of_old : (why : Fault) → o.end ≡ Told why → WhyNotFrom o.old from why → why ≡ fault.Memory
     of_old why is (NotOpened reason current told so) =
-        told ∙ opening_well (log_bytes o.old from) reason current (may_be (log_bytes o.old from) reason old_fits (so u.tells))
-        (λ device. no_device why is (told ∙ device))
+        told ∙ opening_well (log_bytes o.old from) reason current (may_be (log_bytes o.old from) reason old_fits (so f.tells))
+        (λ device. no_device (is ∙ ap Told (told ∙ device)))
     of_old why is (Newest told so) =
-        let oldest : version_of (log_bytes o.old from) ≡ 1 = u.version in
-        let newest : version_of (log_bytes o.old from) ≡ 2 = (so u.tells).0 in
+        let oldest : version_of (log_bytes o.old from) ≡ 1 = f.version in
+        let newest : version_of (log_bytes o.old from) ≡ 2 = (so f.tells).0 in
         absurd (omega (arith, oldest, newest))
 
     of_new : (why : Fault) → o.end ≡ Told why → WhyNotInto o.old from into why → why ≡ fault.Memory
     of_new why is w =
-        let so = w.so u.tells in
-        w.is ∙ migrating_well (log_bytes o.old from) (log_bytes o.old into) u.history u.entries u.was u.fits w.reason so.0 so.1 so.2
-        (λ device. no_device why is (w.is ∙ device))
+        let so = w.so f.tells in
+        w.is ∙ migrating_well (log_bytes o.old from) (log_bytes o.old into) f.history f.entries f.was f.fits w.reason so.0 so.1 so.2
+        (λ device. no_device (is ∙ ap Told (w.is ∙ device)))
 
     remains : (why : Fault) → o.end ≡ Told why → why ≡ fault.Memory
     remains why is = either (m.told why is).1
@@ -109,4 +100,4 @@ module _ (o : Outcome) where
         either (inr of_into) = of_new why is of_into
 
     pub migrates_well : IsAllDone o.end ⊎ (o.end ≡ Told fault.Memory)
-    migrates_well = migrated_well o.end m.ends (λ is. u.console (m.console is)) remains
+    migrates_well = migrated_well o.end m.ends no_console remains

@@ -1,4 +1,4 @@
--- How the commands end that only tell, where nothing hinders them.
+-- How the commands end that only tell, where no fault of the input or of the console ended them.
 use Rattle.std.proofs.Common.{◌≡◌, ◌⊎◌, inl, inr, ℕ, true, List, Some, refl, subst}
 use Rattle.std.proofs.Math.Logic.{∥∥₁_elim}
 use Rattle.std.specs.Prelude.{IsSomeAnd}
@@ -15,7 +15,7 @@ use Rattle.journal_input.specs.Walking as walking
 use Rattle.journal_input.specs.Contents.{IsNoJournal, NoGate, NoPayload}
 use Rattle.journal_verification.specs.Verifying.{EndsVerifying, Verifies}
 use Rattle.program_help.specs.Telling.{EndsTelling, Tells}
-use Rattle.union_top.specs.Complete.{Around, IsUnhinderedVerify, IsUnhinderedTelling}
+use Rattle.union_top.specs.Fits.{FitsVerify}
 use Rattle.union_top.proofs.Unopened.{no_journal}
 use mathlib.Core.HLevel.{⊥_prop}
 
@@ -58,16 +58,13 @@ told_well (Unwritten Console) kind console = absurd (console refl)
 told_well (Told why) kind console = absurd kind
 
 module _ (o : Outcome) where
-  abbrev seen : Around
-  seen = record { old = o.old; new = o.new; faults = o.faults; faults_now = o.faults_now }
-
-  pub verify_well : (journal : List ℕ) → Verifies journal o → IsUnhinderedVerify journal seen
-      → IsAllDone o.end ⊎ (o.end ≡ Told fault.Memory)
-  verify_well journal v u =
-      verified_well o.end v.ends (λ is. u.console (v.console_cause is)) (λ is. u.input (v.input is))
+  pub verify_well : (journal : List ℕ) → Verifies journal o → FitsVerify o.old journal
+      → (o.end ≡ console_unwritten → ⊥) → (o.end ≡ Told fault.Input → ⊥) → IsAllDone o.end ⊎ (o.end ≡ Told fault.Memory)
+  verify_well journal v f no_console no_input =
+      verified_well o.end v.ends no_console no_input
       (λ place is.
-      let none : IsNoJournal u.bytes place = subst (λ f. IsSomeAnd f (λ log. IsNoJournal log place)) u.there (v.none place is u.tells) in
-      ∥∥₁_elim u.was ⊥_prop (λ history. no_journal u.bytes place u.entries history (unopened u.bytes place none)))
+      let none : IsNoJournal f.bytes place = subst (λ file. IsSomeAnd file (λ log. IsNoJournal log place)) f.there (v.none place is f.tells) in
+      ∥∥₁_elim f.was ⊥_prop (λ history. no_journal f.bytes place f.entries history (unopened f.bytes place none)))
 
-  pub tells_well : (text : List ℕ) → Tells text o → IsUnhinderedTelling seen → IsAllDone o.end ⊎ (o.end ≡ Told fault.Memory)
-  tells_well text t u = told_well o.end t.ends (λ is. u.console (t.cause is))
+  pub tells_well : (text : List ℕ) → Tells text o → (o.end ≡ console_unwritten → ⊥) → IsAllDone o.end ⊎ (o.end ≡ Told fault.Memory)
+  tells_well text t no_console = told_well o.end t.ends no_console

@@ -8,6 +8,7 @@ use Rattle.console_lines.specs.declared.end.End.TheVariants.{Told}
 use Rattle.console_lines.specs.declared.fault.Fault.TheVariants.{Usage}
 use Rattle.union_top.specs.Commands.{is_alone, EndsWith}
 use Rattle.union_top.specs.Complete.{Around, IsUnhindered}
+use Rattle.union_top.specs.Sure.{IsSure}
 
 -- the command of these words loads files side by side
 pub record LoadsFiles (words : List (List ℕ)) : Type 0 where
@@ -16,8 +17,8 @@ pub record LoadsFiles (words : List (List ℕ)) : Type 0 where
   pub loads : is_alone command ≡ false
 
 -- The words were carried out, with that exit status. It is 2 exactly where they are no command: then nothing changed, and the console
--- was told so. Else their command changed no file but its log and outputs, and ended as its record says; where nothing hindered it
--- the status is 0 or 1, or memory ran out.
+-- was told so. Else their command changed no file but its log and outputs, and ended as its record says; where nothing hindered it, or
+-- what it uses is sure, the status is 0 or 1, or memory ran out.
 pub record AreCarriedOut (words : List (List ℕ)) (status : ℕ) (a : Around) (o : End → Outcome) : Type 0 where
   pub usage : status ≡ 2 ↔ command_of words ≡ None
   pub unchanged : status ≡ 2 → SameBut a.old a.new []
@@ -25,3 +26,4 @@ pub record AreCarriedOut (words : List (List ℕ)) (status : ℕ) (a : Around) (
   pub apart : (command : Command) → command_of words ≡ Some command → SameBut a.old a.new (names_of command)
   pub ends : (command : Command) → command_of words ≡ Some command → EndsWith words command status o
   pub complete : (command : Command) → command_of words ≡ Some command → IsUnhindered words command a → (status ≤ 1) ⊎ (status ≡ 8)
+  pub sure : (command : Command) → command_of words ≡ Some command → IsSure words command a → (status ≤ 1) ⊎ (status ≡ 8)

@@ -1,3 +1,5 @@
 pub mod Commands
+pub mod Fits
 pub mod Complete
+pub mod Sure
 pub mod Carried

@@ -6,6 +6,7 @@ ghost use Rattle.console_lines.specs.Ends.{outcome};
 ghost use Rattle.console_lines.specs.Faults.{IsFaultTold, fault_line};
 ghost use Rattle.union_top.specs.Commands.{is_alone, Ends, EndsWith};
 ghost use Rattle.union_top.specs.Complete.{around, IsUnhindered};
+ghost use Rattle.union_top.specs.Sure.{IsSure};
 ghost use Rattle.union_top.specs.Carried.{LoadsFiles, AreCarriedOut};
 
 use crate::holding::attach;
@@ -104,7 +105,7 @@ pub fn run_unless_loading<R: Room>(
     ensures loads { result ≡ None ↔ LoadsFiles words.now }
     ensures untouched { IfNone result ((room.new ≡ room.old) × (console.new ≡ console.old)) }
     ensures carried { IfSome result (λ status. AreCarriedOut words.now status
-        (around R.seen R.Out.faults room.old room.new console.old console.new)
+        (around R.seen R.Out.written R.Out.faults room.old room.new console.old console.new)
         (outcome R.seen R.Out.written R.Out.faults room.old room.new console.old console.new)) }
 {
     match request(words) {
@@ -221,7 +222,12 @@ pub fn run<H: Threads + Wait + Sync, R: Room, G: Gate + Sync>(
 
     // Where nothing hinders a command it ends with 0 or 1, or memory ran out.
     ensures complete { (command : Command) → command_of words.now ≡ Some command →
-        IsUnhindered words.now command (around R.seen R.Out.faults room.old room.new console.old console.new) →
+        IsUnhindered words.now command (around R.seen R.Out.written R.Out.faults room.old room.new console.old console.new) →
+        (result ≤ 1) ⊎ (result ≡ 8) }
+
+    // So it does over sure objects, which have no fault before they have so many bytes, and with room for what is due.
+    ensures sure { (command : Command) → command_of words.now ≡ Some command →
+        IsSure words.now command (around R.seen R.Out.written R.Out.faults room.old room.new console.old console.new) →
         (result ≤ 1) ⊎ (result ≡ 8) }
 {
     match request(words) {

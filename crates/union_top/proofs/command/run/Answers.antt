@@ -2,6 +2,7 @@ use Rattle.std.proofs.Common.{◌≡◌, ◌≤◌, ◌⊎◌, Some, sym, subst,
 use Rattle.console_lines.specs.Ends.{Outcome, outcome}
 use Rattle.union_top.specs.Commands.{Ends}
 use Rattle.union_top.proofs.Complete.{complete, two_is_usage, same_command}
+use Rattle.union_top.proofs.Sure.{sure}
 use Rattle.union_top.proofs.command.run.Goals as goal
 
 pub returns-in-Some-clause-usage : goal.returns-in-Some-clause-usage
@@ -26,3 +27,10 @@ returns-in-Some-clause-complete g c command is u =
     let o : Outcome = outcome g.R.Room.seen g.R.Out.Sink.written g.R.Out.Sink.faults c.args.room.now c.carry_out.new.room c.args.console.now c.carry_out.new.console c.carry_out.result in
     let ends = subst (λ asked. Ends c.args.words.now asked o) (same_command _ command (sym c.in-Some.ensures ∙ is)) c.carry_out.ensures.ends in
     subst (λ s. (s ≤ 1) ⊎ (s ≡ 8)) (sym c.status-in-Some.ensures) (complete o c.args.words.now command ends u)
+
+pub returns-in-Some-clause-sure : goal.returns-in-Some-clause-sure
+returns-in-Some-clause-sure g c command is u =
+    let o : Outcome = outcome g.R.Room.seen g.R.Out.Sink.written g.R.Out.Sink.faults c.args.room.now c.carry_out.new.room c.args.console.now c.carry_out.new.console c.carry_out.result in
+    let ends = subst (λ asked. Ends c.args.words.now asked o) (same_command _ command (sym c.in-Some.ensures ∙ is)) c.carry_out.ensures.ends in
+    let well = sure o c.carry_out.ensures.apart.promises (g.met.R.Room.promised c.carry_out.new.room) c.args.words.now command ends u in
+    subst (λ s. (s ≤ 1) ⊎ (s ≡ 8)) (sym c.status-in-Some.ensures) well

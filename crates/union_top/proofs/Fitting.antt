@@ -1,0 +1,181 @@
+-- How a command ends that fits, where no fault of an input, an output, a device or the console ended it.
+use Rattle.std.proofs.Common.{◌≡◌, ◌≢◌, ◌⊎◌, inl, inr, ℕ, ◌+◌, ◌≤◌, true, false, ◌||◌, true≢false, List, [], ◌∷◌, ◌++◌, length, Option, refl, sym, ap, subst, ◌∙◌, arith, append-nil, append_assoc}
+use Rattle.std.specs.Prelude.{nat_lt, IsSomeAnd}
+use Rattle.std.proofs.lemmas.List.{length-append}
+use Rattle.std.proofs.lemmas.List.Sums.{sum_by-append}
+use Rattle.std.proofs.lemmas.Bool.Decides.{nat_tests}
+use Rattle.marc_types.specs.declared.entry.Entry.{Entry}
+use Rattle.marc_types.specs.Limits.{most_entries, most_bytes}
+use Rattle.marc_stream.specs.Pieces.{Item, items}
+use Rattle.command_words.specs.declared.library.Library.{Library}
+use Rattle.command_words.specs.Command.{Pass, Holdings, libraries_of}
+use Rattle.entry_record.specs.History.{entry_size, entries_size}
+use Rattle.file_entries.specs.Files.{IsJudged, Accepts}
+use Rattle.file_entries.proofs.Every.{every_judged}
+use Rattle.file_entries.specs.declared.refused.RefusedItem.{RefusedItem}
+use Rattle.console_lines.specs.Ends.{Outcome, IsAllDone, end_status, out_unwritten, report_unwritten, console_unwritten}
+use Rattle.console_lines.specs.declared.end.End.{End}
+use Rattle.console_lines.specs.declared.end.End.TheVariants.{Done, Refused, Unwritten, Told}
+use Rattle.console_lines.specs.declared.end.Unwritten.TheVariants as unwritten
+use Rattle.console_lines.specs.declared.fault.Fault.{Fault}
+use Rattle.console_lines.specs.declared.fault.Fault.TheVariants as fault
+use Rattle.durable_catalogue.specs.declared.fault.OpenFault.{OpenFault}
+use Rattle.durable_catalogue.specs.declared.fault.OpenFault.TheVariants as opening
+use Rattle.room_files.specs.Faults.{fault_of_opening}
+use Rattle.room_files.specs.Journals.{log_bytes}
+use Rattle.archive_commands.specs.Reads.{DueView, Reads, EndsReading}
+use Rattle.plain_commands.specs.Loading.{IsFullAt, EndsLoading}
+use Rattle.plain_commands.specs.Making.{Makes, EndsMake}
+use Rattle.plain_commands.specs.Totals.{IsWithinLimits}
+use Rattle.match_command.specs.Telling.{TellsMatches}
+use Rattle.holdings_command.specs.Attaching.{EndsAttaching}
+use Rattle.loading_commands.specs.Loading.{Loads, Runs}
+use Rattle.union_top.specs.Commands.{Ends}
+use Rattle.union_top.specs.Fits.{FitsPass, FitsLoad, FitsReading, FitsHoldings}
+use Rattle.union_top.proofs.Made.{made, made_first}
+use Rattle.union_top.proofs.Unopened.{MayBe, may_be}
+use Rattle.union_top.proofs.Judgements.{fits_judged}
+use Rattle.union_top.proofs.Remaining.{Remains, of_load, of_run}
+
+-- the ends that are left
+abbrev pub EndsWell : End → Type 0
+EndsWell end = IsAllDone end ⊎ (end ≡ Told fault.Memory)
+
+pub well_status : (end : End) → EndsWell end → (end_status end ≤ 1) ⊎ (end_status end ≡ 8)
+well_status Done well = inl (omega arith)
+well_status Refused well = inl (omega arith)
+well_status (Unwritten which) (inl all) = absurd all
+well_status (Unwritten which) (inr memory) = cc
+well_status (Told why) (inl all) = absurd all
+well_status (Told why) (inr memory) = inr (ap end_status memory)
+
+by_end : (end : End) → (end ≡ out_unwritten → ⊥) → (end ≡ report_unwritten → ⊥) → (end ≡ console_unwritten → ⊥)
+    → ((why : Fault) → end ≡ Told why → why ≡ fault.Memory) → EndsWell end
+by_end Done out report console told = inl tt
+by_end Refused out report console told = inl tt
+by_end (Unwritten unwritten.Out) out report console told = absurd (out refl)
+by_end (Unwritten unwritten.Report) out report console told = absurd (report refl)
+by_end (Unwritten unwritten.Console) out report console told = absurd (console refl)
+by_end (Told why) out report console told = inr (ap Told (told why refl))
+
+-- a fault of a pass that remains
+pass_why : (why : Fault) → EndsLoading why → (why ≡ fault.Input → ⊥) → (why ≡ fault.Full → ⊥) → why ≡ fault.Memory
+pass_why fault.Input kind input full = absurd (input refl)
+pass_why fault.Full kind input full = absurd (full refl)
+pass_why fault.Memory kind input full = refl
+pass_why fault.Usage kind input full = absurd kind
+pass_why fault.Device kind input full = absurd kind
+pass_why (fault.NotAJournal place) kind input full = absurd kind
+pass_why fault.OldVersion kind input full = absurd kind
+pass_why fault.OtherHistory kind input full = absurd kind
+
+-- one of loading that does
+load_why : (why : Fault) → Remains why → why ≢ fault.Usage → (why ≡ fault.Input → ⊥) → (why ≡ fault.Device → ⊥) → why ≡ fault.Memory
+load_why fault.Usage remains usage input device = absurd (usage refl)
+load_why fault.Input remains usage input device = absurd (input refl)
+load_why fault.Device remains usage input device = absurd (device refl)
+load_why (fault.NotAJournal place) remains usage input device = absurd remains
+load_why fault.Full remains usage input device = absurd remains
+load_why fault.Memory remains usage input device = refl
+load_why fault.OldVersion remains usage input device = absurd remains
+load_why fault.OtherHistory remains usage input device = absurd remains
+
+-- one of an opening that does, where an old version is read too
+read_why : (log : List ℕ) (of : OpenFault) → MayBe log of → EndsReading (Told (fault_of_opening of)) → (fault_of_opening of ≡ fault.Device → ⊥) → fault_of_opening of ≡ fault.Memory
+read_why log opening.DeviceFault may ends device = absurd (device refl)
+read_why log (opening.NotAJournal place) may ends device = absurd may
+read_why log opening.OldVersion may ends device = absurd ends
+read_why log opening.Full may ends device = absurd may
+read_why log opening.NoMemory may ends device = refl
+
+-- the same of the command that reads a file of holdings behind it
+attach_why : (log : List ℕ) (of : OpenFault) → MayBe log of → EndsAttaching (Told (fault_of_opening of)) → (fault_of_opening of ≡ fault.Device → ⊥) → fault_of_opening of ≡ fault.Memory
+attach_why log opening.DeviceFault may ends device = absurd (device refl)
+attach_why log (opening.NotAJournal place) may ends device = absurd may
+attach_why log opening.OldVersion may ends device = absurd ends
+attach_why log opening.Full may ends device = absurd may
+attach_why log opening.NoMemory may ends device = refl
+
+-- a file whose accepted entries are within the limits leaves no next one that passes them
+never_full_at : (library : List ℕ) (items : List Item) (accepted : List Entry) (refused : List RefusedItem) → IsJudged library 0 items accepted refused → IsWithinLimits accepted
+    → IsFullAt library items → ⊥
+never_full_at library items accepted refused judged within f =
+    let split : items ≡ (f.done ++ f.item ∷ []) ++ f.rest = f.split ∙ sym (append_assoc f.done (f.item ∷ []) f.rest) in
+    let part = made library 0 _ _ _ (Accepts f.done f.accepted f.refused f.item f.next f.judged f.entry) in
+    let all = made library 0 _ _ _ (subst (λ is. IsJudged library 0 is accepted refused) split judged) in
+    let first = made_first library 0 (f.done ++ f.item ∷ []) f.rest (f.accepted ++ f.next ∷ []) accepted part all in
+    let number = ap length first.1 ∙ length-append (f.accepted ++ f.next ∷ []) first.0 in
+    let front_number = length-append f.accepted (f.next ∷ []) in
+    let bytes = ap entries_size first.1 ∙ sum_by-append entry_size (f.accepted ++ f.next ∷ []) first.0 in
+    let front_bytes = sum_by-append entry_size f.accepted (f.next ∷ []) in
+    let one_bytes : entries_size (f.next ∷ []) ≡ entry_size f.next = omega arith in
+    let few = within.entries in
+    let small = within.bytes in
+    let no_more : nat_lt most_entries (length f.accepted + 1) ≡ false = grind (arith, nat_tests) in
+    let no_larger : nat_lt most_bytes (entries_size f.accepted + entry_size f.next) ≡ false = grind (arith, nat_tests) in
+    let full = subst (λ es. nat_lt most_entries (length es + 1) || nat_lt most_bytes (entries_size es + entry_size f.next) ≡ true) (append-nil f.accepted) f.full in
+    true≢false (sym full ∙ ap (λ b. b || nat_lt most_bytes (entries_size f.accepted + entry_size f.next)) no_more ∙ no_larger)
+
+module _ (o : Outcome) where
+  -- the command did not end so
+  abbrev pub Never : End → Type 0
+  Never end = o.end ≡ end → ⊥
+
+  pub passes_well : (words : List (List ℕ)) (out : List ℕ) → Ends words (Pass out) o → FitsPass o.old (libraries_of words)
+      → Never out_unwritten → Never console_unwritten → Never (Told fault.Input) → EndsWell o.end
+  passes_well words out ends f no_out no_console no_input =
+      let p = ends f.library f.named in
+      let j = every_judged f.library.code 0 (items f.alone.bytes) in
+      by_end o.end no_out p.no_report no_console
+      (λ why is. pass_why why (p.told why is).1 (λ same. no_input (is ∙ ap Told same))
+      (λ same. never_full_at f.library.code (items f.alone.bytes) j.accepted j.refused j.judged (f.alone.within j.accepted j.refused j.judged)
+      (subst (λ file. IsSomeAnd file (λ bytes. IsFullAt f.library.code (items bytes))) f.alone.there (p.full (is ∙ ap Told same) f.tells))))
+
+  pub makes_well : (seed count : ℕ) (out : List ℕ) → Makes seed count out o → Never out_unwritten → Never console_unwritten → EndsWell o.end
+  makes_well seed count out m no_out no_console =
+      by_end o.end no_out (λ is. subst EndsMake is m.ends) no_console (λ why is. subst EndsMake is m.ends)
+
+  pub reads_well : (journal out : List ℕ) (due : DueView) → Reads journal out due o → FitsReading o.old journal
+      → Never out_unwritten → Never (Told fault.Device) → EndsWell o.end
+  reads_well journal out due r f no_out no_device =
+      by_end o.end no_out (λ is. subst EndsReading is r.ends) (λ is. subst EndsReading is r.ends)
+      (λ why is.
+      let w = (r.told why is).1 in
+      w.is ∙ read_why (log_bytes o.old journal) w.reason (may_be (log_bytes o.old journal) w.reason f.history (w.so f.tells))
+      (subst EndsReading (is ∙ ap Told w.is) r.ends) (λ device. no_device (is ∙ ap Told (w.is ∙ device))))
+
+  pub matches_well : (journal out : List ℕ) → TellsMatches journal out o → FitsReading o.old journal
+      → Never out_unwritten → Never (Told fault.Device) → EndsWell o.end
+  matches_well journal out r f no_out no_device =
+      by_end o.end no_out (λ is. subst EndsReading is r.ends) (λ is. subst EndsReading is r.ends)
+      (λ why is.
+      let w = (r.told why is).1 in
+      w.is ∙ read_why (log_bytes o.old journal) w.reason (may_be (log_bytes o.old journal) w.reason f.history (w.so f.tells))
+      (subst EndsReading (is ∙ ap Told w.is) r.ends) (λ device. no_device (is ∙ ap Told (w.is ∙ device))))
+
+  pub attaches_well : (words : List (List ℕ)) (journal out rest : List ℕ) (code : Option (List ℕ)) → Ends words (Holdings journal out rest code) o
+      → FitsHoldings o.old journal (libraries_of words) → Never out_unwritten → Never report_unwritten → Never console_unwritten
+      → Never (Told fault.Input) → Never (Told fault.Device) → EndsWell o.end
+  attaches_well words journal out rest code ends f no_out no_rest no_console no_input no_device =
+      let a = ends f.library f.named in
+      by_end o.end no_out no_rest no_console
+      (λ why is.
+      let w = a.because why is (λ same. no_input (is ∙ ap Told same)) in
+      w.is ∙ attach_why (log_bytes o.old journal) w.reason (may_be (log_bytes o.old journal) w.reason f.reading.history (w.so f.reading.tells))
+      (subst EndsAttaching (is ∙ ap Told w.is) a.ends) (λ device. no_device (is ∙ ap Told (w.is ∙ device))))
+
+  pub loads_well : (libraries : List Library) (journal : List ℕ) → Loads libraries journal o → FitsLoad o.old journal libraries
+      → Never console_unwritten → Never (Told fault.Input) → Never (Told fault.Device) → EndsWell o.end
+  loads_well libraries journal l f no_console no_input no_device =
+      let fits = fits_judged o.old journal libraries f.together in
+      by_end o.end l.no_output.0 l.no_output.1 no_console
+      (λ why is. load_why why (of_load o.old o.new journal libraries f.tells fits why (l.because why is f.tells)) (l.told why is).1
+      (λ same. no_input (is ∙ ap Told same)) (λ same. no_device (is ∙ ap Told same)))
+
+  pub runs_well : (libraries : List Library) (journal out report : List ℕ) → Runs libraries journal out report o → FitsLoad o.old journal libraries
+      → Never out_unwritten → Never report_unwritten → Never console_unwritten → Never (Told fault.Input) → Never (Told fault.Device) → EndsWell o.end
+  runs_well libraries journal out report r f no_out no_report no_console no_input no_device =
+      let fits = fits_judged o.old journal libraries f.together in
+      by_end o.end no_out no_report no_console
+      (λ why is. load_why why (of_run o.old o.new journal libraries f.tells fits out report why (r.because why is f.tells)) (r.told why is).1
+      (λ same. no_input (is ∙ ap Told same)) (λ same. no_device (is ∙ ap Told same)))

@@ -1,0 +1,85 @@
+-- What promises that are kept spare a command: a count of what holds more than is there and than is due did not rise.
+use Rattle.std.proofs.Common.{◌≡◌, ◌⊎◌, inl, inr, ℕ, ◌+◌, ◌<◌, ◌≤◌, max, List, ◌++◌, length, Option, Some, None, sym, ap, subst, ◌∙◌, arith}
+use Rattle.std.specs.Io.KnownBytes.{Appends}
+use Rattle.std.proofs.lemmas.List.{length-append}
+use Rattle.outside.specs.Fault.{Rose}
+use Rattle.outside.specs.Room.{Promise, ReadsAlways, HoldsUpTo, IsPromiseKept, HasHeld, bytes_or_none}
+use Rattle.outside.specs.Sink.{WritesFront}
+use Rattle.commit_journal.specs.declared.format.TheConstants.{BLANK_LENGTH}
+use Rattle.command_words.specs.declared.library.Library.{Library}
+use Rattle.output_files.specs.Outputs.{IsPartWritten, AsItWas, Holds}
+use Rattle.room_files.specs.Journals.{log_bytes, KeepsHistory, Unopened, Opened}
+use Rattle.union_top.specs.Complete.{Around, Stayed, OutStayed, LogStayed, ConsoleStayed, InputsStayed, InStayed}
+use Rattle.union_top.specs.Sure.{AreReadAlways, HoldsOutput, HoldsLog, HoldsText}
+
+-- a count that is none did not rise
+none_stayed : (before now : ℕ) → now ≡ 0 → Stayed before now
+none_stayed before now none rose = omega (arith, none, rose)
+
+-- known bytes with some more behind them
+grown : (told now : Option (List ℕ)) (before front : List ℕ) → told ≡ Some before → Appends told now front → now ≡ Some (before ++ front)
+grown None now before front is wrote = let no : None ≡ Some before = is in cc
+grown (Some was) None before front is wrote = absurd wrote
+grown (Some was) (Some bytes) before front is wrote = let same : was ≡ before = cc in ap Some (wrote ∙ ap (λ l. l ++ front) same)
+
+shorter : (due front rest : List ℕ) → due ≡ front ++ rest → length front ≤ length due
+shorter due front rest split = let lengths = length-append front rest in omega (arith, ap length split, lengths)
+
+module _ (a : Around) (promises : (n : List ℕ) → a.new.promise n ≡ a.old.promise n)
+    (kept : (n : List ℕ) → IsPromiseKept a.new n (a.new.promise n)) where
+  is_kept : (name : List ℕ) (promise : Promise) → a.old.promise name ≡ promise → IsPromiseKept a.new name promise
+  is_kept name promise is = subst (IsPromiseKept a.new name) (promises name ∙ is) (kept name)
+
+  pub in_stayed : (name : List ℕ) → a.old.promise name ≡ ReadsAlways → InStayed a name
+  in_stayed name is = none_stayed (a.old.in_faults name) (a.new.in_faults name) (is_kept name ReadsAlways is)
+
+  pub inputs_stayed : (libraries : List Library) → AreReadAlways a.old libraries → InputsStayed a libraries
+  inputs_stayed libraries all k d within = in_stayed _ (all k d within)
+
+  -- a file that is shorter than what its name holds
+  no_faults : (name : List ℕ) (most : ℕ) → HasHeld a.new name most → length (bytes_or_none (a.new.file name)) < most
+      → (a.new.out_faults name ≡ 0) × (a.new.log_faults name ≡ 0)
+  no_faults name most (inl none) less = none
+  no_faults name most (inr full) less = absurd (omega (arith, full, less))
+
+  part_shorter : (name due : List ℕ) (h : HoldsOutput a.old name due) → IsPartWritten (a.old.file name) (a.new.file name) due
+      → length (bytes_or_none (a.new.file name)) < h.most
+  part_shorter name due h (AsItWas same) = subst (λ f. length (bytes_or_none f) < h.most) (sym same) h.there
+  part_shorter name due h (Holds front rest split is) =
+      let fewer = shorter due front rest split in
+      let all = h.due in
+      subst (λ f. length (bytes_or_none f) < h.most) (sym is) (omega (arith, fewer, all))
+
+  pub out_stayed : (name due : List ℕ) → HoldsOutput a.old name due → IsPartWritten (a.old.file name) (a.new.file name) due → OutStayed a name
+  out_stayed name due h part =
+      none_stayed (a.old.out_faults name) (a.new.out_faults name)
+      (no_faults name h.most (is_kept name (HoldsUpTo h.most) h.promised) (part_shorter name due h part)).0
+
+  pub log_stayed : (name : List ℕ) (added : ℕ) → HoldsLog a.old name added
+      → length (log_bytes a.new name) ≤ max BLANK_LENGTH (length (log_bytes a.old name)) + added → LogStayed a name
+  log_stayed name added h no_longer =
+      let all = h.due in
+      none_stayed (a.old.log_faults name) (a.new.log_faults name)
+      (no_faults name h.most (is_kept name (HoldsUpTo h.most) h.promised) (omega (arith, no_longer, all))).1
+
+  -- a log that was as long stays as long
+  pub same_stayed : (name : List ℕ) (added : ℕ) → HoldsLog a.old name added → a.new.file name ≡ a.old.file name → LogStayed a name
+  same_stayed name added h same =
+      let length_is : length (log_bytes a.new name) ≡ length (log_bytes a.old name) = ap (λ f. length (bytes_or_none f)) same in
+      log_stayed name added h (omega (arith, length_is))
+
+  pub kept_stayed : (failed : Type 0) (name : List ℕ) (added : ℕ) → HoldsLog a.old name added → KeepsHistory failed a.old a.new name → LogStayed a name
+  kept_stayed failed name added h (Unopened u) = same_stayed name added h u.file
+  kept_stayed failed name added h (Opened c) = let no_longer = c.alone.leaves.same.no_longer in log_stayed name added h (omega (arith, no_longer))
+
+pub text_stayed : (a : Around) (text : List ℕ) → HoldsText a text → WritesFront a.told a.now text → ConsoleStayed a
+text_stayed a text h w = either h.sure
+  where
+    either : (a.faults_now ≡ 0) ⊎ ((bytes : List ℕ) → a.now ≡ Some bytes → h.most ≤ length bytes) → ConsoleStayed a
+    either (inl none) = none_stayed a.faults a.faults_now none
+    either (inr full) =
+        let enough = full (h.before ++ w.front) (grown a.told a.now h.before w.front h.tells w.wrote) in
+        let fewer = shorter text w.front w.rest w.split in
+        let lengths = length-append h.before w.front in
+        let all = h.due in
+        absurd (omega (arith, enough, fewer, lengths, all))

@@ -1,0 +1,317 @@
+-- A command over objects that keep their promises, and hold what is due, ends well, or memory ran out.
+use Rattle.std.proofs.Common.{◌≡◌, ◌⊎◌, inl, inr, ℕ, ◌+◌, ◌≤◌, max, true, List, [], ◌∷◌, ◌++◌, length, Option, Some, None, refl, sym, ap, subst, ◌∙◌, arith}
+use Rattle.std.specs.Prelude.{IsSomeAnd}
+use Rattle.std.specs.List.{sum_by}
+use Rattle.std.proofs.Math.Logic.{∥∥₁_elim}
+use Rattle.marc_types.specs.declared.entry.Entry.{Entry}
+use Rattle.outside.specs.Fault.{Rose}
+use Rattle.outside.specs.Room.{IsPromiseKept}
+use Rattle.outside.specs.Sink.{WritesFront}
+use Rattle.marc_stream.specs.Pieces.{items}
+use Rattle.workload.specs.Workload.{workload_bytes}
+use Rattle.commit_journal.specs.declared.format.TheConstants.{BLANK_LENGTH}
+use Rattle.command_words.specs.declared.library.Library.{Library}
+use Rattle.command_words.specs.Command.{Command, Pass, Run, Load, Export, Report, Make, Verify, Matches, Holdings, Migrate, Help, Version, libraries_of}
+use Rattle.file_entries.specs.Files.{IsJudged}
+use Rattle.file_entries.specs.declared.refused.RefusedItem.{RefusedItem}
+use Rattle.console_lines.specs.Ends.{Outcome, IsAllDone, IsUntold, end_of, end_status, out_unwritten, report_unwritten, console_unwritten}
+use Rattle.console_lines.specs.declared.end.End.{End}
+use Rattle.console_lines.specs.declared.end.End.TheVariants.{Told}
+use Rattle.console_lines.specs.declared.end.Unwritten.TheVariants as unwritten
+use Rattle.console_lines.specs.declared.fault.Fault.{Fault}
+use Rattle.console_lines.specs.declared.fault.Fault.TheVariants as fault
+use Rattle.console_lines.proofs.Ends.{out_not_console, out_not_report, report_not_console, all_not_unwritten, all_of}
+use Rattle.durable_catalogue.specs.declared.fault.OpenFault.TheVariants as opening
+use Rattle.durable_catalogue.specs.Images.{framed_lengths}
+use Rattle.durable_catalogue.specs.Logs.{IsLogOf, HasHistory}
+use Rattle.durable_catalogue.proofs.Framed.{framed_append}
+use Rattle.entry_record.specs.History.{IsWithin}
+use Rattle.output_files.specs.Outputs.{IsPartWritten}
+use Rattle.room_files.specs.Journals.{journal_limits, log_bytes, KeepsHistory}
+use Rattle.archive_commands.specs.Reads as reads
+use Rattle.archive_commands.specs.Reads.{Reads}
+use Rattle.match_command.specs.Telling.{matches_due}
+use Rattle.plain_commands.specs.Making.{Makes, workload_line}
+use Rattle.plain_commands.specs.Passing.{Passes, IsPassedInPart, IsPassedUntold, exported, results}
+use Rattle.journal_input.specs.Contents.{IsVerified}
+use Rattle.journal_verification.specs.Verifying.{Verifies, IsToldInPart, verified_lines}
+use Rattle.catalogue_rules.specs.Settle.{state_of}
+use Rattle.file_holdings.specs.Files.{AreHoldings}
+use Rattle.holdings_command.specs.Attaching as attaching
+use Rattle.holdings_command.specs.Attaching.{AttachesHoldings, IsDelivered, OutFailed, RestFailed, ConsoleFailed, Whole, IsAttached}
+use Rattle.journal_migration.specs.Migrations.{IsFit, IsAmid, Before, Behind}
+use Rattle.migrate_command.specs.Migrates as migrates
+use Rattle.migrate_command.specs.Migrates.{Migrates, BringsInto, IsDeviceOf, migrated_line}
+use Rattle.journal_loading.specs.Inputs.{IsInputFault}
+use Rattle.journal_loading.specs.Outcomes as outcomes
+use Rattle.journal_loading.specs.Outcomes.{IsLoadingFault}
+use Rattle.program_help.specs.Telling.{help_text, version_text, Tells}
+use Rattle.loading_commands.specs.Console.{console_of}
+use Rattle.loading_commands.specs.Loading.{Loads, Runs}
+use Rattle.loading_commands.specs.Runs as runs
+use Rattle.loading_commands.specs.Runs.{IsMergedLoad, WhyNotLoad, WhyNotRun}
+use Rattle.union_top.specs.Commands.{Ends}
+use Rattle.union_top.specs.Fits.{FitsPass, FitsLoad, FitsReading, FitsHoldings, FitsVerify, FitsMigrate}
+use Rattle.union_top.specs.Complete.{Around, LogStayed}
+use Rattle.union_top.specs.Sure.{HoldsLog, HoldsText, PassCase, LoadCase, HoldingsCase, holdings_due, IsSurePass, IsSureMake, IsSureReading, IsSureVerify, IsSureHoldings, IsSureMigrate, IsSureLoad, IsSureRun, IsSure}
+use Rattle.union_top.proofs.Complete.{around_of, one_stayed, none_failed, neither}
+use Rattle.union_top.proofs.Fitting.{EndsWell, well_status, Never, passes_well, makes_well, reads_well, matches_well, attaches_well, loads_well, runs_well}
+use Rattle.union_top.proofs.Framed.{part_no_longer}
+use Rattle.union_top.proofs.Held.{in_stayed, inputs_stayed, out_stayed, log_stayed, same_stayed, kept_stayed, text_stayed}
+use Rattle.union_top.proofs.Judgements.{fits_judged}
+use Rattle.union_top.proofs.Migrated.{migrates_well}
+use Rattle.union_top.proofs.Untroubled.{verify_well, tells_well}
+use mathlib.Core.HLevel.{⊥_prop}
+
+-- an image amid a migration is no longer than with a frame for each entry that is to come
+amid_length : (may : Type 0) (history entries more : List Entry) (log image : List ℕ) → entries ++ more ≡ history → IsAmid may history entries log image
+    → length image ≤ max BLANK_LENGTH (length log) + framed_lengths more
+amid_length may history entries more log image is (Before has newest no_longer) = omega (arith, no_longer)
+amid_length may history entries more log image is (Behind so front rest split has newest no_longer) =
+    let whole = ap framed_lengths (split ∙ sym is) in
+    let ends = framed_append (entries ++ front) rest in
+    let begins = framed_append entries front in
+    let behind = framed_append front rest in
+    let all = framed_append entries more in
+    omega (arith, no_longer, whole, ends, begins, behind, all)
+
+record IsThere (P : List ℕ → Type 0) (file : Option (List ℕ)) : Type 0 where
+  pub bytes : List ℕ
+  pub is : file ≡ Some bytes
+  pub so : P bytes
+
+there : (P : List ℕ → Type 0) (file : Option (List ℕ)) → IsSomeAnd file P → IsThere P file
+there P (Some bytes) so = record { bytes = bytes; is = refl; so = so }
+there P None so = absurd so
+
+module _ (o : Outcome) (promises : (n : List ℕ) → o.new.promise n ≡ o.old.promise n) (kept : (n : List ℕ) → IsPromiseKept o.new n (o.new.promise n)) where
+  abbrev a : Around
+  a = around_of o
+
+  -- a log that is only read
+  no_device : (journal : List ℕ) → HoldsLog o.old journal 0 → KeepsHistory (o.end ≡ Told fault.Device) o.old o.new journal
+      → (o.end ≡ Told fault.Device → Rose (o.old.log_faults journal) (o.new.log_faults journal)) → Never o (Told fault.Device)
+  no_device journal h keeps cause is = kept_stayed a promises kept (o.end ≡ Told fault.Device) journal 0 h keeps (cause is)
+
+  module _ (words : List (List ℕ)) (out : List ℕ) (ends : Ends words (Pass out) o) (f : FitsPass o.old (libraries_of words))
+      (h : IsSurePass (libraries_of words) out a) where
+    p : Passes f.library out o
+    p = ends f.library f.named
+
+    pass_case : (accepted : List Entry) (refused : List RefusedItem) → IsJudged f.library.code 0 (items f.alone.bytes) accepted refused
+        → PassCase o.old (libraries_of words)
+    pass_case accepted refused judged = record {
+      library = f.library;
+      named = f.named;
+      accepted = accepted;
+      refused = refused;
+      judged = subst (λ file. IsSomeAnd file (λ bytes. IsJudged f.library.code 0 (items bytes) accepted refused)) (sym f.alone.there) judged;
+    }
+
+    sure_pass : EndsWell o.end
+    sure_pass =
+        passes_well o words out ends f
+        (λ is.
+        let part : IsPassedInPart f.library f.alone.bytes (o.old.file out) (o.new.file out) =
+        subst (λ file. IsSomeAnd file (λ bytes. IsPassedInPart f.library bytes (o.old.file out) (o.new.file out))) f.alone.there (p.part is f.tells) in
+        out_stayed a promises kept out (exported part.accepted) (h.output (pass_case part.accepted part.refused part.judged)) part.part (p.out_cause is))
+        (λ is.
+        let part : IsPassedUntold f.library f.alone.bytes (o.new.file out) o.told o.now =
+        subst (λ file. IsSomeAnd file (λ bytes. IsPassedUntold f.library bytes (o.new.file out) o.told o.now)) f.alone.there (p.untold is f.tells) in
+        text_stayed a (results f.library.file part.accepted part.refused) (h.console (pass_case part.accepted part.refused part.judged)) part.console
+        (p.console_cause is))
+        (λ is. one_stayed a (libraries_of words) (inputs_stayed a promises kept (libraries_of words) h.inputs) f.library f.named (p.input is))
+
+  sure_make : (seed count : ℕ) (out : List ℕ) → Makes seed count out o → IsSureMake seed count out a → EndsWell o.end
+  sure_make seed count out m h =
+      makes_well o seed count out m
+      (λ is. out_stayed a promises kept out (workload_bytes seed count) h.output (m.part (inl is) h.tells) (m.out_cause is))
+      (λ is. text_stayed a (workload_line seed count) h.console (m.front is) (m.console_cause is))
+
+  -- an output that is due of a history
+  no_out : (due : List Entry → List ℕ) (journal out : List ℕ) → FitsReading o.old journal → IsSureReading due journal out a
+      → ((entries : List Entry) → o.end ≡ out_unwritten → o.old.tells ≡ true → HasHistory entries (log_bytes o.old journal)
+      → IsPartWritten (o.old.file out) (o.new.file out) (due entries))
+      → (o.end ≡ out_unwritten → Rose (o.old.out_faults out) (o.new.out_faults out)) → Never o out_unwritten
+  no_out due journal out f h part cause is =
+      ∥∥₁_elim f.history ⊥_prop (λ (one : (entries : List Entry) × IsLogOf entries (log_bytes o.old journal) × IsWithin journal_limits entries).
+      out_stayed a promises kept out (due one.0) (h.output one.0 ∣ one.1 ∣₁) (part one.0 is f.tells ∣ one.1 ∣₁) (cause is))
+
+  sure_read : (journal out : List ℕ) (due : reads.DueView) → Reads journal out due o → FitsReading o.old journal
+      → IsSureReading (reads.due_of due) journal out a → EndsWell o.end
+  sure_read journal out due r f h =
+      reads_well o journal out due r f (no_out (reads.due_of due) journal out f h r.part r.out_cause)
+      (no_device journal h.log (r.keeps f.tells) r.device)
+
+  sure_verify : (journal : List ℕ) → Verifies journal o → FitsVerify o.old journal → IsSureVerify journal a → EndsWell o.end
+  sure_verify journal v f h =
+      verify_well o journal v f
+      (λ is.
+      let part : IsToldInPart f.bytes o.told o.now =
+      subst (λ file. IsSomeAnd file (λ log. IsToldInPart log o.told o.now)) f.there (v.part is f.tells) in
+      let verified = subst (λ file. IsSomeAnd file (λ log. IsVerified log part.verified)) (sym f.there) part.is in
+      text_stayed a (verified_lines part.verified) (h.console part.verified verified) part.console (v.console_cause is))
+      (λ is. in_stayed a promises kept journal h.input (v.input is))
+
+  -- what is delivered at an end where something could not be written
+  module _ (due : attaching.Due) (out rest : List ℕ) where
+    all_done : o.end ≡ end_of due.refused → IsAllDone o.end
+    all_done end = subst IsAllDone (sym end) (all_of due.refused)
+
+    at_out : o.end ≡ out_unwritten → IsDelivered due out rest o → IsPartWritten (o.old.file out) (o.new.file out) due.out
+    at_out is (OutFailed end part rest_stays silent) = part
+    at_out is (RestFailed end whole part silent) = absurd (out_not_report o.end is end)
+    at_out is (ConsoleFailed end whole rest_whole front) = absurd (out_not_console o.end is end)
+    at_out is (Whole end whole rest_whole told) = absurd (all_not_unwritten o.end unwritten.Out (all_done end) is)
+
+    at_rest : o.end ≡ report_unwritten → IsDelivered due out rest o → IsPartWritten (o.old.file rest) (o.new.file rest) due.rest
+    at_rest is (OutFailed end part rest_stays silent) = absurd (out_not_report o.end end is)
+    at_rest is (RestFailed end whole part silent) = part
+    at_rest is (ConsoleFailed end whole rest_whole front) = absurd (report_not_console o.end is end)
+    at_rest is (Whole end whole rest_whole told) = absurd (all_not_unwritten o.end unwritten.Report (all_done end) is)
+
+    at_console : o.end ≡ console_unwritten → IsDelivered due out rest o → WritesFront o.told o.now due.text
+    at_console is (OutFailed end part rest_stays silent) = absurd (out_not_console o.end end is)
+    at_console is (RestFailed end whole part silent) = absurd (report_not_console o.end end is)
+    at_console is (ConsoleFailed end whole rest_whole front) = front
+    at_console is (Whole end whole rest_whole told) = absurd (all_not_unwritten o.end unwritten.Console (all_done end) is)
+
+  module _ (words : List (List ℕ)) (journal out rest : List ℕ) (code : Option (List ℕ)) (ends : Ends words (Holdings journal out rest code) o)
+      (f : FitsHoldings o.old journal (libraries_of words)) (h : IsSureHoldings (libraries_of words) journal out rest code a) where
+    abbrev Cases : Type 0
+    Cases = HoldingsCase o.old journal (libraries_of words)
+
+    h_command : AttachesHoldings journal out rest f.library code o
+    h_command = ends f.library f.named
+
+    -- without a fault to tell there is a case whose due was delivered
+    delivered : IsUntold o.end → ((c : Cases) → IsDelivered (holdings_due code c) out rest o → ⊥) → ⊥
+    delivered untold so =
+        ∥∥₁_elim f.reading.history ⊥_prop (λ (one : (entries : List Entry) × IsLogOf entries (log_bytes o.old journal) × IsWithin journal_limits entries).
+        let found = there (λ bytes. IsAttached f.library code bytes (state_of one.0) out rest o) (o.old.file f.library.file)
+        (h_command.delivers one.0 untold f.reading.tells ∣ one.1 ∣₁) in
+        let attached = found.so in
+        so (record {
+          library = f.library;
+          named = f.named;
+          entries = one.0;
+          was = ∣ one.1 ∣₁;
+          accepted = attached.accepted;
+          refused = attached.refused;
+          judged = subst (λ file. IsSomeAnd file (λ bytes. AreHoldings f.library.code (items bytes) attached.accepted attached.refused)) (sym found.is) attached.judged;
+        }) attached.delivered)
+
+    sure_holdings : EndsWell o.end
+    sure_holdings =
+        attaches_well o words journal out rest code ends f
+        (λ is. delivered (subst IsUntold (sym is) tt) (λ c d.
+        out_stayed a promises kept out (holdings_due code c).out (h.output c) (at_out (holdings_due code c) out rest is d) (h_command.out_cause is)))
+        (λ is. delivered (subst IsUntold (sym is) tt) (λ c d.
+        out_stayed a promises kept rest (holdings_due code c).rest (h.rest_output c) (at_rest (holdings_due code c) out rest is d) (h_command.rest_cause is)))
+        (λ is. delivered (subst IsUntold (sym is) tt) (λ c d.
+        text_stayed a (holdings_due code c).text (h.console c) (at_console (holdings_due code c) out rest is d) (h_command.console_cause is)))
+        (λ is. one_stayed a (libraries_of words) (inputs_stayed a promises kept (libraries_of words) h.inputs) f.library f.named (h_command.input is))
+        (no_device journal h.log (h_command.keeps f.reading.tells) h_command.device)
+
+  module _ (from into : List ℕ) (m : Migrates from into o) (f : FitsMigrate o.old from into) (h : IsSureMigrate from into a) where
+    module _ (fit : IsFit journal_limits f.history f.entries (log_bytes o.old into)) where
+      into_holds : HoldsLog o.old into (framed_lengths fit.begins.0)
+      into_holds =
+          h.new_log f.entries fit.begins.0 ∣ fit.has ∣₁ (subst (λ es. HasHistory es (log_bytes o.old from)) (sym fit.begins.1) f.was)
+
+      into_stayed : BringsInto f.history o.old o.new into → LogStayed a into
+      into_stayed (migrates.Unopened u) = same_stayed a promises kept into (framed_lengths fit.begins.0) into_holds u.file
+      into_stayed (migrates.Opened is_log images content unsynced) rose =
+          ∥∥₁_elim (content f.entries ∣ fit.has ∣₁) ⊥_prop (λ amid.
+          log_stayed a promises kept into (framed_lengths fit.begins.0) into_holds
+          (amid_length _ f.history f.entries fit.begins.0 (log_bytes o.old into) (log_bytes o.new into) fit.begins.1 amid) rose)
+
+    sure_migrate : EndsWell o.end
+    sure_migrate =
+        migrates_well o from into m f
+        (λ is. neither (λ rose. kept_stayed a promises kept (IsDeviceOf o from) from 0 h.log (m.keeps f.tells) rose)
+        (λ rose. ∥∥₁_elim (m.brings f.history f.tells f.was) ⊥_prop (λ brings. ∥∥₁_elim f.fits ⊥_prop (λ fit. into_stayed fit brings rose)))
+        (m.device is))
+        (λ is. text_stayed a (migrated_line (length f.history)) (h.console f.history f.was) (m.front f.history is f.tells f.was) (m.console is))
+
+  module _ (libraries : List Library) (journal : List ℕ) (f : FitsLoad o.old journal libraries) (h : IsSureLoad libraries journal a) where
+    load_case : IsMergedLoad o.old o.new journal libraries → LoadCase o.old journal libraries
+    load_case m = record {
+      before = m.before;
+      added = m.added;
+      accepted = m.accepted;
+      refused = m.refused;
+      was = m.history.was;
+      judged = m.history.judged;
+      merged = m.history.merged;
+    }
+
+    no_input_fault : IsInputFault libraries o.old o.new → ⊥
+    no_input_fault = none_failed a libraries (inputs_stayed a promises kept libraries h.inputs)
+
+    loading_stayed : IsLoadingFault o.old o.new journal libraries fault.Device → LogStayed a journal
+    loading_stayed (outcomes.NotBegun (outcomes.Unopened of is so current keeps)) =
+        let fits = fits_judged o.old journal libraries f.together in
+        kept_stayed a promises kept (of ≡ opening.DeviceFault) journal (sum_by framed_lengths fits.accepted) (h.log fits.accepted fits.refused fits.judged) keeps
+    loading_stayed (outcomes.NotBegun (outcomes.Unbegun before opened (inl input) was closed unread)) = cc
+    loading_stayed (outcomes.NotBegun (outcomes.Unbegun before opened (inr memory) was closed unread)) = cc
+    loading_stayed (outcomes.InPart p) =
+        let fits = fits_judged o.old journal libraries f.together in
+        log_stayed a promises kept journal (sum_by framed_lengths fits.accepted) (h.log fits.accepted fits.refused fits.judged)
+        (part_no_longer o.old o.new journal libraries f.tells fits.accepted fits.refused fits.judged fault.Device p)
+
+    load_stayed : WhyNotLoad o.old o.new journal libraries fault.Device → LogStayed a journal
+    load_stayed (runs.NotLoaded is) = loading_stayed is
+    load_stayed (runs.NoMemory memory loaded) = cc
+
+    run_stayed : (out report : List ℕ) → WhyNotRun o.old o.new journal out report libraries fault.Device → LogStayed a journal
+    run_stayed out report (runs.NotLoaded is out_stays report_stays) = loading_stayed is
+    run_stayed out report (runs.NoMemory memory loaded out_stays report_stays) = cc
+    run_stayed out report (runs.NoMemoryForReport memory written) = cc
+
+    sure_load : Loads libraries journal o → EndsWell o.end
+    sure_load l =
+        loads_well o libraries journal l f
+        (λ is.
+        let untold = l.untold is f.tells in
+        text_stayed a (runs.told_of untold.merged) (h.console (load_case untold.merged)) untold.console (l.console_cause is))
+        (λ is. no_input_fault (l.input is)) (λ is. load_stayed (l.because fault.Device is f.tells) (l.device is))
+
+  sure_run : (libraries : List Library) (journal out report : List ℕ) → Runs libraries journal out report o → FitsLoad o.old journal libraries
+      → IsSureRun libraries journal out report a → EndsWell o.end
+  sure_run libraries journal out report r f h =
+      let case = load_case libraries journal f h.load in
+      runs_well o libraries journal out report r f
+      (λ is.
+      let in_out = r.in_out is f.tells in
+      out_stayed a promises kept out _ (h.output (case in_out.merged)) in_out.part (r.out_cause is))
+      (λ is.
+      let in_report = r.in_report is f.tells in
+      out_stayed a promises kept report _ (h.report_output (case in_report.merged)) in_report.outputs.report_is (r.report_cause is))
+      (λ is.
+      let untold = r.untold is f.tells in
+      text_stayed a (runs.told_of untold.merged) (h.load.console (case untold.merged)) untold.console (r.console_cause is))
+      (λ is. no_input_fault libraries journal f h.load (r.input is))
+      (λ is. run_stayed libraries journal f h.load out report (r.because fault.Device is f.tells) (r.device is))
+
+  sure_text : (text : List ℕ) → Tells text o → HoldsText a text → EndsWell o.end
+  sure_text text t h = tells_well o text t (λ is. text_stayed a text h (t.part is) (t.cause is))
+
+  ends_sure : (words : List (List ℕ)) (command : Command) → Ends words command o → IsSure words command a → EndsWell o.end
+  ends_sure words (Pass out) ends u = sure_pass words out ends u.fits u.holds
+  ends_sure words (Run journal out report files) r u = sure_run (libraries_of words) journal out report r u.fits u.holds
+  ends_sure words (Load journal files) l u = sure_load (libraries_of words) journal u.fits u.holds l
+  ends_sure words (Export journal out code) r u = sure_read journal out (reads.Export code) r u.fits u.holds
+  ends_sure words (Report journal out) r u = sure_read journal out reads.Report r u.fits u.holds
+  ends_sure words (Make seed count out) m u = sure_make seed count out m u.holds
+  ends_sure words (Verify journal) v u = sure_verify journal v u.fits u.holds
+  ends_sure words (Matches journal out) r u =
+      matches_well o journal out r u.fits (no_out matches_due journal out u.fits u.holds r.part r.out_cause)
+      (no_device journal u.holds.log (r.keeps u.fits.tells) r.device)
+  ends_sure words (Holdings journal out rest code) ends u = sure_holdings words journal out rest code ends u.fits u.holds
+  ends_sure words (Migrate from into) m u = sure_migrate from into m u.fits u.holds
+  ends_sure words (Help topic) t u = sure_text (help_text topic) t u.holds
+  ends_sure words Version t u = sure_text version_text t u.holds
+
+  pub sure : (words : List (List ℕ)) (command : Command) → Ends words command o → IsSure words command a → (end_status o.end ≤ 1) ⊎ (end_status o.end ≡ 8)
+  sure words command ends u = well_status o.end (ends_sure words command ends u)

@@ -1,0 +1,93 @@
+-- What fits a command: what the room has before it, of its files, of its journal's history, and of the limits. The rules are this
+-- project's own.
+use Rattle.std.specs.Prelude.{◌≡◌, ℕ, ◌+◌, ◌≤◌, true, List, [], ◌∷◌, length, All, Some, IsSome}
+use Rattle.std.specs.List.{sum_by}
+use Rattle.marc_types.specs.declared.entry.Entry.{Entry}
+use Rattle.outside.specs.Room.{RoomView}
+use Rattle.marc_stream.specs.Pieces.{items}
+use Rattle.commit_journal.specs.Log.{version_of}
+use Rattle.command_words.specs.declared.library.Library.{Library}
+use Rattle.command_words.specs.Command.{Command, Pass, Run, Load, Export, Report, Make, Verify, Matches, Holdings, Migrate, Help, Version, libraries_of}
+use Rattle.file_entries.specs.Files.{IsJudged}
+use Rattle.file_entries.specs.declared.refused.RefusedItem.{RefusedItem}
+use Rattle.entry_record.specs.History.{entries_size}
+use Rattle.durable_catalogue.specs.Logs.{HasHistory}
+use Rattle.room_files.specs.Journals.{journal_limits, log_bytes}
+use Rattle.archive_commands.specs.Archives.{HasFittingHistory}
+use Rattle.journal_migration.specs.Migrations.{IsFit}
+use Rattle.plain_commands.specs.Totals.{IsWithinLimits}
+use Rattle.loading_commands.specs.Merged.{AreJudged}
+
+-- the file is there, and its accepted entries are within the limits
+pub record FitsAlone (room : RoomView) (library : Library) : Type 0 where
+  pub bytes : List ℕ
+  pub there : room.file library.file ≡ Some bytes
+  pub within : (accepted : List Entry) (refused : List RefusedItem) → IsJudged library.code 0 (items bytes) accepted refused → IsWithinLimits accepted
+
+-- The journal has a history and is of version 2, as a blank log and none are; the files are there; and the history and all accepted
+-- entries are together within the limits, by their number and by their size.
+pub record FitsTogether (room : RoomView) (journal : List ℕ) (libraries : List Library) : Type 0 where
+  pub before : List Entry
+  pub was : HasHistory before (log_bytes room journal)
+  pub version : version_of (log_bytes room journal) ≡ 2
+  pub there : All (λ library. IsSome (room.file library.file)) libraries
+  pub count : (accepted : List (List Entry)) (refused : List (List RefusedItem)) → AreJudged room 0 libraries accepted refused
+      → length before + sum_by length accepted ≤ journal_limits.entries
+  pub size : (accepted : List (List Entry)) (refused : List (List RefusedItem)) → AreJudged room 0 libraries accepted refused
+      → entries_size before + sum_by entries_size accepted ≤ journal_limits.bytes
+
+-- a pass of one file, in a room that tells its files
+pub record FitsPass (room : RoomView) (libraries : List Library) : Type 0 where
+  pub tells : room.tells ≡ true
+  pub library : Library
+  pub named : libraries ≡ library ∷ []
+  pub alone : FitsAlone room library
+
+-- a loading of files, in a room that tells its files
+pub record FitsLoad (room : RoomView) (journal : List ℕ) (libraries : List Library) : Type 0 where
+  pub tells : room.tells ≡ true
+  pub together : FitsTogether room journal libraries
+
+-- an export, a report or a match report, in a room that tells its files
+pub record FitsReading (room : RoomView) (journal : List ℕ) : Type 0 where
+  pub tells : room.tells ≡ true
+  pub history : HasFittingHistory (log_bytes room journal)
+
+-- the writing of a journal's records with the holdings of one file, in a room that tells its files
+pub record FitsHoldings (room : RoomView) (journal : List ℕ) (libraries : List Library) : Type 0 where
+  pub reading : FitsReading room journal
+  pub library : Library
+  pub named : libraries ≡ library ∷ []
+
+-- the verifying of a journal, in a room that tells its files
+pub record FitsVerify (room : RoomView) (journal : List ℕ) : Type 0 where
+  pub tells : room.tells ≡ true
+  pub bytes : List ℕ
+  pub entries : List Entry
+  pub there : room.file journal ≡ Some bytes
+  pub was : HasHistory entries bytes
+
+-- the bringing of a journal's history into another one, in a room that tells its files: the old one is of version 1, and the new one,
+-- which may be blank or none, is fit for its history
+pub record FitsMigrate (room : RoomView) (from into : List ℕ) : Type 0 where
+  pub tells : room.tells ≡ true
+  pub history : List Entry
+  pub entries : List Entry
+  pub was : HasHistory history (log_bytes room from)
+  pub version : version_of (log_bytes room from) ≡ 1
+  pub fits : ∥ IsFit journal_limits history entries (log_bytes room into) ∥₁
+
+-- the command of some words: `make`, `help` and `version` fit any room
+abbrev pub Fits : List (List ℕ) → Command → RoomView → Type 0
+Fits words (Pass out) room = FitsPass room (libraries_of words)
+Fits words (Run journal out report files) room = FitsLoad room journal (libraries_of words)
+Fits words (Load journal files) room = FitsLoad room journal (libraries_of words)
+Fits words (Export journal out code) room = FitsReading room journal
+Fits words (Report journal out) room = FitsReading room journal
+Fits words (Make seed count out) room = Unit {0}
+Fits words (Verify journal) room = FitsVerify room journal
+Fits words (Matches journal out) room = FitsReading room journal
+Fits words (Holdings journal out rest code) room = FitsHoldings room journal (libraries_of words)
+Fits words (Migrate from into) room = FitsMigrate room from into
+Fits words (Help topic) room = Unit {0}
+Fits words Version room = Unit {0}

@@ -1,0 +1,160 @@
+-- Commands over objects that keep a promise: an input has no fault; an output, a log or the console has none before it has so many
+-- bytes, and those are more than it has and than is due there. The rules are this project's own.
+use Rattle.std.specs.Prelude.{◌≡◌, ◌⊎◌, ℕ, ◌+◌, ◌<◌, ◌≤◌, max, true, List, [], ◌∷◌, ◌++◌, length, All, Option, Some, None, IsSomeAnd}
+use Rattle.std.specs.List.{sum_by}
+use Rattle.marc_types.specs.declared.entry.Entry.{Entry}
+use Rattle.outside.specs.Room.{RoomView, ReadsAlways, HoldsUpTo, bytes_or_none}
+use Rattle.marc_stream.specs.Pieces.{items}
+use Rattle.workload.specs.Workload.{workload_bytes}
+use Rattle.commit_journal.specs.declared.format.TheConstants.{BLANK_LENGTH}
+use Rattle.command_words.specs.declared.library.Library.{Library}
+use Rattle.command_words.specs.Command.{Command, Pass, Run, Load, Export, Report, Make, Verify, Matches, Holdings, Migrate, Help, Version, libraries_of}
+use Rattle.file_entries.specs.Files.{IsJudged}
+use Rattle.file_entries.specs.declared.refused.RefusedItem.{RefusedItem}
+use Rattle.entry_record.specs.History.{IsMerged}
+use Rattle.durable_catalogue.specs.Images.{framed_lengths}
+use Rattle.durable_catalogue.specs.Logs.{HasHistory}
+use Rattle.room_files.specs.Journals.{log_bytes}
+use Rattle.archive_commands.specs.Reads as reads
+use Rattle.plain_commands.specs.Making.{workload_line}
+use Rattle.plain_commands.specs.Passing.{results, exported}
+use Rattle.journal_input.specs.Contents.{IsVerified}
+use Rattle.journal_input.specs.declared.verified.Verified.{Verified}
+use Rattle.journal_verification.specs.Verifying.{verified_lines}
+use Rattle.holdings.specs.declared.holding.Holding.{Holding}
+use Rattle.file_holdings.specs.Files.{AreHoldings}
+use Rattle.file_holdings.specs.declared.refused.RefusedHolding.{RefusedHolding}
+use Rattle.catalogue_rules.specs.Settle.{state_of}
+use Rattle.holdings_command.specs.Attaching as attaching
+use Rattle.match_command.specs.Telling.{matches_due}
+use Rattle.migrate_command.specs.Migrates.{migrated_line}
+use Rattle.program_help.specs.Telling.{help_text, version_text}
+use Rattle.loading_commands.specs.Console.{console_of}
+use Rattle.loading_commands.specs.Merged.{AreJudged}
+use Rattle.union_top.specs.Fits.{Fits}
+use Rattle.union_top.specs.Complete.{Around}
+
+-- the room promises that reading these libraries' files never fails
+abbrev pub AreReadAlways : RoomView → List Library → Type 0
+AreReadAlways room libraries = All (λ library. room.promise library.file ≡ ReadsAlways) libraries
+
+-- the room promises that the output of that name holds more bytes than these, and than its file has now
+pub record HoldsOutput (room : RoomView) (name bytes : List ℕ) : Type 0 where
+  pub most : ℕ
+  pub promised : room.promise name ≡ HoldsUpTo most
+  pub there : length (bytes_or_none (room.file name)) < most
+  pub due : length bytes < most
+
+-- the room promises that the log of that name holds more than so many bytes behind those of now, or behind a blank log
+pub record HoldsLog (room : RoomView) (name : List ℕ) (added : ℕ) : Type 0 where
+  pub most : ℕ
+  pub promised : room.promise name ≡ HoldsUpTo most
+  pub due : max BLANK_LENGTH (length (log_bytes room name)) + added < most
+
+-- The console tells its bytes, has no fault before it has so many, as a sure sink has none whatever it was told, and holds this text
+-- behind those of before.
+pub record HoldsText (a : Around) (text : List ℕ) : Type 0 where
+  pub most : ℕ
+  pub sure : (a.faults_now ≡ 0) ⊎ ((bytes : List ℕ) → a.now ≡ Some bytes → most ≤ length bytes)
+  pub before : List ℕ
+  pub tells : a.told ≡ Some before
+  pub due : length before + length text < most
+
+-- what may come of the one file of a pass
+pub record PassCase (room : RoomView) (libraries : List Library) : Type 0 where
+  pub library : Library
+  pub named : libraries ≡ library ∷ []
+  pub accepted : List Entry
+  pub refused : List RefusedItem
+  pub judged : IsSomeAnd (room.file library.file) (λ bytes. IsJudged library.code 0 (items bytes) accepted refused)
+
+-- what may come of files that are loaded into a journal: their accepted entries are merged behind its history in any order that
+-- loading may take
+pub record LoadCase (room : RoomView) (journal : List ℕ) (libraries : List Library) : Type 0 where
+  pub before : List Entry
+  pub added : List Entry
+  pub accepted : List (List Entry)
+  pub refused : List (List RefusedItem)
+  pub was : HasHistory before (log_bytes room journal)
+  pub judged : AreJudged room 0 libraries accepted refused
+  pub merged : IsMerged before accepted added
+
+-- what may come of a journal and of the one file of holdings
+pub record HoldingsCase (room : RoomView) (journal : List ℕ) (libraries : List Library) : Type 0 where
+  pub library : Library
+  pub named : libraries ≡ library ∷ []
+  pub entries : List Entry
+  pub was : HasHistory entries (log_bytes room journal)
+  pub accepted : List Holding
+  pub refused : List RefusedHolding
+  pub judged : IsSomeAnd (room.file library.file) (λ bytes. AreHoldings library.code (items bytes) accepted refused)
+
+abbrev pub holdings_due : {room : RoomView} {journal : List ℕ} {libraries : List Library} → Option (List ℕ) → HoldingsCase room journal libraries → attaching.Due
+holdings_due code c = attaching.due_of c.library.file code (state_of c.entries) c.accepted c.refused
+
+pub record IsSurePass (libraries : List Library) (out : List ℕ) (a : Around) : Type 0 where
+  pub inputs : AreReadAlways a.old libraries
+  pub output : (c : PassCase a.old libraries) → HoldsOutput a.old out (exported c.accepted)
+  pub console : (c : PassCase a.old libraries) → HoldsText a (results c.library.file c.accepted c.refused)
+
+-- the room tells its files
+pub record IsSureMake (seed count : ℕ) (out : List ℕ) (a : Around) : Type 0 where
+  pub tells : a.old.tells ≡ true
+  pub output : HoldsOutput a.old out (workload_bytes seed count)
+  pub console : HoldsText a (workload_line seed count)
+
+-- a journal is only read, and what is due of its history is written
+pub record IsSureReading (due : List Entry → List ℕ) (journal out : List ℕ) (a : Around) : Type 0 where
+  pub log : HoldsLog a.old journal 0
+  pub output : (entries : List Entry) → HasHistory entries (log_bytes a.old journal) → HoldsOutput a.old out (due entries)
+
+pub record IsSureVerify (journal : List ℕ) (a : Around) : Type 0 where
+  pub input : a.old.promise journal ≡ ReadsAlways
+  pub console : (v : Verified) → IsSomeAnd (a.old.file journal) (λ log. IsVerified log v) → HoldsText a (verified_lines v)
+
+pub record IsSureHoldings (libraries : List Library) (journal out rest : List ℕ) (code : Option (List ℕ)) (a : Around) : Type 0 where
+  pub inputs : AreReadAlways a.old libraries
+  pub log : HoldsLog a.old journal 0
+  pub output : (c : HoldingsCase a.old journal libraries) → HoldsOutput a.old out (holdings_due code c).out
+  pub rest_output : (c : HoldingsCase a.old journal libraries) → HoldsOutput a.old rest (holdings_due code c).rest
+  pub console : (c : HoldingsCase a.old journal libraries) → HoldsText a (holdings_due code c).text
+
+-- the old journal is only read, and the new one gains a frame for each entry that the history has behind its own
+pub record IsSureMigrate (from into : List ℕ) (a : Around) : Type 0 where
+  pub log : HoldsLog a.old from 0
+  pub new_log : (entries more : List Entry) → HasHistory entries (log_bytes a.old into) → HasHistory (entries ++ more) (log_bytes a.old from)
+      → HoldsLog a.old into (framed_lengths more)
+  pub console : (history : List Entry) → HasHistory history (log_bytes a.old from) → HoldsText a (migrated_line (length history))
+
+-- the journal gains a frame for each accepted entry at most
+pub record IsSureLoad (libraries : List Library) (journal : List ℕ) (a : Around) : Type 0 where
+  pub inputs : AreReadAlways a.old libraries
+  pub log : (accepted : List (List Entry)) (refused : List (List RefusedItem)) → AreJudged a.old 0 libraries accepted refused
+      → HoldsLog a.old journal (sum_by framed_lengths accepted)
+  pub console : (c : LoadCase a.old journal libraries) → HoldsText a (console_of c.before c.added libraries c.accepted c.refused)
+
+-- and the export and the report behind it are those of the history that it makes
+pub record IsSureRun (libraries : List Library) (journal out report : List ℕ) (a : Around) : Type 0 where
+  pub load : IsSureLoad libraries journal a
+  pub output : (c : LoadCase a.old journal libraries) → HoldsOutput a.old out (reads.due_of (reads.Export None) (c.before ++ c.added))
+  pub report_output : (c : LoadCase a.old journal libraries) → HoldsOutput a.old report (reads.due_of reads.Report (c.before ++ c.added))
+
+-- what the command of some words uses keeps its promise, and holds what is due
+abbrev pub HoldsAll : List (List ℕ) → Command → Around → Type 0
+HoldsAll words (Pass out) a = IsSurePass (libraries_of words) out a
+HoldsAll words (Run journal out report files) a = IsSureRun (libraries_of words) journal out report a
+HoldsAll words (Load journal files) a = IsSureLoad (libraries_of words) journal a
+HoldsAll words (Export journal out code) a = IsSureReading (reads.due_of (reads.Export code)) journal out a
+HoldsAll words (Report journal out) a = IsSureReading (reads.due_of reads.Report) journal out a
+HoldsAll words (Make seed count out) a = IsSureMake seed count out a
+HoldsAll words (Verify journal) a = IsSureVerify journal a
+HoldsAll words (Matches journal out) a = IsSureReading matches_due journal out a
+HoldsAll words (Holdings journal out rest code) a = IsSureHoldings (libraries_of words) journal out rest code a
+HoldsAll words (Migrate from into) a = IsSureMigrate from into a
+HoldsAll words (Help topic) a = HoldsText a (help_text topic)
+HoldsAll words Version a = HoldsText a version_text
+
+-- the command of some words fits, over objects that keep such promises
+pub record IsSure (words : List (List ℕ)) (command : Command) (a : Around) : Type 0 where
+  pub fits : Fits words command a.old
+  pub holds : HoldsAll words command a
