@@ -80,12 +80,15 @@ module _ (room : RoomView) (before added : List Entry) (mark : Option (List Entr
 
 module _ (old new : RoomView) (journal : List ℕ) (libraries : List Library) (tells : old.tells ≡ true) (accepted : List (List Entry)) (refused : List (List RefusedItem))
     (judged : AreJudged old 0 libraries accepted refused) (why : Fault) (p : IsLoadedInPart old new journal libraries why) where
+  abbrev IsBelow : Entry → Type 0
+  IsBelow e = e.loader < 0 + length libraries
+
   added_fit : framed_lengths p.added + framed_lengths (marked p.mark) ≤ sum_by framed_lengths accepted
   added_fit =
-      let below : Entry → Type 0 = λ e. e.loader < length libraries in
-      let loaders = subst (λ n. All (λ (e : Entry). e.loader < n) (p.added ++ marked p.mark)) (omega arith) p.loaded.loaders in
+      let loaders : All IsBelow (p.added ++ marked p.mark) =
+      subst (λ n. All (λ (e : Entry). e.loader < n) (p.added ++ marked p.mark)) (omega arith) p.loaded.loaders in
       let all = fits old p.before p.added p.mark framed_length framed_runless 0 libraries accepted refused p.results
-      (all_front _ p.added (marked p.mark) loaders) (all_behind _ p.added (marked p.mark) loaders) judged p.loaded.files in
+      (all_front IsBelow p.added (marked p.mark) loaders) (all_behind IsBelow p.added (marked p.mark) loaders) judged p.loaded.files in
       let sums = totals_are_sums framed_length framed_lengths total_framed accepted in
       let own = from_first framed_length p.added ∙ total_framed p.added in
       let lost = from_first framed_length (marked p.mark) ∙ total_framed (marked p.mark) in

@@ -98,7 +98,7 @@ module _ (o : Outcome) (promises : (n : List ℕ) → o.new.promise n ≡ o.old.
     p : Passes f.library out o
     p = ends f.library f.named
 
-    pass_case : (accepted : List Entry) (refused : List RefusedItem) → IsJudged f.library.code 0 (items f.alone.bytes) accepted refused
+    abbrev pass_case : (accepted : List Entry) (refused : List RefusedItem) → IsJudged f.library.code 0 (items f.alone.bytes) accepted refused
         → PassCase o.old (libraries_of words)
     pass_case accepted refused judged = record {
       library = f.library;
@@ -220,7 +220,7 @@ module _ (o : Outcome) (promises : (n : List ℕ) → o.new.promise n ≡ o.old.
           h.new_log f.entries fit.begins.0 ∣ fit.has ∣₁ (subst (λ es. HasHistory es (log_bytes o.old from)) (sym fit.begins.1) f.was)
 
       into_stayed : BringsInto f.history o.old o.new into → LogStayed a into
-      into_stayed (migrates.Unopened u) = same_stayed a promises kept into (framed_lengths fit.begins.0) into_holds u.file
+      into_stayed (migrates.Unopened u) rose = same_stayed a promises kept into (framed_lengths fit.begins.0) into_holds u.file rose
       into_stayed (migrates.Opened is_log images content unsynced) rose =
           ∥∥₁_elim (content f.entries ∣ fit.has ∣₁) ⊥_prop (λ amid.
           log_stayed a promises kept into (framed_lengths fit.begins.0) into_holds
@@ -235,7 +235,7 @@ module _ (o : Outcome) (promises : (n : List ℕ) → o.new.promise n ≡ o.old.
         (λ is. text_stayed a (migrated_line (length f.history)) (h.console f.history f.was) (m.front f.history is f.tells f.was) (m.console is))
 
   module _ (libraries : List Library) (journal : List ℕ) (f : FitsLoad o.old journal libraries) (h : IsSureLoad libraries journal a) where
-    load_case : IsMergedLoad o.old o.new journal libraries → LoadCase o.old journal libraries
+    abbrev load_case : IsMergedLoad o.old o.new journal libraries → LoadCase o.old journal libraries
     load_case m = record {
       before = m.before;
       added = m.added;
