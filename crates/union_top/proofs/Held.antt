@@ -2,7 +2,6 @@
 use Rattle.std.proofs.Common.{◌≡◌, ◌⊎◌, inl, inr, ℕ, ◌+◌, ◌<◌, ◌≤◌, max, List, ◌++◌, length, Option, Some, None, sym, ap, subst, ◌∙◌, arith}
 use Rattle.std.specs.Io.KnownBytes.{Appends}
 use Rattle.std.proofs.lemmas.List.{length-append}
-use Rattle.outside.specs.Fault.{Rose}
 use Rattle.outside.specs.Room.{Promise, ReadsAlways, HoldsUpTo, IsPromiseKept, HasHeld, bytes_or_none}
 use Rattle.outside.specs.Sink.{WritesFront}
 use Rattle.commit_journal.specs.declared.format.TheConstants.{BLANK_LENGTH}

@@ -1,8 +1,7 @@
 -- A migration that fits ends well, or memory ran out, where no fault of a device or of the console ended it.
-use Rattle.std.proofs.Common.{◌≡◌, ◌≢◌, ◌⊎◌, inl, inr, ℕ, true, List, [], ◌∷◌, refl, sym, ap, subst, ◌∙◌, arith}
+use Rattle.std.proofs.Common.{◌≡◌, ◌≢◌, ◌⊎◌, inl, inr, ℕ, List, [], ◌∷◌, refl, sym, ap, subst, ◌∙◌, arith}
 use Rattle.std.proofs.Math.Logic.{∥∥₁_map, ∥∥₁_elim, ∥∥₁_prop}
 use Rattle.marc_types.specs.declared.entry.Entry.{Entry}
-use Rattle.outside.specs.Fault.{Rose}
 use Rattle.outside.specs.Room.{SameBut}
 use Rattle.console_lines.specs.Ends.{Outcome, IsAllDone, console_unwritten}
 use Rattle.console_lines.specs.declared.end.End.{End}

@@ -1,5 +1,5 @@
 -- A command over objects that keep their promises, and hold what is due, ends well, or memory ran out.
-use Rattle.std.proofs.Common.{◌≡◌, ◌⊎◌, inl, inr, ℕ, ◌+◌, ◌≤◌, max, true, List, [], ◌∷◌, ◌++◌, length, Option, Some, None, refl, sym, ap, subst, ◌∙◌, arith}
+use Rattle.std.proofs.Common.{◌≡◌, ◌⊎◌, inl, inr, ℕ, ◌+◌, ◌≤◌, max, true, List, ◌++◌, length, Option, Some, None, refl, sym, ap, subst, ◌∙◌, arith}
 use Rattle.std.specs.Prelude.{IsSomeAnd}
 use Rattle.std.specs.List.{sum_by}
 use Rattle.std.proofs.Math.Logic.{∥∥₁_elim}
@@ -15,10 +15,8 @@ use Rattle.command_words.specs.Command.{Command, Pass, Run, Load, Export, Report
 use Rattle.file_entries.specs.Files.{IsJudged}
 use Rattle.file_entries.specs.declared.refused.RefusedItem.{RefusedItem}
 use Rattle.console_lines.specs.Ends.{Outcome, IsAllDone, IsUntold, end_of, end_status, out_unwritten, report_unwritten, console_unwritten}
-use Rattle.console_lines.specs.declared.end.End.{End}
 use Rattle.console_lines.specs.declared.end.End.TheVariants.{Told}
 use Rattle.console_lines.specs.declared.end.Unwritten.TheVariants as unwritten
-use Rattle.console_lines.specs.declared.fault.Fault.{Fault}
 use Rattle.console_lines.specs.declared.fault.Fault.TheVariants as fault
 use Rattle.console_lines.proofs.Ends.{out_not_console, out_not_report, report_not_console, all_not_unwritten, all_of}
 use Rattle.durable_catalogue.specs.declared.fault.OpenFault.TheVariants as opening
@@ -46,7 +44,6 @@ use Rattle.journal_loading.specs.Inputs.{IsInputFault}
 use Rattle.journal_loading.specs.Outcomes as outcomes
 use Rattle.journal_loading.specs.Outcomes.{IsLoadingFault}
 use Rattle.program_help.specs.Telling.{help_text, version_text, Tells}
-use Rattle.loading_commands.specs.Console.{console_of}
 use Rattle.loading_commands.specs.Loading.{Loads, Runs}
 use Rattle.loading_commands.specs.Runs as runs
 use Rattle.loading_commands.specs.Runs.{IsMergedLoad, WhyNotLoad, WhyNotRun}

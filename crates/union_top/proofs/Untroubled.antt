@@ -1,5 +1,5 @@
 -- How the commands end that only tell, where no fault of the input or of the console ended them.
-use Rattle.std.proofs.Common.{◌≡◌, ◌⊎◌, inl, inr, ℕ, true, List, Some, refl, subst}
+use Rattle.std.proofs.Common.{◌≡◌, ◌⊎◌, inl, inr, ℕ, List, refl, subst}
 use Rattle.std.proofs.Math.Logic.{∥∥₁_elim}
 use Rattle.std.specs.Prelude.{IsSomeAnd}
 use Rattle.console_lines.specs.Ends.{Outcome, IsAllDone, console_unwritten}
@@ -11,7 +11,6 @@ use Rattle.durable_catalogue.specs.declared.fault.OpenFault.TheVariants as openi
 use Rattle.durable_catalogue.specs.Openings as openings
 use Rattle.durable_catalogue.specs.Openings.{IsUnopened}
 use Rattle.room_files.specs.Journals.{journal_limits}
-use Rattle.journal_input.specs.Walking as walking
 use Rattle.journal_input.specs.Contents.{IsNoJournal, NoGate, NoPayload}
 use Rattle.journal_verification.specs.Verifying.{EndsVerifying, Verifies}
 use Rattle.program_help.specs.Telling.{EndsTelling, Tells}
