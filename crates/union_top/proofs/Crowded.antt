@@ -1,8 +1,9 @@
 -- Loading ends as full only where the accepted entries of all files pass a limit behind the history.
-use Rattle.std.proofs.Common.{◌≡◌, ℕ, ◌+◌, ◌<◌, ◌≤◌, true, false, ◌||◌, true≢false, List, ◌∷◌, ◌++◌, length, Option, Some, refl, sym, ap, subst, ◌∙◌, arith, append_assoc}
+use Rattle.std.proofs.Common.{◌≡◌, ℕ, ◌+◌, ◌<◌, ◌≤◌, true, false, ◌||◌, true≢false, List, [], ◌∷◌, ◌++◌, length, Option, Some, refl, sym, ap, subst, ◌∙◌, arith, append_assoc}
 use Rattle.std.specs.Prelude.{All, nat_lt}
 use Rattle.std.specs.List.{sum_by}
 use Rattle.std.proofs.lemmas.List.Sums.{sum_by-append}
+use Rattle.std.proofs.lemmas.List.Elements.{All-nil, All-cons, All-head, All-tail}
 use Rattle.std.proofs.lemmas.List.{length-append}
 use Rattle.std.proofs.lemmas.Bool.Decides.{nat_tests}
 use Rattle.marc_types.specs.declared.entry.Entry.{Entry}
@@ -12,6 +13,7 @@ use Rattle.command_words.specs.declared.library.Library.{Library}
 use Rattle.entry_record.specs.History.{entry_size, entries_size, brought_by, in_run, with_run, next_run, passes_limits}
 use Rattle.file_entries.specs.Files.{IsJudged}
 use Rattle.file_entries.specs.declared.refused.RefusedItem.{RefusedItem}
+use Rattle.durable_catalogue.specs.Durables.{marked}
 use Rattle.loader_workers.specs.declared.file_end.FileEnd.{FileEnd}
 use Rattle.loader_workers.specs.declared.file_end.FileEnd.TheVariants as end
 use Rattle.loader_workers.specs.declared.result.FileResult.{FileResult}
@@ -25,16 +27,24 @@ use Rattle.union_top.proofs.Made.{made, made_first}
 some_same : {A : Type 0} {x y : A} → Some x ≡ Some y → x ≡ y
 some_same is = cc
 
+pub all_parts : (P : Entry → Type 0) (xs ys : List Entry) → All P (xs ++ ys) → All P xs × All P ys
+all_parts P [] ys all = (All-nil P, all)
+all_parts P (x ∷ xs) ys all =
+    let rest = all_parts P xs ys (All-tail P x (xs ++ ys) all) in (All-cons P x xs (All-head P x (xs ++ ys) all) rest.0, rest.1)
+
 module _ (room : RoomView) (before added : List Entry) (mark : Option (List Entry)) where
-  -- the accepted entries of a file: those that are committed, those that loading left, and those of the items behind
+  -- the accepted entries of a file: those that are committed, those that loading left, the first of which a device failed to take, and
+  -- those of the items behind
   record Behind (loader : ℕ) (r : FileResult) (entries : List Entry) : Type 0 where
     pub front : List Entry
-    pub left : List Entry
+    pub next : List Entry
+    pub more : List Entry
     pub coming : List Item
     pub rest : List Entry
-    pub split : entries ≡ front ++ (left ++ rest)
+    pub split : entries ≡ front ++ ((next ++ more) ++ rest)
     pub committed : brought_by loader added ≡ with_run (next_run before) front
-    pub ends : IsEndOfFile journal_limits (before ++ added) (next_run before) mark r.end left coming
+    pub lost : brought_by loader (marked mark) ≡ with_run (next_run before) next
+    pub ends : IsEndOfFile journal_limits (before ++ added) (next_run before) mark r.end (next ++ more) coming
 
   behind : (loader : ℕ) (l : Library) (r : FileResult) (bytes : List ℕ) (entries : List Entry) (refused : List RefusedItem)
       → room.file l.file ≡ Some bytes → IsJudged l.code loader (items bytes) entries refused → IsLibraryLoaded room before added mark l loader r
@@ -46,36 +56,50 @@ module _ (room : RoomView) (before added : List Entry) (mark : Option (List Entr
       let first = made_first l.code loader f.done f.coming (f.front ++ f.next ++ f.more) entries (made l.code loader _ _ _ f.judged) (made l.code loader _ _ _ all) in
       record {
         front = f.front;
-        left = f.next ++ f.more;
+        next = f.next;
+        more = f.more;
         coming = f.coming;
         rest = first.0;
         split = first.1 ∙ ap (λ es. es ++ first.0) (append_assoc f.front f.next f.more) ∙ append_assoc f.front (f.next ++ f.more) first.0;
         committed = f.committed_are;
+        lost = f.marked_are;
         ends = f.ends;
       }
 
   -- what is committed of a file is part of its accepted entries
   weighs : (w : Entry → ℕ) → IsRunless w → (loader : ℕ) (r : FileResult) (entries : List Entry) (b : Behind loader r entries)
-      → total w entries ≡ total w (brought_by loader added) + total w b.left + total w b.rest
+      → total w entries ≡ total w (brought_by loader added) + total w (b.next ++ b.more) + total w b.rest
   weighs w same loader r entries b =
-      let split = ap (total w) b.split ∙ total-append w b.front (b.left ++ b.rest) in
-      let left = total-append w b.left b.rest in
+      let split = ap (total w) b.split ∙ total-append w b.front ((b.next ++ b.more) ++ b.rest) in
+      let left = total-append w (b.next ++ b.more) b.rest in
       let front = ap (total w) b.committed ∙ total_runless w (next_run before) same b.front in
       omega (arith, split, left, front)
 
-  fits : (w : Entry → ℕ) → IsRunless w → (loader : ℕ) (libraries : List Library) (accepted : List (List Entry)) (refused : List (List RefusedItem)) (results : List FileResult)
-      → All (λ (e : Entry). e.loader < loader + length libraries) added → AreJudged room loader libraries accepted refused → AreLibrariesLoaded room before added mark loader libraries results
-      → total_from w loader added ≤ totals w accepted
-  unfolding totals
-  fits w same loader _ _ _ _ few (NoFile _) (NoLibrary _) =
-      let none = from_none w loader added (subst (λ n. All (λ (e : Entry). e.loader < n) added) (omega arith) few) in
-      omega (arith, none)
-  fits w same loader _ _ _ _ few (OneFile _ l bytes entries refused_items libraries accepted refused there judged others) (OneLibrary _ _ results _ r one more) =
-      let rest = fits w same (loader + 1) libraries accepted refused results (subst (λ n. All (λ (e : Entry). e.loader < n) added) (omega arith) few) others more in
-      let b = behind loader l r bytes entries refused_items there judged one in
+  -- what is committed of a file, and what a device failed to take of it, is part of its accepted entries
+  weighs_both : (w : Entry → ℕ) → IsRunless w → (loader : ℕ) (r : FileResult) (entries : List Entry) → Behind loader r entries
+      → total w (brought_by loader added) + total w (brought_by loader (marked mark)) ≤ total w entries
+  weighs_both w same loader r entries b =
       let all = weighs w same loader r entries b in
+      let left = total-append w b.next b.more in
+      let lost = ap (total w) b.lost ∙ total_runless w (next_run before) same b.next in
+      omega (arith, all, left, lost)
+
+  pub fits : (w : Entry → ℕ) → IsRunless w → (loader : ℕ) (libraries : List Library) (accepted : List (List Entry)) (refused : List (List RefusedItem)) (results : List FileResult)
+      → All (λ (e : Entry). e.loader < loader + length libraries) added → All (λ (e : Entry). e.loader < loader + length libraries) (marked mark)
+      → AreJudged room loader libraries accepted refused → AreLibrariesLoaded room before added mark loader libraries results
+      → total_from w loader added + total_from w loader (marked mark) ≤ totals w accepted
+  unfolding totals
+  fits w same loader _ _ _ _ few few_marked (NoFile _) (NoLibrary _) =
+      let none = from_none w loader added (subst (λ n. All (λ (e : Entry). e.loader < n) added) (omega arith) few) in
+      let none_marked = from_none w loader (marked mark) (subst (λ n. All (λ (e : Entry). e.loader < n) (marked mark)) (omega arith) few_marked) in
+      omega (arith, none, none_marked)
+  fits w same loader _ _ _ _ few few_marked (OneFile _ l bytes entries refused_items libraries accepted refused there judged others) (OneLibrary _ _ results _ r one more) =
+      let rest = fits w same (loader + 1) libraries accepted refused results (subst (λ n. All (λ (e : Entry). e.loader < n) added) (omega arith) few)
+      (subst (λ n. All (λ (e : Entry). e.loader < n) (marked mark)) (omega arith) few_marked) others more in
+      let here = weighs_both w same loader r entries (behind loader l r bytes entries refused_items there judged one) in
       let next = from_next w loader added in
-      omega (arith, rest, all, next)
+      let next_marked = from_next w loader (marked mark) in
+      omega (arith, rest, here, next, next_marked)
 
   -- an entry that passes a limit, and weighs no more together with all that is committed than what is accepted
   pub record Crowded (loader : ℕ) (accepted : List (List Entry)) : Type 0 where
@@ -88,8 +112,8 @@ module _ (room : RoomView) (before added : List Entry) (mark : Option (List Entr
     first_crowded : r.end ≡ end.Full → Crowded loader (entries ∷ accepted)
     unfolding total totals
     first_crowded full =
-        let full_behind : IsFullBehind journal_limits (before ++ added) (next_run before) b.left =
-        subst (λ e. IsEndOfFile journal_limits (before ++ added) (next_run before) mark e b.left b.coming) full b.ends in
+        let full_behind : IsFullBehind journal_limits (before ++ added) (next_run before) (b.next ++ b.more) =
+        subst (λ e. IsEndOfFile journal_limits (before ++ added) (next_run before) mark e (b.next ++ b.more) b.coming) full b.ends in
         record {
           next = full_behind.next;
           passes = full_behind.passes;
@@ -127,13 +151,17 @@ module _ (room : RoomView) (before added : List Entry) (mark : Option (List Entr
         decided end.NoMemory at = later_crowded (later (any end.NoMemory at refl))
 
   pub crowded : (loader : ℕ) (libraries : List Library) (accepted : List (List Entry)) (refused : List (List RefusedItem)) (results : List FileResult)
-      → All (λ (e : Entry). e.loader < loader + length libraries) added → AreJudged room loader libraries accepted refused → AreLibrariesLoaded room before added mark loader libraries results
+      → All (λ (e : Entry). e.loader < loader + length libraries) added → All (λ (e : Entry). e.loader < loader + length libraries) (marked mark)
+      → AreJudged room loader libraries accepted refused → AreLibrariesLoaded room before added mark loader libraries results
       → any_ends end.Full results ≡ true → Crowded loader accepted
-  crowded loader _ _ _ _ few (NoFile _) (NoLibrary _) full = absurd (true≢false (sym full))
-  crowded loader _ _ _ _ few (OneFile _ l bytes entries refused_items libraries accepted refused there judged others) (OneLibrary _ _ results _ r one more) full =
-      let fewer = subst (λ n. All (λ (e : Entry). e.loader < n) added) (omega arith) few in
-      one_crowded loader r results entries accepted (behind loader l r bytes entries refused_items there judged one) (λ w same. fits w same (loader + 1) libraries accepted refused results fewer others more)
-      (crowded (loader + 1) libraries accepted refused results fewer others more) full
+  crowded loader _ _ _ _ few few_marked (NoFile _) (NoLibrary _) full = absurd (true≢false (sym full))
+  crowded loader _ _ _ _ few few_marked (OneFile _ l bytes entries refused_items libraries accepted refused there judged others) (OneLibrary _ _ results _ r one more) full =
+      let fewer : All (λ (e : Entry). e.loader < (loader + 1) + length libraries) added = subst (λ n. All (λ (e : Entry). e.loader < n) added) (omega arith) few in
+      let fewer_marked : All (λ (e : Entry). e.loader < (loader + 1) + length libraries) (marked mark) =
+      subst (λ n. All (λ (e : Entry). e.loader < n) (marked mark)) (omega arith) few_marked in
+      one_crowded loader r results entries accepted (behind loader l r bytes entries refused_items there judged one)
+      (λ w same. let both = fits w same (loader + 1) libraries accepted refused results fewer fewer_marked others more in omega (arith, both))
+      (crowded (loader + 1) libraries accepted refused results fewer fewer_marked others more) full
 
   -- with as many entries and bytes as fit, none passes a limit
   pub never_crowded : (accepted : List (List Entry)) → length before + sum_by length accepted ≤ journal_limits.entries → entries_size before + sum_by entries_size accepted ≤ journal_limits.bytes

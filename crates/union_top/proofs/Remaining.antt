@@ -1,9 +1,8 @@
 -- The faults that a loading may end with where its history and its files' accepted entries are within the limits.
-use Rattle.std.proofs.Common.{◌≡◌, inl, inr, ℕ, ◌+◌, ◌<◌, ◌≤◌, Bool, true, false, List, [], ◌∷◌, ◌++◌, length, Some, None, refl, sym, subst, arith, if◌then◌else◌}
+use Rattle.std.proofs.Common.{◌≡◌, inl, inr, ℕ, ◌+◌, ◌<◌, ◌≤◌, Bool, true, false, List, ◌++◌, length, Some, None, refl, sym, subst, arith, if◌then◌else◌}
 use Rattle.std.specs.Prelude.{All}
 use Rattle.std.specs.List.{sum_by}
 use Rattle.std.proofs.Math.Logic.{∥∥₁_elim}
-use Rattle.std.proofs.lemmas.List.Elements.{All-nil, All-cons, All-head, All-tail}
 use Rattle.marc_types.specs.declared.entry.Entry.{Entry}
 use Rattle.outside.specs.Room.{RoomView}
 use Rattle.command_words.specs.declared.library.Library.{Library}
@@ -24,7 +23,7 @@ use Rattle.room_files.specs.Faults.{fault_of_opening}
 use Rattle.loading_commands.specs.Runs.{WhyNotLoad, WhyNotRun}
 use Rattle.loading_commands.specs.Runs as runs
 use Rattle.union_top.proofs.Judgements.{FitsJudged}
-use Rattle.union_top.proofs.Crowded.{crowded, never_crowded}
+use Rattle.union_top.proofs.Crowded.{all_parts, crowded, never_crowded}
 use Rattle.union_top.proofs.Unopened.{MayBe, may_be, reading_once}
 use mathlib.Core.HLevel.{⊥_prop}
 
@@ -62,10 +61,6 @@ unfolding loading_fault
 of_results results why is none =
     chosen (any_ends end.DeviceFault results) (any_ends end.Full results) (any_ends end.ReadFault results) (any_ends end.NoMemory results) why is none
 
-all_front : (P : Entry → Type 0) (xs ys : List Entry) → All P (xs ++ ys) → All P xs
-all_front P [] ys all = All-nil P
-all_front P (x ∷ xs) ys all = All-cons P x xs (All-head P x (xs ++ ys) all) (all_front P xs ys (All-tail P x (xs ++ ys) all))
-
 module _ (old new : RoomView) (journal : List ℕ) (libraries : List Library) (tells : old.tells ≡ true) (fits : FitsJudged old journal libraries) where
   history_within : IsWithin journal_limits fits.before
   history_within = record { count = omega (arith, fits.count); size = omega (arith, fits.size) }
@@ -77,12 +72,13 @@ module _ (old new : RoomView) (journal : List ℕ) (libraries : List Library) (t
   never_full why p full =
       ∥∥₁_elim (p.opened.history tells) ⊥_prop (λ is. ∥∥₁_elim fits.was ⊥_prop (λ was.
       let same : fits.before ≡ p.before = reading_once fits.before p.before (log_bytes old journal) was is in
-      let loaders = all_front (λ (e : Entry). e.loader < length libraries) p.added (marked p.mark) p.loaded.loaders in
+      let below : All (λ (e : Entry). e.loader < 0 + length libraries) (p.added ++ marked p.mark) =
+      subst (λ n. All (λ (e : Entry). e.loader < n) (p.added ++ marked p.mark)) (omega arith) p.loaded.loaders in
+      let both = all_parts (λ (e : Entry). e.loader < 0 + length libraries) p.added (marked p.mark) below in
       let few = subst (λ es. length es + sum_by length fits.accepted ≤ journal_limits.entries) same fits.count in
       let small = subst (λ es. entries_size es + sum_by entries_size fits.accepted ≤ journal_limits.bytes) same fits.size in
       never_crowded old p.before p.added p.mark fits.accepted few small
-      (crowded old p.before p.added p.mark 0 libraries fits.accepted fits.refused p.results
-      (subst (λ n. All (λ (e : Entry). e.loader < n) p.added) (omega arith) loaders) fits.judged p.loaded.files full)))
+      (crowded old p.before p.added p.mark 0 libraries fits.accepted fits.refused p.results both.0 both.1 fits.judged p.loaded.files full)))
 
   of_unbegun : (why : Fault) → IsUnbegun old new journal libraries why → Remains why
   of_unbegun why (Unopened of is so current keeps) = of_opening (log_bytes old journal) of why is fits.version (may_be (log_bytes old journal) of fitting so)
