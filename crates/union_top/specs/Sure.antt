@@ -1,4 +1,4 @@
--- Commands over objects that keep a promise: an input has no fault; an output, a log or the console has none before it has so many
+-- A command over objects that keep a promise: an input has no fault; an output, a log or the console has none before it has so many
 -- bytes, and those are more than it has and than is due there. The rules are this project's own.
 use Rattle.std.specs.Prelude.{◌≡◌, ◌⊎◌, ℕ, ◌+◌, ◌<◌, ◌≤◌, max, true, List, [], ◌∷◌, ◌++◌, length, All, Option, Some, None, IsSomeAnd}
 use Rattle.std.specs.List.{sum_by}
@@ -89,15 +89,18 @@ pub record HoldingsCase (room : RoomView) (journal : List ℕ) (libraries : List
   pub refused : List RefusedHolding
   pub judged : IsSomeAnd (room.file library.file) (λ bytes. AreHoldings library.code (items bytes) accepted refused)
 
-abbrev pub holdings_due : {room : RoomView} {journal : List ℕ} {libraries : List Library} → Option (List ℕ) → HoldingsCase room journal libraries → attaching.Due
+-- and what is due then
+abbrev pub holdings_due : {room : RoomView} {journal : List ℕ} {libraries : List Library} → Option (List ℕ) → HoldingsCase room journal libraries
+    → attaching.Due
 holdings_due code c = attaching.due_of c.library.file code (state_of c.entries) c.accepted c.refused
 
+-- the file is read, its export is written, and the console is told of it
 pub record IsSurePass (libraries : List Library) (out : List ℕ) (a : Around) : Type 0 where
   pub inputs : AreReadAlways a.old libraries
   pub output : (c : PassCase a.old libraries) → HoldsOutput a.old out (exported c.accepted)
   pub console : (c : PassCase a.old libraries) → HoldsText a (results c.library.file c.accepted c.refused)
 
--- the room tells its files
+-- the workload is written, in a room that tells its files, and the console is told of it
 pub record IsSureMake (seed count : ℕ) (out : List ℕ) (a : Around) : Type 0 where
   pub tells : a.old.tells ≡ true
   pub output : HoldsOutput a.old out (workload_bytes seed count)
@@ -108,10 +111,12 @@ pub record IsSureReading (due : List Entry → List ℕ) (journal out : List ℕ
   pub log : HoldsLog a.old journal 0
   pub output : (entries : List Entry) → HasHistory entries (log_bytes a.old journal) → HoldsOutput a.old out (due entries)
 
+-- the journal is an input, and the console is told what it has
 pub record IsSureVerify (journal : List ℕ) (a : Around) : Type 0 where
   pub input : a.old.promise journal ≡ ReadsAlways
   pub console : (v : Verified) → IsSomeAnd (a.old.file journal) (λ log. IsVerified log v) → HoldsText a (verified_lines v)
 
+-- the journal is only read, and the file; both outputs are written, and the console is told of the file
 pub record IsSureHoldings (libraries : List Library) (journal out rest : List ℕ) (code : Option (List ℕ)) (a : Around) : Type 0 where
   pub inputs : AreReadAlways a.old libraries
   pub log : HoldsLog a.old journal 0
@@ -119,21 +124,22 @@ pub record IsSureHoldings (libraries : List Library) (journal out rest : List �
   pub rest_output : (c : HoldingsCase a.old journal libraries) → HoldsOutput a.old rest (holdings_due code c).rest
   pub console : (c : HoldingsCase a.old journal libraries) → HoldsText a (holdings_due code c).text
 
--- the old journal is only read, and the new one gains a frame for each entry that the history has behind its own
+-- the old journal is only read, and the new one gains a frame for each entry that the history has behind its own; the console is told
+-- how many there are
 pub record IsSureMigrate (from into : List ℕ) (a : Around) : Type 0 where
   pub log : HoldsLog a.old from 0
   pub new_log : (entries more : List Entry) → HasHistory entries (log_bytes a.old into) → HasHistory (entries ++ more) (log_bytes a.old from)
       → HoldsLog a.old into (framed_lengths more)
   pub console : (history : List Entry) → HasHistory history (log_bytes a.old from) → HoldsText a (migrated_line (length history))
 
--- the journal gains a frame for each accepted entry at most
+-- the files are read, the journal gains a frame for each accepted entry at most, and the console is told of the files
 pub record IsSureLoad (libraries : List Library) (journal : List ℕ) (a : Around) : Type 0 where
   pub inputs : AreReadAlways a.old libraries
   pub log : (accepted : List (List Entry)) (refused : List (List RefusedItem)) → AreJudged a.old 0 libraries accepted refused
       → HoldsLog a.old journal (sum_by framed_lengths accepted)
   pub console : (c : LoadCase a.old journal libraries) → HoldsText a (console_of c.before c.added libraries c.accepted c.refused)
 
--- and the export and the report behind it are those of the history that it makes
+-- the same, and the export and the report of the history that it makes are written
 pub record IsSureRun (libraries : List Library) (journal out report : List ℕ) (a : Around) : Type 0 where
   pub load : IsSureLoad libraries journal a
   pub output : (c : LoadCase a.old journal libraries) → HoldsOutput a.old out (reads.due_of (reads.Export None) (c.before ++ c.added))
