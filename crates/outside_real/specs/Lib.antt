@@ -1,3 +1,4 @@
 pub mod View
 pub mod DiskLaws
 pub mod Held
+pub mod Gathering

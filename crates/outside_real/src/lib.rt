@@ -14,6 +14,7 @@ mod room;
 mod sink;
 mod source;
 mod target;
+mod writing;
 
 pub use disk::FileDisk;
 pub use gate::OpenGate;

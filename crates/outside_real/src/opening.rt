@@ -1,6 +1,6 @@
 //! How files are opened: each is held before anything is read, cut or written.
-ghost use Rattle.std.specs.Prelude.{◌≡◌, ◌↔◌, false, Err, IsErr};
-ghost use Rattle.std.specs.Fs.{asks_write, asks_truncate, asks_create};
+ghost use Rattle.std.specs.Prelude.{◌≡◌, ◌↔◌, true, false, Err, IsErr};
+ghost use Rattle.std.specs.Fs.{asks_truncate, new_options, with_read};
 ghost use Rattle.std.specs.declared.fs.locks.TryLockError.TheVariants.{WouldBlock};
 ghost use Rattle.outside_real.specs.declared.opening.OpenedAs.TheVariants.{Input};
 
@@ -18,13 +18,9 @@ pub enum OpenedAs {
 
 /// Opens the file of that name and holds it: an input shared, others alone. It has the bytes that it had.
 pub fn opened<R: Files<File = File>>(rt: &R, name: &str, sort: OpenedAs) -> Result<File, Failed> {
-    match options(sort).open(rt, name) {
-        Ok(file) => {
-            hold(&file, sort)?;
-            Ok(file)
-        }
-        Err(_) => Err(Failed),
-    }
+    let file = opened_with(rt, name, sort, &options(sort))?;
+    hold(&file, sort)?;
+    Ok(file)
 }
 
 /// Takes the bytes of a held output off. A file that isn't regular has none to be taken.
@@ -43,11 +39,26 @@ pub fn synced(file: &File) -> Result<(), Failed> {
     Ok(())
 }
 
-// No opening cuts a file, since another may hold it, and an input is neither made nor written.
+// The one call of the system that opens an input, an output or a log.
+fn opened_with<R: Files<File = File>>(
+    rt: &R,
+    name: &str,
+    sort: OpenedAs,
+    how: &OpenOptions,
+) -> Result<File, Failed>
+    // No opening cuts a file, since another may hold it. An input is opened to be read, so it is neither made nor written.
+    requires uncut { asks_truncate how.now ≡ false }
+    requires only_read { sort ≡ Input → how.now ≡ with_read new_options true }
+{
+    match how.open(rt, name) {
+        Ok(file) => Ok(file),
+        Err(_) => Err(Failed),
+    }
+}
+
 fn options(sort: OpenedAs) -> OpenOptions
     ensures uncut { asks_truncate result ≡ false }
-    ensures unmade { sort ≡ Input → asks_create result ≡ false }
-    ensures unwritten { sort ≡ Input → asks_write result ≡ false }
+    ensures only_read { sort ≡ Input → result ≡ with_read new_options true }
 {
     let mut how = OpenOptions::new();
     match sort {

@@ -1,12 +1,14 @@
-ghost use Rattle.std.specs.Prelude.{◌≡◌, ◌≤◌, ◌<◌, [], None, is_ok, IsErr, OnOk};
-ghost use Rattle.std.specs.Io.KnownBytes.{append_known, Appends, Keeps};
+ghost use Rattle.std.specs.Prelude.{◌≡◌, ◌≤◌, ◌<◌, ◌++◌, [], None, is_ok, IsErr, OnOk};
+ghost use Rattle.std.specs.Io.KnownBytes.{append_known, Appends};
 ghost use Rattle.outside.specs.Fault.{HasCause, counted};
+ghost use Rattle.outside.specs.Sink.{WritesFront};
+ghost use Rattle.outside_real.specs.Gathering.{GathersNothing};
 
 use crate::count::raised;
 use crate::target::Keep;
+use crate::writing::{pass_on, write_whole};
 use outside::{Failed, Sink};
 use std::alloc::Global;
-use std::io;
 use std::io::Write;
 
 /// How many bytes a file's sink gathers before it writes them.
@@ -41,6 +43,7 @@ impl<W: Write + Drop> FileSink<W> {
         ensures fresh { ⟦<FileSink<W> as Sink>⟧.faults result ≡ 0 }
         ensures to { result.to ≡ to }
         ensures none { result.gathered.items ≡ [] }
+        ensures direct { GathersNothing result }
     {
         FileSink {
             to,
@@ -57,10 +60,15 @@ impl<W: Write + Drop> FileSink<W> {
     }
 
     /// Writes what was gathered. Where a call failed before, some of that may be lost: then this fails too, and writes nothing.
+    #[tactic(auto, using(outside::proofs::Fronts::front_none))]
     pub fn flush(&mut self) -> Result<(), Failed>
         // The writer has all that was gathered, and nothing is left to be written.
         ensures written { OnOk result (Appends (W.contents self.old.to) (W.contents self.new.to) self.old.gathered.items) }
         ensures none { self.new.gathered.items ≡ [] }
+
+        // Whatever it answers, the writer gained a front of that and nothing else, and a direct sink stays one.
+        ensures front { WritesFront (W.contents self.old.to) (W.contents self.new.to) self.old.gathered.items }
+        ensures direct { GathersNothing self.old → GathersNothing self.new }
 
         // A fault counts once. Behind one all calls fail, and nothing more is written.
         ensures counts { self.new.faults ≡ counted result self.old.faults }
@@ -75,6 +83,17 @@ impl<W: Write + Drop> FileSink<W> {
         let written = pass_on(&mut self.to, self.gathered.as_slice());
         self.gathered.clear();
         self.counted(written.is_ok())
+    }
+
+    // Takes a piece in, for which there is place.
+    fn gather(&mut self, piece: &[u8]) -> Result<(), Failed>
+        ensures to { self.new.to ≡ self.old.to }
+        ensures gathered { OnOk result (self.new.gathered.items ≡ self.old.gathered.items ++ piece.now) }
+        ensures counts { self.new.faults ≡ counted result self.old.faults }
+        ensures cause { HasCause (⟦<FileSink<W> as Sink>⟧.faults self.old) (⟦<FileSink<W> as Sink>⟧.faults self.new) result }
+    {
+        let taken = self.gathered.extend_from_slice(piece);
+        self.counted(taken.is_ok())
     }
 
     fn counted(&mut self, done: bool) -> Result<(), Failed>
@@ -99,6 +118,10 @@ impl<W: Write + Keep + Drop> FileSink<W> {
         ensures written { OnOk result (Appends (W.contents self.old.to) (W.contents self.new.to) self.old.gathered.items) }
         ensures kept { OnOk result (W.keeps self.new.to) }
 
+        // Whatever it answers, the writer gained a front of what was gathered and nothing else, and a direct sink stays one.
+        ensures front { WritesFront (W.contents self.old.to) (W.contents self.new.to) self.old.gathered.items }
+        ensures direct { GathersNothing self.old → GathersNothing self.new }
+
         // A fault counts once. Behind one this fails, and nothing more is written.
         ensures counts { self.new.faults ≡ counted result self.old.faults }
         ensures cause { HasCause (⟦<FileSink<W> as Sink>⟧.faults self.old) (⟦<FileSink<W> as Sink>⟧.faults self.new) result }
@@ -111,25 +134,23 @@ impl<W: Write + Keep + Drop> FileSink<W> {
     }
 }
 
-/// Writes the bytes, and lets the writer write what it gathered itself.
-fn pass_on<W: Write>(to: &mut W, bytes: &[u8]) -> io::Result<()>
-    ensures { OnOk result (Appends (W.contents to.old) (W.contents to.new) bytes.now) }
-{
-    to.write_all(bytes)?;
-    to.flush()
-}
-
 impl<W: Write + Drop> Sink for FileSink<W> {
-    ghost use Rattle.outside.specs.Sink.{WritesFront};
-
     ghost written = { λ _. None };
 
     ghost faults = { λ s. s.faults };
 
+    #[tactic(auto, using(outside::proofs::Fronts::front_none, outside::proofs::Fronts::front_all, outside::proofs::Fronts::front_more))]
     fn write_all(&mut self, piece: &[u8]) -> Result<(), Failed>
         // The writer has, or will have at the next flush, what it had and then the piece.
         ensures bytes { OnOk result (Appends (append_known (W.contents self.old.to) self.old.gathered.items)
             (append_known (W.contents self.new.to) self.new.gathered.items) piece.now) }
+
+        // Whatever it answers, the writer gained a front of what was gathered and then the piece, and nothing else.
+        ensures gained { WritesFront (W.contents self.old.to) (W.contents self.new.to) (self.old.gathered.items ++ piece.now) }
+
+        // A direct sink stays one, and then its writer has the piece.
+        ensures direct { GathersNothing self.old → GathersNothing self.new }
+        ensures at_once { GathersNothing self.old → OnOk result (Appends (W.contents self.old.to) (W.contents self.new.to) piece.now) }
 
         // A fault counts once. Behind one all calls fail, and nothing more is written.
         ensures counts { self.new.faults ≡ counted result self.old.faults }
@@ -141,14 +162,14 @@ impl<W: Write + Drop> Sink for FileSink<W> {
         if self.faults != 0 {
             return self.counted(false);
         }
-        if piece.len() > self.gathered.capacity() - self.gathered.len() {
-            self.flush()?;
+        if piece.len() < self.gathered.capacity() - self.gathered.len() {
+            return self.gather(piece);
         }
-        if piece.len() > self.gathered.capacity() {
-            let written = self.to.write_all(piece);
-            return self.counted(written.is_ok());
+        self.flush()?;
+        if piece.len() < self.gathered.capacity() {
+            return self.gather(piece);
         }
-        let taken = self.gathered.extend_from_slice(piece);
-        self.counted(taken.is_ok())
+        let written = write_whole(&mut self.to, piece);
+        self.counted(written.is_ok())
     }
 }
