@@ -1,5 +1,5 @@
 -- What a command comes to for whose libraries there is no memory.
-use Rattle.std.proofs.Common.{◌≡◌, ◌≢◌, true, false, true≢false, ℕ, ◌≤◌, List, [], ◌∷◌, length, get_or, None, refl, ap, ◌∙◌, arith}
+use Rattle.std.proofs.Common.{◌≡◌, false, true≢false, ℕ, ◌≤◌, List, [], ◌∷◌, length, get_or, None, refl, ap, ◌∙◌, arith}
 use Rattle.std.specs.Prelude.{All, IsTrue}
 use Rattle.marc_types.specs.Valid.{is_code}
 use Rattle.outside.specs.Room.{SameBut, IsNoneOf}

@@ -1,4 +1,4 @@
-use Rattle.std.proofs.Common.{◌≡◌, ◌≤◌, ◌⊎◌, Some, sym, subst, ◌∙◌}
+use Rattle.std.proofs.Common.{◌≡◌, ◌≤◌, ◌⊎◌, sym, subst, ◌∙◌}
 use Rattle.console_lines.specs.Ends.{Outcome, outcome}
 use Rattle.union_top.specs.Commands.{Ends}
 use Rattle.union_top.proofs.Complete.{complete, two_is_usage, same_command}
