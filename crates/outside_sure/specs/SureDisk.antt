@@ -1,5 +1,5 @@
 -- What clauses see of a disk in memory that fails for want of room alone.
-use Rattle.std.specs.Prelude.{◌≡◌, ℕ, false, List, length, Some, None}
+use Rattle.std.specs.Prelude.{◌≡◌, ◌≢◌, ℕ, false, List, length, Some, None}
 use Rattle.outside.specs.Disk.{DiskView}
 use Rattle.outside_sure.specs.SureState.{SureState}
 use Rattle.outside_sure.specs.declared.sure_disk.SureDisk.{SureDisk}
@@ -20,6 +20,10 @@ sure_view bytes faults = record {
 -- a sure disk's bytes and faults
 abbrev pub disk_state : {room : ℕ} → SureDisk room → SureState
 disk_state disk = record { bytes = disk.held.buffer.items; faults = disk.faults }
+
+-- a disk with a fault is full
+pub full_disk : {room : ℕ} (disk : SureDisk room) → (disk_state disk).faults ≢ 0 → length (disk_state disk).bytes ≡ room
+full_disk disk = disk.full
 
 -- a sure disk as any disk is seen
 abbrev pub sure_disk_view : {room : ℕ} → SureDisk room → DiskView

@@ -30,7 +30,7 @@ impl<'a> SureSource<'a> {
     }
 
     /// The bytes that are left.
-    pub fn bytes(&self) -> &'a [u8]
+    pub(crate) fn bytes(&self) -> &'a [u8]
         ensures { result.now ≡ self.now }
     {
         self.left

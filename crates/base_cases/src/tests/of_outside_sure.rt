@@ -91,18 +91,33 @@ fn a_sure_room_opens_no_name_that_it_lacks(rt: HostRuntime) -> Result<(), Fail> 
 }
 
 #[test]
-fn a_place_with_a_fault_is_not_opened(rt: HostRuntime) -> Result<(), Fail> {
+fn a_place_is_no_input(rt: HostRuntime) -> Result<(), Fail> {
     let mut room = SureRoom::<4>::new(rt.alloc());
+    room.give("in", b"bytes")?;
     room.place("out", None)?;
     assert!(rt; room.open_in("out").is_err());
+    Ok(())
+}
+
+#[test]
+fn a_place_is_opened_again(rt: HostRuntime) -> Result<(), Fail> {
+    let mut room = SureRoom::<4>::new(rt.alloc());
+    room.place("out", None)?;
     let mut sink = room.open_out("out")?;
     assert_eq!(rt; sink.write_all(b"four"), Ok(()));
     room.close_out("out", sink)?;
     assert_eq!(rt; room.file("out"), Some(b"four".as_slice()));
+    assert!(rt; room.open_out("out").is_ok());
+    Ok(())
+}
+
+#[test]
+fn a_place_with_a_fault_is_not_opened(rt: HostRuntime) -> Result<(), Fail> {
+    let mut room = SureRoom::<4>::new(rt.alloc());
+    room.place("out", None)?;
     let mut sink = room.open_out("out")?;
     assert_eq!(rt; sink.write_all(b"fives"), Err(Failed));
     room.close_out("out", sink)?;
-    assert_eq!(rt; room.file("out"), Some(b"five".as_slice()));
     assert!(rt; room.open_out("out").is_err());
     assert!(rt; room.open_log("out").is_err());
     assert_eq!(rt; room.file("out"), Some(b"five".as_slice()));
@@ -112,9 +127,9 @@ fn a_place_with_a_fault_is_not_opened(rt: HostRuntime) -> Result<(), Fail> {
 #[test]
 fn a_place_keeps_its_log(rt: HostRuntime) -> Result<(), Fail> {
     let mut room = SureRoom::<4>::new(rt.alloc());
-    room.place("log", Some(b"ab"))?;
+    room.place("log", None)?;
     let mut log = room.open_log("log")?;
-    assert_eq!(rt; log.write_at(2, b"c"), Ok(()));
+    assert_eq!(rt; log.write_at(0, b"abc"), Ok(()));
     room.close_log("log", log);
     assert_eq!(rt; room.file("log"), Some(b"abc".as_slice()));
     let log = room.open_log("log")?;
