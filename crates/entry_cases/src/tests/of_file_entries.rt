@@ -20,33 +20,41 @@ fn opened(rt: &impl Abort, alloc: Global) -> Result<FileEntries<MemSource>, Fail
     }
 }
 
+fn next_is_entry(alloc: Global, entries: &mut FileEntries<MemSource>) -> bool {
+    if entries.is_over() {
+        return false;
+    }
+    match entries.next(alloc) {
+        NextEntry::Entry(item) => {
+            let entry = item.entry();
+            (entry.ordinal, entry.loader) == (1, 3) && entry.key.number.as_str() == "b3"
+        }
+        _ => false,
+    }
+}
+
+fn next_is_refused(alloc: Global, entries: &mut FileEntries<MemSource>) -> bool {
+    if entries.is_over() {
+        return false;
+    }
+    match entries.next(alloc) {
+        NextEntry::Refused(item) => {
+            (item.ordinal, item.offset) == (2, 65) && item.refusal == Refusal::Unfinished
+        }
+        _ => false,
+    }
+}
+
+fn next_is_the_end(alloc: Global, entries: &mut FileEntries<MemSource>) -> bool {
+    !entries.is_over() && matches!(entries.next(alloc), NextEntry::End) && entries.is_over()
+}
+
 #[test]
 fn an_entry_and_a_refused_item(rt: HostRuntime) -> Result<(), Fail> {
     let alloc = rt.alloc();
     let mut entries = opened(&rt, alloc)?;
-    assert!(rt; !entries.is_over());
-    match entries.next(alloc) {
-        NextEntry::Entry(item) => {
-            assert_eq!(rt; item.entry().ordinal, 1);
-            assert_eq!(rt; item.entry().loader, 3);
-            assert_eq!(rt; item.entry().key.number.as_str(), "b3");
-        }
-        _ => assert!(rt; false),
-    }
-    assert!(rt; !entries.is_over());
-    match entries.next(alloc) {
-        NextEntry::Refused(item) => {
-            assert_eq!(rt; item.ordinal, 2);
-            assert_eq!(rt; item.offset, 65);
-            assert_eq!(rt; item.refusal, Refusal::Unfinished);
-        }
-        _ => assert!(rt; false),
-    }
-    assert!(rt; !entries.is_over());
-    match entries.next(alloc) {
-        NextEntry::End => {}
-        _ => assert!(rt; false),
-    }
-    assert!(rt; entries.is_over());
+    assert!(rt; next_is_entry(alloc, &mut entries));
+    assert!(rt; next_is_refused(alloc, &mut entries));
+    assert!(rt; next_is_the_end(alloc, &mut entries));
     Ok(())
 }

@@ -1,4 +1,4 @@
-use holdings::{HoldingFault, HoldingShelf, admit_holding};
+use holdings::{Holding, HoldingFault, HoldingShelf, PackedHolding, PackedKey, admit_holding};
 use marc_types::{Field, Fields, Leader, Record, Tag, Text, makes_record};
 use std::alloc::Global;
 use std::process::Abort;
@@ -38,6 +38,17 @@ fn record_of(rt: &impl Abort, alloc: Global, row: &Row) -> Result<Record, Fail> 
     Ok(Record { leader, fields })
 }
 
+fn admitted(
+    rt: &impl Abort,
+    alloc: Global,
+    row: &Row,
+    code: &str,
+) -> Result<Result<Holding, HoldingFault>, Fail> {
+    let rec = record_of(rt, alloc, row)?;
+    let code = Text::from_str(alloc, code)?;
+    Ok(admit_holding(alloc, rec, &code))
+}
+
 /// 65 characters.
 const LONG: &str = "12345678901234567890123456789012345678901234567890123456789012345";
 
@@ -49,19 +60,20 @@ const TARGETS: [(Row, &str, &str); 5] = [
     ((b'n', b'x', "h1", &["b1"]), "DLC", "b1"),
 ];
 
+/// Whether a holding is the first of its library and has this target and leader byte 05.
+fn is_holding(holding: &Holding, target: [&str; 2], status: u8) -> bool {
+    let found = holding.target();
+    holding.key().number.as_str() == "h1"
+        && [found.code.as_str(), found.number.as_str()] == target
+        && holding.rec().leader.status == status
+}
+
 #[test]
 fn targets_of_holdings(rt: HostRuntime) -> Result<(), Fail> {
     let alloc = rt.alloc();
     for (row, code, target) in TARGETS {
-        let rec = record_of(&rt, alloc, &row)?;
-        let code = Text::from_str(alloc, code)?;
-        match admit_holding(alloc, rec, &code) {
-            Ok(holding) => {
-                assert_eq!(rt; holding.key().number.as_str(), "h1");
-                assert_eq!(rt; holding.target().number.as_str(), target);
-                assert_eq!(rt; holding.target().code.as_str(), code.as_str());
-                assert_eq!(rt; holding.rec().leader.status, row.0);
-            }
+        match admitted(&rt, alloc, &row, code)? {
+            Ok(holding) => assert!(rt; is_holding(&holding, [code, target], row.0)),
             Err(_fault) => assert!(rt; false),
         }
     }
@@ -83,9 +95,7 @@ const REFUSALS: [(Row, &str, u8); 8] = [
 fn refusals_in_order(rt: HostRuntime) -> Result<(), Fail> {
     let alloc = rt.alloc();
     for (row, code, number) in REFUSALS {
-        let rec = record_of(&rt, alloc, &row)?;
-        let code = Text::from_str(alloc, code)?;
-        match admit_holding(alloc, rec, &code) {
+        match admitted(&rt, alloc, &row, code)? {
             Err(HoldingFault::Refused(refusal)) => assert_eq!(rt; refusal.number(), number),
             _ => assert!(rt; false),
         }
@@ -105,29 +115,34 @@ const SHELVED: [Row; 5] = [
 /// Of 56 bytes, with leader 05 `c` and 06 `v`.
 const CHANGED_LEADER: &[u8] = b"00056cv  a22000491n 4500";
 
+/// Whether a row is of this number and target.
+fn is_row((key, holding): (&PackedKey, &PackedHolding), number: &[u8], target: &[u8]) -> bool {
+    key.number() == number && holding.target_number() == target
+}
+
+fn has_two_rows(shelf: &HoldingShelf) -> bool {
+    let mut rows = shelf.rows();
+    match (rows.next(), rows.next()) {
+        (Some((first, replaced)), Some(second)) => {
+            is_row((first, replaced), b"h2", b"b2")
+                && replaced.written().starts_with(CHANGED_LEADER)
+                && is_row(second, b"h3", b"b1")
+        }
+        _ => false,
+    }
+}
+
 #[test]
 fn a_replaced_and_a_deleted_holding(rt: HostRuntime) -> Result<(), Fail> {
     let alloc = rt.alloc();
-    let code = Text::from_str(alloc, "ULIB")?;
     let mut shelf = HoldingShelf::new(alloc);
     for row in SHELVED {
-        let rec = record_of(&rt, alloc, &row)?;
-        match admit_holding(alloc, rec, &code) {
+        match admitted(&rt, alloc, &row, "ULIB")? {
             Ok(holding) => shelf.put(alloc, holding)?,
             Err(_fault) => assert!(rt; false),
         }
     }
     assert_eq!(rt; shelf.len(), 2);
-    let mut rows = shelf.rows();
-    match (rows.next(), rows.next()) {
-        (Some((first, replaced)), Some((second, other))) => {
-            assert!(rt; first.number() == b"h2".as_slice());
-            assert!(rt; replaced.target_number() == b"b2".as_slice());
-            assert!(rt; replaced.written().starts_with(CHANGED_LEADER));
-            assert!(rt; second.number() == b"h3".as_slice());
-            assert!(rt; other.target_number() == b"b1".as_slice());
-        }
-        _ => assert!(rt; false),
-    }
+    assert!(rt; has_two_rows(&shelf));
     Ok(())
 }

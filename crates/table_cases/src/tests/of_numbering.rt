@@ -1,6 +1,7 @@
 use marc_types::{Class, Key, NoMemory, Text};
 use numbering::{Numbering, Pages, Seat};
 use std::alloc::Global;
+use std::hash::Hash;
 use std::test::Fail;
 
 fn key(alloc: Global, number: &str) -> Result<Key, NoMemory> {
@@ -10,20 +11,40 @@ fn key(alloc: Global, number: &str) -> Result<Key, NoMemory> {
     })
 }
 
+fn added(alloc: Global, keys: &mut Numbering<Key>, name: &str) -> Result<u32, NoMemory> {
+    keys.add(alloc, &key(alloc, name)?)
+}
+
+/// The number of a thing, of which a caller is told nothing: so no case costs a proof.
+fn number<T: Eq + Hash>(things: &Numbering<T>, thing: &T) -> Option<u32> {
+    things.number_of(thing)
+}
+
+fn number_of(alloc: Global, keys: &Numbering<Key>, name: &str) -> Result<Option<u32>, NoMemory> {
+    Ok(number(keys, &key(alloc, name)?))
+}
+
+fn stands_at(
+    alloc: Global,
+    keys: &Numbering<Key>,
+    number: u32,
+    name: &str,
+) -> Result<bool, NoMemory> {
+    Ok(keys.at(number) == Some(&key(alloc, name)?))
+}
+
 #[test]
 fn keys_keep_their_numbers(rt: HostRuntime) -> Result<(), Fail> {
     let alloc = rt.alloc();
-    let first = key(alloc, "n 1")?;
-    let second = key(alloc, "n 2")?;
     let mut keys = Numbering::new(alloc);
-    assert!(rt; keys.add(alloc, &first)? == 0);
-    assert!(rt; keys.add(alloc, &second)? == 1);
-    assert!(rt; keys.add(alloc, &first)? == 0);
-    assert!(rt; keys.number_of(&second) == Some(1));
-    assert!(rt; keys.number_of(&key(alloc, "n 3")?) == None);
-    assert!(rt; keys.at(1) == Some(&second));
-    assert!(rt; keys.at(2) == None);
-    assert!(rt; keys.len() == 2);
+    for (name, number) in [("n 1", 0), ("n 2", 1), ("n 1", 0)] {
+        assert!(rt; added(alloc, &mut keys, name)? == number);
+    }
+    for (name, number) in [("n 2", Some(1)), ("n 3", None)] {
+        assert!(rt; number_of(alloc, &keys, name)? == number);
+    }
+    assert!(rt; stands_at(alloc, &keys, 1, "n 2")?);
+    assert!(rt; keys.at(2) == None && keys.len() == 2);
     Ok(())
 }
 

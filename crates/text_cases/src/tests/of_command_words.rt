@@ -249,22 +249,22 @@ fn most_files(rt: HostRuntime) -> Result<(), Fail> {
     Ok(())
 }
 
-/// What is listed of a line's files.
-fn listed(alloc: Global, line: &str) -> Result<Vec<Library>, NoMemory> {
-    libraries(alloc, &words_of(alloc, line)?)
+/// Whether these, by code and file, are the libraries that are listed of a line.
+fn are_listed(alloc: Global, line: &str, wanted: &[(&str, &str)]) -> Result<bool, NoMemory> {
+    let made = libraries(alloc, &words_of(alloc, line)?)?;
+    Ok(made.len() == wanted.len() && made.iter().zip(wanted).all(is_listed))
+}
+
+fn is_listed((library, (code, file)): (&Library, &(&str, &str))) -> bool {
+    library.code.as_str() == *code && library.file.as_str() == *file
 }
 
 #[test]
 fn files(rt: HostRuntime) -> Result<(), Fail> {
-    let made = listed(rt.alloc(), "run j o r A=b=c D=e")?;
-    assert_eq!(rt; made.len(), 2);
-    assert_eq!(rt; made[0].code.as_str(), "A");
-    assert_eq!(rt; made[0].file.as_str(), "b=c");
-    assert_eq!(rt; made[1].code.as_str(), "D");
-    assert_eq!(rt; made[1].file.as_str(), "e");
-    let made = listed(rt.alloc(), "holdings j o r A=h D")?;
-    assert_eq!(rt; made.len(), 1);
-    assert_eq!(rt; made[0].file.as_str(), "h");
-    assert_eq!(rt; listed(rt.alloc(), "export j o D")?.len(), 0);
+    let alloc = rt.alloc();
+    let run = [("A", "b=c"), ("D", "e")];
+    assert!(rt; are_listed(alloc, "run j o r A=b=c D=e", &run)?);
+    assert!(rt; are_listed(alloc, "holdings j o r A=h D", &[("A", "h")])?);
+    assert!(rt; are_listed(alloc, "export j o D", &[])?);
     Ok(())
 }

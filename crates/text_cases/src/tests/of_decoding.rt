@@ -1,4 +1,4 @@
-use iso2709_record::{Layout, check, decode, first_subfield};
+use iso2709_record::{Layout, RawField, check, decode, first_subfield};
 use marc_types::{Leader, Refusal, Tag};
 use std::test::Fail;
 
@@ -145,9 +145,13 @@ fn the_first_fault_is_the_answer(rt: HostRuntime) {
         }
         assert_eq!(rt; check(&bytes), *answer, "{change}");
     }
-    assert_eq!(rt; check(&AUTHORITY[..100]), Err(Refusal::BadLength));
-    assert_eq!(rt; check(&[0x1d]), Err(Refusal::BadLength));
-    assert_eq!(rt; check(&[]), Err(Refusal::BadLength));
+}
+
+#[test]
+fn a_length_is_that_of_the_piece(rt: HostRuntime) {
+    for piece in [&AUTHORITY[..100], &[0x1d], &[]] {
+        assert_eq!(rt; check(piece), Err(Refusal::BadLength));
+    }
 }
 
 const AUTHORITY_LEADER: Leader = Leader {
@@ -211,18 +215,22 @@ const RECORDS: [Decoded; 3] = [
     ),
 ];
 
+/// Whether fields have these tags and areas.
+fn are_fields(fields: &[RawField], wanted: &[(&[u8; 3], &[u8])]) -> bool {
+    fields.len() == wanted.len() && fields.iter().zip(wanted).all(is_field)
+}
+
+fn is_field((field, (tag, area)): (&RawField, &(&[u8; 3], &[u8]))) -> bool {
+    let [a, b, c] = **tag;
+    field.tag == Tag { a, b, c } && field.area.as_slice() == *area
+}
+
 #[test]
 fn records_are_decoded(rt: HostRuntime) -> Result<(), Fail> {
     for (bytes, leader, coding, fields) in &RECORDS {
         let raw = decode(rt.alloc(), bytes).ok().ok_or("a sound record")?;
-        assert_eq!(rt; raw.leader, *leader);
-        assert_eq!(rt; raw.coding, *coding);
-        assert_eq!(rt; raw.fields.len(), fields.len());
-        for (field, (tag, area)) in raw.fields.iter().zip(*fields) {
-            let [a, b, c] = **tag;
-            assert_eq!(rt; field.tag, Tag { a, b, c });
-            assert_eq!(rt; field.area.as_slice(), *area);
-        }
+        assert!(rt; raw.leader == *leader && raw.coding == *coding);
+        assert!(rt; are_fields(raw.fields.as_slice(), fields));
     }
     Ok(())
 }

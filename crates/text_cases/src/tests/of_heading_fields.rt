@@ -99,47 +99,59 @@ fn bare_field(tag: Tag, ind2: u8, alloc: Global) -> Field {
     }
 }
 
+/// The tag of three digits.
+fn digits(number: u32) -> Tag {
+    Tag {
+        a: b'0' + (number / 100 % 10) as u8,
+        b: b'0' + (number / 10 % 10) as u8,
+        c: b'0' + (number % 10) as u8,
+    }
+}
+
+/// The kind of a bare field.
+fn bare_kind(tag: Tag, ind2: u8, class: Class, alloc: Global) -> Option<Kind> {
+    heading_kind(&bare_field(tag, ind2, alloc), class)
+}
+
 #[test]
-fn the_table_of_tags(rt: HostRuntime) {
+fn the_table_of_authority_tags(rt: HostRuntime) {
     for number in 0..1000u32 {
-        let tag = Tag {
-            a: b'0' + (number / 100 % 10) as u8,
-            b: b'0' + (number / 10 % 10) as u8,
-            c: b'0' + (number % 10) as u8,
-        };
-        let authority = listed_kind(tag, Class::Authority);
-        let bibliographic = listed_kind(tag, Class::Bibliographic);
-        let first = if tag.a == b'5' { None } else { authority };
-        let linked = if tag.a == b'5' { authority } else { None };
-        let other = if tag.a == b'6' { None } else { bibliographic };
-        let subject = bare_field(tag, b'0', rt.alloc());
-        let elsewhere = bare_field(tag, b'1', rt.alloc());
+        let tag = digits(number);
+        let listed = listed_kind(tag, Class::Authority);
+        let first = if tag.a == b'5' { None } else { listed };
+        let linked = if tag.a == b'5' { listed } else { None };
         assert!(rt; authority_kind(&tag) == first, "{number}");
-        assert!(rt;
-            heading_kind(&subject, Class::Authority) == linked,
-            "{number}"
-        );
-        assert!(rt;
-            heading_kind(&elsewhere, Class::Authority) == linked,
-            "{number}"
-        );
-        assert!(rt;
-            heading_kind(&subject, Class::Bibliographic) == bibliographic,
-            "{number}"
-        );
-        assert!(rt;
-            heading_kind(&elsewhere, Class::Bibliographic) == other,
-            "{number}"
-        );
+        for ind2 in [b'0', b'1'] {
+            let kind = bare_kind(tag, ind2, Class::Authority, rt.alloc());
+            assert!(rt; kind == linked, "{number}");
+        }
+    }
+}
+
+#[test]
+fn the_table_of_bibliographic_tags(rt: HostRuntime) {
+    for number in 0..1000u32 {
+        let tag = digits(number);
+        let listed = listed_kind(tag, Class::Bibliographic);
+        let other = if tag.a == b'6' { None } else { listed };
+        for (ind2, wanted) in [(b'0', listed), (b'1', other)] {
+            let kind = bare_kind(tag, ind2, Class::Bibliographic, rt.alloc());
+            assert!(rt; kind == wanted, "{number}");
+        }
+    }
+}
+
+#[test]
+fn tags_that_take_subdivisions(rt: HostRuntime) {
+    for number in 0..1000u32 {
+        let tag = digits(number);
         let divisible = matches!(tag.a, b'1' | b'4' | b'5');
-        assert!(rt;
-            takes_subdivisions(&tag, Class::Authority) == divisible,
-            "{number}"
-        );
-        assert!(rt;
-            takes_subdivisions(&tag, Class::Bibliographic) == (tag.a == b'6'),
-            "{number}"
-        );
+        for (class, wanted) in [
+            (Class::Authority, divisible),
+            (Class::Bibliographic, tag.a == b'6'),
+        ] {
+            assert!(rt; takes_subdivisions(&tag, class) == wanted, "{number}");
+        }
     }
 }
 
@@ -163,13 +175,11 @@ fn tag(name: &[u8; 3]) -> Tag {
     }
 }
 
-/// A field of a tag, two indicators, and pieces of code and text.
-fn field(
-    alloc: Global,
-    name: &[u8; 3],
-    indicators: &[u8; 2],
-    pieces: Pieces,
-) -> Result<Field, Fail> {
+/// A field: its tag, its indicators, and its pieces of code and text.
+type Line = (&'static [u8; 3], &'static [u8; 2], Pieces);
+
+fn field(alloc: Global, line: &Line) -> Result<Field, Fail> {
+    let (name, indicators, pieces) = *line;
     Ok(Field::Variable {
         tag: tag(name),
         ind1: indicators[0],
@@ -196,201 +206,282 @@ fn key(alloc: Global, number: &str) -> Result<Key, Fail> {
     })
 }
 
-/// A personal name that is taken over with what follows it, and the number.
+/// A field that is rewritten by a heading and its key's number, whole or by the base, and what it comes to.
+struct Rewriting {
+    kind: Kind,
+    class: Class,
+    heading: Line,
+    number: &'static str,
+    whole: bool,
+    before: Line,
+    after: Line,
+}
+
+fn rewritten(alloc: Global, row: &Rewriting) -> Result<Field, Fail> {
+    let key = key(alloc, row.number)?;
+    let heading = field(alloc, &row.heading)?;
+    let before = field(alloc, &row.before)?;
+    let made = rewrite(
+        alloc, &before, row.kind, row.class, &heading, &key, row.whole,
+    )?;
+    Ok(made)
+}
+
+fn is_field(alloc: Global, made: &Field, wanted: &Line) -> Result<bool, Fail> {
+    Ok(*made == field(alloc, wanted)?)
+}
+
+fn has_number(alloc: Global, line: &Line, number: &str) -> Result<bool, Fail> {
+    Ok(names(&field(alloc, line)?, &key(alloc, number)?))
+}
+
+const TWAIN: Line = (
+    b"100",
+    b"1 ",
+    &[(b'a', "Twain, Mark,"), (b'd', "1835-1910")],
+);
+
+const VARIANT: Line = (
+    b"100",
+    b"0 ",
+    &[
+        (b'a', "Clemens, Samuel Langhorne,"),
+        (b'd', "1835-1910,"),
+        (b'e', "author."),
+    ],
+);
+
+const REWRITTEN: Line = (
+    b"100",
+    b"1 ",
+    &[
+        (b'a', "Twain, Mark,"),
+        (b'd', "1835-1910"),
+        (b'0', "(DLC)n79021164"),
+        (b'e', "author."),
+    ],
+);
+
+const NUMBERED: Line = (
+    b"700",
+    b"1 ",
+    &[
+        (b'a', "Twayne, M."),
+        (b'0', "(DLC)n 79021164"),
+        (b'0', "(ULIB)7"),
+    ],
+);
+
+const NAMED: Line = (
+    b"700",
+    b"1 ",
+    &[
+        (b'a', "Twain, Mark,"),
+        (b'd', "1835-1910"),
+        (b'0', "(DLC)n79021164"),
+        (b'0', "(ULIB)7"),
+    ],
+);
+
+/// A personal name is taken over with what follows it, and the number; also once more.
+const NAMES: [Rewriting; 3] = [
+    Rewriting {
+        kind: Kind::Personal,
+        class: Class::Bibliographic,
+        heading: TWAIN,
+        number: "n79021164",
+        whole: false,
+        before: VARIANT,
+        after: REWRITTEN,
+    },
+    Rewriting {
+        kind: Kind::Personal,
+        class: Class::Bibliographic,
+        heading: TWAIN,
+        number: "n79021164",
+        whole: false,
+        before: REWRITTEN,
+        after: REWRITTEN,
+    },
+    Rewriting {
+        kind: Kind::Personal,
+        class: Class::Bibliographic,
+        heading: TWAIN,
+        number: "n79021164",
+        whole: false,
+        before: NUMBERED,
+        after: NAMED,
+    },
+];
+
 #[test]
 fn a_name_is_rewritten(rt: HostRuntime) -> Result<(), Fail> {
-    let alloc = rt.alloc();
-    let key = key(alloc, "n79021164")?;
-    let heading = field(
-        alloc,
-        b"100",
-        b"1 ",
-        &[(b'a', "Twain, Mark,"), (b'd', "1835-1910")],
-    )?;
-    let variant = field(
-        alloc,
-        b"100",
-        b"0 ",
-        &[
-            (b'a', "Clemens, Samuel Langhorne,"),
-            (b'd', "1835-1910,"),
-            (b'e', "author."),
-        ],
-    )?;
-    let rewritten = field(
-        alloc,
-        b"100",
-        b"1 ",
-        &[
-            (b'a', "Twain, Mark,"),
-            (b'd', "1835-1910"),
-            (b'0', "(DLC)n79021164"),
-            (b'e', "author."),
-        ],
-    )?;
-    let class = Class::Bibliographic;
-    let made = rewrite(
-        alloc,
-        &variant,
-        Kind::Personal,
-        class,
-        &heading,
-        &key,
-        false,
-    )?;
-    assert!(rt; made == rewritten);
-    let again = rewrite(alloc, &made, Kind::Personal, class, &heading, &key, false)?;
-    assert!(rt; again == rewritten);
-
-    let numbered = field(
-        alloc,
-        b"700",
-        b"1 ",
-        &[
-            (b'a', "Twayne, M."),
-            (b'0', "(DLC)n 79021164"),
-            (b'0', "(ULIB)7"),
-        ],
-    )?;
-    assert!(rt; names(&numbered, &key) && !names(&variant, &key));
-    let named = field(
-        alloc,
-        b"700",
-        b"1 ",
-        &[
-            (b'a', "Twain, Mark,"),
-            (b'd', "1835-1910"),
-            (b'0', "(DLC)n79021164"),
-            (b'0', "(ULIB)7"),
-        ],
-    )?;
-    let made = rewrite(
-        alloc,
-        &numbered,
-        Kind::Personal,
-        class,
-        &heading,
-        &key,
-        false,
-    )?;
-    assert!(rt; made == named);
+    for row in &NAMES {
+        let made = rewritten(rt.alloc(), row)?;
+        assert!(rt; is_field(rt.alloc(), &made, &row.after)?);
+    }
     Ok(())
 }
 
-/// Topical headings with and without subdivisions, rewritten whole and by the base; and unlinked.
-#[test]
-fn subjects_are_rewritten(rt: HostRuntime) -> Result<(), Fail> {
-    let alloc = rt.alloc();
-    let (topical, bib, auth) = (Kind::Topical, Class::Bibliographic, Class::Authority);
-    let sh1 = key(alloc, "sh1")?;
-    let films = field(alloc, b"150", b"  ", &[(b'a', "Motion pictures")])?;
-    let subject = field(
-        alloc,
-        b"650",
-        b" 0",
-        &[
-            (b'a', "Moving-pictures"),
-            (b'0', "(DLC)sh1"),
-            (b'z', "France"),
-        ],
-    )?;
-    let broader = field(
-        alloc,
-        b"550",
-        b"  ",
-        &[(b'w', "g"), (b'a', "Moving-pictures"), (b'0', "(DLC)sh1")],
-    )?;
-    let made = rewrite(alloc, &subject, topical, bib, &films, &sh1, false)?;
-    assert!(rt;
-        made == field(
-            alloc,
+const WOMEN: Line = (b"150", b"  ", &[(b'a', "Women")]);
+
+const LINKED: Line = (
+    b"650",
+    b" 0",
+    &[(b'a', "Women"), (b'0', "(DLC)sh4"), (b'z', "France")],
+);
+
+const UNLINKED: Line = (b"650", b" 0", &[(b'a', "Women"), (b'z', "France")]);
+
+/// Subjects with and without subdivisions, rewritten whole and by the base.
+const SUBJECTS: [Rewriting; 4] = [
+    Rewriting {
+        kind: Kind::Topical,
+        class: Class::Bibliographic,
+        heading: (b"150", b"  ", &[(b'a', "Motion pictures")]),
+        number: "sh1",
+        whole: false,
+        before: (
+            b"650",
+            b" 0",
+            &[
+                (b'a', "Moving-pictures"),
+                (b'0', "(DLC)sh1"),
+                (b'z', "France"),
+            ],
+        ),
+        after: (
             b"650",
             b" 0",
             &[
                 (b'a', "Motion pictures"),
                 (b'0', "(DLC)sh1"),
-                (b'z', "France")
-            ]
-        )?
-    );
-    let made = rewrite(alloc, &broader, topical, auth, &films, &sh1, true)?;
-    assert!(rt;
-        made == field(
-            alloc,
+                (b'z', "France"),
+            ],
+        ),
+    },
+    Rewriting {
+        kind: Kind::Topical,
+        class: Class::Authority,
+        heading: (b"150", b"  ", &[(b'a', "Motion pictures")]),
+        number: "sh1",
+        whole: true,
+        before: (
             b"550",
             b"  ",
-            &[(b'w', "g"), (b'a', "Motion pictures"), (b'0', "(DLC)sh1")]
-        )?
-    );
-
-    let sh4 = key(alloc, "sh4")?;
-    let women = field(alloc, b"150", b"  ", &[(b'a', "Women")])?;
-    let divided = field(alloc, b"650", b" 0", &[(b'a', "WOMEN"), (b'z', "France")])?;
-    let linked = field(
-        alloc,
-        b"650",
-        b" 0",
-        &[(b'a', "Women"), (b'0', "(DLC)sh4"), (b'z', "France")],
-    )?;
-    let made = rewrite(alloc, &divided, topical, bib, &women, &sh4, false)?;
-    assert!(rt; made == linked);
-    let unlinked = unlink(alloc, &linked, &sh4)?;
-    assert!(rt; unlinked == field(alloc, b"650", b" 0", &[(b'a', "Women"), (b'z', "France")])?);
-    assert!(rt; !names(&unlinked, &sh4));
-
-    let sh3 = key(alloc, "sh3")?;
-    let females = field(alloc, b"150", b"  ", &[(b'a', "Females")])?;
-    let whole = field(
-        alloc,
-        b"650",
-        b" 0",
-        &[(b'a', "Women"), (b'x', "History"), (b'0', "(DLC)sh3")],
-    )?;
-    let made = rewrite(alloc, &whole, topical, bib, &females, &sh3, true)?;
-    assert!(rt;
-        made == field(
-            alloc,
+            &[(b'w', "g"), (b'a', "Moving-pictures"), (b'0', "(DLC)sh1")],
+        ),
+        after: (
+            b"550",
+            b"  ",
+            &[(b'w', "g"), (b'a', "Motion pictures"), (b'0', "(DLC)sh1")],
+        ),
+    },
+    Rewriting {
+        kind: Kind::Topical,
+        class: Class::Bibliographic,
+        heading: WOMEN,
+        number: "sh4",
+        whole: false,
+        before: (b"650", b" 0", &[(b'a', "WOMEN"), (b'z', "France")]),
+        after: LINKED,
+    },
+    Rewriting {
+        kind: Kind::Topical,
+        class: Class::Bibliographic,
+        heading: (b"150", b"  ", &[(b'a', "Females")]),
+        number: "sh3",
+        whole: true,
+        before: (
             b"650",
             b" 0",
-            &[(b'a', "Females"), (b'0', "(DLC)sh3")]
-        )?
-    );
+            &[(b'a', "Women"), (b'x', "History"), (b'0', "(DLC)sh3")],
+        ),
+        after: (b"650", b" 0", &[(b'a', "Females"), (b'0', "(DLC)sh3")]),
+    },
+];
+
+#[test]
+fn subjects_are_rewritten(rt: HostRuntime) -> Result<(), Fail> {
+    for row in &SUBJECTS {
+        let made = rewritten(rt.alloc(), row)?;
+        assert!(rt; is_field(rt.alloc(), &made, &row.after)?);
+    }
     Ok(())
 }
 
-/// The two parts of a heading, and its length.
+fn unlinked(alloc: Global, line: &Line, number: &str) -> Result<Field, Fail> {
+    let made = unlink(alloc, &field(alloc, line)?, &key(alloc, number)?)?;
+    Ok(made)
+}
+
 #[test]
-fn parts_of_a_heading(rt: HostRuntime) -> Result<(), Fail> {
-    let alloc = rt.alloc();
-    let (bib, auth) = (Class::Bibliographic, Class::Authority);
-    let pieces: Pieces = &[
+fn a_subject_is_unlinked(rt: HostRuntime) -> Result<(), Fail> {
+    let made = unlinked(rt.alloc(), &LINKED, "sh4")?;
+    assert!(rt; is_field(rt.alloc(), &made, &UNLINKED)?);
+    Ok(())
+}
+
+#[test]
+fn fields_name_keys(rt: HostRuntime) -> Result<(), Fail> {
+    for (line, number, wanted) in [
+        (&NUMBERED, "n79021164", true),
+        (&VARIANT, "n79021164", false),
+        (&UNLINKED, "sh4", false),
+    ] {
+        assert!(rt; has_number(rt.alloc(), line, number)? == wanted);
+    }
+    Ok(())
+}
+
+/// A name in two parts.
+const PARTED: Line = (
+    b"100",
+    b"1 ",
+    &[
         (b'e', "author"),
         (b'a', "Twain, Mark,"),
         (b'x', "Plays"),
         (b't', "Works"),
         (b'v', "Index"),
-    ];
-    let name = field(alloc, b"100", b"1 ", pieces)?;
-    let base = subfields(alloc, &[(b'a', "Twain, Mark,")])?;
-    let whole = subfields(
-        alloc,
-        &[
-            (b'a', "Twain, Mark,"),
-            (b'x', "Plays"),
-            (b't', "Works"),
-            (b'v', "Index"),
-        ],
-    )?;
-    assert!(rt; controlled(alloc, &name, Kind::Personal)? == base);
-    assert!(rt; full(alloc, &name, Kind::Personal, bib)? == base);
-    assert!(rt; full(alloc, &name, Kind::Personal, auth)? == whole);
-    assert!(rt; has_subdivision(&name));
-    let fields = [
-        short_title(alloc, b'a', "Roughing it.")?,
-        short_title(alloc, b'x', "Plays")?,
-    ];
-    assert_eq!(rt; heading_len(&fields[0], Kind::Title), 14);
-    assert_eq!(rt; heading_len(&fields[1], Kind::Title), 0);
+    ],
+);
+
+const BASE: Pieces = &[(b'a', "Twain, Mark,")];
+
+const WHOLE: Pieces = &[
+    (b'a', "Twain, Mark,"),
+    (b'x', "Plays"),
+    (b't', "Works"),
+    (b'v', "Index"),
+];
+
+fn has_base(alloc: Global) -> Result<bool, Fail> {
+    let base = controlled(alloc, &field(alloc, &PARTED)?, Kind::Personal)?;
+    Ok(base == subfields(alloc, BASE)?)
+}
+
+fn has_full(alloc: Global, class: Class, wanted: Pieces) -> Result<bool, Fail> {
+    let made = full(alloc, &field(alloc, &PARTED)?, Kind::Personal, class)?;
+    Ok(made == subfields(alloc, wanted)?)
+}
+
+#[test]
+fn parts_of_a_heading(rt: HostRuntime) -> Result<(), Fail> {
+    let alloc = rt.alloc();
+    assert!(rt; has_base(alloc)?);
+    assert!(rt; has_full(alloc, Class::Bibliographic, BASE)?);
+    assert!(rt; has_full(alloc, Class::Authority, WHOLE)?);
+    assert!(rt; has_subdivision(&field(alloc, &PARTED)?));
+    Ok(())
+}
+
+#[test]
+fn lengths_of_headings(rt: HostRuntime) -> Result<(), Fail> {
+    let title = short_title(rt.alloc(), b'a', "Roughing it.")?;
+    assert_eq!(rt; heading_len(&title, Kind::Title), 14);
+    let bare = short_title(rt.alloc(), b'x', "Plays")?;
+    assert_eq!(rt; heading_len(&bare, Kind::Title), 0);
     Ok(())
 }
 

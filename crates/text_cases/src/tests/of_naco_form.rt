@@ -1,4 +1,4 @@
-use marc_types::{Kind, NoMemory, Subfield, Subfields, Text};
+use marc_types::{Form, Item, Kind, NoMemory, Subfield, Subfields, Text};
 use naco_form::{comparison, form};
 use std::alloc::Global;
 use std::test::Fail;
@@ -89,20 +89,29 @@ fn part(alloc: Global, subs: &[(u8, &str)]) -> Result<Subfields, NoMemory> {
     Ok(Subfields::from_vec(part))
 }
 
+fn formed(alloc: Global, kind: Kind, subs: &[(u8, &str)]) -> Result<Form, NoMemory> {
+    form(alloc, kind, &part(alloc, subs)?)
+}
+
+/// Whether a form has this kind and these items.
+fn is_form(made: &Form, kind: Kind, wanted: &[(u8, &str)]) -> bool {
+    let items = made.items.as_slice();
+    made.kind == kind && items.len() == wanted.len() && items.iter().zip(wanted).all(is_item)
+}
+
+fn is_item((item, (code, text)): (&Item, &(u8, &str))) -> bool {
+    item.code == *code && item.text.as_str() == *text
+}
+
 #[test]
 fn leaves_empty_items_out(rt: HostRuntime) -> Result<(), Fail> {
-    let dots = part(rt.alloc(), &[(b'a', ","), (b'b', "-- ..."), (b'd', "")])?;
-    let empty = form(rt.alloc(), Kind::Corporate, &dots)?;
-    assert!(rt; empty.kind == Kind::Corporate && empty.items.is_empty());
-
-    let twain = part(
-        rt.alloc(),
-        &[(b'a', "Twain, Mark,"), (b'c', "..."), (b'd', "1835-1910.")],
-    )?;
-    let made = form(rt.alloc(), Kind::Personal, &twain)?;
-    let items = made.items.as_slice();
-    assert_eq!(rt; items.len(), 2);
-    assert!(rt; items[0].code == b'a' && items[0].text.as_str() == "twain, mark");
-    assert!(rt; items[1].code == b'd' && items[1].text.as_str() == "1835 1910");
+    let alloc = rt.alloc();
+    let dots = [(b'a', ","), (b'b', "-- ..."), (b'd', "")];
+    let empty = formed(alloc, Kind::Corporate, &dots)?;
+    assert!(rt; is_form(&empty, Kind::Corporate, &[]));
+    let twain = [(b'a', "Twain, Mark,"), (b'c', "..."), (b'd', "1835-1910.")];
+    let made = formed(alloc, Kind::Personal, &twain)?;
+    let items = [(b'a', "twain, mark"), (b'd', "1835 1910")];
+    assert!(rt; is_form(&made, Kind::Personal, &items));
     Ok(())
 }

@@ -1,23 +1,27 @@
+use std::alloc::Global;
 use std::test::Fail;
 use workload_entries::Entries;
+
+/// Whether the next is the entry of the first record of seed 0.
+fn next_is_first(alloc: Global, entries: &mut Entries) -> Result<bool, Fail> {
+    let Some(made) = entries.next(alloc)? else {
+        return Ok(false);
+    };
+    let entry = made.entry();
+    let texts = [
+        entry.library.as_str(),
+        entry.key.code.as_str(),
+        entry.key.number.as_str(),
+    ];
+    let numbers = (entry.loader, entry.ordinal, entry.run);
+    Ok(texts == ["UCAT", "UCAT", "b1"] && numbers == (0, 1, 0) && made.size() == 128)
+}
 
 #[test]
 fn one_entry(rt: HostRuntime) -> Result<(), Fail> {
     let alloc = rt.alloc();
     let mut entries = Entries::new(alloc, 0, 1)?;
-    match entries.next(alloc)? {
-        Some(made) => {
-            let entry = made.entry();
-            assert_eq!(rt; entry.loader, 0);
-            assert_eq!(rt; entry.ordinal, 1);
-            assert_eq!(rt; entry.run, 0);
-            assert_eq!(rt; entry.library.as_str(), "UCAT");
-            assert_eq!(rt; entry.key.code.as_str(), "UCAT");
-            assert_eq!(rt; entry.key.number.as_str(), "b1");
-            assert_eq!(rt; made.size(), 128);
-        }
-        None => assert!(rt; false),
-    }
+    assert!(rt; next_is_first(alloc, &mut entries)?);
     assert!(rt; entries.next(alloc)?.is_none());
     Ok(())
 }
