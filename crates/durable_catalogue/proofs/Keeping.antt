@@ -19,7 +19,7 @@ use Rattle.durable_catalogue.specs.Images.{Reaches, HasFrameOrNot, framed_length
 use Rattle.durable_catalogue.specs.Durables.{IsKept, IsLeft, opening}
 use Rattle.durable_catalogue.proofs.Framed.{framed_append, held_together}
 use Rattle.durable_catalogue.proofs.Readings.{either_reading, longer_reading}
-use Rattle.durable_catalogue.proofs.Images.{front_of, front_reaches, front_longer, whole_front, whole_is, either_reaches, either_front}
+use Rattle.durable_catalogue.proofs.Images.{holds_newest, front_of, front_reaches, front_longer, whole_front, whole_is, either_reaches, either_front}
 
 pub some_of : {A : Type 0} (o : Option A) → is_some o ≡ true → (x : A) × (o ≡ Some x)
 some_of None is = cc
@@ -39,6 +39,10 @@ module _ (opened : ℕ) (entries : List Entry) (before first old : DiskView) (ke
   told_history log told =
       ∥∥₁_map (kept.images log (told_before log told) (disk.content_is_image log told)) (λ r. whole_is entries log (front_of (length entries) entries log r))
 
+  -- and is of version 2
+  told_newest : (log : List ℕ) → old.content ≡ Some log → version_of log ≡ 2
+  told_newest log told = holds_newest (length entries) entries [] log (kept.images log (told_before log told) (disk.content_is_image log told))
+
   told_now : is_some before.content ≡ true → (log : List ℕ) × (old.content ≡ Some log)
   told_now told = some_of old.content (kept.tells ∙ told)
 
@@ -49,6 +53,9 @@ module _ (opened : ℕ) (entries : List Entry) (before first old : DiskView) (ke
     -- an image that an append leaves
     pub left_either : (log c : List ℕ) → old.content ≡ Some log → journal.HasFrameOrNot log frame c → ∥ IsLogOf entries c ⊎ IsLogOf (entries ++ more) c ∥₁
     left_either log c told left = ∥∥₁_map (told_history log told) (λ is. either_reading entries more log c frame (held_in log told) left is)
+
+    left_newest : (log c : List ℕ) → old.content ≡ Some log → journal.HasFrameOrNot log frame c → version_of c ≡ 2
+    left_newest log c told left = left.version ∙ version_two log (settled.header log told)
 
     -- it is no longer than what the opening left, with a frame for each entry since then
     no_longer : (log c : List ℕ) → old.content ≡ Some log → journal.HasFrameOrNot log frame c
@@ -77,12 +84,10 @@ module _ (opened : ℕ) (entries : List Entry) (before first old : DiskView) (ke
       -- a failed append marks the entries of its frame
       pub kept_marked : IsKept opened entries more before first new
       kept_marked = record {
-        images = λ c told image.
-            let now = told_now told in
-            ∥∥₁_map (left_either now.0 c now.1 ((leaves now.0 now.1).now c image)) (λ either. either_reaches (length entries) entries more c (omega arith) either);
+        images = λ c told image. let now = told_now told in left_reaches now.0 c (length entries) (omega arith) now.1 ((leaves now.0 now.1).now c image);
         since = λ s c told synced left.
             let now = told_now told in
-            since_left c (left_either now.0 c now.1) (kept.since s c told synced) ((leaves now.0 now.1).since s c (since_then s synced) left);
+            since_left c (left_reaches now.0 c opened kept.opened_is now.1) (kept.since s c told synced) ((leaves now.0 now.1).since s c (since_then s synced) left);
         longest = λ c told image. let now = told_now told in no_longer now.0 c now.1 ((leaves now.0 now.1).now c image);
         syncs = syncs_still;
         tells = tells_still;
@@ -93,9 +98,12 @@ module _ (opened : ℕ) (entries : List Entry) (before first old : DiskView) (ke
         opened_is = kept.opened_is;
       }
         where
-          since_left : (c : List ℕ) {P Q : Type 0} → (Q → ∥ IsLogOf entries c ⊎ IsLogOf (entries ++ more) c ∥₁) → (P → ∥ Reaches opened entries [] c ∥₁) → P ⊎ Q → ∥ Reaches opened entries more c ∥₁
+          left_reaches : (log c : List ℕ) (least : ℕ) → least ≤ length entries → old.content ≡ Some log → journal.HasFrameOrNot log frame c → ∥ Reaches least entries more c ∥₁
+          left_reaches log c least within told left = ∥∥₁_map (left_either log c told left) (either_reaches least entries more c within (left_newest log c told left))
+
+          since_left : (c : List ℕ) {P Q : Type 0} → (Q → ∥ Reaches opened entries more c ∥₁) → (P → ∥ Reaches opened entries [] c ∥₁) → P ⊎ Q → ∥ Reaches opened entries more c ∥₁
           since_left c now earlier (inl was) = ∥∥₁_map (earlier was) (λ r. front_reaches opened entries more c (front_of opened entries c r))
-          since_left c now earlier (inr is) = ∥∥₁_map (now is) (λ either. either_reaches opened entries more c kept.opened_is either)
+          since_left c now earlier (inr is) = now is
 
       -- an append that succeeded commits them
       pub kept_committed : (next : ℕ) → IsSettled next 2 new
@@ -106,15 +114,16 @@ module _ (opened : ℕ) (entries : List Entry) (before first old : DiskView) (ke
             let was = told_now told in
             let now = some_of new.content (tells_still ∙ told) in
             let is : c ≡ now.0 = now_settled.only now.0 c now.1 image in
-            let version : version_of now.0 ≡ version_of was.0 = version_two now.0 (now_settled.header now.0 now.1) ∙ sym (version_two was.0 (settled.header was.0 was.1)) in
+            let newest = version_two now.0 (now_settled.header now.0 now.1) in
+            let version : version_of now.0 ≡ version_of was.0 = newest ∙ sym (version_two was.0 (settled.header was.0 was.1)) in
             ∥∥₁_map (told_history was.0 was.1) (λ reading.
             subst (λ image. Reaches (length (entries ++ more)) (entries ++ more) [] image) (sym is)
             (front_reaches (length (entries ++ more)) (entries ++ more) [] now.0
-            (whole_front (length (entries ++ more)) (entries ++ more) now.0 (omega arith)
+            (whole_front (length (entries ++ more)) (entries ++ more) now.0 (omega arith) newest
             (longer_reading entries more was.0 now.0 frame (appended was.0 now.0 was.1 now.1) version (held_in was.0 was.1) reading))));
         since = λ s c told synced left.
             let now = told_now told in
-            since_left c (left_either now.0 c now.1) (kept.since s c told synced) ((leaves now.0 now.1).since s c (since_then s synced) left);
+            since_left c (left_front now.0 c now.1) (kept.since s c told synced) ((leaves now.0 now.1).since s c (since_then s synced) left);
         longest = λ c told image.
             let now = told_now told in
             let bound = no_longer now.0 c now.1 ((leaves now.0 now.1).now c image) in
@@ -128,9 +137,15 @@ module _ (opened : ℕ) (entries : List Entry) (before first old : DiskView) (ke
         opened_is = omega (arith, kept.opened_is, length-append entries more);
       }
         where
-          since_left : (c : List ℕ) {P Q : Type 0} → (Q → ∥ IsLogOf entries c ⊎ IsLogOf (entries ++ more) c ∥₁) → (P → ∥ Reaches opened entries [] c ∥₁) → P ⊎ Q → ∥ Reaches opened (entries ++ more) [] c ∥₁
+          left_front : (log c : List ℕ) → old.content ≡ Some log → journal.HasFrameOrNot log frame c → ∥ Reaches opened (entries ++ more) [] c ∥₁
+          left_front log c told left =
+              ∥∥₁_map (left_either log c told left) (λ either.
+              front_reaches opened (entries ++ more) [] c (either_front opened entries more c kept.opened_is (left_newest log c told left) either))
+
+          since_left : (c : List ℕ) {P Q : Type 0} → (Q → ∥ Reaches opened (entries ++ more) [] c ∥₁) → (P → ∥ Reaches opened entries [] c ∥₁)
+              → P ⊎ Q → ∥ Reaches opened (entries ++ more) [] c ∥₁
           since_left c now earlier (inl was) = ∥∥₁_map (earlier was) (λ r. front_reaches opened (entries ++ more) [] c (front_longer opened entries more c (front_of opened entries c r)))
-          since_left c now earlier (inr is) = ∥∥₁_map (now is) (λ either. front_reaches opened (entries ++ more) [] c (either_front opened entries more c kept.opened_is either))
+          since_left c now earlier (inr is) = now is
 
     -- what an append leaves, in the words of entries
     pub frame_or_not : (new : DiskView) (log : List ℕ) → old.content ≡ Some log → frame.payload ≡ batch_payload more
@@ -144,6 +159,7 @@ module _ (opened : ℕ) (entries : List Entry) (before first old : DiskView) (ke
         told_left : (c : List ℕ) → journal.HasFrameOrNot log frame c → HasFrameOrNot entries more log c
         told_left c left = record {
           history = left_either log c told left;
+          newest = left_newest log c told left;
           no_longer = subst (λ p. length c ≤ length log + LENGTH_BYTES + length p + 1) payload left.no_longer;
         }
 
@@ -162,6 +178,7 @@ module _ (opened : ℕ) (entries : List Entry) (before first old : DiskView) (ke
       still : (c : List ℕ) → c ≡ log → HasFrameOrNot entries more log c
       still c is = record {
         history = ∥∥₁_map (subst (HasHistory entries) (sym is) (told_history log told)) (λ reading. inl reading);
+        newest = ap version_of is ∙ told_newest log told;
         no_longer = omega (arith, ap length is);
       }
 

@@ -28,7 +28,7 @@ use Rattle.durable_catalogue.proofs.Framed.{framed_append}
 use Rattle.durable_catalogue.proofs.Histories.{runs_bounded}
 use Rattle.durable_catalogue.proofs.Images.{front_reaches, whole_front}
 use Rattle.durable_catalogue.proofs.Keeping.{some_of}
-use Rattle.durable_catalogue.proofs.Readings.{same_log}
+use Rattle.durable_catalogue.proofs.Readings.{same_log, same_newest}
 
 pub reading : (log : List ℕ) (frames : List Frame) (version : ℕ) (entries : List Entry) → frames_of log ≡ Ok frames → version_of log ≡ version
     → IsHistory version [] (payloads_of frames) entries → IsLogOf entries log
@@ -48,18 +48,25 @@ module _ (frames : List Frame) (place : ℕ) (old new : DiskView) (entries : Lis
   pub was_reading : (log : List ℕ) → old.content ≡ Some log → IsLogOf entries log
   was_reading log told = reading log frames 2 entries (recovered.was log told) (recovered.named log told) holds
 
-  now_reading : (log : List ℕ) → new.content ≡ Some log → IsLogOf entries log
-  now_reading log told = reading log frames 2 entries (recovered.is log told) (version_two log (recovered.settled.header log told)) holds
+  now_newest : (log : List ℕ) → new.content ≡ Some log → version_of log ≡ 2
+  now_newest log told = version_two log (recovered.settled.header log told)
 
-  whole : (c : List ℕ) → IsLogOf entries c → Reaches (length entries) entries [] c
-  whole c is = front_reaches (length entries) entries [] c (whole_front (length entries) entries c (omega arith) is)
+  now_reading : (log : List ℕ) → new.content ≡ Some log → IsLogOf entries log
+  now_reading log told = reading log frames 2 entries (recovered.is log told) (now_newest log told) holds
+
+  whole : (c : List ℕ) → version_of c ≡ 2 → IsLogOf entries c → Reaches (length entries) entries [] c
+  whole c newest is = front_reaches (length entries) entries [] c (whole_front (length entries) entries c (omega arith) newest is)
 
   pub opened_kept : old.faults ≤ new.faults → IsKept (length entries) entries [] old new new
   opened_kept later = record {
     images = λ c told image.
         let now = some_of new.content (opens.continues.tells ∙ told) in
-        ∣ whole c (subst (IsLogOf entries) (sym (recovered.settled.only now.0 c now.1 image)) (now_reading now.0 now.1)) ∣₁;
-    since = λ s c told synced left. let was = some_of old.content told in ∣ whole c (same_log entries was.0 c (opens.crash s was.0 c synced was.1 left).same (was_reading was.0 was.1)) ∣₁;
+        let is = recovered.settled.only now.0 c now.1 image in
+        ∣ whole c (ap version_of is ∙ now_newest now.0 now.1) (subst (IsLogOf entries) (sym is) (now_reading now.0 now.1)) ∣₁;
+    since = λ s c told synced left.
+        let was = some_of old.content told in
+        let same = (opens.crash s was.0 c synced was.1 left).same in
+        ∣ whole c (same_newest was.0 c same (recovered.named was.0 was.1)) (same_log entries was.0 c same (was_reading was.0 was.1)) ∣₁;
     longest = λ c told image.
         let now = some_of new.content (opens.continues.tells ∙ told) in
         let is = recovered.settled.only now.0 c now.1 image in

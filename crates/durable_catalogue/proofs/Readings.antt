@@ -6,7 +6,7 @@ use Rattle.commit_journal.specs.declared.frame.Frame.{Frame}
 use Rattle.commit_journal.specs.declared.format.TheConstants.{BLANK_LENGTH}
 use Rattle.commit_journal.specs.Log.{frames_of, version_of}
 use Rattle.commit_journal.specs.Journal.{SameLog, HasFrameOrNot, and_frame}
-use Rattle.commit_journal.proofs.Logs.{frames_blank, short_or_long}
+use Rattle.commit_journal.proofs.Logs.{frames_blank, version_blank, short_or_long}
 use Rattle.entry_history.specs.Payloads.{Holds, IsHistory, NoMore}
 use Rattle.durable_catalogue.specs.Logs.{payloads_of, IsLogOf}
 use Rattle.durable_catalogue.proofs.Histories.{none_more, one_behind}
@@ -41,6 +41,14 @@ like_reading entries log c frames version is = decided (short_or_long (length c)
 
 pub same_log : (entries : List Entry) (log c : List ℕ) → SameLog log c → IsLogOf entries log → IsLogOf entries c
 same_log entries log c same is = like_reading entries log c same.frames same.version is
+
+-- the same log as one of version 2 is of that, since a blank one is
+pub same_newest : (log c : List ℕ) → SameLog log c → version_of log ≡ 2 → version_of c ≡ 2
+same_newest log c same two = decided (short_or_long (length c) BLANK_LENGTH)
+  where
+    decided : (length c ≤ BLANK_LENGTH) ⊎ (BLANK_LENGTH < length c) → version_of c ≡ 2
+    decided (inl short) = version_blank c short
+    decided (inr long) = same.version long ∙ two
 
 -- a log with one frame more
 pub longer_reading : (before more : List Entry) (log c : List ℕ) (frame : Frame) → frames_of c ≡ and_frame (frames_of log) frame → version_of c ≡ version_of log

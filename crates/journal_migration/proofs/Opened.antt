@@ -1,5 +1,5 @@
 -- What a migration leaves, from the opening of the journal and what was brought into it.
-use Rattle.std.proofs.Common.{◌≡◌, ◌⊎◌, inl, inr, ⊎_elim, ℕ, ◌<◌, ◌≤◌, max, true, List, [], ◌++◌, length, Some, None, is_some, refl, sym, ap, subst, ◌∙◌, arith, drop, Bool, false, take-append-drop}
+use Rattle.std.proofs.Common.{◌≡◌, ◌⊎◌, inl, inr, ⊎_elim, ℕ, ◌≤◌, max, true, List, [], ◌++◌, length, Some, None, is_some, refl, sym, ap, subst, ◌∙◌, arith, drop, Bool, false, take-append-drop}
 use Rattle.std.specs.Prelude.{◌≢◌}
 use Rattle.std.proofs.lemmas.Option.{none-some}
 use Rattle.std.proofs.Math.Logic.{∥∥₁_map, ∥∥₁_elim, ∥∥₁_prop}
@@ -13,14 +13,14 @@ use Rattle.commit_journal.specs.declared.fault.JournalFault.TheVariants as journ
 use Rattle.commit_journal.specs.declared.format.TheConstants.{BLANK_LENGTH}
 use Rattle.commit_journal.specs.Log.{version_of}
 use Rattle.commit_journal.specs.Journal.{Continues, IsRecovered, IsSettled, EndsAt, SameLog, Opens, HasOpenCause, LeavesContent}
-use Rattle.commit_journal.proofs.Logs.{version_two, version_blank, short_or_long}
+use Rattle.commit_journal.proofs.Logs.{version_two}
 use Rattle.entry_history.specs.Readers.{IsVersion}
 use Rattle.entry_history.specs.Payloads.{IsHistory}
 use Rattle.durable_catalogue.specs.Logs.{payloads_of, IsLogOf, HasHistory}
 use Rattle.durable_catalogue.specs.Openings.{IsBadFrame, NoGate, NoPayload, IsOpening}
 use Rattle.durable_catalogue.proofs.Keeping.{some_of}
 use Rattle.durable_catalogue.proofs.Opened.{reading, opening_of, either_version}
-use Rattle.durable_catalogue.proofs.Readings.{same_log}
+use Rattle.durable_catalogue.proofs.Readings.{same_log, same_newest}
 use Rattle.durable_catalogue.proofs.Refused.{recovered_alone, unwritten_alone}
 use Rattle.journal_migration.specs.declared.fault.MigrateFault.{MigrateFault}
 use Rattle.journal_migration.specs.declared.fault.MigrateFault.TheVariants.{DeviceFault, NotAJournal, OldVersion, Full, NotPrefix, NoMemory}
@@ -31,14 +31,6 @@ use Rattle.journal_migration.specs.Migrations.{IsFit, IsUnfit, LeavesRefused, Is
 use Rattle.journal_migration.specs.Fronts.{HoldsFront, HoldNoFront, MayGain, MayNotGain, Extends, Brings, HasBrought}
 use Rattle.journal_migration.proofs.Amid.{amid_where}
 use Rattle.journal_migration.proofs.Following.{log_follows}
-
--- the same log as one of the newest version is of that, since a blank one is
-same_newest : (log c : List ℕ) → SameLog log c → version_of log ≡ 2 → version_of c ≡ 2
-same_newest log c same two = decided (short_or_long (length c) BLANK_LENGTH)
-  where
-    decided : (length c ≤ BLANK_LENGTH) ⊎ (BLANK_LENGTH < length c) → version_of c ≡ 2
-    decided (inl short) = version_blank c short
-    decided (inr long) = same.version long ∙ two
 
 -- it has what that had, where nothing was brought
 pub same_before : (limits : Limits) (history entries : List Entry) (log c : List ℕ) → SameLog log c → IsLogOf entries log

@@ -1,20 +1,23 @@
 -- Files that were loaded whole into a journal that was closed make one history, and the console's lines are those of it.
-use Rattle.std.proofs.Common.{◌≡◌, ℕ, ◌<◌, true, List, [], ◌++◌, length, Option, Some, None, refl, sym, ap, subst, ◌∙◌, arith, append-nil}
+use Rattle.std.proofs.Common.{◌≡◌, ℕ, ◌+◌, ◌<◌, ◌≤◌, max, true, List, [], ◌++◌, length, take, Option, Some, None, refl, sym, ap, subst, ◌∙◌, arith, append-nil}
 use Rattle.std.specs.Prelude.{All, is_some}
 use Rattle.std.proofs.Math.Logic.{∥∥₁_map}
+use Rattle.std.proofs.lemmas.List.{take_all, take-append-le}
 use Rattle.marc_types.specs.declared.entry.Entry.{Entry}
 use Rattle.outside.specs.Room.{RoomView, bytes_or_none}
+use Rattle.commit_journal.specs.declared.format.TheConstants.{BLANK_LENGTH}
 use Rattle.commit_journal.specs.Log.{version_of, walk_of}
 use Rattle.commit_journal.specs.Journal.{EndsAt}
 use Rattle.command_words.specs.declared.library.Library.{Library}
 use Rattle.entry_record.specs.History.{IsMerged, brought_by, with_run, next_run, IsWithin}
 use Rattle.durable_catalogue.specs.Logs.{HasHistory}
-use Rattle.durable_catalogue.specs.Images.{Holds}
+use Rattle.durable_catalogue.specs.Images.{Holds, framed_lengths}
 use Rattle.durable_catalogue.specs.Durables.{Opening}
+use Rattle.durable_catalogue.proofs.Framed.{framed_append}
 use Rattle.durable_catalogue.proofs.Images.{front_of, whole_is}
 use Rattle.loader_workers.specs.declared.result.FileResult.{FileResult}
 use Rattle.durable_catalogue.specs.Views.{DurableView}
-use Rattle.room_files.specs.Journals.{journal_limits, IsOpenedFrom, IsClosedTo, IsClosedAs}
+use Rattle.room_files.specs.Journals.{journal_limits, log_bytes, IsOpenedFrom, IsClosedTo, IsClosedAs}
 use Rattle.journal_loading.specs.Outcomes.{IsLoadedWhole}
 use Rattle.loading_commands.specs.Merged.{IsOneHistory}
 use Rattle.loading_commands.specs.Console.{any_refused, refused_part}
@@ -49,6 +52,23 @@ module _ (old new : RoomView) (journal : List ℕ) (libraries : List Library) (b
     files = λ loader entries at. subst (λ n. brought_by n added ≡ with_run (next_run before) entries) (omega arith) (made.brought loader entries at);
   }
 
+  -- what it was, of what it is now
+  begun : take o.opened (before ++ added) ≡ before
+  begun = ap (λ n. take n (before ++ added)) opened.opened ∙ take-append-le (length before) before added (omega arith) ∙ take_all (length before) before (omega arith)
+
+  no_longer : length (log_bytes new journal) ≤ max BLANK_LENGTH (length (log_bytes old journal)) + framed_lengths added
+  no_longer =
+      let longest : length closed.bytes + framed_lengths (take o.opened (before ++ added)) ≤ o.length + framed_lengths ((before ++ added) ++ []) = closed.longest in
+      omega (
+        arith,
+        ap length (ap bytes_or_none closed.file),
+        longest,
+        opened.length tells,
+        ap framed_lengths begun,
+        ap framed_lengths (append-nil (before ++ added)),
+        framed_append before added,
+      )
+
   pub one_history : IsOneHistory old new journal libraries before added made.accepted made.refused
   one_history = record {
     was = opened.history tells;
@@ -62,7 +82,8 @@ module _ (old new : RoomView) (journal : List ℕ) (libraries : List Library) (b
     images = λ c image. whole_history (before ++ added) c (closed.left.images c (opened.tells tells) image);
     only = closed.only refl;
     ended = subst (λ b. EndsAt (walk_of b).place b) (sym (ap bytes_or_none closed.file)) (closed.ended refl);
-    newest = subst (λ b. version_of b ≡ 2) (sym (ap bytes_or_none closed.file)) (closed.newest refl);
+    newest = subst (λ b. version_of b ≡ 2) (sym (ap bytes_or_none closed.file)) closed.newest;
+    longest = no_longer;
     synced = λ dated.
         let first = some_of o.synced (opened.synced (sym closed.left.dated ∙ dated)) in
         ap is_some (subst (λ t. (new.log journal).synced t ≡ Some first.0) opened.moment (closed.left.syncs first.0 first.1));

@@ -1,17 +1,18 @@
 -- The one history that files make which are loaded side by side. The rules are this project's own.
-use Rattle.std.specs.Prelude.{◌≡◌, ℕ, ◌+◌, true, List, [], ◌∷◌, ◌++◌, length, Some, is_some}
+use Rattle.std.specs.Prelude.{◌≡◌, ℕ, ◌+◌, ◌≤◌, max, true, List, [], ◌∷◌, ◌++◌, length, Some, is_some}
 use Rattle.marc_types.specs.declared.entry.Entry.{Entry}
 use Rattle.outside.specs.Disk.{OnlyContent}
 use Rattle.outside.specs.Room.{RoomView}
 use Rattle.command_words.specs.declared.library.Library.{Library}
 use Rattle.marc_stream.specs.Pieces.{items}
+use Rattle.commit_journal.specs.declared.format.TheConstants.{BLANK_LENGTH}
 use Rattle.commit_journal.specs.Log.{version_of, walk_of}
 use Rattle.commit_journal.specs.Journal.{EndsAt}
 use Rattle.file_entries.specs.Files.{IsJudged}
 use Rattle.file_entries.specs.declared.refused.RefusedItem.{RefusedItem}
 use Rattle.entry_record.specs.History.{IsMerged, IsWithin}
 use Rattle.durable_catalogue.specs.Logs.{HasHistory}
-use Rattle.durable_catalogue.specs.Images.{Holds}
+use Rattle.durable_catalogue.specs.Images.{Holds, framed_lengths}
 use Rattle.room_files.specs.Journals.{journal_limits, log_bytes}
 
 -- The accepted entries and the refused items of the files of libraries, in their order: each file is there, and each of its items
@@ -24,7 +25,7 @@ pub data AreJudged (room : RoomView) : (loader : ℕ) → List Library → List 
       → AreJudged room loader (library ∷ libraries) (entries ∷ accepted) (refused_items ∷ refused)
 
 -- The journal's history is what it was, followed by each file's accepted entries, each once and in its file's order; and a crash at
--- any moment leaves a prefix of it.
+-- any moment leaves a prefix of it, of version 2.
 pub record IsOneHistory (old new : RoomView) (journal : List ℕ) (libraries : List Library) (before added : List Entry)
     (accepted : List (List Entry)) (refused : List (List RefusedItem)) : Type 0 where
   -- what it was, each file's items, and that they are merged behind it
@@ -44,8 +45,10 @@ pub record IsOneHistory (old new : RoomView) (journal : List ℕ) (libraries : L
   -- and that nothing stands behind it, and the journal takes more
   pub ended : EndsAt (walk_of (log_bytes new journal)).place (log_bytes new journal)
   pub newest : version_of (log_bytes new journal) ≡ 2
-  -- each image at each moment since the opening's first sync begins with what it was, and is a front of what it is; where the log
-  -- tells its moments there was that sync
+  -- and no longer than it was, or than a blank one, with a frame for each entry that was added
+  pub longest : length (log_bytes new journal) ≤ max BLANK_LENGTH (length (log_bytes old journal)) + framed_lengths added
+  -- each image at each moment since the opening's first sync is of version 2, begins with what it was, and is a front of what it is;
+  -- where the log tells its moments there was that sync
   pub synced : (new.log journal).dated ≡ true → is_some ((new.log journal).synced 0) ≡ true
   pub crash : (s : ℕ) (c : List ℕ) → (new.log journal).dated ≡ true → (new.log journal).synced 0 ≡ Some s → (new.log journal).left s c
       → Holds (length before) (before ++ added) [] c

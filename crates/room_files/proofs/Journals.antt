@@ -8,7 +8,6 @@ use Rattle.outside.specs.Room.{RoomView, SameBut, bytes_or_none}
 use Rattle.outside.proofs.Counts.{rose_closed}
 use Rattle.commit_journal.specs.declared.format.TheConstants.{BLANK_LENGTH}
 use Rattle.commit_journal.specs.Journal.{IsSettled, EndsAt, LeavesLog}
-use Rattle.commit_journal.proofs.Logs.{version_two}
 use Rattle.durable_catalogue.specs.Logs.{HasHistory}
 use Rattle.durable_catalogue.specs.Opened.{IsOpenedDisk, IsRefusedDisk}
 use Rattle.durable_catalogue.specs.Openings.{IsOpening, IsUnopened, KeepsContent}
@@ -16,6 +15,7 @@ use Rattle.durable_catalogue.specs.Refused.{LeavesAlone, LeavesDiskAlone, Leaves
 use Rattle.durable_catalogue.specs.declared.fault.OpenFault.{OpenFault}
 use Rattle.durable_catalogue.specs.declared.fault.OpenFault.TheVariants.{DeviceFault}
 use Rattle.durable_catalogue.specs.Durables.{Opening, IsLeft, marked}
+use Rattle.durable_catalogue.proofs.Images.{holds_newest}
 use Rattle.durable_catalogue.proofs.Keeping.{some_of}
 use Rattle.durable_catalogue.proofs.Readings.{same_log}
 use Rattle.room_files.specs.Journals.{journal_limits, log_bytes, HasSynced, KeepsLog, KeepsHistory, Unopened, Opened, IsClosedDisk, IsClosedTo, IsOpenLog, IsRefusedLog, IsDurable}
@@ -214,16 +214,17 @@ pub closed_to : (room : RoomView) (name : List ℕ) (entries : List Entry) (mark
 closed_to room name entries mark o disk place left few settled tells image is_log file same =
     let bytes = some_of disk.content (left.tells ∙ tells) in
     let unchanged = same.unchanged in
+    let holds = left.images bytes.0 tells (image bytes.0 bytes.1) in
     record {
       closed = is_log;
       left = left_same o entries (marked mark) disk (room.log name) same left;
       bytes = bytes.0;
       file = file ∙ bytes.1;
       content = same.unchanged.content ∙ bytes.1;
-      holds = left.images bytes.0 tells (image bytes.0 bytes.1);
+      holds = holds;
+      newest = holds_newest (length entries) entries (marked mark) bytes.0 holds;
       longest = left.longest bytes.0 tells (image bytes.0 bytes.1);
       few = few;
       ended = λ none. let ends = (settled none).ends bytes.0 bytes.1 in subst (λ p. EndsAt p bytes.0) (sym ends.gate) ends;
-      newest = λ none. version_two bytes.0 ((settled none).header bytes.0 bytes.1);
       only = λ none b c told is. (settled none).only b c (sym unchanged.content ∙ told) ((unchanged.images c).0 is);
     }

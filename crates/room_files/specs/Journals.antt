@@ -44,8 +44,8 @@ pub record IsOpenedFrom (room : RoomView) (name : List ℕ) (entries : List Entr
   pub synced : o.dated ≡ true → is_some o.synced ≡ true
 
 -- A catalogue of these entries, with those of a frame that a device failed to take, at most 32, was closed as the log of that name:
--- what a crash may leave of it, and the file. The file is no longer than the log when it was open, with a frame for each entry since then and
--- for each of that frame. Without a mark it ends with its first closed gate, is of version 2, and is all that a crash may leave.
+-- what a crash may leave of it, and the file. The file is of version 2, and no longer than the log when it was open, with a frame for each
+-- entry since then and for each of that frame. Without a mark it ends with its first closed gate, and is all that a crash may leave.
 pub record IsClosedTo (room : RoomView) (name : List ℕ) (entries : List Entry) (mark : Option (List Entry)) (o : Opening) : Type 0 where
   pub closed : room.has_log name ≡ true
   pub left : IsLeft o entries (marked mark) (room.log name)
@@ -53,10 +53,10 @@ pub record IsClosedTo (room : RoomView) (name : List ℕ) (entries : List Entry)
   pub file : room.file name ≡ Some bytes
   pub content : (room.log name).content ≡ Some bytes
   pub holds : Holds (length entries) entries (marked mark) bytes
+  pub newest : version_of bytes ≡ 2
   pub longest : length bytes + framed_lengths (take o.opened entries) ≤ o.length + framed_lengths (entries ++ marked mark)
   pub few : length (marked mark) ≤ 32
   pub ended : mark ≡ None → EndsAt (walk_of bytes).place bytes
-  pub newest : mark ≡ None → version_of bytes ≡ 2
   pub only : mark ≡ None → OnlyContent (room.log name)
 
 -- the same of a catalogue as it is seen
