@@ -69,6 +69,24 @@ module _ {O I Origin : Type 0} (history : O → List I) (origin : O → Origin) 
   alone_again : (views : List (View O I)) (id : ℕ) (v w : View O I) → id ≡ 0 → views ≡ v ∷ [] → set views id w ≡ w ∷ []
   alone_again views id v w here is = λ i. set (is i) (here i) w
 
+  -- a step of the seat that opens the lock, at its stage and what it has seen, at the count and at the slot
+  moved : (ticket serving count next : ℕ) (homes left : List (Home (Option O))) (views : List (View O I)) (id : ℕ) (v : View O I) (stage : Stage) (seen : List (Numbered I)) → id ≡ 0
+      → Opens ticket serving count homes views v → length seen ≡ next → OpeningSlot history origin key stage seen left
+      → let w : View O I = record v { stage = stage; seen = seen } in Opens ticket serving next left (set views id w) w
+  moved ticket serving count next homes left views id v stage seen here o counted slot = record {
+    few = o.few;
+    alone = alone_again views id v _ here o.alone;
+    mark = o.mark;
+    opened = o.opened;
+    draws = o.draws;
+    claims = o.claims;
+    olds = o.olds;
+    first_ticket = o.first_ticket;
+    none_served = o.none_served;
+    counted = counted;
+    slot = slot;
+  }
+
   -- the table as it is made
   pub starts : key.callers < 4294967296 → Kept history origin key (opening (1 ∷ 0 ∷ 0 ∷ []) (None ∷ []) (opener key))
   starts few = record {
@@ -105,22 +123,7 @@ module _ {O I Origin : Type 0} (history : O → List I) (origin : O → Origin) 
         w,
         takes 0 None,
         ap (λ (hs : List (Home (Option O))). get_elem? hs 0) slot.2,
-        inl (
-          w,
-          record {
-            few = o.few;
-            alone = alone_again views id me.0 w h.0 o.alone;
-            mark = o.mark;
-            opened = o.opened;
-            draws = o.draws;
-            claims = o.claims;
-            olds = o.olds;
-            first_ticket = o.first_ticket;
-            none_served = o.none_served;
-            counted = o.counted;
-            slot = (refl, ap (λ (hs : List (Home (Option O))). set hs 0 none) slot.2);
-          },
-        ),
+        inl (w, moved ticket serving count count homes _ views id me.0 (InTurn 0) me.0.seen h.0 o o.counted (refl, ap (λ (hs : List (Home (Option O))). set hs 0 none) slot.2)),
         (refl, ap (λ (m : Mine O I). (0, None) ∷ m.1) is),
       ))
 
@@ -141,19 +144,8 @@ module _ {O I Origin : Type 0} (history : O → List I) (origin : O → Origin) 
         tt,
         inl (
           w,
-          record {
-            few = o.few;
-            alone = alone_again views id me.0 w h.0 o.alone;
-            mark = o.mark;
-            opened = o.opened;
-            draws = o.draws;
-            claims = o.claims;
-            olds = o.olds;
-            first_ticket = o.first_ticket;
-            none_served = o.none_served;
-            counted = count_is;
-            slot = subst (λ (st : Stage). OpeningSlot history origin key st (me.0.seen ++ more) homes) (sym is.stage) slot;
-          },
+          moved ticket serving count _ homes homes views id me.0 me.0.stage (me.0.seen ++ more) h.0 o count_is
+              (subst (λ (st : Stage). OpeningSlot history origin key st (me.0.seen ++ more) homes) (sym is.stage) slot),
         ),
         (refl, refl),
       ))
