@@ -1,5 +1,5 @@
 -- What every command has that words ask for.
-use Rattle.std.proofs.Common.{◌≡◌, ◌≢◌, ℕ, zero, suc, ◌<◌, ◌≤◌, Bool, true, false, ◌&&◌, List, [], ◌∷◌, length, Option, Some, None, refl, sym, ap, subst, ◌∙◌, arith, codes, get_or, take, drop, ◌+◌, ◌-◌, if◌then◌else◌}
+use Rattle.std.proofs.Common.{◌≡◌, ◌≢◌, ℕ, ◌≤◌, Bool, true, false, ◌&&◌, List, [], ◌∷◌, length, Option, Some, None, refl, sym, ap, subst, ◌∙◌, arith, codes, get_or, take, drop, ◌-◌, if◌then◌else◌}
 use Rattle.std.specs.Prelude.{is_some, option_and_then, option_map, nat_le, All, map}
 use Rattle.std.specs.Str.Parse.{digits_value}
 use Rattle.std.proofs.lemmas.Bool.Decides.{nat_tests}
@@ -107,28 +107,36 @@ pass_is verb (out ∷ file ∷ []) c is =
     })
 pass_is verb (out ∷ file ∷ other ∷ rest) c is = cc
 
+-- a log and two outputs, apart from one another and from these files
+three_names : (files : List (List ℕ)) (journal out other : List ℕ) → are_three_names files journal out other ≡ true
+    → (are_libraries files ≡ true) × AreNames (journal ∷ out ∷ other ∷ []) × All (λ (l : Library). IsNoneOf l.file (journal ∷ out ∷ other ∷ [])) (map split_at_equals files)
+three_names files journal out other good =
+    let six = and_parts _ (differ out other) good in
+    let five = and_parts _ (differ journal other) six.0 in
+    let four = and_parts _ (differ journal out) five.0 in
+    let three = and_parts _ (is_free files other) four.0 in
+    let two = and_parts _ (is_free files out) three.0 in
+    let one = and_parts (are_libraries files) (is_free files journal) two.0 in
+    let names : AreNames (journal ∷ out ∷ other ∷ []) = (
+      free_named files journal one.1,
+      (apart journal out four.1, (apart journal other five.1, tt)),
+      (free_named files out two.1, (apart out other six.1, tt), (free_named files other three.1, tt, tt)),
+    ) in
+    (one.0, names, λ k d less. (free_apart files journal one.1 k d less, (free_apart files out two.1 k d less, (free_apart files other three.1 k d less, tt))))
+
 run_is : (verb : List ℕ) (words : List (List ℕ)) (c : Command) → run_of words ≡ Some c → IsCommand (verb ∷ words) c
 run_is verb [] c is = cc
 run_is verb (journal ∷ []) c is = cc
 run_is verb (journal ∷ out ∷ []) c is = cc
 run_is verb (journal ∷ out ∷ report ∷ words) c is =
-    let parts = if_some _ (Run journal out report (length words)) c is in
-    let six = and_parts _ (differ out report) parts.0 in
-    let five = and_parts _ (differ journal report) six.0 in
-    let four = and_parts _ (differ journal out) five.0 in
-    let three = and_parts _ (is_free words report) four.0 in
-    let two = and_parts _ (is_free words out) three.0 in
-    let one = and_parts (are_libraries words) (is_free words journal) two.0 in
+    let parts = if_some (are_three_names words journal out report) (Run journal out report (length words)) c is in
+    let names = three_names words journal out report parts.0 in
     subst (IsCommand (verb ∷ journal ∷ out ∷ report ∷ words)) parts.1 (record {
       count = length-map words split_at_equals;
-      codes = codes_of words one.0;
-      names = (
-        free_named words journal one.1,
-        (apart journal out four.1, (apart journal report five.1, tt)),
-        (free_named words out two.1, (apart out report six.1, tt), (free_named words report three.1, tt, tt)),
-      );
-      files = λ k d less. (free_apart words journal one.1 k d less, (free_apart words out two.1 k d less, (free_apart words report three.1 k d less, tt)));
-      bounded = few words one.0;
+      codes = codes_of words names.0;
+      names = names.1;
+      files = names.2;
+      bounded = few words names.0;
     })
 
 load_is : (verb : List ℕ) (words : List (List ℕ)) (c : Command) → load_of words ≡ Some c → IsCommand (verb ∷ words) c
@@ -144,6 +152,17 @@ load_is verb (journal ∷ words) c is =
       bounded = few words good.0;
     })
 
+-- a command without files
+without_files : (words : List (List ℕ)) (c : Command) → words_of_files words (Some c) ≡ [] → file_count c ≡ 0 → AreNames (names_of c) → IsBounded c → IsCommand words c
+without_files words c no_words none names bounded = record {
+  count = ap (λ files. length (map split_at_equals files)) no_words ∙ sym none;
+  codes = subst (λ files. All (λ (l : Library). is_code l.code ≡ true) (map split_at_equals files)) (sym no_words) (All-nil (λ (l : Library). is_code l.code ≡ true));
+  names = names;
+  files = subst (λ files. All (λ (l : Library). IsNoneOf l.file (names_of c)) (map split_at_equals files)) (sym no_words)
+      (All-nil (λ (l : Library). IsNoneOf l.file (names_of c)));
+  bounded = bounded;
+}
+
 two_names : (journal out : List ℕ) → are_two_names journal out ≡ true → AreNames (journal ∷ out ∷ [])
 two_names journal out good =
     let both = and_parts _ (differ journal out) good in
@@ -155,22 +174,10 @@ export_is verb [] c is = cc
 export_is verb (journal ∷ []) c is = cc
 export_is verb (journal ∷ out ∷ []) c is =
     let parts = if_some (are_two_names journal out) (Export journal out None) c is in
-    subst (IsCommand (verb ∷ journal ∷ out ∷ [])) parts.1 (record {
-      count = refl;
-      codes = All-nil (λ (l : Library). is_code l.code ≡ true);
-      names = two_names journal out parts.0;
-      files = λ k d less. absurd (omega (arith, less));
-      bounded = tt;
-    })
+    subst (IsCommand (verb ∷ journal ∷ out ∷ [])) parts.1 (without_files (verb ∷ journal ∷ out ∷ []) _ refl refl (two_names journal out parts.0) tt)
 export_is verb (journal ∷ out ∷ code ∷ []) c is =
     let parts = if_some _ (Export journal out (Some code)) c is in
-    subst (IsCommand (verb ∷ journal ∷ out ∷ code ∷ [])) parts.1 (record {
-      count = refl;
-      codes = All-nil (λ (l : Library). is_code l.code ≡ true);
-      names = two_names journal out (and_parts (are_two_names journal out) _ parts.0).0;
-      files = λ k d less. absurd (omega (arith, less));
-      bounded = tt;
-    })
+    subst (IsCommand (verb ∷ journal ∷ out ∷ code ∷ [])) parts.1 (without_files (verb ∷ journal ∷ out ∷ code ∷ []) _ refl refl (two_names journal out (and_parts (are_two_names journal out) _ parts.0).0) tt)
 export_is verb (journal ∷ out ∷ code ∷ other ∷ rest) c is = cc
 
 report_is : (verb : List ℕ) (words : List (List ℕ)) (c : Command) → report_of words ≡ Some c → IsCommand (verb ∷ words) c
@@ -178,13 +185,7 @@ report_is verb [] c is = cc
 report_is verb (journal ∷ []) c is = cc
 report_is verb (journal ∷ out ∷ []) c is =
     let parts = if_some (are_two_names journal out) (Report journal out) c is in
-    subst (IsCommand (verb ∷ journal ∷ out ∷ [])) parts.1 (record {
-      count = refl;
-      codes = All-nil (λ (l : Library). is_code l.code ≡ true);
-      names = two_names journal out parts.0;
-      files = λ k d less. absurd (omega (arith, less));
-      bounded = tt;
-    })
+    subst (IsCommand (verb ∷ journal ∷ out ∷ [])) parts.1 (without_files (verb ∷ journal ∷ out ∷ []) _ refl refl (two_names journal out parts.0) tt)
 report_is verb (journal ∷ out ∷ other ∷ rest) c is = cc
 
 make_is : (verb : List ℕ) (words : List (List ℕ)) (c : Command) → make_of words ≡ Some c → IsCommand (verb ∷ words) c
@@ -195,31 +196,14 @@ make_is verb (seed ∷ count ∷ out ∷ []) c is =
     let first = and_then_some _ (number_upto greatest_seed seed) c is in
     let second = and_then_some _ (number_upto most_entries count) c first.2 in
     let parts = if_some (is_name out) (Make first.0 second.0 out) c second.2 in
-    subst (IsCommand (verb ∷ seed ∷ count ∷ out ∷ [])) parts.1 (record {
-      count = refl;
-      codes = All-nil (λ (l : Library). is_code l.code ≡ true);
-      names = (named out parts.0, tt, tt);
-      files = λ k d less. absurd (omega (arith, less));
-      bounded = number_within most_entries count second.0 second.1;
-    })
+    subst (IsCommand (verb ∷ seed ∷ count ∷ out ∷ [])) parts.1 (without_files (verb ∷ seed ∷ count ∷ out ∷ []) _ refl refl (named out parts.0, tt, tt) (number_within most_entries count second.0 second.1))
 make_is verb (seed ∷ count ∷ out ∷ other ∷ rest) c is = cc
-
--- a command without names and files
-bare : (words : List (List ℕ)) (c : Command) → words_of_files words (Some c) ≡ [] → file_count c ≡ 0 → names_of c ≡ [] → IsBounded c → IsCommand words c
-bare words c no_words none no_names bounded = record {
-  count = ap (λ files. length (map split_at_equals files)) no_words ∙ sym none;
-  codes = subst (λ files. All (λ (l : Library). is_code l.code ≡ true) (map split_at_equals files)) (sym no_words) (All-nil (λ (l : Library). is_code l.code ≡ true));
-  names = subst AreNames (sym no_names) tt;
-  files = subst (λ names. All (λ (l : Library). IsNoneOf l.file names) (map split_at_equals (words_of_files words (Some c)))) (sym no_names)
-      (λ k d less. tt);
-  bounded = bounded;
-}
 
 verify_is : (verb : List ℕ) (words : List (List ℕ)) (c : Command) → verify_of words ≡ Some c → IsCommand (verb ∷ words) c
 verify_is verb [] c is = cc
 verify_is verb (journal ∷ []) c is =
     let parts = if_some (is_name journal) (Verify journal) c is in
-    subst (IsCommand (verb ∷ journal ∷ [])) parts.1 (bare (verb ∷ journal ∷ []) (Verify journal) refl refl refl tt)
+    subst (IsCommand (verb ∷ journal ∷ [])) parts.1 (without_files (verb ∷ journal ∷ []) _ refl refl tt tt)
 verify_is verb (journal ∷ other ∷ rest) c is = cc
 
 matches_is : (verb : List ℕ) (words : List (List ℕ)) (c : Command) → matches_of words ≡ Some c → IsCommand (verb ∷ words) c
@@ -227,34 +211,18 @@ matches_is verb [] c is = cc
 matches_is verb (journal ∷ []) c is = cc
 matches_is verb (journal ∷ out ∷ []) c is =
     let parts = if_some (are_two_names journal out) (Matches journal out) c is in
-    subst (IsCommand (verb ∷ journal ∷ out ∷ [])) parts.1 (record {
-      count = refl;
-      codes = All-nil (λ (l : Library). is_code l.code ≡ true);
-      names = two_names journal out parts.0;
-      files = λ k d less. absurd (omega (arith, less));
-      bounded = tt;
-    })
+    subst (IsCommand (verb ∷ journal ∷ out ∷ [])) parts.1 (without_files (verb ∷ journal ∷ out ∷ []) _ refl refl (two_names journal out parts.0) tt)
 matches_is verb (journal ∷ out ∷ other ∷ rest) c is = cc
 
 -- a log and two outputs with one file
-three_names : (verb journal out rest file : List ℕ) (code : Option (List ℕ)) (words : List (List ℕ)) → are_three_names (file ∷ []) journal out rest ≡ true
+one_file : (verb journal out rest file : List ℕ) (code : Option (List ℕ)) (words : List (List ℕ)) → are_three_names (file ∷ []) journal out rest ≡ true
     → IsCommand (verb ∷ journal ∷ out ∷ rest ∷ file ∷ words) (Holdings journal out rest code)
-three_names verb journal out rest file code words good =
-    let six = and_parts _ (differ out rest) good in
-    let five = and_parts _ (differ journal rest) six.0 in
-    let four = and_parts _ (differ journal out) five.0 in
-    let three = and_parts _ (is_free (file ∷ []) rest) four.0 in
-    let two = and_parts _ (is_free (file ∷ []) out) three.0 in
-    let one = and_parts (are_libraries (file ∷ [])) (is_free (file ∷ []) journal) two.0 in
-    record {
+one_file verb journal out rest file code words good =
+    let names = three_names (file ∷ []) journal out rest good in record {
       count = refl;
-      codes = codes_of (file ∷ []) one.0;
-      names = (
-        free_named (file ∷ []) journal one.1,
-        (apart journal out four.1, (apart journal rest five.1, tt)),
-        (free_named (file ∷ []) out two.1, (apart out rest six.1, tt), (free_named (file ∷ []) rest three.1, tt, tt)),
-      );
-      files = λ k d less. (free_apart (file ∷ []) journal one.1 k d less, (free_apart (file ∷ []) out two.1 k d less, (free_apart (file ∷ []) rest three.1 k d less, tt)));
+      codes = codes_of (file ∷ []) names.0;
+      names = names.1;
+      files = names.2;
       bounded = tt;
     }
 
@@ -265,11 +233,11 @@ holdings_is verb (journal ∷ out ∷ []) c is = cc
 holdings_is verb (journal ∷ out ∷ rest ∷ []) c is = cc
 holdings_is verb (journal ∷ out ∷ rest ∷ file ∷ []) c is =
     let parts = if_some (are_three_names (file ∷ []) journal out rest) (Holdings journal out rest None) c is in
-    subst (IsCommand (verb ∷ journal ∷ out ∷ rest ∷ file ∷ [])) parts.1 (three_names verb journal out rest file None [] parts.0)
+    subst (IsCommand (verb ∷ journal ∷ out ∷ rest ∷ file ∷ [])) parts.1 (one_file verb journal out rest file None [] parts.0)
 holdings_is verb (journal ∷ out ∷ rest ∷ file ∷ code ∷ []) c is =
     let parts = if_some _ (Holdings journal out rest (Some code)) c is in
     subst (IsCommand (verb ∷ journal ∷ out ∷ rest ∷ file ∷ code ∷ [])) parts.1
-    (three_names verb journal out rest file (Some code) (code ∷ []) (and_parts (are_three_names (file ∷ []) journal out rest) _ parts.0).0)
+    (one_file verb journal out rest file (Some code) (code ∷ []) (and_parts (are_three_names (file ∷ []) journal out rest) _ parts.0).0)
 holdings_is verb (journal ∷ out ∷ rest ∷ file ∷ code ∷ other ∷ words) c is = cc
 
 migrate_is : (verb : List ℕ) (words : List (List ℕ)) (c : Command) → migrate_of words ≡ Some c → IsCommand (verb ∷ words) c
@@ -277,13 +245,7 @@ migrate_is verb [] c is = cc
 migrate_is verb (old ∷ []) c is = cc
 migrate_is verb (old ∷ new ∷ []) c is =
     let parts = if_some (are_two_names old new) (Migrate old new) c is in
-    subst (IsCommand (verb ∷ old ∷ new ∷ [])) parts.1 (record {
-      count = refl;
-      codes = All-nil (λ (l : Library). is_code l.code ≡ true);
-      names = two_names old new parts.0;
-      files = λ k d less. absurd (omega (arith, less));
-      bounded = tt;
-    })
+    subst (IsCommand (verb ∷ old ∷ new ∷ [])) parts.1 (without_files (verb ∷ old ∷ new ∷ []) _ refl refl (two_names old new parts.0) tt)
 migrate_is verb (old ∷ new ∷ other ∷ rest) c is = cc
 
 alone_is : (verb : List ℕ) (words : List (List ℕ)) (one : Command) (c : Command) → IsCommand (verb ∷ words) one → alone one words ≡ Some c
@@ -292,7 +254,7 @@ alone_is verb [] one c good is = let same : one ≡ c = cc in subst (IsCommand (
 alone_is verb (word ∷ words) one c good is = cc
 
 a_help : (words : List (List ℕ)) (topic : Topic) → IsCommand words (Help topic)
-a_help words topic = bare words (Help topic) refl refl refl tt
+a_help words topic = without_files words (Help topic) refl refl tt tt
 
 mapped_help : (words : List (List ℕ)) (o : Option Topic) (c : Command) → option_map Help o ≡ Some c → IsCommand words c
 mapped_help words None c is = cc
@@ -332,7 +294,7 @@ command_is (verb ∷ words) c is =
     helped = a_help (verb ∷ words) topic.All
 
     versioned : IsCommand (verb ∷ words) Version
-    versioned = bare (verb ∷ words) Version refl refl refl tt
+    versioned = without_files (verb ∷ words) Version refl refl tt tt
 
 -- a command has a library for each of its files
 pub libraries_are_counted : (words : List (List ℕ)) (c : Command) → command_of words ≡ Some c → length (libraries_of words) ≡ file_count c
