@@ -129,29 +129,23 @@ linked_at own key all class h successor false e s t =
     let some : is_some h.tie.key ≡ true = rw e refl in
     rw (hand_on_nothing own successor h (t.unawaiting some)) (stays all class h (tied_linked own all class h key e t (t.kept key e s)))
 
-hand_on_field : (own : Key) (successor : Option Key) (h : KeptField) → (hand_on own successor h).field ≡ h.field
-hand_on_field own successor h = at (awaits_key own h) successor
+-- what awaiting doesn't touch stays
+hand_on_as : {A : Type 0} (part : KeptField → A) → ((key : Key) (h : KeptField) → part (await h key) ≡ part h) → (own : Key) (successor : Option Key) (h : KeptField) → part (hand_on own successor h) ≡ part h
+hand_on_as part same own successor h = at (awaits_key own h) successor
   where
-    at : (b : Bool) (o : Option Key) → (if b then option_map_or (await h) o h else h).field ≡ h.field
+    at : (b : Bool) (o : Option Key) → part (if b then option_map_or (await h) o h else h) ≡ part h
     at true None = refl
-    at true (Some key) = refl
+    at true (Some key) = same key h
     at false o = refl
+
+hand_on_field : (own : Key) (successor : Option Key) (h : KeptField) → (hand_on own successor h).field ≡ h.field
+hand_on_field = hand_on_as (λ h. h.field) (λ key h. refl)
 
 hand_on_key : (own : Key) (successor : Option Key) (h : KeptField) → (hand_on own successor h).tie.key ≡ h.tie.key
-hand_on_key own successor h = at (awaits_key own h) successor
-  where
-    at : (b : Bool) (o : Option Key) → (if b then option_map_or (await h) o h else h).tie.key ≡ h.tie.key
-    at true None = refl
-    at true (Some key) = refl
-    at false o = refl
+hand_on_key = hand_on_as (λ h. h.tie.key) (λ key h. refl)
 
 hand_on_whole : (own : Key) (successor : Option Key) (h : KeptField) → (hand_on own successor h).tie.whole ≡ h.tie.whole
-hand_on_whole own successor h = at (awaits_key own h) successor
-  where
-    at : (b : Bool) (o : Option Key) → (if b then option_map_or (await h) o h else h).tie.whole ≡ h.tie.whole
-    at true None = refl
-    at true (Some key) = refl
-    at false o = refl
+hand_on_whole = hand_on_as (λ h. h.tie.whole) (λ key h. refl)
 
 loosened_at : (own : Key) (all : List Linkable) (class : Class) (h : KeptField) (successor : Option Key) (o : Option Key) → h.tie.key ≡ o → IsTiedBut own all class h →
     IsLoosened all class h
