@@ -1,5 +1,7 @@
 use iso2709_record::{Layout, RawField, check, decode, first_subfield};
 use marc_types::{Leader, Refusal, Tag};
+use std::alloc::Global;
+use std::process::Abort;
 use std::test::Fail;
 
 /// An authority of 158 bytes: the base address is 73, and the areas stand at 73, 83, 87 and 115.
@@ -135,23 +137,33 @@ const CHANGES: [Change; 27] = [
     ("leader 09 is b", &[(9, b'b')], SOUND),
 ];
 
+/// The authority with these bytes at these places.
+fn changed(rt: &impl Abort, places: &[(usize, u8)]) -> [u8; 158] {
+    let mut bytes = *AUTHORITY;
+    for (place, byte) in places {
+        assert!(rt; *place < 158);
+        bytes[*place] = *byte;
+    }
+    bytes
+}
+
+// Behind a function without a clause, since the clauses of `check` would be unfolded at each later goal.
+fn is_answer(bytes: &[u8], answer: &Result<Layout, Refusal>) -> bool {
+    check(bytes) == *answer
+}
+
 #[test]
 fn the_first_fault_is_the_answer(rt: HostRuntime) {
     for (change, places, answer) in &CHANGES {
-        let mut bytes = *AUTHORITY;
-        for (place, byte) in *places {
-            assert!(rt; *place < 158);
-            bytes[*place] = *byte;
-        }
-        assert_eq!(rt; check(&bytes), *answer, "{change}");
+        assert!(rt; is_answer(&changed(&rt, places), answer), "{change}");
     }
 }
 
 #[test]
 fn a_length_is_that_of_the_piece(rt: HostRuntime) {
-    for piece in [&AUTHORITY[..100], &[0x1d], &[]] {
-        assert_eq!(rt; check(piece), Err(Refusal::BadLength));
-    }
+    assert!(rt; is_answer(&AUTHORITY[..100], &Err(Refusal::BadLength)));
+    assert!(rt; is_answer(&[0x1d], &Err(Refusal::BadLength)));
+    assert!(rt; is_answer(&[], &Err(Refusal::BadLength)));
 }
 
 const AUTHORITY_LEADER: Leader = Leader {
@@ -225,31 +237,44 @@ fn is_field((field, (tag, area)): (&RawField, &(&[u8; 3], &[u8]))) -> bool {
     field.tag == Tag { a, b, c } && field.area.as_slice() == *area
 }
 
-#[test]
-fn records_are_decoded(rt: HostRuntime) -> Result<(), Fail> {
-    for (bytes, leader, coding, fields) in &RECORDS {
-        let raw = decode(rt.alloc(), bytes).ok().ok_or("a sound record")?;
-        assert!(rt; raw.leader == *leader && raw.coding == *coding);
-        assert!(rt; are_fields(raw.fields.as_slice(), fields));
-    }
-    Ok(())
+fn is_decoded(alloc: Global, record: &Decoded) -> bool {
+    let (bytes, leader, coding, fields) = *record;
+    let Ok(raw) = decode(alloc, bytes) else {
+        return false;
+    };
+    raw.leader == leader && raw.coding == coding && are_fields(raw.fields.as_slice(), fields)
 }
+
+#[test]
+fn records_are_decoded(rt: HostRuntime) {
+    for record in &RECORDS {
+        assert!(rt; is_decoded(rt.alloc(), record));
+    }
+}
+
+/// The code and the text of the first subfield, and what stands behind it.
+fn first_cut(bytes: &[u8]) -> Option<(u8, &[u8], &[u8])> {
+    let cut = first_subfield(bytes)?;
+    Some((cut.code, cut.text, cut.rest))
+}
+
+const CUTS: [(u8, &[u8]); 3] = [
+    (b'a', b"Twain, Mark,"),
+    (b'd', b""),
+    (b'0', b"(DLC)n79021164"),
+];
 
 #[test]
 fn subfields_are_cut_off(rt: HostRuntime) {
     let mut rest: &[u8] = b"\x1faTwain, Mark,\x1fd\x1f0(DLC)n79021164";
-    for (code, text) in [
-        (b'a', b"Twain, Mark,".as_slice()),
-        (b'd', b""),
-        (b'0', b"(DLC)n79021164"),
-    ] {
-        let Some(cut) = first_subfield(rest) else {
+    for (code, text) in &CUTS {
+        let Some((found, cut, behind)) = first_cut(rest) else {
             assert!(rt; false, "a subfield is left");
             return;
         };
-        assert_eq!(rt; cut.code, code);
-        assert_eq!(rt; cut.text, text);
-        rest = cut.rest;
+        assert_eq!(rt; found, *code);
+        assert_eq!(rt; cut, *text);
+        rest = behind;
     }
-    assert!(rt; first_subfield(rest).is_none());
+    assert!(rt; first_cut(rest).is_none());
 }

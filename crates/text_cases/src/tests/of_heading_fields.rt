@@ -5,7 +5,7 @@ use heading_fields::{
     authority_kind, controlled, full, has_subdivision, heading_kind, heading_len,
     is_controlled_code, names, rewrite, takes_subdivisions, unlink,
 };
-use marc_types::{Class, Field, Key, Kind, Subfield, Subfields, Tag, Text};
+use marc_types::{Class, Field, Key, Kind, NoMemory, Subfield, Subfields, Tag, Text};
 use std::alloc::Global;
 use std::test::Fail;
 
@@ -178,7 +178,7 @@ fn tag(name: &[u8; 3]) -> Tag {
 /// A field: its tag, its indicators, and its pieces of code and text.
 type Line = (&'static [u8; 3], &'static [u8; 2], Pieces);
 
-fn field(alloc: Global, line: &Line) -> Result<Field, Fail> {
+fn field(alloc: Global, line: &Line) -> Result<Field, NoMemory> {
     let (name, indicators, pieces) = *line;
     Ok(Field::Variable {
         tag: tag(name),
@@ -188,22 +188,19 @@ fn field(alloc: Global, line: &Line) -> Result<Field, Fail> {
     })
 }
 
-fn subfields(alloc: Global, pieces: Pieces) -> Result<Subfields, Fail> {
+fn subfields(alloc: Global, pieces: Pieces) -> Result<Subfields, NoMemory> {
     let mut subs = Vec::new(alloc);
     for (code, text) in pieces {
-        subs.push(Subfield {
-            code: *code,
-            text: Text::from_str(alloc, text)?,
-        })?;
+        let text = Text::from_str(alloc, text)?;
+        subs.push(Subfield { code: *code, text })?;
     }
     Ok(Subfields::from_vec(subs))
 }
 
-fn key(alloc: Global, number: &str) -> Result<Key, Fail> {
-    Ok(Key {
-        code: Text::from_str(alloc, "DLC")?,
-        number: Text::from_str(alloc, number)?,
-    })
+fn key(alloc: Global, number: &str) -> Result<Key, NoMemory> {
+    let code = Text::from_str(alloc, "DLC")?;
+    let number = Text::from_str(alloc, number)?;
+    Ok(Key { code, number })
 }
 
 /// A field that is rewritten by a heading and its key's number, whole or by the base, and what it comes to.
@@ -217,22 +214,29 @@ struct Rewriting {
     after: Line,
 }
 
-fn rewritten(alloc: Global, row: &Rewriting) -> Result<Field, Fail> {
+fn rewritten(alloc: Global, row: &Rewriting) -> Result<Field, NoMemory> {
     let key = key(alloc, row.number)?;
     let heading = field(alloc, &row.heading)?;
     let before = field(alloc, &row.before)?;
-    let made = rewrite(
+    rewrite(
         alloc, &before, row.kind, row.class, &heading, &key, row.whole,
-    )?;
-    Ok(made)
+    )
 }
 
-fn is_field(alloc: Global, made: &Field, wanted: &Line) -> Result<bool, Fail> {
-    Ok(*made == field(alloc, wanted)?)
+fn is_field(alloc: Global, made: &Field, wanted: &Line) -> Result<bool, NoMemory> {
+    let wanted = field(alloc, wanted)?;
+    Ok(*made == wanted)
 }
 
-fn has_number(alloc: Global, line: &Line, number: &str) -> Result<bool, Fail> {
-    Ok(names(&field(alloc, line)?, &key(alloc, number)?))
+fn comes_to(alloc: Global, row: &Rewriting) -> Result<bool, NoMemory> {
+    let made = rewritten(alloc, row)?;
+    is_field(alloc, &made, &row.after)
+}
+
+fn has_number(alloc: Global, line: &Line, number: &str) -> Result<bool, NoMemory> {
+    let field = field(alloc, line)?;
+    let key = key(alloc, number)?;
+    Ok(names(&field, &key))
 }
 
 const TWAIN: Line = (
@@ -317,8 +321,7 @@ const NAMES: [Rewriting; 3] = [
 #[test]
 fn a_name_is_rewritten(rt: HostRuntime) -> Result<(), Fail> {
     for row in &NAMES {
-        let made = rewritten(rt.alloc(), row)?;
-        assert!(rt; is_field(rt.alloc(), &made, &row.after)?);
+        assert!(rt; comes_to(rt.alloc(), row)?);
     }
     Ok(())
 }
@@ -404,15 +407,15 @@ const SUBJECTS: [Rewriting; 4] = [
 #[test]
 fn subjects_are_rewritten(rt: HostRuntime) -> Result<(), Fail> {
     for row in &SUBJECTS {
-        let made = rewritten(rt.alloc(), row)?;
-        assert!(rt; is_field(rt.alloc(), &made, &row.after)?);
+        assert!(rt; comes_to(rt.alloc(), row)?);
     }
     Ok(())
 }
 
-fn unlinked(alloc: Global, line: &Line, number: &str) -> Result<Field, Fail> {
-    let made = unlink(alloc, &field(alloc, line)?, &key(alloc, number)?)?;
-    Ok(made)
+fn unlinked(alloc: Global, line: &Line, number: &str) -> Result<Field, NoMemory> {
+    let field = field(alloc, line)?;
+    let key = key(alloc, number)?;
+    unlink(alloc, &field, &key)
 }
 
 #[test]
@@ -424,13 +427,9 @@ fn a_subject_is_unlinked(rt: HostRuntime) -> Result<(), Fail> {
 
 #[test]
 fn fields_name_keys(rt: HostRuntime) -> Result<(), Fail> {
-    for (line, number, wanted) in [
-        (&NUMBERED, "n79021164", true),
-        (&VARIANT, "n79021164", false),
-        (&UNLINKED, "sh4", false),
-    ] {
-        assert!(rt; has_number(rt.alloc(), line, number)? == wanted);
-    }
+    assert!(rt; has_number(rt.alloc(), &NUMBERED, "n79021164")?);
+    assert!(rt; !has_number(rt.alloc(), &VARIANT, "n79021164")?);
+    assert!(rt; !has_number(rt.alloc(), &UNLINKED, "sh4")?);
     Ok(())
 }
 
@@ -456,14 +455,26 @@ const WHOLE: Pieces = &[
     (b'v', "Index"),
 ];
 
-fn has_base(alloc: Global) -> Result<bool, Fail> {
-    let base = controlled(alloc, &field(alloc, &PARTED)?, Kind::Personal)?;
-    Ok(base == subfields(alloc, BASE)?)
+fn has_base(alloc: Global) -> Result<bool, NoMemory> {
+    let parted = field(alloc, &PARTED)?;
+    let base = controlled(alloc, &parted, Kind::Personal)?;
+    are_subfields(alloc, &base, BASE)
 }
 
-fn has_full(alloc: Global, class: Class, wanted: Pieces) -> Result<bool, Fail> {
-    let made = full(alloc, &field(alloc, &PARTED)?, Kind::Personal, class)?;
-    Ok(made == subfields(alloc, wanted)?)
+fn has_full(alloc: Global, class: Class, wanted: Pieces) -> Result<bool, NoMemory> {
+    let parted = field(alloc, &PARTED)?;
+    let made = full(alloc, &parted, Kind::Personal, class)?;
+    are_subfields(alloc, &made, wanted)
+}
+
+fn are_subfields(alloc: Global, made: &Subfields, wanted: Pieces) -> Result<bool, NoMemory> {
+    let wanted = subfields(alloc, wanted)?;
+    Ok(*made == wanted)
+}
+
+fn is_divided(alloc: Global, line: &Line) -> Result<bool, NoMemory> {
+    let field = field(alloc, line)?;
+    Ok(has_subdivision(&field))
 }
 
 #[test]
@@ -472,21 +483,26 @@ fn parts_of_a_heading(rt: HostRuntime) -> Result<(), Fail> {
     assert!(rt; has_base(alloc)?);
     assert!(rt; has_full(alloc, Class::Bibliographic, BASE)?);
     assert!(rt; has_full(alloc, Class::Authority, WHOLE)?);
-    assert!(rt; has_subdivision(&field(alloc, &PARTED)?));
+    assert!(rt; is_divided(alloc, &PARTED)?);
     Ok(())
 }
 
 #[test]
 fn lengths_of_headings(rt: HostRuntime) -> Result<(), Fail> {
-    let title = short_title(rt.alloc(), b'a', "Roughing it.")?;
-    assert_eq!(rt; heading_len(&title, Kind::Title), 14);
-    let bare = short_title(rt.alloc(), b'x', "Plays")?;
-    assert_eq!(rt; heading_len(&bare, Kind::Title), 0);
+    assert_eq!(rt; title_len(rt.alloc(), b'a', "Roughing it.")?, 14);
+    assert_eq!(rt; title_len(rt.alloc(), b'x', "Plays")?, 0);
     Ok(())
 }
 
+fn title_len(alloc: Global, code: u8, text: &str) -> Result<u64, NoMemory>
+    requires { length text.now ≤ 100 }
+{
+    let title = short_title(alloc, code, text)?;
+    Ok(heading_len(&title, Kind::Title))
+}
+
 #[tactic(auto, unfolding(marc_types::specs::Valid::field_size))]
-fn short_title(alloc: Global, code: u8, text: &str) -> Result<Field, Fail>
+fn short_title(alloc: Global, code: u8, text: &str) -> Result<Field, NoMemory>
     requires { length text.now ≤ 100 }
     ensures { IfOk result (λ made. field_size made ≤ 1000000) }
 {

@@ -139,49 +139,75 @@ const ACCENTED_BYTES: &[u8] = b"00064nam a2200049 a 4500\
 001000300000245001100003\x1e\
 m1\x1e00\x1faCafe\xcc\x81\x1e\x1d";
 
-fn expect_written(
+/// The record's bytes behind some that are there.
+fn encoded_behind(
     rt: &impl Abort,
     alloc: Global,
     rec: &Record,
+    mut out: Vec<u8>,
+) -> Result<Vec<u8>, NoMemory> {
+    assert!(rt; fits(rec));
+    encode_into(alloc, rec, &mut out)?;
+    Ok(out)
+}
+
+fn encoded(rt: &impl Abort, alloc: Global, rec: &Record) -> Result<Vec<u8>, NoMemory> {
+    assert!(rt; fits(rec));
+    spelled_once(rec, rec);
+    Ok(encode_vec(alloc, rec)?.into_vec())
+}
+
+fn expect_written(
+    rt: &impl Abort,
+    alloc: Global,
+    rec: Record,
     bytes: &[u8],
 ) -> Result<(), NoMemory> {
-    assert!(rt; fits(rec));
-    assert_eq!(rt; encoded_len(rec), bytes.len() as u64);
-    let mut out = encode_vec(alloc, rec)?.into_vec();
+    assert_eq!(rt; encoded_len(&rec), bytes.len() as u64);
+    let out = encoded(rt, alloc, &rec)?;
     assert_eq!(rt; out.as_slice(), bytes);
-    encode_into(alloc, rec, &mut out)?;
-    assert_eq!(rt; &out[bytes.len()..], bytes);
-    spelled_once(rec, rec);
+    let twice = encoded_behind(rt, alloc, &rec, out)?;
+    assert!(rt; twice.len() >= bytes.len());
+    assert_eq!(rt; &twice[bytes.len()..], bytes);
     Ok(())
 }
 
 #[test]
 fn records_are_written_byte_for_byte(rt: HostRuntime) -> Result<(), Fail> {
     let alloc = rt.alloc();
-    expect_written(&rt, alloc, &authority(&rt, alloc)?, AUTHORITY_BYTES)?;
-    expect_written(&rt, alloc, &book(&rt, alloc)?, BOOK_BYTES)?;
-    expect_written(&rt, alloc, &accented(&rt, alloc)?, ACCENTED_BYTES)?;
+    expect_written(&rt, alloc, authority(&rt, alloc)?, AUTHORITY_BYTES)?;
+    expect_written(&rt, alloc, book(&rt, alloc)?, BOOK_BYTES)?;
+    expect_written(&rt, alloc, accented(&rt, alloc)?, ACCENTED_BYTES)?;
     Ok(())
+}
+
+/// A number of so many bytes.
+fn long_number(alloc: Global, len: usize) -> Result<Fields, Fail> {
+    let bytes = vec![in alloc; b'x'; len]?;
+    let text = Text::from_string(String::from_utf8(bytes)?);
+    let tag = Tag {
+        a: b'0',
+        b: b'0',
+        c: b'1',
+    };
+    let fields = vec![in alloc; Field::Control { tag, text }]?;
+    Ok(Fields::from_vec(fields))
+}
+
+fn long_number_fits(rt: &impl Abort, alloc: Global, len: usize) -> Result<bool, Fail> {
+    let fields = long_number(alloc, len)?;
+    assert!(rt; makes_record(&BOOK, fields.as_slice()));
+    let rec = Record {
+        leader: BOOK,
+        fields,
+    };
+    Ok(fits(&rec))
 }
 
 #[test]
 fn a_field_of_ten_thousand_bytes_does_not_fit(rt: HostRuntime) -> Result<(), Fail> {
-    let alloc = rt.alloc();
-    for (len, fitting) in [(9_998, true), (9_999, false)] {
-        let tag = Tag {
-            a: b'0',
-            b: b'0',
-            c: b'1',
-        };
-        let text = Text::from_string(String::from_utf8(vec![in alloc; b'x'; len]?)?);
-        let fields = Fields::from_vec(vec![in alloc; Field::Control { tag, text }]?);
-        assert!(rt; makes_record(&BOOK, fields.as_slice()));
-        let rec = Record {
-            leader: BOOK,
-            fields,
-        };
-        assert_eq!(rt; fits(&rec), fitting);
-    }
+    assert!(rt; long_number_fits(&rt, rt.alloc(), 9_998)?);
+    assert!(rt; !long_number_fits(&rt, rt.alloc(), 9_999)?);
     Ok(())
 }
 
@@ -208,19 +234,29 @@ impl Sink for Short {
     }
 }
 
+/// Whether a record was written, and the bytes that were, where so many pieces are taken.
+fn written_in_pieces(rt: &impl Abort, alloc: Global, rec: &Record, pieces: u64) -> (bool, Vec<u8>) {
+    assert!(rt; fits(rec));
+    let mut out = Short {
+        bytes: Vec::new(alloc),
+        pieces,
+        faults: 0,
+    };
+    let is_written = encode(rec, &mut out).is_ok();
+    (is_written, out.bytes)
+}
+
+const FRONTS: [(u64, usize); 5] = [(0, 0), (1, 24), (4, 60), (6, 63), (100, 135)];
+
 #[test]
 fn a_front_is_written_before_a_fault(rt: HostRuntime) -> Result<(), Fail> {
     let alloc = rt.alloc();
     let rec = book(&rt, alloc)?;
-    assert!(rt; fits(&rec));
-    for (pieces, len) in [(0, 0), (1, 24), (4, 60), (6, 63), (100, 135)] {
-        let mut out = Short {
-            bytes: Vec::new(alloc),
-            pieces,
-            faults: 0,
-        };
-        assert_eq!(rt; encode(&rec, &mut out).is_ok(), len == 135);
-        assert_eq!(rt; out.bytes.as_slice(), &BOOK_BYTES[..len]);
+    for (pieces, len) in &FRONTS {
+        let (is_written, bytes) = written_in_pieces(&rt, alloc, &rec, *pieces);
+        assert_eq!(rt; is_written, *len == 135);
+        assert!(rt; *len <= BOOK_BYTES.len());
+        assert_eq!(rt; bytes.as_slice(), &BOOK_BYTES[..*len]);
     }
     Ok(())
 }

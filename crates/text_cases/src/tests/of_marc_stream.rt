@@ -4,6 +4,7 @@ use marc_stream::{Next, Pieces};
 use outside::{Failed, Source};
 use std::alloc::{AllocError, Global};
 use std::cmp::min;
+use std::process::Abort;
 use std::test::Fail;
 
 /// A source in memory that gives a few bytes a read. The read of that number, from 0, fails.
@@ -79,6 +80,42 @@ fn push_bytes(bytes: &mut Vec<u8>, byte: u8, count: usize) -> Result<(), AllocEr
     Ok(())
 }
 
+fn answer_of(next: Next<'_>) -> Seen {
+    match next {
+        Next::Piece {
+            ordinal,
+            offset,
+            bytes,
+        } => Seen::Piece(ordinal, offset, bytes.len()),
+        Next::Refused {
+            ordinal,
+            offset,
+            refusal,
+        } => Seen::Refused(ordinal, offset, refusal.number()),
+        Next::End => Seen::End,
+        Next::ReadFault => Seen::Fault,
+    }
+}
+
+fn next_seen(pieces: &mut Pieces<Chunks>) -> Option<Seen> {
+    if pieces.is_over() {
+        return None;
+    }
+    Some(answer_of(pieces.next()))
+}
+
+/// Up to eight answers of `next`.
+fn all_seen(alloc: Global, pieces: &mut Pieces<Chunks>) -> Result<Vec<Seen>, AllocError> {
+    let mut all = Vec::with_capacity(alloc, 8)?;
+    for _ in 0..8 {
+        let Some(next) = next_seen(pieces) else {
+            break;
+        };
+        all.push(next)?;
+    }
+    Ok(all)
+}
+
 /// All answers of `next` on these bytes, read in chunks, with the read of that number failing.
 fn answers(
     alloc: Global,
@@ -98,56 +135,46 @@ fn answers(
         Ok(pieces) => pieces,
         Err((_source, _)) => return Err(AllocError),
     };
-    let mut seen = Vec::with_capacity(alloc, 8)?;
-    for _ in 0..8 {
-        if pieces.is_over() {
-            break;
-        }
-        let next = match pieces.next() {
-            Next::Piece {
-                ordinal,
-                offset,
-                bytes,
-            } => Seen::Piece(ordinal, offset, bytes.len()),
-            Next::Refused {
-                ordinal,
-                offset,
-                refusal,
-            } => Seen::Refused(ordinal, offset, refusal.number()),
-            Next::End => Seen::End,
-            Next::ReadFault => Seen::Fault,
-        };
-        let _pushed = seen.push(next);
-    }
+    let seen = all_seen(alloc, &mut pieces)?;
     let source = pieces.finish();
     Ok((seen, source.faults))
 }
 
-#[test]
-fn nothing_is_no_item(rt: HostRuntime) -> Result<(), Fail> {
-    for chunk in CHUNKS {
-        let (empty, _) = answers(rt.alloc(), b"", chunk, None)?;
-        assert_eq!(rt; empty.as_slice(), [Seen::End].as_slice());
-        let (line_ends, _) = answers(rt.alloc(), b"\r\n\n\r", chunk, None)?;
-        assert_eq!(rt; line_ends.as_slice(), [Seen::End].as_slice());
+/// The answers on these bytes are these, in whatever chunks they are read.
+fn expect_seen(
+    rt: &impl Abort,
+    alloc: Global,
+    bytes: &[u8],
+    wanted: &[Seen],
+) -> Result<(), AllocError> {
+    for chunk in &CHUNKS {
+        let (seen, _) = answers(alloc, bytes, *chunk, None)?;
+        assert_eq!(rt; seen.as_slice(), wanted);
     }
     Ok(())
 }
 
 #[test]
-fn terminators_alone_are_pieces(rt: HostRuntime) -> Result<(), Fail> {
-    for chunk in CHUNKS {
-        let (seen, _) = answers(rt.alloc(), b"\x1D\x1D\x1D", chunk, None)?;
-        let want = [
-            Seen::Piece(1, 0, 1),
-            Seen::Piece(2, 1, 1),
-            Seen::Piece(3, 2, 1),
-            Seen::End,
-        ];
-        assert_eq!(rt; seen.as_slice(), want.as_slice());
-    }
+fn nothing_is_no_item(rt: HostRuntime) -> Result<(), Fail> {
+    expect_seen(&rt, rt.alloc(), b"", &[Seen::End])?;
+    expect_seen(&rt, rt.alloc(), b"\r\n\n\r", &[Seen::End])?;
     Ok(())
 }
+
+const THREE: [Seen; 4] = [
+    Seen::Piece(1, 0, 1),
+    Seen::Piece(2, 1, 1),
+    Seen::Piece(3, 2, 1),
+    Seen::End,
+];
+
+#[test]
+fn terminators_alone_are_pieces(rt: HostRuntime) -> Result<(), Fail> {
+    expect_seen(&rt, rt.alloc(), b"\x1D\x1D\x1D", &THREE)?;
+    Ok(())
+}
+
+const TWO: [Seen; 3] = [Seen::Piece(1, 0, 158), Seen::Piece(2, 160, 135), Seen::End];
 
 #[test]
 fn line_ends_between_records_belong_to_none(rt: HostRuntime) -> Result<(), Fail> {
@@ -158,27 +185,32 @@ fn line_ends_between_records_belong_to_none(rt: HostRuntime) -> Result<(), Fail>
     push_piece(&mut bytes, 135)?;
     push_bytes(&mut bytes, b'\r', 1)?;
     push_bytes(&mut bytes, b'\n', 1)?;
-    for chunk in CHUNKS {
-        let (seen, _) = answers(rt.alloc(), bytes.as_slice(), chunk, None)?;
-        let want = [Seen::Piece(1, 0, 158), Seen::Piece(2, 160, 135), Seen::End];
-        assert_eq!(rt; seen.as_slice(), want.as_slice());
-    }
+    expect_seen(&rt, rt.alloc(), bytes.as_slice(), &TWO)?;
     Ok(())
+}
+
+fn expect_unfinished(rt: &impl Abort, alloc: Global, len: usize) -> Result<(), AllocError> {
+    let mut bytes = Vec::new(alloc);
+    push_bytes(&mut bytes, b'x', len)?;
+    let wanted = [Seen::Refused(1, 0, UNFINISHED), Seen::End];
+    expect_seen(rt, alloc, bytes.as_slice(), &wanted)
 }
 
 #[test]
 fn bytes_without_a_terminator_are_unfinished(rt: HostRuntime) -> Result<(), Fail> {
-    for len in [100, 99_999] {
-        let mut bytes = Vec::new(rt.alloc());
-        push_bytes(&mut bytes, b'x', len)?;
-        for chunk in CHUNKS {
-            let (seen, _) = answers(rt.alloc(), bytes.as_slice(), chunk, None)?;
-            let want = [Seen::Refused(1, 0, UNFINISHED), Seen::End];
-            assert_eq!(rt; seen.as_slice(), want.as_slice());
-        }
-    }
+    expect_unfinished(&rt, rt.alloc(), 100)?;
+    expect_unfinished(&rt, rt.alloc(), 99_999)?;
     Ok(())
 }
+
+const LONG: [Seen; 6] = [
+    Seen::Piece(1, 0, 99_999),
+    Seen::Refused(2, 99_999, OVERLONG),
+    Seen::Refused(3, 199_999, OVERLONG),
+    Seen::Piece(4, 499_999, 2),
+    Seen::Refused(5, 500_001, OVERLONG),
+    Seen::End,
+];
 
 #[test]
 fn the_longest_piece_has_99_999_bytes(rt: HostRuntime) -> Result<(), Fail> {
@@ -188,27 +220,17 @@ fn the_longest_piece_has_99_999_bytes(rt: HostRuntime) -> Result<(), Fail> {
     push_piece(&mut bytes, 300_000)?;
     push_piece(&mut bytes, 2)?;
     push_bytes(&mut bytes, b'x', 100_000)?;
-    for chunk in CHUNKS {
-        let (seen, _) = answers(rt.alloc(), bytes.as_slice(), chunk, None)?;
-        let want = [
-            Seen::Piece(1, 0, 99_999),
-            Seen::Refused(2, 99_999, OVERLONG),
-            Seen::Refused(3, 199_999, OVERLONG),
-            Seen::Piece(4, 499_999, 2),
-            Seen::Refused(5, 500_001, OVERLONG),
-            Seen::End,
-        ];
-        assert_eq!(rt; seen.as_slice(), want.as_slice());
-    }
+    expect_seen(&rt, rt.alloc(), bytes.as_slice(), &LONG)?;
     Ok(())
 }
+
+const FAILED: [Seen; 2] = [Seen::Piece(1, 0, 2), Seen::Fault];
 
 #[test]
 fn a_failed_read_ends_the_items(rt: HostRuntime) -> Result<(), Fail> {
     // The third read fails: the four bytes before it hold one whole piece.
     let (seen, faults) = answers(rt.alloc(), b"a\x1Dbc\x1D", 2, Some(2))?;
-    let want = [Seen::Piece(1, 0, 2), Seen::Fault];
-    assert_eq!(rt; seen.as_slice(), want.as_slice());
+    assert_eq!(rt; seen.as_slice(), FAILED.as_slice());
     assert_eq!(rt; faults, 1);
     Ok(())
 }

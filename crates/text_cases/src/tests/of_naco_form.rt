@@ -1,6 +1,7 @@
 use marc_types::{Form, Item, Kind, NoMemory, Subfield, Subfields, Text};
 use naco_form::{comparison, form};
 use std::alloc::Global;
+use std::process::Abort;
 use std::test::Fail;
 
 /// Code, text, comparison text.
@@ -58,39 +59,46 @@ const OTHER_SCRIPTS: [(u8, &str, &str); 14] = [
 ];
 
 fn is_compared_as(alloc: Global, code: u8, text: &str, want: &str) -> Result<bool, NoMemory> {
-    let compared = comparison(alloc, code, &Text::from_str(alloc, text)?)?;
+    let text = Text::from_str(alloc, text)?;
+    let compared = comparison(alloc, code, &text)?;
     Ok(compared.as_str() == want)
 }
 
-#[test]
-fn compares_the_rules_rows(rt: HostRuntime) -> Result<(), Fail> {
-    for (code, text, want) in ROWS {
-        assert!(rt; is_compared_as(rt.alloc(), code, text, want)?, "at {text}");
+fn expect_compared(
+    rt: &impl Abort,
+    alloc: Global,
+    rows: &[(u8, &str, &str)],
+) -> Result<(), NoMemory> {
+    for (code, text, want) in rows {
+        assert!(rt; is_compared_as(alloc, *code, text, want)?, "at {text}");
     }
     Ok(())
 }
 
 #[test]
+fn compares_the_rules_rows(rt: HostRuntime) -> Result<(), Fail> {
+    expect_compared(&rt, rt.alloc(), &ROWS)?;
+    Ok(())
+}
+
+#[test]
 fn compares_other_scripts(rt: HostRuntime) -> Result<(), Fail> {
-    for (code, text, want) in OTHER_SCRIPTS {
-        assert!(rt; is_compared_as(rt.alloc(), code, text, want)?, "at {text}");
-    }
+    expect_compared(&rt, rt.alloc(), &OTHER_SCRIPTS)?;
     Ok(())
 }
 
 fn part(alloc: Global, subs: &[(u8, &str)]) -> Result<Subfields, NoMemory> {
     let mut part = Vec::new(alloc);
     for &(code, text) in subs {
-        part.push(Subfield {
-            code,
-            text: Text::from_str(alloc, text)?,
-        })?;
+        let text = Text::from_str(alloc, text)?;
+        part.push(Subfield { code, text })?;
     }
     Ok(Subfields::from_vec(part))
 }
 
 fn formed(alloc: Global, kind: Kind, subs: &[(u8, &str)]) -> Result<Form, NoMemory> {
-    form(alloc, kind, &part(alloc, subs)?)
+    let part = part(alloc, subs)?;
+    form(alloc, kind, &part)
 }
 
 /// Whether a form has this kind and these items.
@@ -103,15 +111,23 @@ fn is_item((item, (code, text)): (&Item, &(u8, &str))) -> bool {
     item.code == *code && item.text.as_str() == *text
 }
 
+fn has_form(
+    alloc: Global,
+    kind: Kind,
+    subs: &[(u8, &str)],
+    wanted: &[(u8, &str)],
+) -> Result<bool, NoMemory> {
+    let made = formed(alloc, kind, subs)?;
+    Ok(is_form(&made, kind, wanted))
+}
+
 #[test]
 fn leaves_empty_items_out(rt: HostRuntime) -> Result<(), Fail> {
     let alloc = rt.alloc();
     let dots = [(b'a', ","), (b'b', "-- ..."), (b'd', "")];
-    let empty = formed(alloc, Kind::Corporate, &dots)?;
-    assert!(rt; is_form(&empty, Kind::Corporate, &[]));
+    assert!(rt; has_form(alloc, Kind::Corporate, &dots, &[])?);
     let twain = [(b'a', "Twain, Mark,"), (b'c', "..."), (b'd', "1835-1910.")];
-    let made = formed(alloc, Kind::Personal, &twain)?;
     let items = [(b'a', "twain, mark"), (b'd', "1835 1910")];
-    assert!(rt; is_form(&made, Kind::Personal, &items));
+    assert!(rt; has_form(alloc, Kind::Personal, &twain, &items)?);
     Ok(())
 }

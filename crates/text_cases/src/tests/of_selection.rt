@@ -1,7 +1,8 @@
 ghost use Rattle.std.specs.Prelude.{◌≡◌, true, bytes_eq};
 
-use marc_types::{Key, Text};
+use marc_types::{Key, NoMemory, Text};
 use selection::Selection;
+use std::alloc::Global;
 use std::test::Fail;
 
 // A selection of all keys keeps each key.
@@ -18,15 +19,23 @@ fn has_code(key: &Key, code: &Text) -> bool
     Selection::new(|key: &Key| key.code == *code).keeps(key)
 }
 
+fn key(alloc: Global) -> Result<Key, NoMemory> {
+    let code = Text::from_str(alloc, "ULIB")?;
+    let number = Text::from_str(alloc, "1")?;
+    Ok(Key { code, number })
+}
+
+fn is_kept_by(alloc: Global, key: &Key, code: &str) -> Result<bool, NoMemory> {
+    let code = Text::from_str(alloc, code)?;
+    Ok(has_code(key, &code))
+}
+
 #[test]
 fn keys_are_kept(rt: HostRuntime) -> Result<(), Fail> {
     let alloc = rt.alloc();
-    let key = Key {
-        code: Text::from_str(alloc, "ULIB")?,
-        number: Text::from_str(alloc, "1")?,
-    };
+    let key = key(alloc)?;
     assert!(rt; is_among_all(&key));
-    assert!(rt; has_code(&key, &Text::from_str(alloc, "ULIB")?));
-    assert!(rt; !has_code(&key, &Text::from_str(alloc, "DLC")?));
+    assert!(rt; is_kept_by(alloc, &key, "ULIB")?);
+    assert!(rt; !is_kept_by(alloc, &key, "DLC")?);
     Ok(())
 }

@@ -17,11 +17,16 @@ fn next_is_first(alloc: Global, entries: &mut Entries) -> Result<bool, Fail> {
     Ok(texts == ["UCAT", "UCAT", "b1"] && numbers == (0, 1, 0) && made.size() == 128)
 }
 
+fn is_over(alloc: Global, entries: &mut Entries) -> Result<bool, Fail> {
+    let next = entries.next(alloc)?;
+    Ok(next.is_none())
+}
+
 #[test]
 fn one_entry(rt: HostRuntime) -> Result<(), Fail> {
     let alloc = rt.alloc();
     let mut entries = Entries::new(alloc, 0, 1)?;
     assert!(rt; next_is_first(alloc, &mut entries)?);
-    assert!(rt; entries.next(alloc)?.is_none());
+    assert!(rt; is_over(alloc, &mut entries)?);
     Ok(())
 }
