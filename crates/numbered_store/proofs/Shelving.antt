@@ -220,8 +220,9 @@ module _ (keys : List Key) (slots : List (Option Kept)) (have : HaveSlots keys s
   slot_some = subst (λ o. IsSome (option_and_then (field_at at) o)) (row_at keys slots have n) some
 
   -- a record stands there
-  pub swap_stands : slice_get slots n ≡ Some None → ⊥
-  swap_stands e = false≢true (subst (λ o. IsSome (option_and_then (field_at at) (option_map kept_record o))) (slot_held slots n None e) slot_some)
+  pub swap_stands : (o : Option Kept) → slice_get slots n ≡ Some o → IsSome o
+  swap_stands None e = absurd (false≢true (subst (λ o. IsSome (option_and_then (field_at at) (option_map kept_record o))) (slot_held slots n None e) slot_some))
+  swap_stands (Some kept) e = refl
 
   pub swap_within : (kept : Kept) → slice_get slots n ≡ Some (Some kept) → at < length kept.rec.fields
   unfolding kept_record

@@ -68,15 +68,11 @@ pub(crate) fn swap_slot(
     ensures stays { IfSome (row_under (slice_get keys.now number) (rows_by keys.now slots.new.items)) (StaysRecord at result.0) }
     ensures count { count_in keys.now slots.new.items ≡ count_in keys.now slots.old.items }
 {
-    match replaced(slots, number, None) {
-        Some(kept) => {
-            let (kept, before) = exchange(kept, at, field, tie);
-            let _blank = replaced(slots, number, Some(kept));
-            before
-        }
-        // not reached: a field stands at the place
-        None => (field, tie),
-    }
+    // a record stands there, since a field stands at the place
+    let kept = replaced(slots, number, None).unwrap();
+    let (kept, before) = exchange(kept, at, field, tie);
+    let _blank = replaced(slots, number, Some(kept));
+    before
 }
 
 // Puts a thing into a slot, and gives what stood there.
