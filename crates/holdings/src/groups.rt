@@ -1,7 +1,7 @@
 //! The holdings of each record.
 ghost use Rattle.std.specs.Prelude.{◌≡◌, ◌≤◌, length, IfOk, OnOk};
 ghost use Rattle.std.specs.List.{flat_map};
-ghost use Rattle.std.specs.List.Sorted.{IsSorted};
+ghost use Rattle.std.specs.List.Sorted.{IsSorted, IsStable};
 ghost use Rattle.std.specs.Io.KnownBytes.{Appends};
 ghost use Rattle.marc_types.specs.Order.{key_cmp};
 ghost use Rattle.outside.specs.Fault.{HasCause};
@@ -14,11 +14,11 @@ use crate::packed_key::PackedKey;
 use crate::shelf::HoldingShelf;
 use marc_types::{Key, NoMemory};
 use outside::{Failed, Sink};
-use std::alloc::Global;
+use std::alloc::{AllocError, Global};
 use std::cmp::Ordering;
 use std::marker::Model;
 
-/// A holding that a shelf lends. They are ordered by their targets.
+/// A holding that a shelf lends.
 #[derive(Drop)]
 pub(crate) struct LentHolding<'a> {
     key: &'a PackedKey,
@@ -44,57 +44,12 @@ impl LentHolding<'_> {
             .cmp(key.code.as_bytes())
             .then_with(|| self.held.target_number().cmp(key.number.as_bytes()))
     }
-}
 
-impl PartialEq for LentHolding<'_> {
-    ghost use Rattle.holdings.specs.ByTarget.{target_cmp, target_cmp_total};
-    ghost use Rattle.std.specs.Ordering.{eq_by_cmp};
-    ghost use Rattle.std.specs.Cmp.{eq_by_cmp_equiv, partial_equiv_from_equiv};
-
-    ghost eq = { eq_by_cmp target_cmp };
-
-    ghost laws = { partial_equiv_from_equiv (eq_by_cmp_equiv target_cmp_total) };
-
-    fn eq(&self, other: &Self) -> bool {
-        self.cmp(other).is_eq()
-    }
-}
-
-impl Eq for LentHolding<'_> {
-    ghost use Rattle.holdings.specs.ByTarget.{target_cmp_total};
-    ghost use Rattle.std.specs.Cmp.{eq_by_cmp_equiv};
-
-    ghost laws = { eq_by_cmp_equiv target_cmp_total };
-}
-
-impl PartialOrd for LentHolding<'_> {
-    ghost use Rattle.holdings.specs.ByTarget.{target_cmp, target_cmp_total};
-    ghost use Rattle.std.specs.Ordering.{as_partial_cmp};
-    ghost use Rattle.std.specs.Cmp.{partial_order_from_total};
-
-    ghost partial_cmp = { as_partial_cmp target_cmp };
-
-    ghost laws = { partial_order_from_total target_cmp_total };
-
-    fn partial_cmp(&self, other: &Self) -> Option<Ordering> {
-        Some(self.cmp(other))
-    }
-}
-
-impl Ord for LentHolding<'_> {
-    ghost use Rattle.holdings.specs.ByTarget.{target_cmp, target_cmp_total};
-    ghost use Rattle.std.proofs.Common.{refl};
-
-    ghost cmp = { target_cmp };
-
-    ghost total = { target_cmp_total };
-
-    ghost matches_partial_cmp = { λ x y. refl };
-
-    ghost matches_eq = { λ x y. refl };
-
+    /// How the target compares with that of another.
     #[tactic(auto, unfolding(crate::specs::ByTarget::target_cmp, marc_types::specs::Order::key_cmp))]
-    fn cmp(&self, other: &Self) -> Ordering {
+    fn cmp_targets(&self, other: &Self) -> Ordering
+        ensures { result ≡ target_cmp self.now other.now }
+    {
         self.key.code().cmp(other.key.code()).then_with(|| self
             .held
             .target_number()
@@ -111,6 +66,14 @@ fn lent<'a>(alloc: Global, shelf: &'a HoldingShelf) -> Result<Vec<LentHolding<'a
         rows.push(LentHolding { key, held })?;
     }
     Ok(rows)
+}
+
+/// Brings holdings into the order of their targets. Those of one target stay as they stand.
+fn sort_by_target(rows: &mut Vec<LentHolding<'_>>) -> Result<(), AllocError>
+    ensures sorted { OnOk result (IsSorted target_cmp rows.new.items) }
+    ensures stable { IsStable target_cmp rows.old.items rows.new.items }
+{
+    rows.sort_by(|one, other| one.cmp_targets(other))
 }
 
 /// How many targets are before a key.
@@ -166,8 +129,8 @@ impl<'a> HoldingGroups<'a> {
         ensures { IfOk result (λ groups. groups ≡ shelf.now) }
     {
         let mut rows = lent(alloc, shelf)?;
-        // the sort is stable, so a record's holdings stay in the order of their own keys
-        rows.sort()?;
+        // a record's holdings stay in the order of their own keys
+        sort_by_target(&mut rows)?;
         Ok(HoldingGroups { shelf, rows })
     }
 
