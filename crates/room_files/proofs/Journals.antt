@@ -1,13 +1,14 @@
 -- A journal as it is opened and closed again.
-use Rattle.std.proofs.Common.{◌≡◌, ◌⊎◌, inl, inr, ⊎_elim, ◌∙◌, ℕ, ◌<◌, ◌≤◌, max, Bool, true, false, List, length, Option, Some, None, is_some, refl, sym, ap, subst, arith, []}
+use Rattle.std.proofs.Common.{◌≡◌, ◌⊎◌, inl, inr, ⊎_elim, ◌∙◌, ℕ, ◌<◌, ◌≤◌, max, Bool, true, false, List, length, Option, Some, None, is_some, refl, sym, ap, subst, arith, [], ◌∷◌}
 use Rattle.std.proofs.Math.Logic.{∥∥₁_map}
 use Rattle.marc_types.specs.declared.entry.Entry.{Entry}
 use Rattle.outside.specs.Disk.{DiskView, SameDisk, Unchanged, OnlyContent}
 use Rattle.outside.specs.Fault.{Rose, count_sum}
-use Rattle.outside.specs.Room.{RoomView, SameBut, bytes_or_none}
+use Rattle.outside.specs.Room.{RoomView, AsLog, SameBut, bytes_or_none}
 use Rattle.outside.proofs.Counts.{rose_closed}
 use Rattle.commit_journal.specs.declared.format.TheConstants.{BLANK_LENGTH}
 use Rattle.commit_journal.specs.Journal.{IsSettled, EndsAt, LeavesLog}
+use Rattle.commit_journal.specs.Log.{version_of}
 use Rattle.durable_catalogue.specs.Logs.{HasHistory}
 use Rattle.durable_catalogue.specs.Opened.{IsOpenedDisk, IsRefusedDisk}
 use Rattle.durable_catalogue.specs.Openings.{IsOpening, IsUnopened, KeepsContent}
@@ -156,17 +157,32 @@ unopened_log old new name free stays rose = record {
   cause = λ device. rose;
 }
 
+-- a log that was opened to be read
+pub open_log : (old new : RoomView) (name : List ℕ) (version : ℕ) (was now : DiskView) → new.open_as name ≡ Some AsLog
+    → (old.tells ≡ true → was.content ≡ Some (log_bytes old name)) → was.moment ≡ 0 → ((log : List ℕ) → was.content ≡ Some log → version_of log ≡ version)
+    → IsOpenedDisk was now → IsOpenLog old new name version now
+open_log old new name version was now open_as bytes begins named opened = record {
+  is_open = open_as;
+  version_is = λ told. named (log_bytes old name) (bytes told);
+  kept = λ told. opening_keeps was now (log_bytes old name) (bytes told) begins opened.crash opened;
+}
+
 -- a log that was opened, and closed again since it is refused
 pub refused_log : (old mid new : RoomView) (name : List ℕ) (was now : DiskView) (why : OpenFault) → (old.tells ≡ true → was.content ≡ Some (log_bytes old name))
-    → was.moment ≡ 0 → was.faults ≡ 0 → old.log_faults name ≤ mid.log_faults name → IsRefusedDisk journal_limits was now why → IsTimed now
-    → new.open_as name ≡ None → (old.tells ≡ true → IsClosedDisk now new name) → new.log_faults name ≡ count_sum (mid.log_faults name) now.faults
-    → IsRefusedLog old new name why
-refused_log old mid new name was now why bytes begins fresh earlier refused timed closed log counted = record {
+    → was.moment ≡ 0 → was.faults ≡ 0 → SameBut old mid (name ∷ []) → IsRefusedDisk journal_limits was now why
+    → ((t s : ℕ) → now.synced t ≡ Some s → t < s) → ((t s : ℕ) → now.synced t ≡ Some s → s ≤ now.moment) → (now.dated ≡ false → OnlyContent now)
+    → new.open_as name ≡ None → (mid.tells ≡ true → new.file name ≡ now.content) → (mid.tells ≡ true → new.has_log name ≡ true)
+    → (mid.tells ≡ true → SameDisk now (new.log name)) → new.log_faults name ≡ count_sum (mid.log_faults name) now.faults → IsRefusedLog old new name why
+refused_log old mid new name was now why bytes begins fresh opened refused after by_now undated closed file is_log same counted = record {
   closed = closed;
-  keeps = λ told. refused_keeps old new name now (log told) was why (bytes told) begins refused timed;
+  keeps = λ told.
+      let then = opened.tells ∙ told in
+      refused_keeps old new name now (record { file = file then; is_log = is_log then; same = same then }) was why (bytes told) begins refused
+      (record { after = after; by_now = by_now; undated = undated });
   so = λ told. refused.so (log_bytes old name) (bytes told);
   cause = λ device.
-      let rose = rose_closed (old.log_faults name) (mid.log_faults name) now.faults earlier (subst (λ n. Rose n now.faults) fresh (refused.failed device)) in
+      let rose = rose_closed (old.log_faults name) (mid.log_faults name) now.faults (opened.log_counts name)
+      (subst (λ n. Rose n now.faults) fresh (refused.failed device)) in
       subst (Rose (old.log_faults name)) (sym counted) rose;
 }
 

@@ -1,30 +1,17 @@
-use Rattle.std.proofs.Common.{◌∙◌}
-use Rattle.room_files.specs.Journals.{log_bytes}
-use Rattle.room_files.proofs.Journals.{opening_keeps, refused_log}
+use Rattle.room_files.proofs.Journals.{open_log, refused_log}
 use Rattle.room_files.proofs.archive.open_archive.Goals as goal
 
 pub returns-in-Ok-open-clause-log : goal.returns-in-Ok-open-clause-log
 returns-in-Ok-open-clause-log g c =
-    let seen = g.R.Log.Disk.seen in
-    let log = log_bytes (g.R.Room.seen c.args.room.now) c.args.name.now in
-    let opened = c.in-Ok-open.ensures.opened in
-    record {
-      is_open = c.in-Ok.ensures.opened;
-      version_is = λ told. c.in-Ok-open.ensures.version log (c.in-Ok.ensures.bytes told);
-      kept = λ told. opening_keeps (seen c.in-Ok.log) (seen c.in-Ok-open.archive.journal.disk) log (c.in-Ok.ensures.bytes told)
-          c.in-Ok.ensures.beginning opened.crash opened;
-    }
+    let was = c.in-Ok.ensures in
+    let is = c.in-Ok-open.ensures in
+    open_log _ _ _ _ _ _ was.opened was.bytes was.beginning is.version is.opened
 
 pub returns-in-Err-clause-refused : goal.returns-in-Err-clause-refused
 returns-in-Err-clause-refused g c =
     let law = g.met.R.Log.Disk g.world.𝓛 g.world.𝓜 g.world.𝓡 ((λ s x. x), (λ x. x), (λ x. x), λ x. x) in
-    let seen = g.R.Log.Disk.seen in
-    let room = g.R.Room.seen in
     let disk = c.in-Err.failed.0 in
     let was = c.in-Ok.ensures in
     let closed = c.close_log.ensures in
-    refused_log (room c.args.room.now) (room c.open_log.new.self) (room c.close_log.new.self) c.args.name.now (seen c.in-Ok.log) (seen disk) c.in-Err.failed.1
-    was.bytes was.beginning was.fresh (was.apart.log_counts c.args.name.now) c.in-Err.ensures.refused
-    (record { after = law.synced_after disk; by_now = law.synced_by_now disk; undated = law.undated_content disk }) closed.closed
-    (λ told. let then = was.apart.tells ∙ told in record { file = closed.bytes then; is_log = closed.log then; same = closed.moments then })
-    closed.counted
+    refused_log _ _ _ _ _ _ _ was.bytes was.beginning was.fresh was.apart c.in-Err.ensures.refused (law.synced_after disk) (law.synced_by_now disk)
+    (law.undated_content disk) closed.closed closed.bytes closed.log closed.moments closed.counted
