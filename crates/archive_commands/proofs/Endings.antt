@@ -16,6 +16,7 @@ use Rattle.durable_catalogue.specs.declared.fault.OpenFault.TheVariants as openi
 use Rattle.console_lines.specs.Ends.{Outcome, IsTold, IsSilent, out_unwritten}
 use Rattle.console_lines.specs.declared.end.End.TheVariants.{Done, Told}
 use Rattle.console_lines.specs.declared.end.Unwritten.TheVariants.{Out}
+use Rattle.console_lines.specs.declared.fault.Fault.{Fault}
 use Rattle.console_lines.specs.declared.fault.Fault.TheVariants.{Device, Memory}
 use Rattle.console_lines.proofs.Ends.{told_once, told_not_unwritten, told_not_done, done_not_unwritten, never_told}
 use Rattle.room_files.specs.Journals.{journal_limits, log_bytes, IsClosedDisk, KeepsHistory, KeepsLog, IsDurable}
@@ -58,6 +59,14 @@ module _ (journal out : List ℕ) (due : List Entry → List ℕ) (o : Outcome) 
     whole = λ entries also. absurd (told_not_done o.end (fault_of_opening reason) is also);
     part = λ entries also. absurd (told_not_unwritten o.end (fault_of_opening reason) Out is also);
   }
+
+  -- the same of a fault in the words in which it was told
+  pub reads_unopened : (reason : OpenFault) (fault : Fault) → fault ≡ fault_of_opening reason → o.end ≡ Told fault → IsTold fault o
+      → SameBut o.old o.new (journal ∷ []) → reason ≢ opening.OldVersion
+      → (o.old.tells ≡ true → IsUnopened journal_limits (log_bytes o.old journal) reason)
+      → (o.old.tells ≡ true → KeepsHistory (reason ≡ opening.DeviceFault) o.old o.new journal)
+      → (reason ≡ opening.DeviceFault → Rose (o.old.log_faults journal) (o.new.log_faults journal)) → ReadsJournal journal out due o
+  reads_unopened reason fault words is told = reads_fault reason (is ∙ ap Told words) (subst (λ f. IsTold f o) words told)
 
   -- what is due of the history of a journal that was opened, written so far as it could be
   pub record WasRead (history : List Entry) : Type 1 where

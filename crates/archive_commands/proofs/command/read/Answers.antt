@@ -1,19 +1,12 @@
-use Rattle.std.proofs.Common.{◌∙◌, ap, subst}
-use Rattle.console_lines.specs.Faults.{IsFaultTold, fault_line}
-use Rattle.console_lines.specs.declared.end.End.TheVariants.{Told}
 use Rattle.archive_commands.proofs.Rooms.{apart_opened, closed_opened}
-use Rattle.archive_commands.proofs.Endings.{reads_fault, reads_output}
+use Rattle.archive_commands.proofs.Endings.{reads_unopened, reads_output}
 use Rattle.archive_commands.proofs.command.read.Goals as goal
 
 pub returns-in-Err-clause-ends : goal.returns-in-Err-clause-ends
 returns-in-Err-clause-ends g c =
     let because = c.in-Err.ensures in
-    let written = g.R.Out.Sink.written in
-    let faults = g.R.Out.Sink.faults in
-    let console = c.args.console.now in
-    let now = c.tell.new.console in
-    reads_fault _ _ _ _ c.in-Err.fault (c.tell.ensures.end ∙ ap Told c.fault_of_opening.ensures)
-    (subst (λ f. IsFaultTold (written console) (written now) (faults console) (faults now) (fault_line f)) c.fault_of_opening.ensures c.tell.ensures.told) c.open_archive.ensures.apart because.current because.refused.so because.refused.keeps because.refused.cause
+    reads_unopened _ _ _ _ c.in-Err.fault _ c.fault_of_opening.ensures c.tell.ensures.end c.tell.ensures.told c.open_archive.ensures.apart
+    because.current because.refused.so because.refused.keeps because.refused.cause
 
 pub returns-clause-apart : goal.returns-clause-apart
 returns-clause-apart g c = apart_opened _ _ _ _ _ c.open_archive.ensures.apart c.write_archive-written.ensures.apart
