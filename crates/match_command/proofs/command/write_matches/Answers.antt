@@ -1,10 +1,8 @@
-use Rattle.std.proofs.Common.{◌≡◌, ◌∙◌, true, Some, OnOk, ap, subst}
+use Rattle.std.proofs.Common.{◌≡◌, true, Some, OnOk, subst}
 use Rattle.outside.specs.Room.{RoomView}
-use Rattle.console_lines.specs.Faults.{IsFaultTold, fault_line}
-use Rattle.console_lines.specs.declared.end.End.TheVariants.{Told}
 use Rattle.output_files.specs.Outputs.{IsOutput}
 use Rattle.archive_commands.proofs.Rooms.{closed_opened}
-use Rattle.archive_commands.proofs.Endings.{reads_fault, reads_output}
+use Rattle.archive_commands.proofs.Endings.{reads_unopened, reads_output}
 use Rattle.match_command.specs.Telling.{matches_due}
 use Rattle.match_command.proofs.Taken.{due_of_table}
 use Rattle.match_command.proofs.command.write_matches.Goals as goal
@@ -12,12 +10,8 @@ use Rattle.match_command.proofs.command.write_matches.Goals as goal
 pub returns-in-Err-clause-ends : goal.returns-in-Err-clause-ends
 returns-in-Err-clause-ends g c =
     let because = c.in-Err.ensures in
-    let written = g.R.Out.Sink.written in
-    let faults = g.R.Out.Sink.faults in
-    let console = c.args.console.now in
-    let now = c.tell.new.console in
-    reads_fault _ _ matches_due _ c.in-Err.fault (c.tell.ensures.end ∙ ap Told c.fault_of_opening.ensures)
-    (subst (λ f. IsFaultTold (written console) (written now) (faults console) (faults now) (fault_line f)) c.fault_of_opening.ensures c.tell.ensures.told) c.open_history.ensures.apart because.current because.refused.so because.refused.keeps because.refused.cause
+    reads_unopened _ _ matches_due _ c.in-Err.fault _ c.fault_of_opening.ensures c.tell.ensures.end c.tell.ensures.told c.open_history.ensures.apart
+    because.current because.refused.so because.refused.keeps because.refused.cause
 
 pub returns-clause-ends : goal.returns-clause-ends
 returns-clause-ends g c =
