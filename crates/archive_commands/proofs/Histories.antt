@@ -12,7 +12,8 @@ use Rattle.room_files.specs.Journals.{journal_limits}
 use Rattle.output_files.specs.Outputs.{IsPartWritten}
 use Rattle.archive_commands.specs.Archives.{HasFittingHistory}
 
-reading_once : (entries others : List Entry) (log : List ℕ) → IsLogOf entries log → IsLogOf others log → entries ≡ others
+-- a log is read as one history
+pub reading_once : (entries others : List Entry) (log : List ℕ) → IsLogOf entries log → IsLogOf others log → entries ≡ others
 reading_once entries others log is also =
     let same : also.frames ≡ is.frames = cc (is.found, also.found) in
     history_once (version_of log) [] entries others (payloads_of is.frames) is.holds

@@ -48,8 +48,8 @@ EndsReading (Told Memory) = Unit {0}
 EndsReading (Told OldVersion) = ⊥
 EndsReading (Told OtherHistory) = ⊥
 
--- The commands `export` and `report`: what is due of a journal's history is written into the file OUT, and the journal keeps it.
-pub record Reads (journal out : List ℕ) (due : DueView) (o : Outcome) : Type 0 where
+-- A command that reads a journal: what is due of its history is written into the file OUT, and the journal keeps it.
+pub record ReadsJournal (journal out : List ℕ) (due : List Entry → List ℕ) (o : Outcome) : Type 0 where
   pub ends : EndsReading o.end
   pub keeps : o.old.tells ≡ true → KeepsHistory (o.end ≡ Told Device) o.old o.new journal
   -- a fault is told for its reason, and the output is untouched
@@ -64,6 +64,10 @@ pub record Reads (journal out : List ℕ) (due : DueView) (o : Outcome) : Type 0
   pub history : IsUntold o.end → o.old.tells ≡ true → HasFittingHistory (log_bytes o.old journal)
   pub durable : IsUntold o.end → o.old.tells ≡ true → IsDurable o.new journal
   pub whole : (entries : List Entry) → o.end ≡ Done → o.old.tells ≡ true → HasHistory entries (log_bytes o.old journal)
-      → o.new.file out ≡ Some (due_of due entries)
+      → o.new.file out ≡ Some (due entries)
   pub part : (entries : List Entry) → o.end ≡ out_unwritten → o.old.tells ≡ true → HasHistory entries (log_bytes o.old journal)
-      → IsPartWritten (o.old.file out) (o.new.file out) (due_of due entries)
+      → IsPartWritten (o.old.file out) (o.new.file out) (due entries)
+
+-- the commands `export` and `report`
+abbrev pub Reads : List ℕ → List ℕ → DueView → Outcome → Type 0
+Reads journal out due o = ReadsJournal journal out (due_of due) o

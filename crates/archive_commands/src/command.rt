@@ -4,9 +4,10 @@ ghost use Rattle.outside.specs.Room.{SameBut};
 ghost use Rattle.archive_commands.specs.Reads.{due_view, Reads};
 
 use crate::due::Due;
+use crate::ending::end_of_output;
 use crate::writing::write_archive;
-use console_lines::{End, Fault, Unwritten, tell};
-use outside::{Room, WriteFault};
+use console_lines::{End, tell};
+use outside::Room;
 use room_files::{fault_of_opening, open_archive};
 use std::alloc::Global;
 
@@ -31,9 +32,6 @@ pub fn read<R: Room>(
         Ok(archive) => archive,
         Err(fault) => return tell(console, fault_of_opening(fault)),
     };
-    match write_archive(alloc, room, journal, out, due, archive) {
-        Ok(()) => End::Done,
-        Err(WriteFault::OutputFault) => End::Unwritten(Unwritten::Out),
-        Err(WriteFault::NoMemory) => tell(console, Fault::Memory),
-    }
+    let written = write_archive(alloc, room, journal, out, due, archive);
+    end_of_output(console, written)
 }

@@ -3,7 +3,9 @@
 
 pub use command::read;
 pub use due::Due;
+pub use ending::end_of_output;
 
 mod command;
 mod due;
+mod ending;
 mod writing;

@@ -25,6 +25,7 @@ use Rattle.console_lines.specs.declared.fault.Fault.TheVariants.{Usage, Input, D
 use Rattle.console_lines.proofs.Ends.{told_once, told_not_unwritten, never_told, unwritten_once, all_not_unwritten, all_of}
 use Rattle.room_files.specs.Journals.{journal_limits, log_bytes, IsClosedDisk, KeepsHistory, KeepsLog, IsDurable}
 use Rattle.room_files.specs.Faults.{fault_of_opening}
+use Rattle.room_files.proofs.Faults.{opening_device}
 use Rattle.room_files.proofs.Journals.{closed_keeps, closed_durable, keeps_where}
 use Rattle.archive_commands.specs.Archives.{WhyUnopened, kept_keys}
 use Rattle.archive_commands.proofs.Histories.{due_once, fitting_history}
@@ -47,13 +48,6 @@ ends_unopened (opening.NotAJournal place) current = tt
 ends_unopened opening.OldVersion current = absurd (current refl)
 ends_unopened opening.Full current = tt
 ends_unopened opening.NoMemory current = tt
-
-is_device : (reason : OpenFault) → fault_of_opening reason ≡ Device → reason ≡ opening.DeviceFault
-is_device opening.DeviceFault is = refl
-is_device (opening.NotAJournal place) is = cc
-is_device opening.OldVersion is = cc
-is_device opening.Full is = cc
-is_device opening.NoMemory is = cc
 
 no_input : (reason : OpenFault) → fault_of_opening reason ≡ Input → ⊥
 no_input opening.DeviceFault is = cc
@@ -151,7 +145,7 @@ module _ (journal out rest : List ℕ) (library : Library) (code : Option (List 
         because = λ why also other. subst (λ w. WhyUnopened o.old journal w) (told_once o.end fault why is also) (record { reason = reason; is = refl; so = so });
         no_rest = λ also. absurd (told_not_unwritten o.end fault Out is also);
         silent = λ either. absurd (told_not_stopped fault is either);
-        device = λ also. cause (is_device reason (told_once o.end fault Device is also));
+        device = λ also. cause (opening_device reason (told_once o.end fault Device is also));
         input = λ also. absurd (no_input reason (told_once o.end fault Input is also));
         out_cause = λ also. absurd (told_not_unwritten o.end fault Out is also);
         rest_cause = λ also. absurd (told_not_unwritten o.end fault Report is also);

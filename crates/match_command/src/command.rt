@@ -5,9 +5,10 @@ ghost use Rattle.match_command.specs.Telling.{TellsMatches};
 
 use crate::taking::HistoryMatches;
 use crate::writing::write_history;
-use console_lines::{End, Fault, Unwritten, tell};
+use archive_commands::end_of_output;
+use console_lines::{End, tell};
 use history_logs::open_history;
-use outside::{Room, WriteFault};
+use outside::Room;
 use room_files::fault_of_opening;
 use std::alloc::Global;
 
@@ -32,9 +33,6 @@ pub fn write_matches<R: Room>(
         Ok(history) => history,
         Err(fault) => return tell(console, fault_of_opening(fault)),
     };
-    match write_history(alloc, room, journal, out, &taken.table, history) {
-        Ok(()) => End::Done,
-        Err(WriteFault::OutputFault) => End::Unwritten(Unwritten::Out),
-        Err(WriteFault::NoMemory) => tell(console, Fault::Memory),
-    }
+    let written = write_history(alloc, room, journal, out, &taken.table, history);
+    end_of_output(console, written)
 }

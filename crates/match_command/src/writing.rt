@@ -1,5 +1,5 @@
 //! The lines of a table of numbers, as a file.
-ghost use Rattle.std.specs.Prelude.{◌≡◌, ◌∷◌, [], true, Some, None, IfOk, IfErr, OnOk};
+ghost use Rattle.std.specs.Prelude.{◌≡◌, ◌∷◌, [], true, Some, None, OnOk, IsErrOf};
 ghost use Rattle.outside.specs.Fault.{HasCause, HasWriteCause};
 ghost use Rattle.outside.specs.Room.{AsLog, SameBut};
 ghost use Rattle.output_files.specs.Outputs.{IsOutput, IsPartWritten};
@@ -45,7 +45,7 @@ fn write_table<R: Room>(
     ensures apart { SameBut (R.seen room.old) (R.seen room.new) (name.now ∷ []) }
     ensures closed { (R.seen room.new).open_as name.now ≡ None }
     ensures cause { HasWriteCause ((R.seen room.old).out_faults name.now) ((R.seen room.new).out_faults name.now) result }
-    ensures memory { IfErr result (λ fault. fault ≡ WriteFault.NoMemory → SameBut (R.seen room.old) (R.seen room.new) []) }
+    ensures memory { IsErrOf result WriteFault.NoMemory → SameBut (R.seen room.old) (R.seen room.new) [] }
     ensures bytes { OnOk result ((R.seen room.old).tells ≡ true →
         (R.seen room.new).file name.now ≡ Some (lines_of (matches_of table.now))) }
     ensures part { (R.seen room.old).tells ≡ true →
@@ -80,7 +80,7 @@ pub(crate) fn write_history<R: Room>(
 
     // The output, as `write_table` leaves it.
     ensures output { IsOutput (R.seen room.old) (R.seen room.new) out.now (lines_of (matches_of table.now)) result }
-    ensures memory { IfErr result (λ fault. fault ≡ WriteFault.NoMemory → SameBut (R.seen room.old) (R.seen room.new) (journal.now ∷ [])) }
+    ensures memory { IsErrOf result WriteFault.NoMemory → SameBut (R.seen room.old) (R.seen room.new) (journal.now ∷ []) }
     ensures bytes { OnOk result ((R.seen room.old).tells ≡ true →
         (R.seen room.new).file out.now ≡ Some (lines_of (matches_of table.now))) }
 

@@ -11,7 +11,7 @@ use Rattle.console_lines.specs.declared.end.End.TheVariants.{Told}
 use Rattle.console_lines.specs.declared.fault.Fault.TheVariants as fault
 use Rattle.durable_catalogue.specs.declared.fault.OpenFault.TheVariants as opening
 use Rattle.room_files.proofs.Journals.{unopened_keeps}
-use Rattle.archive_commands.specs.Reads.{DueView, Reads}
+use Rattle.archive_commands.specs.Reads.{DueView, due_of, Reads}
 use Rattle.archive_commands.proofs.Endings.{reads_fault}
 use Rattle.plain_commands.proofs.Passes.{passes_told}
 use Rattle.plain_commands.proofs.Made.{makes_no_memory}
@@ -77,7 +77,7 @@ module _ (o : Outcome) (told : o.end ≡ Told fault.Memory) (tells : IsTold faul
 
   reads : (journal out : List ℕ) (due : DueView) → Reads journal out due o
   reads journal out due =
-      reads_fault journal out due o opening.NoMemory told tells (same_but_none o.old o.new (journal ∷ []) stays) (λ old. cc) (λ room. tt)
+      reads_fault journal out (due_of due) o opening.NoMemory told tells (same_but_none o.old o.new (journal ∷ []) stays) (λ old. cc) (λ room. tt)
       (λ room. unopened_keeps _ o.old o.new journal stays) (λ device. cc)
 
   pub unasked : (words : List (List ℕ)) (command : Command) → NamesFiles command → AreNames (names_of command) → Ends words command o

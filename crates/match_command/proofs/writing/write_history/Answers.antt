@@ -1,10 +1,6 @@
-use Rattle.std.proofs.Common.{◌≡◌, [], ◌∷◌}
-use Rattle.outside.specs.Room.{SameBut}
-use Rattle.outside.specs.declared.fault.WriteFault.TheVariants.{NoMemory}
 use Rattle.outside.proofs.Rooms.{same_but_none, same_but_then}
 use Rattle.archive_commands.proofs.Rooms.{output_closed}
 use Rattle.match_report.specs.Groups.{lines_of, matches_of}
-use Rattle.match_command.proofs.Taken.{if_err_then}
 use Rattle.match_command.proofs.writing.write_history.Goals as goal
 
 pub returns-clause-output : goal.returns-clause-output
@@ -16,10 +12,5 @@ returns-clause-output g c =
     written.closed written.part written.cause
 
 pub returns-clause-memory : goal.returns-clause-memory
-returns-clause-memory g c =
-    let seen = g.R.Room.seen in
-    let old = seen c.args.room.now in
-    let written = seen c.write_table-written.new.room in
-    let journal = c.args.journal.now in
-    if_err_then _ (λ fault. fault ≡ NoMemory → SameBut old written []) (λ fault. fault ≡ NoMemory → SameBut old (seen c.close_history.new.room) (journal ∷ []))
-    (λ fault so is. same_but_then _ _ _ (journal ∷ []) (same_but_none _ _ (journal ∷ []) (so is)) c.close_history.ensures.apart) c.write_table-written.ensures.memory
+returns-clause-memory g c ran_out =
+    same_but_then _ _ _ _ (same_but_none _ _ _ (c.write_table-written.ensures.memory ran_out)) c.close_history.ensures.apart
