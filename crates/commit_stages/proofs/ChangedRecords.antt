@@ -141,42 +141,36 @@ module _ (s : State) (e : Entry) (x0 x1 x2 x4 x5 : Linked) (n1 n2 n3 : List Seat
   abbrev third_differs : Place → Bool
   third_differs = differs_at (choose_of_commit s e) (state_own_settled s e)
 
+  -- a seat that a stage noted has a changed place if it has one where it was noted before, and where the stage differs
+  stage_seat : (change : Class → KeptField → KeptField) (x : Linked) (t : State) (before now : List Seat) (seat : Seat) → x.state ≡ t → IsAhead x x5 → NotesChanges change x before now
+      → list_any (same_seat seat) now ≡ true → (list_any (same_seat seat) before ≡ true → IsChangedSeat seat)
+      → (differs_at change t (place_at x5.keys seat) ≡ true → is_changed_by_stages s e (place_at x5.keys seat) ≡ true) → IsChangedSeat seat
+  stage_seat change x t before now seat state ahead notes is was differs = at (list_any (same_seat seat) before) refl
+    where
+      at : (b : Bool) → list_any (same_seat seat) before ≡ b → IsChangedSeat seat
+      at true old = was old
+      at false new =
+          let known : HasKey x.keys seat = notes.known seat is new in
+          let changes = or_new (list_any (same_seat seat) before) (changes_at change x seat) new (sym (notes.noted seat known) ∙ is) in
+          record { known = ahead.keys.seats seat known; changed = differs (differs_then change x x5 t seat state ahead known changes) }
+
   dropped_seat : (seat : Seat) → list_any (same_seat seat) n1 ≡ true → IsChangedSeat seat
   dropped_seat seat is =
-      let known : HasKey x1.keys seat = noted.by_drop.known seat is refl in
       let p = place_at x5.keys seat in
-      let differs = differs_then (drop_of_commit s e) x1 x5 (placed_by Authority s e) seat noted.placed from_one known (sym (noted.by_drop.noted seat known) ∙ is) in
-      record {
-        known = from_one.keys.seats seat known;
-        changed = or_left (first_differs p || second_differs p) (third_differs p) (or_left (first_differs p) (second_differs p) differs);
-      }
+      stage_seat (drop_of_commit s e) x1 (placed_by Authority s e) [] n1 seat noted.placed from_one noted.by_drop is (λ none. absurd (false≢true none))
+      (λ d. or_left (first_differs p || second_differs p) (third_differs p) (or_left (first_differs p) (second_differs p) d))
 
   carried_seat : (seat : Seat) → list_any (same_seat seat) n2 ≡ true → IsChangedSeat seat
-  carried_seat seat is = at (list_any (same_seat seat) n1) refl
-    where
-      at : (b : Bool) → list_any (same_seat seat) n1 ≡ b → IsChangedSeat seat
-      at true was = dropped_seat seat was
-      at false was =
-          let known : HasKey x2.keys seat = noted.by_carry.known seat is was in
-          let p = place_at x5.keys seat in
-          let changes = or_new (list_any (same_seat seat) n1) (changes_at (carry_of_commit s e) x2 seat) was (sym (noted.by_carry.noted seat known) ∙ is) in
-          let differs = differs_then (carry_of_commit s e) x2 x5 (state_dropped s e) seat noted.dropped from_two known changes in
-          record {
-            known = from_two.keys.seats seat known;
-            changed = or_left (first_differs p || second_differs p) (third_differs p) (or_right (first_differs p) (second_differs p) differs);
-          }
+  carried_seat seat is =
+      let p = place_at x5.keys seat in
+      stage_seat (carry_of_commit s e) x2 (state_dropped s e) n1 n2 seat noted.dropped from_two noted.by_carry is (dropped_seat seat)
+      (λ d. or_left (first_differs p || second_differs p) (third_differs p) (or_right (first_differs p) (second_differs p) d))
 
   noted_seat : (seat : Seat) → list_any (same_seat seat) n3 ≡ true → IsChangedSeat seat
-  noted_seat seat is = at (list_any (same_seat seat) n2) refl
-    where
-      at : (b : Bool) → list_any (same_seat seat) n2 ≡ b → IsChangedSeat seat
-      at true was = carried_seat seat was
-      at false was =
-          let known : HasKey x4.keys seat = noted.by_choice.known seat is was in
-          let p = place_at x5.keys seat in
-          let changes = or_new (list_any (same_seat seat) n2) (changes_at (choose_of_commit s e) x4 seat) was (sym (noted.by_choice.noted seat known) ∙ is) in
-          let differs = differs_then (choose_of_commit s e) x4 x5 (state_own_settled s e) seat noted.settled noted.last known changes in
-          record { known = noted.last.keys.seats seat known; changed = or_right (first_differs p || second_differs p) (third_differs p) differs }
+  noted_seat seat is =
+      let p = place_at x5.keys seat in
+      stage_seat (choose_of_commit s e) x4 (state_own_settled s e) n2 n3 seat noted.settled noted.last noted.by_choice is (carried_seat seat)
+      (or_right (first_differs p || second_differs p) (third_differs p))
 
   -- ---- a seat of a changed place is noted
 

@@ -26,3 +26,4 @@ pub mod Numbers
 pub mod Parts
 pub mod Staging
 pub mod Whole
+pub mod Course

@@ -1,22 +1,21 @@
 -- What a stage notes from seat to seat: it begins with nothing, goes on by one seat, and ends with all seats that it changes.
-use Rattle.std.proofs.Common.{◌≡◌, ◌∙◌, sym, ap, refl, subst, ℕ, suc, ◌+◌, ◌≤◌, ◌<◌, List, [], ◌∷◌, ◌++◌, map, length, take, drop, get_or, Option, Some, None, Bool, true, false}
-use Rattle.std.specs.Prelude.{◌||◌, ◌&&◌, cond, not, if◌then◌else◌}
+use Rattle.std.proofs.Common.{◌≡◌, ◌∙◌, sym, ap, refl, subst, arith, ℕ, suc, ◌+◌, ◌≤◌, ◌<◌, List, [], ◌∷◌, ◌++◌, map, length, take, drop, get_or, Option, Some, None, Bool, true, false}
+use Rattle.std.specs.Prelude.{◌||◌, ◌&&◌, not, if◌then◌else◌}
 use Rattle.std.specs.Cmp.{IsEquivalence, decided}
 use Rattle.std.specs.List.{AllByRecursion, list_any}
 use Rattle.std.specs.Option.{option_map_or}
 use Rattle.std.proofs.lemmas.List.{take_all}
 use Rattle.std.proofs.lemmas.List.Folds.{list_any-append}
-use Rattle.std.proofs.lemmas.Map.Steps.{list_any_congr}
 use Rattle.marc_types.specs.declared.key.Class.{Class}
 use Rattle.marc_types.specs.declared.key.Place.{Place}
-use Rattle.numbering.specs.Numbers.{is_known, with_thing}
+use Rattle.numbering.specs.Numbers.{with_thing}
 use Rattle.numbering.specs.Seats.{same_seat, seat_Decides}
 use Rattle.numbering.specs.declared.seat.Seat.{Seat}
 use Rattle.catalogue_rules.specs.Sameness.{same_kept}
 use Rattle.catalogue_rules.specs.State.{KeptField}
 use Rattle.record_store.specs.Store.{field_under}
 use Rattle.catalogue_tables.specs.Seam.{AreDistinct, HasKey, KeyLists, place_at, seat_of}
-use Rattle.catalogue_tables.proofs.Seams.{seat_alike, seat_back}
+use Rattle.catalogue_tables.proofs.Seams.{noted_more, seat_alike, seat_back}
 use Rattle.linking_laws.specs.Partway.{IsPartway, IsWhole, is_place_among, same_place}
 use Rattle.field_settling.specs.Held.{held_as}
 use Rattle.field_settling.specs.declared.held.Held.{Held}
@@ -56,17 +55,10 @@ or_false : (b : Bool) → (b || false) ≡ b
 or_false true = refl
 or_false false = refl
 
-any_with : (seats : List Seat) (one s : Seat) (b : Bool) → is_known same_seat seats one ≡ b
-    → list_any (same_seat s) (cond b seats (seats ++ one ∷ [])) ≡ (list_any (same_seat s) seats || same_seat s one)
-any_with seats one s true known = sym (kept (same_seat s one) refl)
-  where
-    kept : (c : Bool) → same_seat s one ≡ c → (list_any (same_seat s) seats || c) ≡ list_any (same_seat s) seats
-    kept true e = ap (λ b. b || true) (list_any_congr seat_laws s one seats e ∙ known) ∙ sym (list_any_congr seat_laws s one seats e ∙ known)
-    kept false e = or_false (list_any (same_seat s) seats)
-any_with seats one s false known = list_any-append (same_seat s) seats (one ∷ []) ∙ ap (λ b. list_any (same_seat s) seats || b) (or_false (same_seat s one))
-
 pub any_thing : (seats : List Seat) (one s : Seat) → list_any (same_seat s) (with_thing same_seat seats one) ≡ (list_any (same_seat s) seats || same_seat s one)
-any_thing seats one s = any_with seats one s (is_known same_seat seats one) refl
+any_thing seats one s =
+    noted_more seats (with_thing same_seat seats one) (one ∷ []) 0 one seats (omega arith) refl (λ t. sym (or_false (list_any (same_seat t) seats))) s
+    ∙ ap (λ b. list_any (same_seat s) seats || b) (or_false (same_seat s one))
 
 any_either : (seats : List Seat) (one s : Seat) (c : Bool) → list_any (same_seat s) (if c then with_thing same_seat seats one else seats) ≡ (list_any (same_seat s) seats || (same_seat s one && c))
 any_either seats one s true = any_thing seats one s ∙ ap (λ b. list_any (same_seat s) seats || b) (sym (and_true (same_seat s one)))

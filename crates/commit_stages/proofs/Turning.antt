@@ -53,6 +53,16 @@ ahead_then x y z first second = record {
   before = second.before ∙ first.before;
 }
 
+-- three, four and five calls, one after another
+pub ahead_three : (v x y z : Linked) → IsAhead v x → IsAhead x y → IsAhead y z → IsAhead v z
+ahead_three v x y z first second third = ahead_then v y z (ahead_then v x y first second) third
+
+pub ahead_four : (u v x y z : Linked) → IsAhead u v → IsAhead v x → IsAhead x y → IsAhead y z → IsAhead u z
+ahead_four u v x y z first second third fourth = ahead_then u y z (ahead_three u v x y first second third) fourth
+
+pub ahead_five : (t u v x y z : Linked) → IsAhead t u → IsAhead u v → IsAhead v x → IsAhead x y → IsAhead y z → IsAhead t z
+ahead_five t u v x y z first second third fourth fifth = ahead_then t y z (ahead_four t u v x y first second third fourth) fifth
+
 pub map_join : {A B : Type 0} (f : A → B) (xs ys : List A) → map f (xs ++ ys) ≡ map f xs ++ map f ys
 map_join f [] ys = refl
 map_join f (x ∷ xs) ys = ap (λ l. f x ∷ l) (map_join f xs ys)
