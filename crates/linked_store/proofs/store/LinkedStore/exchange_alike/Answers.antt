@@ -19,28 +19,19 @@ pub go_back-requires-clause-can : goal.go_back-requires-clause-can
 go_back-requires-clause-can c = can_on c.self.inside.frame c.swap.new.self c.swap.ensures.goes c.self.invariant.can
 
 pub invariant_of-self : goal.invariant_of-self
-invariant_of-self c =
-    (left_undone c.self.inside.frame c.self.inside.marked c.args.self.now c.self.view_is c.self.invariant c.swap.new.self c.go_back.new.frame c.len-position.result c.len-position.ensures c.swap.ensures.goes c.go_back.ensures).sound
+invariant_of-self c = (left_undone c.self.inside.frame c.self.inside.marked c.args.self.now c.self.view_is c.self.invariant c.swap.new.self c.go_back.new.frame c.len-position.result c.len-position.ensures c.swap.ensures.goes c.go_back.ensures).sound
 
 pub returns-in-Err-clause-ahead : goal.returns-in-Err-clause-ahead
-returns-in-Err-clause-ahead c =
-    (left_undone c.self.inside.frame c.self.inside.marked c.args.self.now c.self.view_is c.self.invariant c.swap.new.self c.go_back.new.frame c.len-position.result c.len-position.ensures c.swap.ensures.goes c.go_back.ensures).ahead
+returns-in-Err-clause-ahead c = (left_undone c.self.inside.frame c.self.inside.marked c.args.self.now c.self.view_is c.self.invariant c.swap.new.self c.go_back.new.frame c.len-position.result c.len-position.ensures c.swap.ensures.goes c.go_back.ensures).ahead
 
 pub returns-in-Err-clause-err : goal.returns-in-Err-clause-err
-returns-in-Err-clause-err c =
-    (left_undone c.self.inside.frame c.self.inside.marked c.args.self.now c.self.view_is c.self.invariant c.swap.new.self c.go_back.new.frame c.len-position.result c.len-position.ensures c.swap.ensures.goes c.go_back.ensures).state_is
+returns-in-Err-clause-err c = (left_undone c.self.inside.frame c.self.inside.marked c.args.self.now c.self.view_is c.self.invariant c.swap.new.self c.go_back.new.frame c.len-position.result c.len-position.ensures c.swap.ensures.goes c.go_back.ensures).state_is
 
 pub invariant_of-self-in_default : goal.invariant_of-self-in_default
-invariant_of-self-in_default c =
-    (left_alike c.self.inside.frame c.swap.new.self c.self.inside.marked c.args.self.now c.self.view_is c.self.invariant c.args.seat (kept_field c.args.field c.args.tie) c.each_form_has_one_number.ensures
-    c.requires.suits c.requires.alike c.swap.ensures.goes c.in_default.ensures.now).sound
+invariant_of-self-in_default c = (left_alike c.self.inside.frame c.swap.new.self c.self.inside.marked c.args.self.now c.self.view_is c.self.invariant c.args.seat (kept_field c.args.field c.args.tie) c.each_form_has_one_number.ensures c.requires.suits c.requires.alike c.swap.ensures.goes c.in_default.ensures.now).sound
 
 pub returns-clause-ok : goal.returns-clause-ok
-returns-clause-ok c =
-    (left_alike c.self.inside.frame c.swap.new.self c.self.inside.marked c.args.self.now c.self.view_is c.self.invariant c.args.seat (kept_field c.args.field c.args.tie) c.each_form_has_one_number.ensures
-    c.requires.suits c.requires.alike c.swap.ensures.goes c.in_default.ensures.now).state_is
+returns-clause-ok c = (left_alike c.self.inside.frame c.swap.new.self c.self.inside.marked c.args.self.now c.self.view_is c.self.invariant c.args.seat (kept_field c.args.field c.args.tie) c.each_form_has_one_number.ensures c.requires.suits c.requires.alike c.swap.ensures.goes c.in_default.ensures.now).state_is
 
 pub returns-clause-ahead : goal.returns-clause-ahead
-returns-clause-ahead c =
-    (left_alike c.self.inside.frame c.swap.new.self c.self.inside.marked c.args.self.now c.self.view_is c.self.invariant c.args.seat (kept_field c.args.field c.args.tie) c.each_form_has_one_number.ensures
-    c.requires.suits c.requires.alike c.swap.ensures.goes c.in_default.ensures.now).ahead
+returns-clause-ahead c = (left_alike c.self.inside.frame c.swap.new.self c.self.inside.marked c.args.self.now c.self.view_is c.self.invariant c.args.seat (kept_field c.args.field c.args.tie) c.each_form_has_one_number.ensures c.requires.suits c.requires.alike c.swap.ensures.goes c.in_default.ensures.now).ahead

@@ -56,28 +56,19 @@ pub go_back-requires-clause-can : goal.go_back-requires-clause-can
 go_back-requires-clause-can c = can_on c.self.inside.frame c.place.new.self c.place.ensures.goes c.self.invariant.can
 
 pub invariant_of-self : goal.invariant_of-self
-invariant_of-self c =
-    (left_undone c.self.inside.frame c.self.inside.marked c.args.self.now c.self.view_is c.self.invariant c.place.new.self c.go_back.new.frame c.len-position.result c.len-position.ensures c.place.ensures.goes c.go_back.ensures).sound
+invariant_of-self c = (left_undone c.self.inside.frame c.self.inside.marked c.args.self.now c.self.view_is c.self.invariant c.place.new.self c.go_back.new.frame c.len-position.result c.len-position.ensures c.place.ensures.goes c.go_back.ensures).sound
 
 pub returns-in-Err-clause-ahead : goal.returns-in-Err-clause-ahead
-returns-in-Err-clause-ahead c =
-    (left_undone c.self.inside.frame c.self.inside.marked c.args.self.now c.self.view_is c.self.invariant c.place.new.self c.go_back.new.frame c.len-position.result c.len-position.ensures c.place.ensures.goes c.go_back.ensures).ahead
+returns-in-Err-clause-ahead c = (left_undone c.self.inside.frame c.self.inside.marked c.args.self.now c.self.view_is c.self.invariant c.place.new.self c.go_back.new.frame c.len-position.result c.len-position.ensures c.place.ensures.goes c.go_back.ensures).ahead
 
 pub returns-in-Err-clause-err : goal.returns-in-Err-clause-err
-returns-in-Err-clause-err c =
-    (left_undone c.self.inside.frame c.self.inside.marked c.args.self.now c.self.view_is c.self.invariant c.place.new.self c.go_back.new.frame c.len-position.result c.len-position.ensures c.place.ensures.goes c.go_back.ensures).state_is
+returns-in-Err-clause-err c = (left_undone c.self.inside.frame c.self.inside.marked c.args.self.now c.self.view_is c.self.invariant c.place.new.self c.go_back.new.frame c.len-position.result c.len-position.ensures c.place.ensures.goes c.go_back.ensures).state_is
 
 pub invariant_of-self-in_default : goal.invariant_of-self-in_default
-invariant_of-self-in_default c =
-    (left_placed c.self.inside.frame c.place.new.self c.self.inside.marked c.args.self.now c.self.view_is c.self.invariant c.args.number c.args.item.now c.args.rows.items
-    c.requires.number c.requires.rows c.in_default.ensures.now c.place.ensures.goes).sound
+invariant_of-self-in_default c = (left_placed c.self.inside.frame c.place.new.self c.self.inside.marked c.args.self.now c.self.view_is c.self.invariant c.args.number c.args.item.now c.args.rows.items c.requires.number c.requires.rows c.in_default.ensures.now c.place.ensures.goes).sound
 
 pub returns-clause-ok : goal.returns-clause-ok
-returns-clause-ok c =
-    (left_placed c.self.inside.frame c.place.new.self c.self.inside.marked c.args.self.now c.self.view_is c.self.invariant c.args.number c.args.item.now c.args.rows.items
-    c.requires.number c.requires.rows c.in_default.ensures.now c.place.ensures.goes).state_is
+returns-clause-ok c = (left_placed c.self.inside.frame c.place.new.self c.self.inside.marked c.args.self.now c.self.view_is c.self.invariant c.args.number c.args.item.now c.args.rows.items c.requires.number c.requires.rows c.in_default.ensures.now c.place.ensures.goes).state_is
 
 pub returns-clause-ahead : goal.returns-clause-ahead
-returns-clause-ahead c =
-    (left_placed c.self.inside.frame c.place.new.self c.self.inside.marked c.args.self.now c.self.view_is c.self.invariant c.args.number c.args.item.now c.args.rows.items
-    c.requires.number c.requires.rows c.in_default.ensures.now c.place.ensures.goes).ahead
+returns-clause-ahead c = (left_placed c.self.inside.frame c.place.new.self c.self.inside.marked c.args.self.now c.self.view_is c.self.invariant c.args.number c.args.item.now c.args.rows.items c.requires.number c.requires.rows c.in_default.ensures.now c.place.ensures.goes).ahead
