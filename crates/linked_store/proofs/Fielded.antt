@@ -1,5 +1,5 @@
 -- A field exchanged with its rows, as callers see it.
-use Rattle.std.proofs.Common.{◌≡◌, ◌∙◌, sym, ap, refl, subst, ℕ, ◌+◌, ◌<◌, true, false, List, [], ◌∷◌, ◌++◌, length, map, take, get_or, Option, Some, None, IsSome, IfSome}
+use Rattle.std.proofs.Common.{◌≡◌, ◌∙◌, sym, ap, refl, subst, arith, ℕ, ◌+◌, ◌<◌, true, false, List, [], ◌∷◌, ◌++◌, length, map, take, get_or, Option, Some, None, IsSome, IfSome}
 use Rattle.std.specs.Prelude.{nat_eq}
 use Rattle.std.specs.Cmp.{unsigned_Decides}
 use Rattle.std.specs.List.{AllByRecursion}
@@ -13,7 +13,7 @@ use Rattle.marc_types.specs.Order.{same_form, same_key, form_cmp_total, key_cmp_
 use Rattle.numbering.specs.Numbers.{is_known, number_of, IsNumberOf, Keeps}
 use Rattle.numbering.specs.declared.seat.Seat.{Seat}
 use Rattle.numbering.proofs.Numberlaws.{alike, number_below}
-use Rattle.catalogue_rules.specs.State.{KeptField, KeptRecord}
+use Rattle.catalogue_rules.specs.State.{KeptField, KeptRecord, State}
 use Rattle.catalogue_rules.specs.Receipt.{kept_under}
 use Rattle.record_store.specs.Store.{StaysRecord, field_at, field_under}
 use Rattle.numbered_store.specs.Numbered.{Numbered, SuitsSeat as SuitsByNumber, field_of as field_by_number}
@@ -38,7 +38,7 @@ use Rattle.linked_store.specs.Turns.{IsTurned, IsWaitingOf}
 use Rattle.linked_store.specs.declared.frame.Frame.{Frame}
 use Rattle.linked_store.specs.declared.turns.Row.{Row}
 use Rattle.linked_store.proofs.Agreed.{agrees_turned, keys_keep, state_turned}
-use Rattle.linked_store.proofs.Framed.{forms_same, rows_then}
+use Rattle.linked_store.proofs.Framed.{forms_same, rows_then, steps_long}
 use Rattle.linked_store.proofs.Keyed.{record_there}
 use Rattle.linked_store.proofs.Wanting.{leading_one}
 use Rattle.linked_store.proofs.Sounding.{mark_stays, now_undone, same_view, sound_on, sound_same, start_stays, steps_undone}
@@ -159,6 +159,38 @@ module _ (f middle g : Frame) (marked : ℕ) (sound : IsSound f marked) (goes : 
 
 pub ahead_same : (x y : Linked) → y ≡ x → IsAhead x y
 ahead_same x y e = subst (λ z. IsAhead x z) (sym e) (record { keys = keys_grow_none x.keys; marked = refl; before = refl })
+
+-- ---- how a call leaves the store, of which its caller saw this
+
+pub record IsLeft (seen : Linked) (state : State) (g : Frame) (marked : ℕ) : Type 0 where
+  pub sound : IsSound g marked
+  pub state_is : state_in (contents g) ≡ state
+  pub ahead : IsAhead seen (linked_view g marked)
+
+module _ (f : Frame) (marked : ℕ) (seen : Linked) (view : linked_view f marked ≡ seen) (sound : IsSound f marked) where
+  -- as it was
+  pub left_undone : (middle g : Frame) (position : ℕ) → position ≡ f.log.len → GoesOn f middle → GoesBack position middle g → IsLeft seen seen.state g marked
+  left_undone middle g position at goes back =
+      let whole : position ≡ length (steps_of f) = omega (arith, at, f.log.ok.0, steps_long f.log.items) in
+      let went : GoesBack (length (steps_of f)) middle g = subst (λ n. GoesBack n middle g) whole back in
+      let same = view_undone f middle g marked sound goes went in
+      record {
+        sound = sound_undone f middle g marked sound goes went;
+        state_is = ap (λ (x : Linked). x.state) (same ∙ view);
+        ahead = subst (λ (x : Linked). IsAhead x (linked_view g marked)) view (ahead_same (linked_view f marked) (linked_view g marked) same);
+      }
+
+  -- with the field exchanged
+  pub left_turned : (seat : Seat) (h : KeptField) (link : Option ℕ) (row : Option Row) (g : Frame) → SuitsSeat seat h seen → IsLinkNumber seen.keys.authorities h.tie.key link
+      → IsRowFor seat.class h seen.keys.authorities row → GoesOn f g → IsTurned seat h link row f g → IsLeft seen (swapped (place_at seen.keys seat) h seen.state) g marked
+  left_turned seat h link row g suits is_link is_row goes is =
+      let suits_seat : SuitsSeat seat h (linked_view f marked) = subst (λ (x : Linked). SuitsSeat seat h x) (sym view) suits in
+      subst (λ (x : Linked). IsLeft x (swapped (place_at x.keys seat) h x.state) g marked) view (record {
+        sound = sound_turned seat h link row f g marked sound suits_seat (subst (λ (x : Linked). IsLinkNumber x.keys.authorities h.tie.key link) (sym view) is_link)
+            (subst (λ (x : Linked). IsRowFor seat.class h x.keys.authorities row) (sym view) is_row) goes is;
+        state_is = state_turned_to seat h link row f g marked suits_seat is;
+        ahead = ahead_turned f g marked sound goes (keys_turned seat h link row f g is);
+      })
 
 -- ---- one call after another
 

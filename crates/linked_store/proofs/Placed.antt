@@ -58,7 +58,7 @@ use Rattle.catalogue_tables.proofs.Seams.{key_numbered, seat_alike, told_stays, 
 use Rattle.linked_store.specs.Contents.{Contents}
 use Rattle.linked_store.specs.Frames.{FormsKeep, GoesOn, contents}
 use Rattle.linked_store.specs.Leading.{leading_by, leads, leads_at, leads_form}
-use Rattle.linked_store.specs.Linked.{IsAhead}
+use Rattle.linked_store.specs.Linked.{IsAhead, Linked}
 use Rattle.linking_laws.specs.Commits.{placed_by}
 use Rattle.linked_store.specs.Placing.{AreRowsOf, IndexFollows, IsElsewhere, IsPlaced, IsRowAt, fields_brought, record_brought, row_of_field, seat_in}
 use Rattle.linked_store.specs.Sound.{AgreesWith, IsSound, key_lists, keys_of, linked_view, seen_links, seen_waits, state_in}
@@ -67,7 +67,7 @@ use Rattle.linked_store.specs.declared.frame.Frame.{Frame}
 use Rattle.linked_store.specs.declared.seating.FieldRow.{FieldRow}
 use Rattle.linked_store.specs.declared.turns.Row.{Row}
 use Rattle.linked_store.proofs.Agreed.{key_there, keys_alike, keys_keep, within_first}
-use Rattle.linked_store.proofs.Fielded.{ahead_turned, wait_of}
+use Rattle.linked_store.proofs.Fielded.{IsLeft, ahead_turned, wait_of}
 use Rattle.linked_store.proofs.Sounding.{sound_on}
 use Rattle.linked_store.proofs.Brought.{number_key}
 use Rattle.linked_store.proofs.Seated.{fails}
@@ -477,13 +477,28 @@ module _ (f g : Frame) (marked number : ℕ) (e : Entry) (rows : List FieldRow) 
   key : key_at (keys_in e.class (linked_view f marked).keys) number ≡ e.key
   key = number_key (keys_in e.class (linked_view f marked).keys) e.key number of
 
-  pub sound_placed : IsSound g marked
+  sound_placed : IsSound g marked
   sound_placed =
       sound_on f g marked goes (ap (λ (s : Numbered). s.keys) is.store) sound
       (agrees_placed f g number e rows sound.distinct low key is rows_are goes.rows sound.now)
 
-  pub state_placed_to : state_in (contents g) ≡ placed_by e.class (linked_view f marked).state e
+  state_placed_to : state_in (contents g) ≡ placed_by e.class (linked_view f marked).state e
   state_placed_to = state_now f g number e rows sound.distinct low key is rows_are goes.rows sound.now
 
-  pub ahead_placed : IsAhead (linked_view f marked) (linked_view g marked)
+  ahead_placed : IsAhead (linked_view f marked) (linked_view g marked)
   ahead_placed = ahead_turned f g marked sound goes (ap (λ (s : Numbered). s.keys) is.store)
+
+-- how the call leaves the store, of which its caller saw this
+pub left_placed : (f g : Frame) (marked : ℕ) (seen : Linked) → linked_view f marked ≡ seen → IsSound f marked → (number : ℕ) (e : Entry) (rows : List FieldRow)
+    → IsNumberOf same_key (keys_in e.class seen.keys) e.key number → AreRowsOf e.class seen.keys.authorities (fields_brought (arrival_of e)) rows → IsPlaced number e rows f g → GoesOn f g
+    → IsLeft seen (placed_by e.class seen.state e) g marked
+left_placed f g marked seen view sound number e rows of rows_are is goes =
+    let number_of_it : IsNumberOf same_key (keys_in e.class (linked_view f marked).keys) e.key number =
+    subst (λ (x : Linked). IsNumberOf same_key (keys_in e.class x.keys) e.key number) (sym view) of in
+    let rows_of_it : AreRowsOf e.class (linked_view f marked).keys.authorities (fields_brought (arrival_of e)) rows =
+    subst (λ (x : Linked). AreRowsOf e.class x.keys.authorities (fields_brought (arrival_of e)) rows) (sym view) rows_are in
+    subst (λ (x : Linked). IsLeft x (placed_by e.class x.state e) g marked) view (record {
+      sound = sound_placed f g marked number e rows sound number_of_it rows_of_it is goes;
+      state_is = state_placed_to f g marked number e rows sound number_of_it rows_of_it is goes;
+      ahead = ahead_placed f g marked number e rows sound number_of_it rows_of_it is goes;
+    })

@@ -2,7 +2,7 @@
 use Rattle.std.proofs.Common.{◌≡◌, ◌∙◌, sym, ap, refl, subst, ℕ, zero, suc, ◌+◌, ◌<◌, ◌≤◌, arith, List, [], ◌∷◌, ◌++◌, length, length-append, take, drop, Option}
 use Rattle.numbering.specs.declared.seat.Seat.{Seat}
 use Rattle.wait_table.specs.declared.waiting.Waiting.{Waiting}
-use Rattle.numbered_store.specs.Numbered.{Grows, Numbered, KeyNumbers}
+use Rattle.numbered_store.specs.Numbered.{Grows, Numbered, KeyNumbers, with_field_of, with_record}
 use Rattle.numbered_store.specs.Steps as stored
 use Rattle.numbered_store.proofs.Growing.{grown_back}
 use Rattle.numbering.specs.Numbers.{Keeps}
@@ -12,7 +12,7 @@ use Rattle.form_index.proofs.Growing.{order_kept}
 use Rattle.catalogue_tables.specs.Following.{restored, without_row}
 use Rattle.catalogue_tables.proofs.WaysBack.{way_stays}
 use Rattle.catalogue_tables.proofs.Followed.{tells_rows_kept}
-use Rattle.catalogue_rules.specs.State.{linkable_authorities}
+use Rattle.catalogue_rules.specs.State.{State, linkable_authorities}
 use Rattle.catalogue_tables.specs.Seam.{AreDistinct, KeysKeep}
 use Rattle.linked_store.specs.Contents.{CanGoBack, Contents, CanReturn, Fits, Step, ToField, ToIndex, ToLink, ToRecord, ToWait, apply, apply_back, at_seat}
 use Rattle.linked_store.specs.Frames.{FormsKeep, GoesBack, GoesOn, IsKept, IsRoomy, StaysButHeld, contents, steps_of}
@@ -38,31 +38,27 @@ pub record GrowsTo (c d : Contents) : Type 0 where
 stored_step : (step : stored.Step) (old new : Numbered) → Grows old new → stored.Fits step old → stored.Fits step new × ((stored.apply step new).state ≡ (stored.apply step old).state)
 stored_step step old new grows fits = let both = grown_back (step ∷ []) old new grows (tt, fits) in (both.0.1, both.1)
 
+-- with another state of the records, and the same keys
+abbrev in_state : State → Contents → Contents
+in_state s c = record { numbered = record { state = s; keys = c.numbered.keys }; index = c.index; links = c.links; waits = c.waits }
+
+state_grown : (c d : Contents) (s t : State) → GrowsTo c d → t ≡ s → GrowsTo (in_state s c) (in_state t d)
+state_grown c d s t grows same = record {
+  numbered = record { state = same; longer = λ k n low. grows.numbered.longer k n low; same_key = λ k n low. grows.numbered.same_key k n low };
+  keep = grows.keep;
+  distinct = grows.distinct;
+  index = grows.index;
+  links = grows.links;
+  waits = grows.waits;
+}
+
 step_grown : (step : Step) (c d : Contents) → GrowsTo c d → Fits step c → Fits step d × GrowsTo (apply step c) (apply step d)
 step_grown (ToRecord class number r) c d grows fits =
-    let both = stored_step (stored.ToRecord class number r) c.numbered d.numbered grows.numbered fits in (
-      both.0,
-      record {
-        numbered = record { state = both.1; longer = λ k n low. grows.numbered.longer k n low; same_key = λ k n low. grows.numbered.same_key k n low };
-        keep = grows.keep;
-        distinct = grows.distinct;
-        index = grows.index;
-        links = grows.links;
-        waits = grows.waits;
-      },
-    )
+    let both = stored_step (stored.ToRecord class number r) c.numbered d.numbered grows.numbered fits in
+    (both.0, state_grown c d (with_record class number r c.numbered).state (with_record class number r d.numbered).state grows both.1)
 step_grown (ToField seat h) c d grows fits =
-    let both = stored_step (stored.ToField seat h) c.numbered d.numbered grows.numbered fits in (
-      both.0,
-      record {
-        numbered = record { state = both.1; longer = λ k n low. grows.numbered.longer k n low; same_key = λ k n low. grows.numbered.same_key k n low };
-        keep = grows.keep;
-        distinct = grows.distinct;
-        index = grows.index;
-        links = grows.links;
-        waits = grows.waits;
-      },
-    )
+    let both = stored_step (stored.ToField seat h) c.numbered d.numbered grows.numbered fits in
+    (both.0, state_grown c d (with_field_of seat h c.numbered).state (with_field_of seat h d.numbered).state grows both.1)
 step_grown (ToIndex number row) c d grows fits =
     let here : CanReturn d.numbered.keys.authorities number row c.index = record {
       known = let low : number < length c.numbered.keys.authorities = fits.known in let long = grows.keep.longer in omega (arith, low, long);

@@ -23,7 +23,7 @@ use Rattle.catalogue_tables.proofs.Seams.{seat_back}
 use Rattle.linked_store.specs.Contents.{Contents, ToField, apply, at_seat}
 use Rattle.linked_store.specs.Frames.{GoesOn, contents}
 use Rattle.linked_store.specs.Holding.{HasNoOther, row_held_for}
-use Rattle.linked_store.specs.Linked.{IsAhead, SuitsSeat, field_of}
+use Rattle.linked_store.specs.Linked.{IsAhead, Linked, SuitsSeat, field_of}
 use Rattle.linked_store.specs.Sound.{AgreesWith, IsSound, keys_of, linked_view, seen_links, state_in}
 use Rattle.linked_store.specs.Staying.{is_linked_alike, same_link}
 use Rattle.linked_store.specs.Turning.{IsLinkOf, turned}
@@ -31,7 +31,7 @@ use Rattle.linked_store.specs.declared.frame.Frame.{Frame}
 use Rattle.linked_store.specs.declared.held.RowHeld.{RowHeld}
 use Rattle.linked_store.specs.declared.held.RowHeld.TheVariants.{Link, Waiting, Nothing}
 use Rattle.linked_store.proofs.Agreed.{agrees_turned, state_turned}
-use Rattle.linked_store.proofs.Fielded.{ahead_turned, field_there, wait_of}
+use Rattle.linked_store.proofs.Fielded.{IsLeft, ahead_turned, field_there, wait_of}
 use Rattle.linked_store.proofs.Holding.{as_told}
 use Rattle.linked_store.proofs.Outside.{none_at}
 use Rattle.linked_store.proofs.Sounding.{sound_on}
@@ -148,7 +148,7 @@ module _ (f g : Frame) (marked : ℕ) (seat : Seat) (h : KeptField) (sound : IsS
   keys_alike : g.store.keys ≡ f.store.keys
   keys_alike = ap (λ (x : Contents). x.numbered.keys) now
 
-  pub sound_alike : IsSound g marked
+  sound_alike : IsSound g marked
   sound_alike =
       sound_on f g marked goes keys_alike sound
       (subst (λ x. AgreesWith g.tables x) (sym turned_alike)
@@ -156,8 +156,21 @@ module _ (f g : Frame) (marked : ℕ) (seat : Seat) (h : KeptField) (sound : IsS
       (λ class. subst (λ (o : Option KeptField). IfSome o (λ old. IsSteady old h)) stands.is (suits.steady class)) goes.rows link_of_it
       (wait_of g.tables.forms (keys_of c).authorities seat.class h None None (wants_linked seat.class h linked_now) tt) sound.now))
 
-  pub state_alike : state_in (contents g) ≡ swapped (place_at (keys_of c) seat) h (state_in c)
+  state_alike : state_in (contents g) ≡ swapped (place_at (keys_of c) seat) h (state_in c)
   state_alike = ap state_in now ∙ state_turned seat h f.store suits.known
 
-  pub ahead_alike : IsAhead (linked_view f marked) (linked_view g marked)
+  ahead_alike : IsAhead (linked_view f marked) (linked_view g marked)
   ahead_alike = ahead_turned f g marked sound goes keys_alike
+
+-- how the exchange leaves the store, of which its caller saw this
+pub left_alike : (f g : Frame) (marked : ℕ) (seen : Linked) → linked_view f marked ≡ seen → IsSound f marked → (seat : Seat) (h : KeptField) → IsDistinct same_form f.tables.forms
+    → SuitsSeat seat h seen → is_linked_alike h.tie (field_of seat seen) ≡ true → GoesOn f g → contents g ≡ apply (ToField seat h) (contents f)
+    → IsLeft seen (swapped (place_at seen.keys seat) h seen.state) g marked
+left_alike f g marked seen view sound seat h once suits alike goes now =
+    let suits_seat : SuitsSeat seat h (linked_view f marked) = subst (λ (x : Linked). SuitsSeat seat h x) (sym view) suits in
+    let alike_there : is_linked_alike h.tie (field_of seat (linked_view f marked)) ≡ true = subst (λ (x : Linked). is_linked_alike h.tie (field_of seat x) ≡ true) (sym view) alike in
+    subst (λ (x : Linked). IsLeft x (swapped (place_at x.keys seat) h x.state) g marked) view (record {
+      sound = sound_alike f g marked seat h sound once suits_seat alike_there goes now;
+      state_is = state_alike f g marked seat h sound once suits_seat alike_there goes now;
+      ahead = ahead_alike f g marked seat h sound once suits_seat alike_there goes now;
+    })
