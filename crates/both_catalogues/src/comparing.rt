@@ -4,7 +4,7 @@ ghost use Rattle.marc_types.specs.Limits.{most_entries};
 
 use crate::likeness::{keep_alike, stand_alike};
 use entry_record::Prepared;
-use marc_types::{Limits, NoMemory};
+use marc_types::{Limits, NoMemory, Receipt};
 use record_store::Steps;
 use std::alloc::Global;
 use std::sync::ledger::{Blank, Ledger};
@@ -34,7 +34,38 @@ enum Committed {
     NotTaken,
 }
 
-/// Commits an entry and its twin.
+// What comes after a commit needs no more of it than that nothing is staged: its other clauses stay in here.
+fn commit_touching<L: Ledger>(
+    alloc: Global,
+    touching: &mut catalogue_core::Catalogue,
+    item: Prepared,
+    steps: &mut Steps<L>,
+) -> Option<Receipt>
+    requires { touching.old.staged ≡ [] }
+    ensures { touching.new.staged ≡ [] }
+{
+    match touching.commit(alloc, item, steps) {
+        Ok(receipt) => Some(receipt),
+        Err(_fault) => None,
+    }
+}
+
+fn commit_plain<L: Ledger>(
+    alloc: Global,
+    plain: &mut plain_catalogue::Catalogue,
+    item: Prepared,
+    steps: &mut Steps<L>,
+) -> Option<Receipt>
+    requires { plain.old.staged ≡ [] }
+    ensures { plain.new.staged ≡ [] }
+{
+    match plain.commit(alloc, item, steps) {
+        Ok(receipt) => Some(receipt),
+        Err(_fault) => None,
+    }
+}
+
+/// Commits an entry and its twin; whether both give the same receipt. None where one isn't taken.
 fn commit_both<L: Ledger>(
     alloc: Global,
     touching: &mut catalogue_core::Catalogue,
@@ -42,23 +73,15 @@ fn commit_both<L: Ledger>(
     item: Prepared,
     twin: Prepared,
     steps: &mut Steps<L>,
-) -> Result<Committed, NoMemory>
+) -> Option<bool>
     requires touching { touching.old.staged ≡ [] }
     requires plain { plain.old.staged ≡ [] }
     ensures touching { touching.new.staged ≡ [] }
     ensures plain { plain.new.staged ≡ [] }
 {
-    let Ok(receipt) = touching.commit(alloc, item, steps) else {
-        return Ok(Committed::NotTaken);
-    };
-    let Ok(other) = plain.commit(alloc, twin, steps) else {
-        return Ok(Committed::NotTaken);
-    };
-    if receipt == other && keep_alike(alloc, touching.engine(), plain.engine())? {
-        Ok(Committed::Alike)
-    } else {
-        Ok(Committed::Different)
-    }
+    let receipt = commit_touching(alloc, touching, item, steps)?;
+    let other = commit_plain(alloc, plain, twin, steps)?;
+    Some(receipt == other)
 }
 
 /// Whether the fields stand alike, where it is the turn to look.
@@ -75,7 +98,34 @@ fn stand_alike_in_turn(
     }
 }
 
-/// Commits the next entry and its twin; what is found where the catalogues then aren't alike.
+fn are_alike(
+    alloc: Global,
+    touching: &catalogue_core::Catalogue,
+    plain: &plain_catalogue::Catalogue,
+    at: u64,
+) -> Result<bool, NoMemory> {
+    Ok(
+        keep_alike(alloc, touching.engine(), plain.engine())?
+            && stand_alike_in_turn(alloc, touching, plain, at)?,
+    )
+}
+
+/// The next entry and its twin.
+fn next_both(
+    alloc: Global,
+    entries: &mut Entries,
+    twins: &mut Entries,
+) -> Result<Option<(Prepared, Prepared)>, NoMemory> {
+    let Some(item) = entries.next(alloc)? else {
+        return Ok(None);
+    };
+    let Some(twin) = twins.next(alloc)? else {
+        return Ok(None);
+    };
+    Ok(Some((item, twin)))
+}
+
+/// Commits the next entry and its twin, and compares the catalogues.
 fn commit_next<L: Ledger>(
     alloc: Global,
     touching: &mut catalogue_core::Catalogue,
@@ -84,27 +134,48 @@ fn commit_next<L: Ledger>(
     twins: &mut Entries,
     at: u64,
     steps: &mut Steps<L>,
-) -> Result<Option<Found>, NoMemory>
+) -> Result<Committed, NoMemory>
     requires touching { touching.old.staged ≡ [] }
     requires plain { plain.old.staged ≡ [] }
     ensures touching { touching.new.staged ≡ [] }
     ensures plain { plain.new.staged ≡ [] }
 {
-    let (Some(item), Some(twin)) = (entries.next(alloc)?, twins.next(alloc)?) else {
-        return Ok(Some(Found::NotTaken(at)));
+    let Some((item, twin)) = next_both(alloc, entries, twins)? else {
+        return Ok(Committed::NotTaken);
     };
-    match commit_both(alloc, touching, plain, item, twin, steps)? {
-        Committed::Alike => {}
-        Committed::Different => return Ok(Some(Found::Different(at))),
-        Committed::NotTaken => return Ok(Some(Found::NotTaken(at))),
-    }
-    if stand_alike_in_turn(alloc, touching, plain, at)? {
-        Ok(None)
+    let Some(is_same) = commit_both(alloc, touching, plain, item, twin, steps) else {
+        return Ok(Committed::NotTaken);
+    };
+    if is_same && are_alike(alloc, touching, plain, at)? {
+        Ok(Committed::Alike)
     } else {
-        Ok(Some(Found::Different(at)))
+        Ok(Committed::Different)
     }
 }
 
+fn commit_to_both<L: Ledger>(
+    alloc: Global,
+    touching: &mut catalogue_core::Catalogue,
+    plain: &mut plain_catalogue::Catalogue,
+    entries: &mut Entries,
+    twins: &mut Entries,
+    count: u64,
+    steps: &mut Steps<L>,
+) -> Result<Found, NoMemory>
+    requires touching { touching.old.staged ≡ [] }
+    requires plain { plain.old.staged ≡ [] }
+{
+    for at in 0..count {
+        match commit_next(alloc, touching, plain, entries, twins, at, steps)? {
+            Committed::Alike => {}
+            Committed::Different => return Ok(Found::Different(at)),
+            Committed::NotTaken => return Ok(Found::NotTaken(at)),
+        }
+    }
+    Ok(Found::Alike(count))
+}
+
+// The catalogues have one owner, which doesn't leave early.
 fn commit_all<L: Ledger>(
     alloc: Global,
     entries: &mut Entries,
@@ -114,20 +185,15 @@ fn commit_all<L: Ledger>(
 ) -> Result<Found, NoMemory> {
     let mut touching = catalogue_core::Catalogue::empty(alloc, LIMITS);
     let mut plain = plain_catalogue::Catalogue::empty(alloc, LIMITS);
-    for at in 0..count {
-        if let Some(found) = commit_next(
-            alloc,
-            &mut touching,
-            &mut plain,
-            entries,
-            twins,
-            at,
-            steps,
-        )? {
-            return Ok(found);
-        }
-    }
-    Ok(Found::Alike(count))
+    commit_to_both(
+        alloc,
+        &mut touching,
+        &mut plain,
+        entries,
+        twins,
+        count,
+        steps,
+    )
 }
 
 /// Commits a workload to both catalogues, and compares them after each commit.

@@ -1,5 +1,5 @@
 use Rattle.std.proofs.Common.{◌≡◌, []}
-use Rattle.both_catalogues.proofs.comparing.commit_all.Given as goal
+use Rattle.both_catalogues.proofs.comparing.commit_to_both.Given as goal
 
 -- nothing is staged between two commits
 abbrev pub invariant-loop-at : goal.invariant-loop-at
