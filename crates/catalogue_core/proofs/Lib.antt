@@ -1,2 +1,3 @@
 mod Catalogues
 mod Engines
+pub mod Entries

@@ -167,7 +167,7 @@ impl Catalogue {
 
     /// Puts an entry behind the history. Full comes before all else, where with this entry the limits would be passed. After
     /// either fault nothing is changed, and the entry is gone.
-    #[tactic(auto, using(crate::proofs::Catalogues::nothing_staged))]
+    #[tactic(auto, using(crate::proofs::Entries::nothing_staged))]
     pub fn commit<L: Ledger>(
         &mut self,
         alloc: Global,

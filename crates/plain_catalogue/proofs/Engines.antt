@@ -29,9 +29,10 @@ use Rattle.catalogue_rules.proofs.States.{fit_entry, new_ready, every_state_vali
 use Rattle.linking_laws.specs.Behind.{placed_in, placed, linkable_behind, ended_by, record_behind, row_behind, rows_behind, state_behind}
 use Rattle.plain_catalogue.specs.KeptRecords.{CanStand, HasSize}
 use Rattle.plain_catalogue.specs.Behind.{authority_row, linkable_rows, standings_rows, incoming, authorities_in, authorities_behind, count_incoming, StandsIn, CanFollow, IsStateAfter, is_other_changed}
-use Rattle.plain_catalogue.specs.Engines.{IsEngine, AreNumbersOf}
+use Rattle.plain_catalogue.specs.Engines.{IsEngine}
+use Rattle.commit_stages.specs.Receipts.{AreNumbersOf}
 use Rattle.plain_catalogue.specs.declared.behind.StateAfter.{StateAfter}
-use Rattle.plain_catalogue.specs.declared.engine.Changes.{Changes}
+use Rattle.commit_stages.specs.declared.changes.Changes.{Changes}
 use Rattle.plain_catalogue.specs.declared.standing.Standing as here
 use Rattle.record_store.specs.Store.{stored}
 use Rattle.plain_catalogue.proofs.Building.{order_over}

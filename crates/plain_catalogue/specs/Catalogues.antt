@@ -1,48 +1,13 @@
--- What clauses see of a catalogue, and what its type keeps.
-use Rattle.std.specs.Prelude.{◌≡◌, ℕ, ◌+◌, ◌≤◌, Bool, true, false, ◌||◌, nat_lt, List, [], ◌∷◌, ◌++◌, length, take, drop, All, IfSome, Option}
+-- What a catalogue keeps. What clauses see of it, and how they speak of it, is `catalogue_core`'s.
+use Rattle.std.specs.Prelude.{◌≡◌, ℕ, ◌≤◌, List, length, take, drop, All, IfSome, Option}
 use Rattle.std.specs.Option.{option_map_or}
 use Rattle.marc_types.specs.declared.entry.Entry.{Entry}
 use Rattle.marc_types.specs.declared.entry.Limits.{Limits}
-use Rattle.entry_record.specs.History.{IsAdmitted, entry_size, entries_size, passes_limits}
+use Rattle.entry_record.specs.History.{IsAdmitted, entries_size}
 use Rattle.catalogue_rules.specs.Settle.{state_of}
 use Rattle.catalogue_rules.specs.State.{State}
+use Rattle.catalogue_core.specs.Catalogues.{Catalogued}
 use Rattle.plain_catalogue.specs.declared.catalogue.Before.{Before}
-use Rattle.plain_catalogue.specs.declared.catalogue.CoreFault.{CoreFault}
-use Rattle.plain_catalogue.specs.declared.catalogue.CoreFault.TheVariants.{Full, NoMemory}
-
--- the committed entries, those that are staged behind them, and the limits of both together
-pub record Catalogued : Type 0 where
-  pub history : List Entry
-  pub staged : List Entry
-  pub limits : Limits
-
-abbrev pub all_entries : Catalogued → List Entry
-all_entries c = c.history ++ c.staged
-
-abbrev pub empty_catalogue : Limits → Catalogued
-empty_catalogue limits = record { history = []; staged = []; limits = limits }
-
--- with one more entry, the catalogue has too many, or they have too many bytes
-abbrev pub is_full : Catalogued → Entry → Bool
-is_full c e = passes_limits c.limits (all_entries c) e
-
--- Full exactly where it is full
-abbrev pub IsDue : Bool → CoreFault → Type 0
-IsDue full Full = full ≡ true
-IsDue full NoMemory = full ≡ false
-
-abbrev pub with_staged : Catalogued → Entry → Catalogued
-with_staged c e = record { history = c.history; staged = c.staged ++ e ∷ []; limits = c.limits }
-
--- what is staged becomes history
-abbrev pub with_kept : Catalogued → Catalogued
-with_kept c = record { history = all_entries c; staged = []; limits = c.limits }
-
-abbrev pub without_staged : Catalogued → Catalogued
-without_staged c = record { history = c.history; staged = []; limits = c.limits }
-
-abbrev pub with_entry : Catalogued → Entry → Catalogued
-with_entry c e = record { history = c.history ++ e ∷ []; staged = []; limits = c.limits }
 
 -- how many entries are history: all, where nothing is staged
 abbrev pub kept_count : Option Before → List Entry → ℕ

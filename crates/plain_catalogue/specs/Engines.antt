@@ -5,14 +5,12 @@ use Rattle.std.specs.Option.{option_and_then}
 use Rattle.marc_types.specs.declared.key.Class.TheVariants.{Authority, Bibliographic}
 use Rattle.marc_types.specs.declared.key.Key.{Key}
 use Rattle.marc_types.specs.declared.form.Form.{Form}
-use Rattle.marc_types.specs.declared.entry.Receipt.{Receipt}
 use Rattle.entry_record.specs.Authority.{Linkable, linkable_of}
 use Rattle.catalogue_rules.specs.State.{KeptRecord, State, fields_of, linkable_authorities}
 use Rattle.catalogue_rules.specs.Receipt.{kept_under}
 use Rattle.catalogue_rules.specs.Valid.{IsValid}
 use Rattle.plain_catalogue.specs.Behind.{authority_row, standings_rows, StandsIn}
 use Rattle.plain_catalogue.specs.declared.standing.Standing.{Standing}
-use Rattle.plain_catalogue.specs.declared.engine.Changes.{Changes}
 
 -- Beside a valid state: the authority of each authority record, where fields can be linked to it, and how the fields of each
 -- record stand.
@@ -22,13 +20,6 @@ pub record IsEngine (s : State) (authorities : List (Key × Option Linkable)) (a
   pub in_records : All StandsIn authorities
   pub authorities_standings : authorities_stand ≡ standings_rows (linkable_authorities s) Authority s.authorities
   pub bibliographic_standings : bibliographic_stand ≡ standings_rows (linkable_authorities s) Bibliographic s.bibliographic
-
--- the numbers of a receipt
-pub record AreNumbersOf (r : Receipt) (changes : Changes) : Type 0 where
-  pub linked : changes.linked ≡ r.linked
-  pub ambiguous : changes.ambiguous ≡ r.ambiguous
-  pub unlinked : changes.unlinked ≡ r.unlinked
-  pub changed_records : changes.changed_records ≡ r.changed_records
 
 -- the authority of a key, where one is kept under it that fields can be linked to
 abbrev pub linkable_under : Key → State → Option Linkable

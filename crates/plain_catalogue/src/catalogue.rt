@@ -8,9 +8,11 @@ ghost use Rattle.catalogue_rules.specs.Settle.{arrival_of, state_of};
 ghost use Rattle.catalogue_rules.specs.Receipt.{kept_under, receipt};
 ghost use Rattle.plain_catalogue.specs.Engines.{linkable_under, forms_as, forms_in};
 ghost use Rattle.plain_catalogue.specs.Told.{told_as, field_told, field_candidates};
-ghost use Rattle.plain_catalogue.specs.Catalogues.{all_entries, empty_catalogue, is_full, IsDue, with_staged, with_kept, without_staged, with_entry};
+ghost use Rattle.catalogue_core.specs.Catalogues.{all_entries, empty_catalogue, is_full, IsDue, with_staged, with_kept, without_staged, with_entry};
 
-use crate::engine::{Behind, Changes, Engine};
+use crate::engine::{Behind, Engine};
+use catalogue_core::CoreFault;
+use commit_stages::Changes;
 use entry_record::Prepared;
 use marc_types::{
     Class, Entry, Form, Forms, Kept, Key, Keys, Limits, NoMemory, Place, Receipt, Status,
@@ -20,13 +22,6 @@ use std::alloc::Global;
 use std::marker::Model;
 use std::mem;
 use std::sync::ledger::Ledger;
-
-/// Why an entry isn't taken: the catalogue is full, or there is no memory.
-#[derive(Clone, Copy, Debug, PartialEq, Eq)]
-pub enum CoreFault {
-    Full,
-    NoMemory,
-}
 
 /// What a catalogue was before the first of the staged entries.
 #[derive(Drop)]
@@ -48,7 +43,8 @@ pub struct Catalogue {
 }
 
 impl Model for Catalogue {
-    ghost use Rattle.plain_catalogue.specs.Catalogues.{Catalogued, IsCatalogue, catalogued};
+    ghost use Rattle.catalogue_core.specs.Catalogues.{Catalogued};
+    ghost use Rattle.plain_catalogue.specs.Catalogues.{IsCatalogue, catalogued};
 
     ghost Value = { Catalogued };
 
@@ -171,7 +167,7 @@ impl Catalogue {
 
     /// Puts an entry behind the history. Full comes before all else, where with this entry the limits would be passed. After
     /// either fault nothing is changed.
-    #[tactic(auto, using(crate::proofs::Catalogues::nothing_staged))]
+    #[tactic(auto, using(catalogue_core::proofs::Entries::nothing_staged))]
     pub fn commit<L: Ledger>(
         &mut self,
         alloc: Global,

@@ -7,7 +7,8 @@ ghost use Rattle.catalogue_rules.specs.Settle.{step, arrival_of};
 ghost use Rattle.catalogue_rules.specs.Receipt.{kept_under, receipt_of};
 ghost use Rattle.catalogue_rules.specs.Valid.{IsValid};
 ghost use Rattle.plain_catalogue.specs.Behind.{standings_rows};
-ghost use Rattle.plain_catalogue.specs.Engines.{AreNumbersOf, linkable_under, forms_as, forms_in};
+ghost use Rattle.commit_stages.specs.Receipts.{AreNumbersOf};
+ghost use Rattle.plain_catalogue.specs.Engines.{linkable_under, forms_as, forms_in};
 ghost use Rattle.plain_catalogue.specs.Stands.{field_standing};
 ghost use Rattle.plain_catalogue.specs.Views.{linkables};
 ghost use Rattle.plain_catalogue.specs.Told.{told_as, told_of, field_told, candidates_of, field_candidates};
@@ -15,22 +16,13 @@ ghost use Rattle.plain_catalogue.specs.Told.{told_as, told_of, field_told, candi
 use crate::authority::Authority;
 use crate::behind::{StateAfter, authorities_after, linkable, state_after};
 use crate::standing::{Standing, Standings};
+use commit_stages::Changes;
 use entry_record::Prepared;
 use marc_types::{Class, Form, Forms, Kept, Key, Keys, NoMemory, Place, Status, Tie};
 use record_store::{KeptRows, Rows, Shelf, Steps, Store};
 use std::alloc::Global;
 use std::marker::Model;
 use std::sync::ledger::Ledger;
-
-/// What one commit did to a state: of the committed record's heading fields, how many are linked, ambiguous and unlinked; and
-/// how many other records it changed.
-#[derive(Clone, Copy, Debug, PartialEq, Eq)]
-pub struct Changes {
-    pub linked: u32,
-    pub ambiguous: u32,
-    pub unlinked: u32,
-    pub changed_records: u64,
-}
 
 /// The state of a catalogue. Beside its records it keeps the forms of each authority that fields can be linked to, and how the
 /// fields of each record stand. Contracts see it as the state.

@@ -3,8 +3,8 @@
 #![tactic(auto)]
 
 pub use authority::Authority;
-pub use catalogue::{Catalogue, CoreFault};
-pub use engine::{Changes, Engine};
+pub use catalogue::Catalogue;
+pub use engine::Engine;
 pub use standing::{Standing, Standings};
 
 mod authority;

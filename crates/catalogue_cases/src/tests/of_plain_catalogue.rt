@@ -1,11 +1,12 @@
 ghost use Rattle.std.specs.Prelude.{◌≡◌, ◌<◌, []};
 
+use catalogue_core::CoreFault;
 use entry_record::{Prepared, admit};
 use marc_types::{
     Class, Field, Fields, Key, Leader, Limits, Place, Receipt, Record, Status, Subfield, Subfields,
     Tag, Text, can_be_code, makes_record,
 };
-use plain_catalogue::{Catalogue, CoreFault};
+use plain_catalogue::Catalogue;
 use record_store::Steps;
 use std::alloc::Global;
 use std::marker::Brand;

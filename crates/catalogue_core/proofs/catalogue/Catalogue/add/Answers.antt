@@ -4,7 +4,8 @@ use Rattle.catalogue_rules.specs.Settle.{arrival_of, state_of, step}
 use Rattle.entry_record.specs.History.{entry_size}
 use Rattle.catalogue_rules.specs.Receipt.{receipt}
 use Rattle.catalogue_core.specs.Catalogues.{Catalogued, all_entries, catalogued, entries_seen, is_full, receipt_with, IsCatalogue}
-use Rattle.catalogue_core.proofs.Catalogues.{all_is, seen_many, seen_more, catalogue_added, receipt_made}
+use Rattle.catalogue_core.proofs.Catalogues.{all_is, seen_many, seen_more, catalogue_added}
+use Rattle.catalogue_core.proofs.Entries.{receipt_made}
 use Rattle.catalogue_core.proofs.catalogue.Catalogue.add.Goals as goal
 
 pub invariant_of-self-2 : goal.invariant_of-self-2

@@ -4,9 +4,10 @@ use Rattle.marc_types.specs.declared.entry.Entry.{Entry}
 use Rattle.catalogue_rules.specs.Settle.{step, arrival_of}
 use Rattle.entry_record.specs.History.{entry_size}
 use Rattle.catalogue_rules.specs.Receipt.{receipt}
-use Rattle.plain_catalogue.specs.Catalogues.{Catalogued, all_entries, catalogued, is_full, IsCatalogue}
+use Rattle.catalogue_core.specs.Catalogues.{Catalogued, all_entries, is_full, receipt_with}
+use Rattle.plain_catalogue.specs.Catalogues.{catalogued, IsCatalogue}
 use Rattle.plain_catalogue.specs.declared.catalogue.Before.{Before}
-use Rattle.plain_catalogue.proofs.Catalogues.{all_is, first_before, catalogue_added, room_in_bytes, numbered, receipt_made}
+use Rattle.plain_catalogue.proofs.Catalogues.{all_is, first_before, catalogue_added, room_in_bytes, receipt_made}
 use Rattle.plain_catalogue.proofs.catalogue.Catalogue.add.Goals as goal
 
 pub overflow_add-self : goal.overflow_add-self
@@ -43,6 +44,6 @@ returns-clause-receipt g c =
     let size = k.entries.ok.0 in
     let len = c.len-entries.ensures in
     let count : c.len-entries.result ≡ length k.entries.items = omega (arith, size, len) in
-    ap (λ (n : ℕ). numbered n c.in_ok-engine.field-0.changes) count
+    ap (λ (n : ℕ). receipt_with n c.in_ok-engine.field-0.changes) count
     ∙ receipt_made k.entries.items e k.engine c.in_ok-engine.field-0.engine c.in_ok-engine.field-0.changes c.self.invariant.engine_is c.in_ok-engine.ensures.state c.in_ok-engine.ensures.changes
     ∙ ap (λ (all : List Entry). receipt (map arrival_of all) (arrival_of e)) (sym (all_is k.before k.entries.items k.limits) ∙ ap all_entries c.self.view_is)

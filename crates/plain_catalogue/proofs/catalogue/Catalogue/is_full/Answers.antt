@@ -1,8 +1,10 @@
 use Rattle.std.proofs.Common.{◌-◌, ◌<◌, ◌≤◌, ℕ, length, ap, ◌∙◌, arith}
 use Rattle.std.specs.Prelude.{nat_lt}
 use Rattle.std.proofs.lemmas.Bool.{le-leb}
-use Rattle.plain_catalogue.specs.Catalogues.{Catalogued, is_full}
-use Rattle.plain_catalogue.proofs.Catalogues.{full_count, full_size}
+use Rattle.catalogue_core.specs.Catalogues.{Catalogued, is_full}
+use Rattle.catalogue_core.proofs.Entries.{full_count, full_size}
+use Rattle.plain_catalogue.specs.Catalogues.{catalogued}
+use Rattle.plain_catalogue.proofs.Catalogues.{all_is}
 use Rattle.plain_catalogue.proofs.catalogue.Catalogue.is_full.Goals as goal
 
 pub overflow_sub-result : goal.overflow_sub-result
@@ -15,7 +17,7 @@ returns-then-len-self c =
     let len = c.len.ensures in
     let many : k.limits.entries ≤ length k.entries.items = omega (arith, size, len, c.if-len-self.true) in
     le-leb k.limits.entries c.len.result c.if-len-self.true
-    ∙ full_count k.before k.entries.items k.limits c.args.item.now many
+    ∙ full_count (catalogued k.before k.entries.items k.limits) k.entries.items c.args.item.now (all_is k.before k.entries.items k.limits) many
     ∙ ap (λ (all : Catalogued). is_full all c.args.item.now) c.self.view_is
 
 pub returns-else-len-self : goal.returns-else-len-self
@@ -25,5 +27,6 @@ returns-else-len-self c =
     let len = c.len.ensures in
     let few : length k.entries.items < k.limits.entries = omega (arith, size, len, c.if-len-self.false) in
     ap (λ (n : ℕ). nat_lt (k.limits.bytes - k.bytes) n) c.size.ensures
-    ∙ full_size k.engine k.before k.entries.items k.bytes k.limits c.args.item.now c.self.invariant few
+    ∙ full_size (catalogued k.before k.entries.items k.limits) k.entries.items k.bytes c.args.item.now (all_is k.before k.entries.items k.limits)
+    c.self.invariant.bytes_are c.self.invariant.bytes_fit few
     ∙ ap (λ (all : Catalogued). is_full all c.args.item.now) c.self.view_is

@@ -4,8 +4,9 @@ use Rattle.catalogue_rules.specs.Settle.{step, arrival_of}
 use Rattle.catalogue_rules.specs.Receipt.{receipt_of}
 use Rattle.record_store.specs.Store.{Stored}
 use Rattle.plain_catalogue.specs.Behind.{linkable_rows}
-use Rattle.plain_catalogue.specs.Engines.{IsEngine, AreNumbersOf}
-use Rattle.plain_catalogue.specs.declared.engine.Changes.{Changes}
+use Rattle.plain_catalogue.specs.Engines.{IsEngine}
+use Rattle.commit_stages.specs.Receipts.{AreNumbersOf}
+use Rattle.commit_stages.specs.declared.changes.Changes.{Changes}
 use Rattle.plain_catalogue.proofs.Engines.{can_follow, step_made, engine_made, numbers_made, few_changed}
 use Rattle.plain_catalogue.proofs.engine.Engine.behind.Goals as goal
 
