@@ -55,7 +55,7 @@ closed_run old mid out_room new journal out report free opened wrote out_closed 
 
 module _ (libraries : List Library) (journal : List ℕ) (o : Outcome) where
   -- what the console is told of files that were loaded whole
-  pub record TellsLines (entries : List Entry) (results : List FileResult) : Type 0 where
+  pub record TellsLines (results : List FileResult) : Type 0 where
     pub text : List ℕ
     pub refused : Bool
     pub untold : IsUntold o.end
@@ -65,7 +65,6 @@ module _ (libraries : List Library) (journal : List ℕ) (o : Outcome) where
     pub front : WritesFront o.told o.now text
     pub refused_is : refused ≡ has_refused results
     pub text_is : text ≡ files_text libraries results
-    pub merged : o.old.tells ≡ true → MergedBy o.old o.new journal libraries entries results
 
   pub loads_failed : (why : Fault) → o.end ≡ Told why → IsTold why o
       → Fails o.old o.new journal libraries why (WhyNotLoad o.old o.new journal libraries why) → Loads libraries journal o
@@ -82,9 +81,9 @@ module _ (libraries : List Library) (journal : List ℕ) (o : Outcome) where
     untold = λ also. absurd (told_not_unwritten o.end why unwritten.Console is also);
   }
 
-  pub loads_told : (entries : List Entry) (results : List FileResult) → TellsLines entries results
-      → (o.end ≡ console_unwritten → Rose o.faults o.faults_now) → Loads libraries journal o
-  loads_told entries results t cause = record {
+  pub loads_told : (entries : List Entry) (results : List FileResult) → TellsLines results
+      → (o.old.tells ≡ true → MergedBy o.old o.new journal libraries entries results) → (o.end ≡ console_unwritten → Rose o.faults o.faults_now) → Loads libraries journal o
+  loads_told entries results t merged cause = record {
     ends = loading_untold o.end t.untold t.no_output;
     told = λ why also. absurd (never_told o.end why t.untold also);
     because = λ why also. absurd (never_told o.end why t.untold also);
@@ -94,14 +93,14 @@ module _ (libraries : List Library) (journal : List ℕ) (o : Outcome) where
     console_cause = cause;
     no_output = t.no_output;
     whole = λ all tells.
-        let m = t.merged tells in
+        let m = merged tells in
         record {
           merged = m.merged;
           console = subst (Appends o.told o.now) (t.text_is ∙ m.text_is) (t.whole all);
           end_is = t.done all ∙ ap (λ b. end_of b) (t.refused_is ∙ m.any_is);
         };
     untold = λ failed tells.
-        let m = t.merged tells in
+        let m = merged tells in
         record { merged = m.merged; console = subst (WritesFront o.told o.now) (t.text_is ∙ m.text_is) t.front };
   }
 
@@ -132,10 +131,10 @@ module _ (libraries : List Library) (journal : List ℕ) (o : Outcome) where
           untold = λ also. absurd (no unwritten.Console is also);
         }
 
-    pub runs_told : (entries : List Entry) (results : List FileResult) → TellsLines entries results
-        → (o.end ≡ console_unwritten → Rose o.faults o.faults_now) → (o.old.tells ≡ true → AreOutputs o.new out report entries)
+    pub runs_told : (entries : List Entry) (results : List FileResult) → TellsLines results
+        → (o.old.tells ≡ true → MergedBy o.old o.new journal libraries entries results) → (o.end ≡ console_unwritten → Rose o.faults o.faults_now) → (o.old.tells ≡ true → AreOutputs o.new out report entries)
         → Runs libraries journal out report o
-    runs_told entries results t cause outputs = record {
+    runs_told entries results t merged cause outputs = record {
       ends = running_untold o.end t.untold;
       told = λ why also. absurd (never_told o.end why t.untold also);
       because = λ why also. absurd (never_told o.end why t.untold also);
@@ -147,7 +146,7 @@ module _ (libraries : List Library) (journal : List ℕ) (o : Outcome) where
       report_cause = λ also. absurd (t.no_output.1 also);
       console_cause = cause;
       whole = λ all tells.
-          let m = t.merged tells in
+          let m = merged tells in
           record {
             merged = m.merged;
             outputs = subst (AreOutputs o.new out report) m.entries_are (outputs tells);
@@ -159,7 +158,7 @@ module _ (libraries : List Library) (journal : List ℕ) (o : Outcome) where
       in_out = λ also. absurd (t.no_output.0 also);
       in_report = λ also. absurd (t.no_output.1 also);
       untold = λ failed tells.
-          let m = t.merged tells in
+          let m = merged tells in
           record {
             merged = m.merged;
             outputs = subst (AreOutputs o.new out report) m.entries_are (outputs tells);

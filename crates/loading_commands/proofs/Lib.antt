@@ -4,3 +4,4 @@ mod Textual
 mod Written
 mod Missing
 pub mod Ended
+mod Ran

@@ -46,10 +46,9 @@ returns-in-Ok-text-clause-ends g c =
       front = t.front;
       refused_is = c.has_refused.ensures ∙ ap has_refused c.as_slice-in-Ok-text.ensures;
       text_is = c.as_str.ensures.value ∙ (c.in-Ok-text.ensures ∙ ap (files_text c.args.libraries.now) c.as_slice.ensures);
-      merged = λ tells.
-          merged_by (seen c.args.room.now) (seen c.close_journal.new.room) c.args.journal.now c.args.libraries.now (durable_view c.in-Ok.loaded.durable) c.in-Ok.loaded.results
-          c.is_within_limits.ensures (l.whole tells) (λ told. c.close_journal.ensures.log (c.load_journal.ensures.apart.tells ∙ tells) told) tells;
-    }) t.cause
+    }) (λ tells.
+    merged_by (seen c.args.room.now) (seen c.close_journal.new.room) c.args.journal.now c.args.libraries.now (durable_view c.in-Ok.loaded.durable) c.in-Ok.loaded.results
+    c.is_within_limits.ensures (l.whole tells) (λ told. c.close_journal.ensures.log (c.load_journal.ensures.apart.tells ∙ tells) told) tells) t.cause
 
 pub returns-clause-apart : goal.returns-clause-apart
 returns-clause-apart g c = same_but_then _ _ _ _ c.load_journal.ensures.apart c.close_journal.ensures.apart
