@@ -1,5 +1,13 @@
-use outside::{Disk, Failed, Room, Sink, Source};
-use outside_mem::{MemRoom, MemSink, MemSource};
+ghost use Rattle.std.specs.Prelude.{◌≡◌, None, OnOk};
+ghost use Rattle.outside_mem.specs.Room.{room_view};
+
+use super::steps::{
+    assert_read, len, opens_input, opens_log, read_twice, sync, write_all, write_at,
+};
+use outside::{Failed, Room, Sink, Source};
+use outside_mem::{MemDisk, MemRoom, MemSink, MemSource};
+use std::alloc::Global;
+use std::process::Abort;
 use std::test::Fail;
 
 #[test]
@@ -7,17 +15,20 @@ fn a_source_gives_chunks_and_fails_at_listed_calls(rt: HostRuntime) -> Result<()
     let alloc = rt.alloc();
     let bytes = b"hello world".to_vec(alloc)?;
     let mut source = MemSource::new(bytes, 4, [1].to_vec(alloc)?);
-    let mut buffer = [0; 8];
     assert_eq!(rt; source.remaining(), 11);
-    assert_eq!(rt; source.read(&mut buffer), Ok(4));
-    assert_eq!(rt; buffer, *b"hell\0\0\0\0");
-    assert_eq!(rt; source.read(&mut buffer), Err(Failed));
-    assert_eq!(rt; source.remaining(), 7);
-    assert_eq!(rt; source.read(&mut buffer), Ok(4));
-    assert_eq!(rt; buffer, *b"o wo\0\0\0\0");
-    assert_eq!(rt; source.read(&mut buffer), Ok(3));
-    assert_eq!(rt; buffer, *b"rldo\0\0\0\0");
-    assert_eq!(rt; source.read(&mut buffer), Ok(0));
+    let mut buffer = [0; 8];
+    assert_read(&rt, &mut source, &mut buffer, Ok(4), b"hell\0\0\0\0", 7);
+    assert_read(
+        &rt,
+        &mut source,
+        &mut buffer,
+        Err(Failed),
+        b"hell\0\0\0\0",
+        7,
+    );
+    assert_read(&rt, &mut source, &mut buffer, Ok(4), b"o wo\0\0\0\0", 3);
+    assert_read(&rt, &mut source, &mut buffer, Ok(3), b"rldo\0\0\0\0", 0);
+    assert_read(&rt, &mut source, &mut buffer, Ok(0), b"rldo\0\0\0\0", 0);
     assert_eq!(rt; source.faults(), 1);
     Ok(())
 }
@@ -26,29 +37,68 @@ fn a_source_gives_chunks_and_fails_at_listed_calls(rt: HostRuntime) -> Result<()
 fn a_sink_writes_nothing_at_a_listed_call(rt: HostRuntime) -> Result<(), Fail> {
     let alloc = rt.alloc();
     let mut sink = MemSink::new(alloc, [1, 3].to_vec(alloc)?);
-    assert_eq!(rt; sink.write_all(b"one"), Ok(()));
-    assert_eq!(rt; sink.write_all(b"two"), Err(Failed));
-    assert_eq!(rt; sink.write_all(b" three"), Ok(()));
+    assert_eq!(rt; write_all(&mut sink, b"one"), Ok(()));
+    assert_eq!(rt; write_all(&mut sink, b"two"), Err(Failed));
+    assert_eq!(rt; write_all(&mut sink, b" three"), Ok(()));
     assert_eq!(rt; sink.bytes(), b"one three".as_slice());
     assert_eq!(rt; sink.faults(), 1);
     Ok(())
 }
 
+fn put(alloc: Global, room: &mut MemRoom, name: &str, bytes: &[u8]) -> Result<(), Fail>
+    requires { (room_view room.old).open_as name.now ≡ None }
+    ensures { OnOk result ((room_view room.new).open_as name.now ≡ None) }
+{
+    room.put(name, bytes.to_vec(alloc)?)?;
+    Ok(())
+}
+
+fn fail(room: &mut MemRoom, name: &str, call: u64) -> Result<(), Fail>
+    requires { (room_view room.old).open_as name.now ≡ None }
+    ensures { OnOk result ((room_view room.new).open_as name.now ≡ None) }
+{
+    room.fail(name, call)?;
+    Ok(())
+}
+
+fn fail_opening(room: &mut MemRoom, name: &str) -> Result<(), Fail>
+    requires { (room_view room.old).open_as name.now ≡ None }
+    ensures { OnOk result ((room_view room.new).open_as name.now ≡ None) }
+{
+    room.fail_opening(name)?;
+    Ok(())
+}
+
+// Whether the file is told as such.
+fn has(room: &MemRoom, name: &str, bytes: &[u8]) -> bool {
+    room.file(name) == Some(bytes)
+}
+
+// Whether a file that is written is told only when it is closed.
+fn is_told_when_closed(room: &mut MemRoom, name: &str, bytes: &[u8]) -> Result<bool, Fail>
+    requires { (room_view room.old).open_as name.now ≡ None }
+{
+    let mut sink = room.open_out(name)?;
+    sink.write_all(bytes)?;
+    let is_told = room.file(name).is_some();
+    room.close_out(name, sink)?;
+    Ok(!is_told && has(room, name, bytes))
+}
+
 #[test]
-fn a_room_keeps_what_is_closed(rt: HostRuntime) -> Result<(), Fail> {
+fn a_room_gives_what_is_put(rt: HostRuntime) -> Result<(), Fail> {
     let alloc = rt.alloc();
     let mut room = MemRoom::new(alloc);
-    room.put("in", b"bytes".to_vec(alloc)?)?;
-    assert_eq!(rt; room.file("in"), Some(b"bytes".as_slice()));
-    let mut source = room.open_in("in")?;
-    let mut buffer = [0; 8];
-    assert_eq!(rt; source.read(&mut buffer), Ok(5));
-    room.close_in("in", source);
-    let mut sink = room.open_out("out")?;
-    sink.write_all(b"more")?;
-    assert_eq!(rt; room.file("out"), None);
-    room.close_out("out", sink)?;
-    assert_eq!(rt; room.file("out"), Some(b"more".as_slice()));
+    put(alloc, &mut room, "in", b"bytes")?;
+    assert!(rt; has(&room, "in", b"bytes"));
+    assert_eq!(rt; read_twice(&mut room, "in", &mut [0; 8])?, [Ok(5), Ok(0)]);
+    Ok(())
+}
+
+#[test]
+fn a_room_keeps_what_is_closed(rt: HostRuntime) -> Result<(), Fail> {
+    let mut room = MemRoom::new(rt.alloc());
+    assert!(rt; is_told_when_closed(&mut room, "out", b"more")?);
     Ok(())
 }
 
@@ -56,47 +106,87 @@ fn a_room_keeps_what_is_closed(rt: HostRuntime) -> Result<(), Fail> {
 fn a_room_fails_where_it_is_told_to(rt: HostRuntime) -> Result<(), Fail> {
     let alloc = rt.alloc();
     let mut room = MemRoom::new(alloc);
-    assert!(rt; room.open_in("in").is_err());
-    room.put("in", b"bytes".to_vec(alloc)?)?;
-    room.fail("in", 0)?;
-    let mut source = room.open_in("in")?;
-    let mut buffer = [0; 8];
-    assert_eq!(rt; source.read(&mut buffer), Err(Failed));
-    assert_eq!(rt; source.read(&mut buffer), Ok(5));
-    room.close_in("in", source);
-    room.fail_opening("in")?;
-    assert!(rt; room.open_in("in").is_err());
-    assert_eq!(rt; room.file("in"), Some(b"bytes".as_slice()));
+    assert!(rt; !opens_input(&mut room, "in"));
+    put(alloc, &mut room, "in", b"bytes")?;
+    fail(&mut room, "in", 0)?;
+    assert_eq!(rt;
+        read_twice(&mut room, "in", &mut [0; 8])?,
+        [Err(Failed), Ok(5)]
+    );
+    fail_opening(&mut room, "in")?;
+    assert!(rt; !opens_input(&mut room, "in"));
+    assert!(rt; has(&room, "in", b"bytes"));
     Ok(())
+}
+
+// Makes "OLD new" of the log "old", with a sync between; a room doesn't tell it meanwhile.
+fn write_over(rt: &impl Abort, log: &mut MemDisk) {
+    assert_eq!(rt; len(log), 3);
+    assert_eq!(rt; write_at(rt, log, 3, b" new"), Ok(()));
+    assert_eq!(rt; sync(log), Ok(()));
+    assert_eq!(rt; write_at(rt, log, 0, b"OLD"), Ok(()));
+}
+
+fn close_written(rt: &impl Abort, room: &mut MemRoom, name: &str) -> Result<(), Fail>
+    requires { (room_view room.old).open_as name.now ≡ None }
+{
+    let mut log = room.open_log(name)?;
+    write_over(rt, &mut log);
+    assert!(rt; room.file(name).is_none());
+    room.close_log(name, log);
+    Ok(())
+}
+
+fn assert_left(
+    rt: &impl Abort,
+    alloc: Global,
+    closed: &MemDisk,
+    (moment, choice): (u64, u8),
+    image: &[u8],
+) -> Result<(), Fail> {
+    assert!(rt; moment < closed.moments());
+    let left = closed.crash(alloc, moment, choice)?;
+    assert_eq!(rt; left.as_slice(), image);
+    Ok(())
+}
+
+// What crashes leave of the log that was so written.
+fn assert_moments(rt: &impl Abort, alloc: Global, closed: &MemDisk) -> Result<(), Fail> {
+    assert_eq!(rt; closed.moments(), 4);
+    assert_left(rt, alloc, closed, (0, 1), b"old")?;
+    assert_left(rt, alloc, closed, (1, 0), b"old")?;
+    assert_left(rt, alloc, closed, (2, 0), b"old new")?;
+    assert_left(rt, alloc, closed, (3, 0), b"old new")?;
+    assert_left(rt, alloc, closed, (3, 2), b"\xFF\xFF\xFF new")
 }
 
 #[test]
 fn a_room_keeps_a_closed_log_with_its_moments(rt: HostRuntime) -> Result<(), Fail> {
     let alloc = rt.alloc();
     let mut room = MemRoom::new(alloc);
-    room.put("log", b"old".to_vec(alloc)?)?;
-    let mut log = room.open_log("log")?;
-    assert_eq!(rt; log.len(), 3);
-    assert_eq!(rt; log.write_at(3, b" new"), Ok(()));
-    assert_eq!(rt; log.sync(), Ok(()));
-    assert_eq!(rt; log.write_at(0, b"OLD"), Ok(()));
-    assert_eq!(rt; room.file("log"), None);
-    room.close_log("log", log);
-    assert_eq!(rt; room.file("log"), Some(b"OLD new".as_slice()));
-    let closed = room.log_of("log").expect(&rt, "a closed log");
-    assert_eq!(rt; closed.moments(), 4);
-    let images: [(u64, u8, &[u8]); 5] = [
-        (0, 1, b"old"),
-        (1, 0, b"old"),
-        (2, 0, b"old new"),
-        (3, 0, b"old new"),
-        (3, 2, b"\xFF\xFF\xFF new"),
-    ];
-    for (moment, choice, image) in images {
-        assert!(rt; moment < closed.moments());
-        let left = closed.crash(alloc, moment, choice)?;
-        assert_eq!(rt; left.as_slice(), image);
+    put(alloc, &mut room, "log", b"old")?;
+    close_written(&rt, &mut room, "log")?;
+    assert!(rt; has(&room, "log", b"OLD new"));
+    match room.log_of("log") {
+        Some(closed) => assert_moments(&rt, alloc, closed),
+        None => panic!(rt; "no closed log"),
     }
+}
+
+// Whether a sync that is to fail does, behind a write that doesn't.
+fn fails_once(rt: &impl Abort, log: &mut MemDisk) {
+    assert_eq!(rt; write_at(rt, log, 0, b"one"), Ok(()));
+    assert_eq!(rt; sync(log), Err(Failed));
+    assert_eq!(rt; log.faults(), 1);
+}
+
+fn close_failed(rt: &impl Abort, room: &mut MemRoom, name: &str) -> Result<(), Fail>
+    requires { (room_view room.old).open_as name.now ≡ None }
+    ensures { OnOk result ((room_view room.new).open_as name.now ≡ None) }
+{
+    let mut log = room.open_log(name)?;
+    fails_once(rt, &mut log);
+    room.close_log(name, log);
     Ok(())
 }
 
@@ -104,17 +194,13 @@ fn a_room_keeps_a_closed_log_with_its_moments(rt: HostRuntime) -> Result<(), Fai
 fn a_log_fails_where_it_is_told_to(rt: HostRuntime) -> Result<(), Fail> {
     let alloc = rt.alloc();
     let mut room = MemRoom::new(alloc);
-    room.fail("log", 1)?;
-    let mut log = room.open_log("log")?;
-    assert_eq!(rt; log.write_at(0, b"one"), Ok(()));
-    assert_eq!(rt; log.sync(), Err(Failed));
-    assert_eq!(rt; log.faults(), 1);
-    room.close_log("log", log);
-    room.fail_opening("log")?;
-    assert!(rt; room.open_log("log").is_err());
-    assert_eq!(rt; room.file("log"), Some(b"one".as_slice()));
+    fail(&mut room, "log", 1)?;
+    close_failed(&rt, &mut room, "log")?;
+    fail_opening(&mut room, "log")?;
+    assert!(rt; !opens_log(&mut room, "log"));
+    assert!(rt; has(&room, "log", b"one"));
     assert!(rt; room.log_of("log").is_some());
-    room.put("log", b"two".to_vec(alloc)?)?;
+    put(alloc, &mut room, "log", b"two")?;
     assert!(rt; room.log_of("log").is_none());
     Ok(())
 }

@@ -1,16 +1,29 @@
+ghost use Rattle.std.specs.Prelude.{◌≡◌, None};
+
+use super::steps::{
+    assert_read, cut, opens_input, opens_log, read_twice, write, write_at, write_log,
+};
 use outside::{Disk, Failed, Room, Sink, Source};
 use outside_real::{FileDisk, FileRoom, FileSink, FileSource, LONGEST_INPUT};
 use std::fs::{File, OpenOptions};
+use std::process::Abort;
 use std::test::Fail;
 use std::{env, fs, process};
 
 mod holding;
 
-// A path among the temporary files that no other run of the tests has.
+// A path among the temporary files that no other run of the tests has: it ends with the digits of the process's number, the last first.
 fn path_of(rt: &HostRuntime, name: &str) -> Result<String, Fail> {
     let folder = env::temp_dir(rt)?;
-    let id = process::id(rt.process());
-    let path = format!(in rt.alloc(); "{}/union_cat-{name}-{id}", folder.as_str())?;
+    let mut path = String::new(rt.alloc());
+    for part in [folder.as_str(), "/union_cat-", name, "-"] {
+        path.push_str(part)?;
+    }
+    let mut number = process::id(rt.process());
+    for _ in 0..10 {
+        path.push((b'0' + (number % 10) as u8) as char)?;
+        number /= 10;
+    }
     Ok(path)
 }
 
@@ -21,11 +34,30 @@ fn a_source_gives_the_bytes_of_a_file(rt: HostRuntime) -> Result<(), Fail> {
     let mut source = FileSource::new(File::open(&rt, path.as_str())?);
     fs::remove_file(&rt, path.as_str())?;
     let mut buffer = [0; 4];
-    assert_eq!(rt; source.read(&mut buffer), Ok(4));
-    assert_eq!(rt; buffer, *b"byte");
-    assert_eq!(rt; source.read(&mut buffer), Ok(1));
-    assert_eq!(rt; source.read(&mut buffer), Ok(0));
-    assert_eq!(rt; source.remaining(), LONGEST_INPUT - 5);
+    assert_read(
+        &rt,
+        &mut source,
+        &mut buffer,
+        Ok(4),
+        b"byte",
+        LONGEST_INPUT - 4,
+    );
+    assert_read(
+        &rt,
+        &mut source,
+        &mut buffer,
+        Ok(1),
+        b"syte",
+        LONGEST_INPUT - 5,
+    );
+    assert_read(
+        &rt,
+        &mut source,
+        &mut buffer,
+        Ok(0),
+        b"syte",
+        LONGEST_INPUT - 5,
+    );
     assert_eq!(rt; source.faults(), 0);
     Ok(())
 }
@@ -71,11 +103,11 @@ fn a_disk_is_written_cut_and_read(rt: HostRuntime) -> Result<(), Fail> {
     how.read(true).write(true).create(true);
     let mut disk = FileDisk::new(how.open(&rt, path.as_str())?)?;
     fs::remove_file(&rt, path.as_str())?;
-    assert_eq!(rt; disk.write_at(0, b"abcdef"), Ok(()));
+    assert_eq!(rt; write_at(&rt, &mut disk, 0, b"abcdef"), Ok(()));
     assert_eq!(rt; disk.len(), 6);
-    assert_eq!(rt; disk.write_at(2, b"XY"), Ok(()));
+    assert_eq!(rt; write_at(&rt, &mut disk, 2, b"XY"), Ok(()));
     assert_eq!(rt; disk.len(), 6);
-    assert_eq!(rt; disk.cut(4), Ok(()));
+    assert_eq!(rt; cut(&rt, &mut disk, 4), Ok(()));
     assert_eq!(rt; disk.sync(), Ok(()));
     let mut buffer = [0; 8];
     assert_eq!(rt; disk.read_at(1, &mut buffer), Ok(3));
@@ -85,24 +117,24 @@ fn a_disk_is_written_cut_and_read(rt: HostRuntime) -> Result<(), Fail> {
     Ok(())
 }
 
+// A file is opened in each way, and closed.
+fn assert_opens_and_closes<R: Room>(rt: &impl Abort, room: &mut R, name: &str)
+    requires { (R.seen room.old).open_as name.now ≡ None }
+{
+    assert!(rt; !opens_input(room, name));
+    assert!(rt; opens_log(room, name));
+    assert_eq!(rt; write(room, name, b"more"), Some(Ok(())));
+    assert_eq!(rt; write_log(room, name, b"M"), Some(Ok(())));
+    let mut buffer = [0; 8];
+    assert_eq!(rt; read_twice(room, name, &mut buffer), Ok([Ok(4), Ok(0)]));
+    assert_eq!(rt; buffer, *b"More\0\0\0\0");
+}
+
 #[test]
 fn a_room_opens_and_closes_files(rt: HostRuntime) -> Result<(), Fail> {
     let path = path_of(&rt, "room")?;
     let mut room = FileRoom::new(rt.clone()?, rt.alloc());
-    assert!(rt; room.open_in(&path).is_err());
-    let log = room.open_log(&path)?;
-    room.close_log(&path, log);
-    let mut output = room.open_out(&path)?;
-    output.write_all(b"more")?;
-    room.close_out(&path, output)?;
-    let mut log = room.open_log(&path)?;
-    assert_eq!(rt; log.write_at(0, b"M"), Ok(()));
-    room.close_log(&path, log);
-    let mut input = room.open_in(&path)?;
-    let mut buffer = [0; 8];
-    assert_eq!(rt; input.read(&mut buffer), Ok(4));
-    assert_eq!(rt; buffer, *b"More\0\0\0\0");
-    room.close_in(&path, input);
+    assert_opens_and_closes(&rt, &mut room, &path);
     fs::remove_file(&rt, path.as_str())?;
     Ok(())
 }

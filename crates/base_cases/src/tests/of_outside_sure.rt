@@ -1,58 +1,79 @@
-use outside::{Disk, Failed, LONGEST_WRITE, Room, Sink, Source};
+ghost use Rattle.std.specs.Prelude.{◌≡◌, None, IfOk};
+ghost use Rattle.outside_sure.specs.SureRoom.{sure_room_view};
+
+use super::steps::{
+    assert_read, cut, len, opens_input, opens_log, opens_output, read_twice, sync, write, write_at,
+    write_log,
+};
+use outside::{Disk, Failed, Room, Sink};
 use outside_sure::{SureDisk, SureRoom, SureSink, SureSource};
+use std::alloc::Global;
+use std::process::Abort;
 use std::test::Fail;
 
 #[test]
 fn a_sure_source_gives_all_that_the_buffer_takes(rt: HostRuntime) -> Result<(), Fail> {
     let mut source = SureSource::new(b"hello world");
     let mut buffer = [0; 8];
-    assert_eq!(rt; source.read(&mut buffer), Ok(8));
-    assert_eq!(rt; buffer, *b"hello wo");
-    assert_eq!(rt; source.remaining(), 3);
-    assert_eq!(rt; source.read(&mut buffer), Ok(3));
-    assert_eq!(rt; source.read(&mut buffer), Ok(0));
+    assert_read(&rt, &mut source, &mut buffer, Ok(8), b"hello wo", 3);
+    assert_read(&rt, &mut source, &mut buffer, Ok(3), b"rldlo wo", 0);
+    assert_read(&rt, &mut source, &mut buffer, Ok(0), b"rldlo wo", 0);
     Ok(())
+}
+
+fn assert_written(
+    rt: &impl Abort,
+    sink: &mut SureSink<5>,
+    piece: &[u8],
+    answer: Result<(), Failed>,
+    faults: u64,
+) {
+    assert_eq!(rt; sink.write_all(piece), answer);
+    assert_eq!(rt; sink.faults(), faults);
 }
 
 #[test]
 fn a_sure_sink_fills_up_and_fails(rt: HostRuntime) -> Result<(), Fail> {
     let mut sink = SureSink::<5>::new(rt.alloc())?;
-    let writes: [(&[u8], Result<(), Failed>, u64); 4] = [
-        (b"one", Ok(()), 0),
-        (b"two", Err(Failed), 1),
-        (b"", Ok(()), 1),
-        (b"!", Err(Failed), 2),
-    ];
-    for (piece, answer, faults) in writes {
-        assert_eq!(rt; sink.write_all(piece), answer);
-        assert_eq!(rt; sink.faults(), faults);
-    }
+    assert_written(&rt, &mut sink, b"one", Ok(()), 0);
+    assert_written(&rt, &mut sink, b"two", Err(Failed), 1);
+    assert_written(&rt, &mut sink, b"", Ok(()), 1);
+    assert_written(&rt, &mut sink, b"!", Err(Failed), 2);
     assert_eq!(rt; sink.bytes(), b"onetw".as_slice());
     Ok(())
+}
+
+fn assert_written_at(
+    rt: &impl Abort,
+    disk: &mut SureDisk<5>,
+    at: u64,
+    bytes: &[u8],
+    answer: Result<(), Failed>,
+    content: &[u8],
+) {
+    assert_eq!(rt; write_at(rt, disk, at, bytes), answer);
+    assert_eq!(rt; disk.bytes(), content);
+}
+
+// Reads the last two of five bytes.
+fn assert_read_at(rt: &impl Abort, disk: &mut SureDisk<5>) {
+    let mut buffer = [0; 8];
+    assert_eq!(rt; disk.read_at(3, &mut buffer), Ok(2));
+    assert_eq!(rt; buffer, *b"fg\0\0\0\0\0\0");
 }
 
 #[test]
 fn a_sure_disk_fills_up_and_stays_so(rt: HostRuntime) -> Result<(), Fail> {
     let mut disk = SureDisk::<5>::new(rt.alloc(), b"abc")?;
-    let writes: [(u64, &[u8], Result<(), Failed>, &[u8]); 5] = [
-        (1, b"XY", Ok(()), b"aXY"),
-        (3, b"d", Ok(()), b"aXYd"),
-        (2, b"efgh", Err(Failed), b"aXefg"),
-        (0, b"b", Err(Failed), b"aXefg"),
-        (5, b"", Err(Failed), b"aXefg"),
-    ];
-    for (at, bytes, answer, content) in writes {
-        assert!(rt; at <= disk.len());
-        assert!(rt; bytes.len() as u64 <= LONGEST_WRITE);
-        assert_eq!(rt; disk.write_at(at, bytes), answer);
-        assert_eq!(rt; disk.bytes(), content);
-    }
-    assert_eq!(rt; disk.len(), 5);
-    assert_eq!(rt; disk.cut(2), Err(Failed));
-    assert_eq!(rt; disk.sync(), Ok(()));
-    let mut buffer = [0; 8];
-    assert_eq!(rt; disk.read_at(3, &mut buffer), Ok(2));
-    assert_eq!(rt; buffer, *b"fg\0\0\0\0\0\0");
+    assert_written_at(&rt, &mut disk, 1, b"XY", Ok(()), b"aXY");
+    assert_written_at(&rt, &mut disk, 3, b"d", Ok(()), b"aXYd");
+    assert_written_at(&rt, &mut disk, 2, b"efgh", Err(Failed), b"aXefg");
+    assert_written_at(&rt, &mut disk, 0, b"b", Err(Failed), b"aXefg");
+    assert_written_at(&rt, &mut disk, 5, b"", Err(Failed), b"aXefg");
+    assert_eq!(rt; len(&disk), 5);
+    assert_eq!(rt; cut(&rt, &mut disk, 2), Err(Failed));
+    assert_eq!(rt; sync(&mut disk), Ok(()));
+    assert_read_at(&rt, &mut disk);
     assert_eq!(rt; disk.faults(), 4);
     Ok(())
 }
@@ -60,79 +81,92 @@ fn a_sure_disk_fills_up_and_stays_so(rt: HostRuntime) -> Result<(), Fail> {
 #[test]
 fn a_sure_disk_is_cut(rt: HostRuntime) -> Result<(), Fail> {
     let mut disk = SureDisk::<5>::new(rt.alloc(), b"abc")?;
-    assert_eq!(rt; disk.cut(2), Ok(()));
+    assert_eq!(rt; cut(&rt, &mut disk, 2), Ok(()));
     assert_eq!(rt; disk.bytes(), b"ab".as_slice());
     Ok(())
 }
 
+// A room with this input.
+fn given(alloc: Global, name: &str, bytes: &'static [u8]) -> Result<SureRoom<'static, 4>, Fail>
+    ensures { IfOk result (λ room. (sure_room_view room).open_as name.now ≡ None) }
+{
+    let mut room = SureRoom::new(alloc);
+    room.give(name, bytes)?;
+    Ok(room)
+}
+
+// A room with this place, and an input.
+fn placed(alloc: Global, name: &str) -> Result<SureRoom<'static, 4>, Fail>
+    ensures { IfOk result (λ room. (sure_room_view room).open_as name.now ≡ None) }
+{
+    let mut room = given(alloc, "in", b"bytes")?;
+    room.place(name, None)?;
+    Ok(room)
+}
+
+// Whether the file is told as such.
+fn has(room: &SureRoom<'static, 4>, name: &str, bytes: &[u8]) -> bool {
+    room.file(name) == Some(bytes)
+}
+
+// Whether a log has these bytes when it is opened.
+fn has_log(room: &mut SureRoom<'static, 4>, name: &str, bytes: &[u8]) -> Result<bool, Fail>
+    requires { (sure_room_view room.old).open_as name.now ≡ None }
+{
+    let log = room.open_log(name)?;
+    Ok(log.bytes() == bytes)
+}
+
 #[test]
 fn a_sure_room_opens_an_input_again_and_again(rt: HostRuntime) -> Result<(), Fail> {
-    let mut room = SureRoom::<4>::new(rt.alloc());
-    room.give("in", b"bytes")?;
-    let mut source = room.open_in("in")?;
-    let again = room.open_in("in")?;
-    let mut buffer = [0; 8];
-    assert_eq!(rt; source.read(&mut buffer), Ok(5));
-    room.close_in("in", source);
-    room.close_in("in", again);
-    assert!(rt; room.open_out("in").is_err());
-    assert!(rt; room.open_log("in").is_err());
-    assert_eq!(rt; room.file("in"), Some(b"bytes".as_slice()));
+    let mut room = given(rt.alloc(), "in", b"bytes")?;
+    assert_eq!(rt; read_twice(&mut room, "in", &mut [0; 8])?, [Ok(5), Ok(0)]);
+    assert!(rt; !opens_output(&mut room, "in"));
+    assert!(rt; !opens_log(&mut room, "in"));
+    assert!(rt; has(&room, "in", b"bytes"));
     Ok(())
 }
 
 #[test]
 fn a_sure_room_opens_no_name_that_it_lacks(rt: HostRuntime) -> Result<(), Fail> {
     let mut room = SureRoom::<4>::new(rt.alloc());
-    assert!(rt; room.open_in("none").is_err());
-    assert!(rt; room.open_out("none").is_err());
-    assert!(rt; room.open_log("none").is_err());
+    assert!(rt; !opens_input(&mut room, "none"));
+    assert!(rt; !opens_output(&mut room, "none"));
+    assert!(rt; !opens_log(&mut room, "none"));
     Ok(())
 }
 
 #[test]
 fn a_place_is_no_input(rt: HostRuntime) -> Result<(), Fail> {
-    let mut room = SureRoom::<4>::new(rt.alloc());
-    room.give("in", b"bytes")?;
-    room.place("out", None)?;
-    assert!(rt; room.open_in("out").is_err());
+    let mut room = placed(rt.alloc(), "out")?;
+    assert!(rt; !opens_input(&mut room, "out"));
     Ok(())
 }
 
 #[test]
 fn a_place_is_opened_again(rt: HostRuntime) -> Result<(), Fail> {
-    let mut room = SureRoom::<4>::new(rt.alloc());
-    room.place("out", None)?;
-    let mut sink = room.open_out("out")?;
-    assert_eq!(rt; sink.write_all(b"four"), Ok(()));
-    room.close_out("out", sink)?;
-    assert_eq!(rt; room.file("out"), Some(b"four".as_slice()));
-    assert!(rt; room.open_out("out").is_ok());
+    let mut room = placed(rt.alloc(), "out")?;
+    assert_eq!(rt; write(&mut room, "out", b"four"), Some(Ok(())));
+    assert!(rt; has(&room, "out", b"four"));
+    assert!(rt; opens_output(&mut room, "out"));
     Ok(())
 }
 
 #[test]
 fn a_place_with_a_fault_is_not_opened(rt: HostRuntime) -> Result<(), Fail> {
-    let mut room = SureRoom::<4>::new(rt.alloc());
-    room.place("out", None)?;
-    let mut sink = room.open_out("out")?;
-    assert_eq!(rt; sink.write_all(b"fives"), Err(Failed));
-    room.close_out("out", sink)?;
-    assert!(rt; room.open_out("out").is_err());
-    assert!(rt; room.open_log("out").is_err());
-    assert_eq!(rt; room.file("out"), Some(b"five".as_slice()));
+    let mut room = placed(rt.alloc(), "out")?;
+    assert_eq!(rt; write(&mut room, "out", b"fives"), Some(Err(Failed)));
+    assert!(rt; !opens_output(&mut room, "out"));
+    assert!(rt; !opens_log(&mut room, "out"));
+    assert!(rt; has(&room, "out", b"five"));
     Ok(())
 }
 
 #[test]
 fn a_place_keeps_its_log(rt: HostRuntime) -> Result<(), Fail> {
-    let mut room = SureRoom::<4>::new(rt.alloc());
-    room.place("log", None)?;
-    let mut log = room.open_log("log")?;
-    assert_eq!(rt; log.write_at(0, b"abc"), Ok(()));
-    room.close_log("log", log);
-    assert_eq!(rt; room.file("log"), Some(b"abc".as_slice()));
-    let log = room.open_log("log")?;
-    assert_eq!(rt; log.bytes(), b"abc".as_slice());
+    let mut room = placed(rt.alloc(), "log")?;
+    assert_eq!(rt; write_log(&mut room, "log", b"abc"), Some(Ok(())));
+    assert!(rt; has(&room, "log", b"abc"));
+    assert!(rt; has_log(&mut room, "log", b"abc")?);
     Ok(())
 }
