@@ -73,7 +73,7 @@ pub catalogue_added : (engine next : State) (before : Option Before) (entries no
     is_full (catalogued before entries limits) e ≡ false → next ≡ step engine (arrival_of e) → now ≡ entries ++ e ∷ [] →
     IsCatalogue next (Some (first_before before engine entries bytes)) now (bytes + entry_size e) limits
 catalogue_added engine next before entries now bytes limits e c admitted full is put =
-    let room = room_of before entries limits e full in
+    let room = room_of (catalogued before entries limits) entries e (all_is before entries limits) full in
     let size = size_last entries e in
     let longer = length_last entries e in
     let bytes_were = c.bytes_are in
@@ -156,7 +156,7 @@ nothing_undone entries limits = λ i. record { history = take (length entries) e
 pub room_in_bytes : (engine : State) (before : Option Before) (entries : List Entry) (bytes : ℕ) (limits : Limits) (e : Entry) → IsCatalogue engine before entries bytes limits →
     is_full (catalogued before entries limits) e ≡ false → bytes + entry_size e ≤ limits.bytes
 room_in_bytes engine before entries bytes limits e c full =
-    let room = (room_of before entries limits e full).size in
+    let room = (room_of (catalogued before entries limits) entries e (all_is before entries limits) full).size in
     let are = c.bytes_are in
     omega arith
 
