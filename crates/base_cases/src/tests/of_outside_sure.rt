@@ -91,18 +91,18 @@ fn a_sure_room_opens_no_name_that_it_lacks(rt: HostRuntime) -> Result<(), Fail> 
 }
 
 #[test]
-fn a_place_is_no_input(rt: HostRuntime) -> Result<(), Fail> {
+fn a_drawer_is_no_input(rt: HostRuntime) -> Result<(), Fail> {
     let mut room = SureRoom::<4>::new(rt.alloc());
     room.give("in", b"bytes")?;
-    room.place("out", None)?;
+    room.make_drawer("out", None)?;
     assert!(rt; room.open_in("out").is_err());
     Ok(())
 }
 
 #[test]
-fn a_place_is_opened_again(rt: HostRuntime) -> Result<(), Fail> {
+fn a_drawer_is_opened_again(rt: HostRuntime) -> Result<(), Fail> {
     let mut room = SureRoom::<4>::new(rt.alloc());
-    room.place("out", None)?;
+    room.make_drawer("out", None)?;
     let mut sink = room.open_out("out")?;
     assert_eq!(rt; sink.write_all(b"four"), Ok(()));
     room.close_out("out", sink)?;
@@ -112,9 +112,9 @@ fn a_place_is_opened_again(rt: HostRuntime) -> Result<(), Fail> {
 }
 
 #[test]
-fn a_place_with_a_fault_is_not_opened(rt: HostRuntime) -> Result<(), Fail> {
+fn a_drawer_with_a_fault_is_not_opened(rt: HostRuntime) -> Result<(), Fail> {
     let mut room = SureRoom::<4>::new(rt.alloc());
-    room.place("out", None)?;
+    room.make_drawer("out", None)?;
     let mut sink = room.open_out("out")?;
     assert_eq!(rt; sink.write_all(b"fives"), Err(Failed));
     room.close_out("out", sink)?;
@@ -125,9 +125,9 @@ fn a_place_with_a_fault_is_not_opened(rt: HostRuntime) -> Result<(), Fail> {
 }
 
 #[test]
-fn a_place_keeps_its_log(rt: HostRuntime) -> Result<(), Fail> {
+fn a_drawer_keeps_its_log(rt: HostRuntime) -> Result<(), Fail> {
     let mut room = SureRoom::<4>::new(rt.alloc());
-    room.place("log", None)?;
+    room.make_drawer("log", None)?;
     let mut log = room.open_log("log")?;
     assert_eq!(rt; log.write_at(0, b"abc"), Ok(()));
     room.close_log("log", log);
