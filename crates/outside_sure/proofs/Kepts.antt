@@ -13,7 +13,7 @@ use Rattle.std.proofs.lemmas.Slice.Eq.{bytes_eq-Decides}
 use Rattle.outside.proofs.Places.{not_both, slice_get_past}
 use Rattle.outside.specs.Fault.{count_sum}
 use Rattle.outside_sure.specs.declared.kept.Kept.{Kept}
-use Rattle.outside_sure.specs.declared.kept.Kept.TheVariants.{Input, Place}
+use Rattle.outside_sure.specs.declared.kept.Kept.TheVariants.{Input, Drawer}
 use Rattle.outside_sure.specs.declared.stored.Stored.{Stored}
 use Rattle.outside_sure.specs.declared.sure_files.SureFile.{SureFile}
 use Rattle.outside_sure.specs.SureKept.{kept_sort, stored_sort, is_ready, kept_opened, kept_closed, IsFull, IsKeptWell}
@@ -159,8 +159,8 @@ module _ {room : ℕ} where
       (λ same. subst (λ m. IsKeptWell (kept_in new m)) (sym (decides.0 same)) (subst IsKeptWell (sym changes.here) well))
       (λ differ. changes.others n (λ same. absurd (true≢false (sym (decides.1 same) ∙ differ)))) (was n)
 
-  well_opened_at : (opened stored : Stored room) (faults : ℕ) (b : Bool) → nat_eq faults 0 ≡ b → IsKeptWell (Some (Place stored faults))
-      → IsKeptWell (Some (if b then Place opened faults else Place stored (count_sum faults 1)))
+  well_opened_at : (opened stored : Stored room) (faults : ℕ) (b : Bool) → nat_eq faults 0 ≡ b → IsKeptWell (Some (Drawer stored faults))
+      → IsKeptWell (Some (if b then Drawer opened faults else Drawer stored (count_sum faults 1)))
   well_opened_at opened stored faults true none was = record { counts = was.counts; full = λ some. absurd (some (grind (arith, none))) }
   well_opened_at opened stored faults false some was = record { counts = omega arith; full = λ _. was.full (λ none. absurd (true≢false (sym (ap (λ n. nat_eq n 0) none) ∙ some))) }
 
@@ -168,24 +168,24 @@ module _ {room : ℕ} where
   pub well_opened : (opened : Stored room) (kept : Option (Kept room)) → IsKeptWell kept → IsKeptWell (kept_opened opened kept)
   well_opened opened None was = was
   well_opened opened (Some (Input source)) was = was
-  well_opened opened (Some (Place stored faults)) was = well_opened_at opened stored faults (nat_eq faults 0) refl was
+  well_opened opened (Some (Drawer stored faults)) was = well_opened_at opened stored faults (nat_eq faults 0) refl was
 
-  sum_none : (stored : Stored room) (faults more : ℕ) → IsSome (stored_sort stored) → IsKeptWell (Some (Place stored faults)) → more ≡ 0 → count_sum faults more ≡ 0
+  sum_none : (stored : Stored room) (faults more : ℕ) → IsSome (stored_sort stored) → IsKeptWell (Some (Drawer stored faults)) → more ≡ 0 → count_sum faults more ≡ 0
   sum_none stored zero more is_open was none = omega (arith, none)
   sum_none stored (suc faults) more is_open was none =
       let closed = (was.full (λ e. absurd (omega (arith, e)))).0 in
       absurd (true≢false (sym is_open ∙ ap is_some closed))
 
   -- and after a close
-  pub well_closed : (closed : Stored room) (more : ℕ) (kept : Option (Kept room)) → IsSome (kept_sort kept) → (more ≢ 0 → IsFull (Some (Place closed more))) → IsKeptWell kept
+  pub well_closed : (closed : Stored room) (more : ℕ) (kept : Option (Kept room)) → IsSome (kept_sort kept) → (more ≢ 0 → IsFull (Some (Drawer closed more))) → IsKeptWell kept
       → IsKeptWell (kept_closed closed more kept)
   well_closed closed more None is_open full was = was
   well_closed closed more (Some (Input source)) is_open full was = was
-  well_closed closed more (Some (Place stored faults)) is_open full was =
+  well_closed closed more (Some (Drawer stored faults)) is_open full was =
       record { counts = omega arith; full = λ some. full (λ none. some (sum_none stored faults more is_open was none)) }
 
-  -- a place that was just made is kept well
-  pub well_new : (stored : Stored room) → IsKeptWell (Some (Place stored 0))
+  -- a drawer that was just made is kept well
+  pub well_new : (stored : Stored room) → IsKeptWell (Some (Drawer stored 0))
   well_new stored = record { counts = omega arith; full = λ some. absurd (some refl) }
 
 -- what holds of what is answered has what follows from it

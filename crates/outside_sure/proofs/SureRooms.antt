@@ -10,7 +10,7 @@ use Rattle.outside_sure.specs.SureDisk.{sure_disk_view}
 use Rattle.outside_sure.specs.SureKept.{told_kept, kept_sort, is_kept_log, kept_log, faults_in, faults_out, kept_promise, told_stored, is_stored_log, is_ready, kept_opened, kept_closed, stored_sort, IsKeptWell}
 use Rattle.outside_sure.specs.SureRoom.{kept_under, sure_room_view, SameKept, KeepsUnder}
 use Rattle.outside_sure.specs.declared.kept.Kept.{Kept}
-use Rattle.outside_sure.specs.declared.kept.Kept.TheVariants.{Input, Place}
+use Rattle.outside_sure.specs.declared.kept.Kept.TheVariants.{Input, Drawer}
 use Rattle.outside_sure.specs.declared.stored.Stored.{Stored}
 use Rattle.outside_sure.specs.declared.stored.Stored.TheVariants.{Blank, File, Log, OpenOutput, OpenLog}
 use Rattle.outside_sure.specs.declared.sure_disk.SureDisk.{SureDisk}
@@ -36,22 +36,22 @@ module _ {room : ℕ} where
   grows_same : (kept : Option (Kept room)) → Grows kept kept
   grows_same None = record { promise = refl; ins = λ a b le. le; outs = λ a b le. le }
   grows_same (Some (Input source)) = record { promise = refl; ins = λ a b le. omega arith; outs = λ a b le. le }
-  grows_same (Some (Place stored faults)) = record { promise = refl; ins = λ a b le. le; outs = λ a b le. omega arith }
+  grows_same (Some (Drawer stored faults)) = record { promise = refl; ins = λ a b le. le; outs = λ a b le. omega arith }
 
   grows_opened_at : (opened stored : Stored room) (faults : ℕ) (b : Bool) → faults ≤ greatest_count
-      → Grows (Some (Place stored faults)) (Some (if b then Place opened faults else Place stored (count_sum faults 1)))
+      → Grows (Some (Drawer stored faults)) (Some (if b then Drawer opened faults else Drawer stored (count_sum faults 1)))
   grows_opened_at opened stored faults true most = record { promise = refl; ins = λ a b le. le; outs = λ a b le. omega arith }
   grows_opened_at opened stored faults false most = record { promise = refl; ins = λ a b le. le; outs = λ a b le. omega (arith, most) }
 
   grows_opened : (opened : Stored room) (kept : Option (Kept room)) → IsKeptWell kept → Grows kept (kept_opened opened kept)
   grows_opened opened None well = grows_same None
   grows_opened opened (Some (Input source)) well = grows_same (Some (Input source))
-  grows_opened opened (Some (Place stored faults)) well = grows_opened_at opened stored faults (nat_eq faults 0) well.counts
+  grows_opened opened (Some (Drawer stored faults)) well = grows_opened_at opened stored faults (nat_eq faults 0) well.counts
 
   grows_closed : (closed : Stored room) (more : ℕ) (kept : Option (Kept room)) → IsKeptWell kept → Grows kept (kept_closed closed more kept)
   grows_closed closed more None well = grows_same None
   grows_closed closed more (Some (Input source)) well = grows_same (Some (Input source))
-  grows_closed closed more (Some (Place stored faults)) well = record { promise = refl; ins = λ a b le. le; outs = λ a b le. omega (arith, well.counts) }
+  grows_closed closed more (Some (Drawer stored faults)) well = record { promise = refl; ins = λ a b le. le; outs = λ a b le. omega (arith, well.counts) }
 
   -- a fact on what was kept and what is, that holds of what stays and of what is kept under one name now, holds of each name
   of_each : (P : Option (Kept room) → Option (Kept room) → Type 0) (old new : SureRoom room) (name : List ℕ) (kept : Option (Kept room)) → KeepsUnder old new name kept
@@ -114,15 +114,15 @@ module _ {room : ℕ} where
   holds_same : (kept : Option (Kept room)) → Holds kept kept
   holds_same kept = record { told = refl; sort = refl; is_log = refl; log = same_disk (kept_log kept) }
 
-  holds_count : (stored : Stored room) (faults more : ℕ) → Holds (Some (Place stored faults)) (Some (Place stored more))
-  holds_count stored faults more = record { told = refl; sort = refl; is_log = refl; log = same_disk (kept_log (Some (Place stored faults))) }
+  holds_count : (stored : Stored room) (faults more : ℕ) → Holds (Some (Drawer stored faults)) (Some (Drawer stored more))
+  holds_count stored faults more = record { told = refl; sort = refl; is_log = refl; log = same_disk (kept_log (Some (Drawer stored faults))) }
 
   holds_opened_at : (opened stored : Stored room) (faults : ℕ) (b : Bool) → b ≡ false
-      → Holds (Some (Place stored faults)) (Some (if b then Place opened faults else Place stored (count_sum faults 1)))
+      → Holds (Some (Drawer stored faults)) (Some (if b then Drawer opened faults else Drawer stored (count_sum faults 1)))
   holds_opened_at opened stored faults true failed = absurd (true≢false failed)
   holds_opened_at opened stored faults false failed = holds_count stored faults (count_sum faults 1)
 
-  not_ready : (stored : Stored room) (faults : ℕ) → stored_sort stored ≡ None → is_ready (Some (Place stored faults)) ≡ false → nat_eq faults 0 ≡ false
+  not_ready : (stored : Stored room) (faults : ℕ) → stored_sort stored ≡ None → is_ready (Some (Drawer stored faults)) ≡ false → nat_eq faults 0 ≡ false
   not_ready (Blank held) zero closed failed = failed
   not_ready (File held) zero closed failed = failed
   not_ready (Log disk) zero closed failed = failed
@@ -133,7 +133,7 @@ module _ {room : ℕ} where
   holds_opened : (opened : Stored room) (kept : Option (Kept room)) → kept_sort kept ≡ None → is_ready kept ≡ false → Holds kept (kept_opened opened kept)
   holds_opened opened None closed failed = holds_same None
   holds_opened opened (Some (Input source)) closed failed = holds_same (Some (Input source))
-  holds_opened opened (Some (Place stored faults)) closed failed = holds_opened_at opened stored faults (nat_eq faults 0) (not_ready stored faults closed failed)
+  holds_opened opened (Some (Drawer stored faults)) closed failed = holds_opened_at opened stored faults (nat_eq faults 0) (not_ready stored faults closed failed)
 
   -- an opening that failed
   pub stays_refused : (old new : SureRoom room) (name : List ℕ) (opened : Stored room) → KeepsUnder old new name (kept_opened opened (kept_under old name))
@@ -154,40 +154,40 @@ module _ {room : ℕ} where
         promises = λ n. (of_each Grows old new name _ keeps grows_same grows n).promise;
       }
 
-  -- a place that was open, seen by its name, has what was closed, and its count has the faults of that
+  -- a drawer that was open, seen by its name, has what was closed, and its count has the faults of that
   pub closed_counts : (kept now : Option (Kept room)) (closed : Stored room) (more a : ℕ) (sort : OpenSort) → now ≡ kept_closed closed more kept → kept_sort kept ≡ Some sort
       → faults_out now a ≡ count_sum (faults_out kept a) more
   closed_counts None now closed more a sort is was = absurd (some_not_none (sym was))
   closed_counts (Some (Input source)) now closed more a sort is was = absurd (some_not_none (sym was))
-  closed_counts (Some (Place stored faults)) now closed more a sort is was = ap (λ k. faults_out k a) is
+  closed_counts (Some (Drawer stored faults)) now closed more a sort is was = ap (λ k. faults_out k a) is
 
   pub closed_sort : (kept now : Option (Kept room)) (closed : Stored room) (more : ℕ) (sort : OpenSort) → now ≡ kept_closed closed more kept → kept_sort kept ≡ Some sort
       → kept_sort now ≡ stored_sort closed
   closed_sort None now closed more sort is was = absurd (some_not_none (sym was))
   closed_sort (Some (Input source)) now closed more sort is was = absurd (some_not_none (sym was))
-  closed_sort (Some (Place stored faults)) now closed more sort is was = ap kept_sort is
+  closed_sort (Some (Drawer stored faults)) now closed more sort is was = ap kept_sort is
 
   pub closed_told : (kept now : Option (Kept room)) (closed : Stored room) (more : ℕ) (sort : OpenSort) → now ≡ kept_closed closed more kept → kept_sort kept ≡ Some sort
       → told_kept now ≡ told_stored closed
   closed_told None now closed more sort is was = absurd (some_not_none (sym was))
   closed_told (Some (Input source)) now closed more sort is was = absurd (some_not_none (sym was))
-  closed_told (Some (Place stored faults)) now closed more sort is was = ap told_kept is
+  closed_told (Some (Drawer stored faults)) now closed more sort is was = ap told_kept is
 
   pub closed_is_log : (kept now : Option (Kept room)) (closed : Stored room) (more : ℕ) (sort : OpenSort) → now ≡ kept_closed closed more kept → kept_sort kept ≡ Some sort
       → is_kept_log now ≡ is_stored_log closed
   closed_is_log None now closed more sort is was = absurd (some_not_none (sym was))
   closed_is_log (Some (Input source)) now closed more sort is was = absurd (some_not_none (sym was))
-  closed_is_log (Some (Place stored faults)) now closed more sort is was = ap is_kept_log is
+  closed_is_log (Some (Drawer stored faults)) now closed more sort is was = ap is_kept_log is
 
   -- the disk that was closed is the closed log
   pub closed_log : (kept now : Option (Kept room)) (disk : SureDisk room) (more : ℕ) (sort : OpenSort) → now ≡ kept_closed (Log disk) more kept → kept_sort kept ≡ Some sort
       → SameDisk (sure_disk_view disk) (kept_log now)
   closed_log None now disk more sort is was = absurd (some_not_none (sym was))
   closed_log (Some (Input source)) now disk more sort is was = absurd (some_not_none (sym was))
-  closed_log (Some (Place stored faults)) now disk more sort is was = same_log (Some (Place (Log disk) (count_sum faults more))) now is
+  closed_log (Some (Drawer stored faults)) now disk more sort is was = same_log (Some (Drawer (Log disk) (count_sum faults more))) now is
 
   -- an input that is closed has no faults to add
   pub counts_none : (kept : Option (Kept room)) (old new : ℕ) → new ≡ count_sum old 0 → faults_in kept new ≡ count_sum (faults_in kept old) 0
   counts_none None old new is = is
   counts_none (Some (Input source)) old new is = omega arith
-  counts_none (Some (Place stored faults)) old new is = is
+  counts_none (Some (Drawer stored faults)) old new is = is

@@ -7,7 +7,7 @@ use Rattle.outside_sure.specs.SureFiles.{kept_in}
 use Rattle.outside_sure.specs.declared.stored.Stored.{Stored}
 use Rattle.outside_sure.specs.declared.stored.Stored.TheVariants.{Blank, File, Log, OpenOutput, OpenLog}
 use Rattle.outside_sure.specs.declared.kept.Kept.{Kept}
-use Rattle.outside_sure.specs.declared.kept.Kept.TheVariants.{Input, Place}
+use Rattle.outside_sure.specs.declared.kept.Kept.TheVariants.{Input, Drawer}
 use Rattle.outside_sure.specs.declared.sure_room.SureRoom.{SureRoom}
 
 module _ {room : ℕ} where
@@ -39,8 +39,8 @@ module _ {room : ℕ} where
     pub here : kept_under new name ≡ kept
     pub others : (n : List ℕ) → n ≢ name → kept_under new n ≡ kept_under old n
 
-  -- the name is a place without a fault, which has a file of these bytes or none, and what is kept under any other name stays
-  pub record MakesPlace (old new : SureRoom room) (name : List ℕ) (bytes : Option (List ℕ)) : Type 0 where
+  -- the name is a drawer without a fault, which has a file of these bytes or none, and what is kept under any other name stays
+  pub record MakesDrawer (old new : SureRoom room) (name : List ℕ) (bytes : Option (List ℕ)) : Type 0 where
     pub file : told_kept (kept_under new name) ≡ bytes
     pub ready : is_ready (kept_under new name) ≡ true
     pub closed : kept_sort (kept_under new name) ≡ None
@@ -65,7 +65,7 @@ module _ {room : ℕ} where
   pub kept_untold : (kept : Option (Kept room)) → IsSome (kept_sort kept) → told_kept kept ≡ None
   kept_untold None is_open = refl
   kept_untold (Some (Input source)) is_open = absurd (true≢false (sym is_open))
-  kept_untold (Some (Place stored faults)) is_open = stored_untold stored is_open
+  kept_untold (Some (Drawer stored faults)) is_open = stored_untold stored is_open
 
   stored_unlogged : (stored : Stored room) → IsSome (stored_sort stored) → is_stored_log stored ≡ false
   stored_unlogged (Blank held) is_open = refl
@@ -78,4 +78,4 @@ module _ {room : ℕ} where
   pub kept_unlogged : (kept : Option (Kept room)) → IsSome (kept_sort kept) → is_kept_log kept ≡ false
   kept_unlogged None is_open = refl
   kept_unlogged (Some (Input source)) is_open = refl
-  kept_unlogged (Some (Place stored faults)) is_open = stored_unlogged stored is_open
+  kept_unlogged (Some (Drawer stored faults)) is_open = stored_unlogged stored is_open

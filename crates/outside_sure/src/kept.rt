@@ -13,8 +13,8 @@ use std::mem;
 pub enum Kept<'a, const ROOM: usize> {
     /// A file that is only read.
     Input(SureSource<'a>),
-    /// A place for outputs and logs, and its count of faults.
-    Place(Stored<ROOM>, u64),
+    /// A drawer for outputs and logs, and its count of faults.
+    Drawer(Stored<ROOM>, u64),
 }
 
 impl<'a, const ROOM: usize> Kept<'a, ROOM> {
@@ -24,11 +24,11 @@ impl<'a, const ROOM: usize> Kept<'a, ROOM> {
     {
         match self {
             Kept::Input(source) => Some(source.bytes()),
-            Kept::Place(stored, _) => stored.bytes(),
+            Kept::Drawer(stored, _) => stored.bytes(),
         }
     }
 
-    /// Opens a place that has no fault, and answers its memory with the file's bytes. A place with a fault counts one more.
+    /// Opens a drawer that has no fault, and answers its memory with the file's bytes. A drawer with a fault counts one more.
     pub fn open(&mut self, opened: Stored<ROOM>) -> Option<Held<ROOM>>
         ensures none { is_none result ≡ not (is_ready (Some self.old)) }
         ensures bytes { IfSome result (λ held. held.buffer.items ≡ bytes_or_none (told_kept (Some self.old))) }
@@ -36,7 +36,7 @@ impl<'a, const ROOM: usize> Kept<'a, ROOM> {
     {
         match self {
             Kept::Input(_) => None,
-            Kept::Place(stored, faults) => {
+            Kept::Drawer(stored, faults) => {
                 if *faults != 0 {
                     *faults = faults.saturating_add(1);
                     return None;
@@ -46,11 +46,11 @@ impl<'a, const ROOM: usize> Kept<'a, ROOM> {
         }
     }
 
-    /// A place has this now, and so many faults more.
+    /// A drawer has this now, and so many faults more.
     pub fn close(&mut self, closed: Stored<ROOM>, more: u64)
         ensures { Some self.new ≡ kept_closed closed.entry more (Some self.old) }
     {
-        if let Kept::Place(stored, faults) = self {
+        if let Kept::Drawer(stored, faults) = self {
             *stored = closed;
             *faults = faults.saturating_add(more);
         }

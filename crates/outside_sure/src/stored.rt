@@ -8,12 +8,12 @@ use crate::held::Held;
 use outside::NoMemory;
 use std::alloc::Global;
 
-/// What a place has.
+/// What a drawer has.
 #[derive(Debug, Drop)]
 pub enum Stored<const ROOM: usize> {
     /// Room for a file, and none yet.
     Blank(Held<ROOM>),
-    /// A file, which the place was made with or which was closed as output.
+    /// A file, which the drawer was made with or which was closed as output.
     File(Held<ROOM>),
     /// What was closed as a log.
     Log(SureDisk<ROOM>),

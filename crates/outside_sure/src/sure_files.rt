@@ -3,7 +3,7 @@ ghost use Rattle.std.specs.Option.{option_copied};
 ghost use Rattle.outside.specs.Room.{bytes_or_none};
 ghost use Rattle.outside_sure.specs.SureKept.{told_kept, kept_sort, is_ready, kept_opened, kept_closed, IsFull, IsKeptWell};
 ghost use Rattle.outside_sure.specs.SureFiles.{kept_in, IsAt, IsUncalled, ChangesKept};
-ghost use Rattle.outside_sure.specs.declared.kept.Kept.TheVariants.{Place};
+ghost use Rattle.outside_sure.specs.declared.kept.Kept.TheVariants.{Drawer};
 
 use crate::held::Held;
 use crate::kept::Kept;
@@ -135,7 +135,7 @@ impl<'a, const ROOM: usize> SureFiles<'a, ROOM> {
         Ok(())
     }
 
-    /// Opens a place that has no fault, and answers its memory with the file's bytes. A place with a fault counts one more.
+    /// Opens a drawer that has no fault, and answers its memory with the file's bytes. A drawer with a fault counts one more.
     #[tactic(auto, using(crate::proofs::Kepts::well_changed, crate::proofs::Kepts::well_opened, crate::proofs::Kepts::opened_nowhere, crate::proofs::Kepts::ready_nowhere))]
     pub fn open(&mut self, name: &str, opened: Stored<ROOM>) -> Option<Held<ROOM>>
         ensures none { is_none result ≡ not (is_ready (kept_in self.old.items.items name.now)) }
@@ -147,11 +147,11 @@ impl<'a, const ROOM: usize> SureFiles<'a, ROOM> {
         open_at(&mut self.items, place, opened)
     }
 
-    /// The place of that name, which is open, has this now, and so many faults more.
+    /// The drawer of that name, which is open, has this now, and so many faults more.
     #[tactic(auto, using(crate::proofs::Kepts::well_changed, crate::proofs::Kepts::well_closed, crate::proofs::Kepts::closed_nowhere))]
     pub fn close(&mut self, name: &str, closed: Stored<ROOM>, more: u64)
         requires is_open { IsSome (kept_sort (kept_in self.old.items.items name.now)) }
-        requires full { more ≢ 0 → IsFull (Some (Place closed more)) }
+        requires full { more ≢ 0 → IsFull (Some (Drawer closed more)) }
         ensures { ChangesKept self.old.items.items self.new.items.items name.now
             (kept_closed closed.entry more (kept_in self.old.items.items name.now)) }
     {

@@ -19,7 +19,7 @@ use outside::{Failed, GivenUp, NoMemory, Room};
 use std::alloc::Global;
 
 /// A room in memory whose outputs and logs fail for want of room alone, and which takes memory at no call of the trait. It tells its files
-/// and closed logs. Its three counts are of the openings that failed, as input, as output and as log; each place has a count of its own.
+/// and closed logs. Its three counts are of the openings that failed, as input, as output and as log; each drawer has a count of its own.
 #[derive(Debug, Drop)]
 pub struct SureRoom<'a, const ROOM: usize> {
     alloc: Global,
@@ -32,7 +32,7 @@ pub struct SureRoom<'a, const ROOM: usize> {
 }
 
 impl<'a, const ROOM: usize> SureRoom<'a, ROOM> {
-    ghost use Rattle.outside_sure.specs.SureRoom.{sure_room_view, kept_under, SameKept, KeepsUnder, MakesPlace, HasSureCounts};
+    ghost use Rattle.outside_sure.specs.SureRoom.{sure_room_view, kept_under, SameKept, KeepsUnder, MakesDrawer, HasSureCounts};
 
     /// An empty room.
     pub fn new(alloc: Global) -> Self
@@ -62,16 +62,16 @@ impl<'a, const ROOM: usize> SureRoom<'a, ROOM> {
         self.files.keep(self.alloc, name, input)
     }
 
-    /// Makes the name a place for outputs and logs, with a file of these bytes or none yet, whatever it was. Takes `ROOM` bytes.
-    pub fn place(&mut self, name: &str, bytes: Option<&[u8]>) -> Result<(), NoMemory>
+    /// Makes the name a drawer for outputs and logs, with a file of these bytes or none yet, whatever it was. Takes `ROOM` bytes.
+    pub fn make_drawer(&mut self, name: &str, bytes: Option<&[u8]>) -> Result<(), NoMemory>
         requires { IfSome (option_copied bytes) (λ b. length b ≤ ROOM) }
-        ensures ok { OnOk result (MakesPlace self.old self.new name.now (option_copied bytes.entry)) }
+        ensures ok { OnOk result (MakesDrawer self.old self.new name.now (option_copied bytes.entry)) }
         ensures err { OnErr result (SameKept self.old self.new) }
         ensures counts { HasSureCounts self.new self.old.in_faults self.old.out_faults self.old.log_faults }
         ensures lefts { self.new.closed ≡ self.old.closed }
     {
         let stored = Stored::new(self.alloc, bytes)?;
-        self.files.keep(self.alloc, name, Kept::Place(stored, 0))
+        self.files.keep(self.alloc, name, Kept::Drawer(stored, 0))
     }
 
     /// The bytes of the file of that name, a closed log's among them, where there is one that isn't open.
@@ -91,7 +91,7 @@ impl<'a, const ROOM: usize> SureRoom<'a, ROOM> {
     {
         match self.files.under(name) {
             Some(Kept::Input(source)) => Some(SureSource::new(source.bytes())),
-            Some(Kept::Place(_, _)) | None => None,
+            Some(Kept::Drawer(_, _)) | None => None,
         }
     }
 }
@@ -143,7 +143,7 @@ impl<'a, const ROOM: usize> Room for SureRoom<'a, ROOM> {
         ensures fresh { IfOk result (λ object. object.faults ≡ 0) }
         ensures empty { IfOk result (λ object. (sure_room_view self.old).tells ≡ true → Some object.held.buffer.items ≡ Some []) }
 
-        // It fails exactly where the name isn't a place, or has a fault.
+        // It fails exactly where the name isn't a drawer, or has a fault.
         ensures fails { is_err result ≡ not (is_ready (kept_under self.old name.now)) }
         ensures sink { IfOk result (λ sink. sink_state sink ≡ record { bytes = []; faults = 0 }) }
         ensures kept { KeepsUnder self.old self.new name.now (kept_opened OpenOutput (kept_under self.old name.now)) }
@@ -171,7 +171,7 @@ impl<'a, const ROOM: usize> Room for SureRoom<'a, ROOM> {
         ensures bytes { IfOk result (λ object. (sure_room_view self.old).tells ≡ true →
             (sure_disk_view object).content ≡ Some (bytes_or_none ((sure_room_view self.old).file name.now))) }
 
-        // It fails exactly where the name isn't a place, or has a fault.
+        // It fails exactly where the name isn't a drawer, or has a fault.
         ensures fails { is_err result ≡ not (is_ready (kept_under self.old name.now)) }
         ensures disk { IfOk result (λ disk. disk_state disk ≡ record { bytes = bytes_or_none (told_kept (kept_under self.old name.now)); faults = 0 }) }
         ensures kept { KeepsUnder self.old self.new name.now (kept_opened OpenLog (kept_under self.old name.now)) }
@@ -216,7 +216,7 @@ impl<'a, const ROOM: usize> Room for SureRoom<'a, ROOM> {
         ensures cause { HasCause (count_sum ((sure_room_view self.old).out_faults name.now) object.entry.faults)
             ((sure_room_view self.new).out_faults name.now) result }
 
-        // It never fails, and the place has a file of what was written.
+        // It never fails, and the drawer has a file of what was written.
         ensures ok { IsOk result }
         ensures kept { KeepsUnder self.old self.new name.now (kept_closed (File object.entry.held) object.entry.faults (kept_under self.old name.now)) }
         ensures counts { HasSureCounts self.new self.old.in_faults self.old.out_faults self.old.log_faults }
@@ -239,7 +239,7 @@ impl<'a, const ROOM: usize> Room for SureRoom<'a, ROOM> {
         ensures counted { (sure_room_view self.new).log_faults name.now
             ≡ count_sum ((sure_room_view self.old).log_faults name.now) (sure_disk_view object.entry).faults }
 
-        // The place has the disk as its closed log.
+        // The drawer has the disk as its closed log.
         ensures kept { KeepsUnder self.old self.new name.now (kept_closed (Log object.entry) object.entry.faults (kept_under self.old name.now)) }
         ensures counts { HasSureCounts self.new self.old.in_faults self.old.out_faults self.old.log_faults }
     {

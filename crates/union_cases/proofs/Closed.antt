@@ -3,7 +3,7 @@ use Rattle.std.proofs.Common.{◌≡◌, ◌≢◌, ◌∙◌, ℕ, Bool, true, 
 use Rattle.marc_types.specs.Order.{text_Decides}
 use Rattle.std.specs.Str.{bytes_eq}
 use Rattle.outside_sure.specs.SureKept.{kept_sort}
-use Rattle.outside_sure.specs.SureRoom.{kept_under, KeepsUnder, MakesPlace}
+use Rattle.outside_sure.specs.SureRoom.{kept_under, KeepsUnder, MakesDrawer}
 use Rattle.outside_sure.specs.declared.kept.Kept.{Kept}
 use Rattle.outside_sure.specs.declared.sure_room.SureRoom.{SureRoom}
 
@@ -30,7 +30,7 @@ module _ {room : ℕ} where
       → ((n : List ℕ) → kept_sort (kept_under old n) ≡ None) → (n : List ℕ) → kept_sort (kept_under new n) ≡ None
   sure_given old new name kept free keeps was = still_closed old new name (ap kept_sort keeps.here ∙ free) keeps.others was
 
-  -- nor is a place that is made
-  pub sure_placed : (old new : SureRoom room) (name : List ℕ) (bytes : Option (List ℕ)) → MakesPlace old new name bytes
+  -- nor is a drawer that is made
+  pub sure_drawer_made : (old new : SureRoom room) (name : List ℕ) (bytes : Option (List ℕ)) → MakesDrawer old new name bytes
       → ((n : List ℕ) → kept_sort (kept_under old n) ≡ None) → (n : List ℕ) → kept_sort (kept_under new n) ≡ None
-  sure_placed old new name bytes makes was = still_closed old new name makes.closed makes.others was
+  sure_drawer_made old new name bytes makes was = still_closed old new name makes.closed makes.others was

@@ -6,6 +6,7 @@ use command_words::Words;
 use marc_types::{NoMemory, Text};
 use outside_real::{FileRoom, FileSink, OpenGate, Target};
 use records::report_of;
+use std::alloc::Global;
 use std::process::ExitCode;
 use std::sync::Wait;
 use std::thread::Threads;
@@ -35,10 +36,19 @@ fn each_row<H: Threads + Wait + Sync>(rt: &HostRuntime, threads: &H) -> io::Resu
     Ok(())
 }
 
+// The prover takes some seconds for a push, and twenty for a `format!`.
+fn joined(alloc: Global, pieces: &[&str]) -> io::Result<String> {
+    let mut text = String::new(alloc);
+    for piece in pieces {
+        text.push_str(piece)?;
+    }
+    Ok(text)
+}
+
 fn row<H: Threads + Wait + Sync>(rt: &HostRuntime, threads: &H, name: &str) -> io::Result<()> {
     let alloc = rt.alloc();
-    let file = format!(in alloc; "{name}.mrc")?;
-    let due = fs::read(rt, format!(in alloc; "{name}.out")?)?;
+    let file = joined(alloc, &[name, ".mrc"])?;
+    let due = fs::read(rt, joined(alloc, &[name, ".out"])?)?;
     println!(rt; "== {name}")?;
     let status = pass(rt, threads, file.as_str())?;
     let exported = fs::read(rt, OUT)?;
@@ -57,10 +67,10 @@ fn row<H: Threads + Wait + Sync>(rt: &HostRuntime, threads: &H, name: &str) -> i
 /// Carries out `pass` on a file of library ULIB, and answers its status.
 fn pass<H: Threads + Wait + Sync>(rt: &HostRuntime, threads: &H, file: &str) -> io::Result<u8> {
     let alloc = rt.alloc();
-    let library = format!(in alloc; "ULIB={file}")?;
+    let library = joined(alloc, &["ULIB=", file])?;
     let mut words = Vec::new(alloc);
     for word in ["pass", OUT, library.as_str()] {
-        words.push(Text::from_string(format!(in alloc; "{word}")?))?;
+        words.push(Text::from_string(joined(alloc, &[word])?))?;
     }
     let words = Words::from_vec(words);
     let mut room = FileRoom::new(rt.clone()?, alloc);

@@ -95,12 +95,12 @@ fn given(alloc: Global, name: &str, bytes: &'static [u8]) -> Result<SureRoom<'st
     Ok(room)
 }
 
-// A room with this place, and an input.
-fn placed(alloc: Global, name: &str) -> Result<SureRoom<'static, 4>, Fail>
+// A room with this drawer, and an input.
+fn with_drawer(alloc: Global, name: &str) -> Result<SureRoom<'static, 4>, Fail>
     ensures { IfOk result (λ room. (sure_room_view room).open_as name.now ≡ None) }
 {
     let mut room = given(alloc, "in", b"bytes")?;
-    room.place(name, None)?;
+    room.make_drawer(name, None)?;
     Ok(room)
 }
 
@@ -137,15 +137,15 @@ fn a_sure_room_opens_no_name_that_it_lacks(rt: HostRuntime) -> Result<(), Fail> 
 }
 
 #[test]
-fn a_place_is_no_input(rt: HostRuntime) -> Result<(), Fail> {
-    let mut room = placed(rt.alloc(), "out")?;
+fn a_drawer_is_no_input(rt: HostRuntime) -> Result<(), Fail> {
+    let mut room = with_drawer(rt.alloc(), "out")?;
     assert!(rt; !opens_input(&mut room, "out"));
     Ok(())
 }
 
 #[test]
-fn a_place_is_opened_again(rt: HostRuntime) -> Result<(), Fail> {
-    let mut room = placed(rt.alloc(), "out")?;
+fn a_drawer_is_opened_again(rt: HostRuntime) -> Result<(), Fail> {
+    let mut room = with_drawer(rt.alloc(), "out")?;
     assert_eq!(rt; write(&mut room, "out", b"four"), Some(Ok(())));
     assert!(rt; has(&room, "out", b"four"));
     assert!(rt; opens_output(&mut room, "out"));
@@ -153,8 +153,8 @@ fn a_place_is_opened_again(rt: HostRuntime) -> Result<(), Fail> {
 }
 
 #[test]
-fn a_place_with_a_fault_is_not_opened(rt: HostRuntime) -> Result<(), Fail> {
-    let mut room = placed(rt.alloc(), "out")?;
+fn a_drawer_with_a_fault_is_not_opened(rt: HostRuntime) -> Result<(), Fail> {
+    let mut room = with_drawer(rt.alloc(), "out")?;
     assert_eq!(rt; write(&mut room, "out", b"fives"), Some(Err(Failed)));
     assert!(rt; !opens_output(&mut room, "out"));
     assert!(rt; !opens_log(&mut room, "out"));
@@ -163,8 +163,8 @@ fn a_place_with_a_fault_is_not_opened(rt: HostRuntime) -> Result<(), Fail> {
 }
 
 #[test]
-fn a_place_keeps_its_log(rt: HostRuntime) -> Result<(), Fail> {
-    let mut room = placed(rt.alloc(), "log")?;
+fn a_drawer_keeps_its_log(rt: HostRuntime) -> Result<(), Fail> {
+    let mut room = with_drawer(rt.alloc(), "log")?;
     assert_eq!(rt; write_log(&mut room, "log", b"abc"), Some(Ok(())));
     assert!(rt; has(&room, "log", b"abc"));
     assert!(rt; has_log(&mut room, "log", b"abc")?);

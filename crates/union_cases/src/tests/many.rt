@@ -19,17 +19,17 @@ const ORDERED: &[u8] =
 /// The most files of one command.
 const MOST: u32 = 64;
 
-/// The bytes that each place of the sure room has room for, and the console.
+/// The bytes that each drawer of the sure room has room for, and the console.
 const ROOM: usize = 16384;
 
-/// A sure room with so many files of two records each, and places for a log and an output.
-#[tactic(auto, using(crate::proofs::Closed::sure_empty, crate::proofs::Closed::sure_given, crate::proofs::Closed::sure_placed))]
+/// A sure room with so many files of two records each, and drawers for a log and an output.
+#[tactic(auto, using(crate::proofs::Closed::sure_empty, crate::proofs::Closed::sure_given, crate::proofs::Closed::sure_drawer_made))]
 fn with_files<'a>(alloc: Global, count: u32, bytes: &'a [u8]) -> Result<SureRoom<'a, ROOM>, Fail>
     ensures { IfOk result (λ room. (name : List ℕ) → (sure_room_view room).open_as name ≡ None) }
 {
     let mut room = SureRoom::<ROOM>::new(alloc);
-    room.place("j", None)?;
-    room.place("out", None)?;
+    room.make_drawer("j", None)?;
+    room.make_drawer("out", None)?;
     for index in 0..count {
         let name = format!(in alloc; "f{index}")?;
         room.give(name.as_str(), bytes)?;
