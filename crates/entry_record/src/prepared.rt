@@ -8,11 +8,11 @@ ghost use Rattle.entry_record.specs.History.{IsAdmitted, entry_size, in_run};
 ghost use Rattle.entry_record.specs.Answers.{IsRefusalOf};
 ghost use Rattle.entry_record.specs.Headings.{heading_forms};
 ghost use Rattle.entry_record.specs.Payload.{payload_of};
-ghost use Rattle.entry_record.specs.Prepared.{new_entry, established_of, see_from_of, field_form_of, full_form_of, entry_successor};
+ghost use Rattle.entry_record.specs.Prepared.{new_entry, established_of, see_from_of, entry_successor};
 
 use crate::access::{Access, access_of, has_bare_heading};
 use crate::admission::{Examined, examine};
-use crate::headings::{Headings, forms_at};
+use crate::headings::Headings;
 use crate::identity::{class_of, is_deletion};
 use crate::payload::{HEAD_LEN, payload, write_run};
 use crate::preparation::Preparation;
@@ -112,26 +112,6 @@ impl Prepared {
         ensures { result.now ≡ see_from_of self.now }
     {
         &self.see_from
-    }
-
-    /// The base form of the field at a place, counted from 0; none where there is no heading field.
-    pub fn field_form(&self, field: u32) -> Option<&Form>
-        ensures { option_copied result ≡ field_form_of self.now field }
-    {
-        match forms_at(self.headings.as_slice(), field) {
-            Some(forms) => Some(&forms.base),
-            None => None,
-        }
-    }
-
-    /// The full form of the field at a place, counted from 0; none where there is no heading field.
-    pub fn full_form(&self, field: u32) -> Option<&Form>
-        ensures { option_copied result ≡ full_form_of self.now field }
-    {
-        match forms_at(self.headings.as_slice(), field) {
-            Some(forms) => Some(forms.full()),
-            None => None,
-        }
     }
 
     /// Whether the entry takes away what stands under its key.

@@ -1,7 +1,7 @@
 //! What the definitions give for some records, to be read by eye.
 
 use super::{TWAIN, prepared};
-use entry_record::Prepared;
+use entry_record::{Preparation, Prepared};
 use marc_types::{Class, Form, Key, Kind, NoMemory};
 use std::alloc::Global;
 use std::test::Fail;
@@ -71,13 +71,13 @@ fn add_authority(text: &mut String, made: &Prepared) -> Result<(), NoMemory> {
 }
 
 /// The forms of the first fields.
-fn add_headings(alloc: Global, text: &mut String, made: &Prepared) -> Result<(), NoMemory> {
+fn add_headings(alloc: Global, text: &mut String, rest: &Preparation) -> Result<(), NoMemory> {
     for field in 0..4 {
-        if let Some(form) = made.field_form(field) {
+        if let Some(form) = rest.field_form(field) {
             let name = format!(in alloc; "field {field} base ")?;
             add_form(text, name.as_str(), form)?;
         }
-        if let Some(form) = made.full_form(field) {
+        if let Some(form) = rest.full_form(field) {
             let name = format!(in alloc; "field {field} full ")?;
             add_form(text, name.as_str(), form)?;
         }
@@ -85,11 +85,12 @@ fn add_headings(alloc: Global, text: &mut String, made: &Prepared) -> Result<(),
     Ok(())
 }
 
-fn shown(alloc: Global, made: &Prepared) -> Result<String, NoMemory> {
+fn shown(alloc: Global, made: Prepared) -> Result<String, NoMemory> {
     let mut text = String::new(alloc);
-    add_entry(alloc, &mut text, made)?;
-    add_authority(&mut text, made)?;
-    add_headings(alloc, &mut text, made)?;
+    add_entry(alloc, &mut text, &made)?;
+    add_authority(&mut text, &made)?;
+    let (_rec, rest) = made.into_parts();
+    add_headings(alloc, &mut text, &rest)?;
     Ok(text)
 }
 
@@ -120,7 +121,7 @@ fn what_records_come_to(rt: HostRuntime) -> Result<(), Fail> {
     ];
     for (piece, wanted) in table {
         let made = prepared(&rt, alloc, piece)?;
-        let text = shown(alloc, &made)?;
+        let text = shown(alloc, made)?;
         assert_eq!(rt; text.as_str(), wanted);
     }
     Ok(())
