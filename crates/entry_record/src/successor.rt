@@ -1,13 +1,10 @@
 //! The key that a replaced authority hands its links on to.
-ghost use Rattle.std.specs.Prelude.{◌≡◌, ◌==◌, ◌&&◌, not, [], ◌∷◌, ◌++◌, Some, position, IfOk, OnOk, IsTrue, filter};
-ghost use Rattle.heading_fields.specs.Numbers.{without_blanks};
-ghost use Rattle.entry_record.specs.Authority.{is_right_parenthesis, is_valid_key, is_replacement, key_split_at_parenthesis, key_of_text, option_filter, replacement_numbers, replacement_key, successor_of};
+ghost use Rattle.std.specs.Prelude.{◌≡◌, ◌==◌, ◌&&◌, not, [], ◌∷◌, ◌++◌, IfOk, OnOk, filter};
+ghost use Rattle.entry_record.specs.Authority.{is_replacement, option_filter, replacement_numbers, replacement_key, successor_of};
 ghost use Rattle.marc_types.specs.Order.{same_key};
 
-use crate::identity::{code_text, filled_bytes, number_text};
-use marc_types::{
-    Field, Key, Leader, NoMemory, Subfield, Text, TryCopy, can_be_code, can_be_number,
-};
+use crate::key_text::key_of_text;
+use marc_types::{Field, Key, Leader, NoMemory, Subfield, TryCopy};
 use std::alloc::Global;
 
 /// The code of the subfield that holds a record control number, `$0`.
@@ -60,49 +57,6 @@ fn replacement_numbers(alloc: Global, fields: &[Field]) -> Result<Vec<Subfield>,
         append_field_numbers(alloc, &mut numbers, field)?;
     }
     Ok(numbers)
-}
-
-fn right_parenthesis(text: &[u8]) -> Option<usize>
-    ensures { result ≡ position is_right_parenthesis text.now }
-{
-    text.iter().position(|byte| *byte == b')')
-}
-
-/// A code up to the first right parenthesis, and the number behind it.
-#[tactic(auto, using(crate::proofs::Numbered::place_within, crate::proofs::Numbered::place_before, crate::proofs::Numbered::place_after, crate::proofs::Numbered::nowhere_before, crate::proofs::Numbered::nowhere_after))]
-fn split_at_parenthesis(text: &[u8]) -> (&[u8], &[u8])
-    ensures code { result.0.now ≡ (key_split_at_parenthesis text.now).code }
-    ensures number { result.1.now ≡ (key_split_at_parenthesis text.now).number }
-{
-    match right_parenthesis(text) {
-        Some(place) => (&text[..place], &text[place + 1..]),
-        None => (text, &[]),
-    }
-}
-
-fn valid_key(alloc: Global, text: &[u8]) -> Result<Option<Key>, NoMemory>
-    ensures { IfOk result (λ key. key ≡ option_filter is_valid_key (Some (key_split_at_parenthesis text.now))) }
-{
-    let (code, number) = split_at_parenthesis(text);
-    if !can_be_code(code) || !can_be_number(number) {
-        return Ok(None);
-    }
-    Ok(Some(Key {
-        code: code_text(Vec::from_slice(alloc, code)?),
-        number: number_text(Vec::from_slice(alloc, number)?),
-    }))
-}
-
-/// The key whose text this is, apart from its blanks, if there is one.
-#[tactic(auto, unfolding(crate::specs::Authority::key_of_text))]
-fn key_of_text(alloc: Global, text: &Text) -> Result<Option<Key>, NoMemory>
-    ensures { IfOk result (λ key. key ≡ key_of_text (without_blanks text.now)) }
-{
-    let filled = filled_bytes(alloc, text.as_bytes())?;
-    match filled.as_slice() {
-        [b'(', key_text @ ..] => valid_key(alloc, key_text),
-        _ => Ok(None),
-    }
 }
 
 fn replacement_key(alloc: Global, fields: &[Field]) -> Result<Option<Key>, NoMemory>
