@@ -56,7 +56,11 @@ fn write_fault<K: Sink>(console: &mut K, fault: Fault) -> Result<(), Failed>
         Fault::Usage => console.write_all(b"union_cat: usage\n"),
         Fault::Input => console.write_all(b"union_cat: input fault\n"),
         Fault::Device => console.write_all(b"union_cat: device fault\n"),
-        Fault::NotAJournal(place) => write_numbered(console, b"union_cat: not a journal at ", place),
+        Fault::NotAJournal(place) => write_numbered(
+            console,
+            b"union_cat: not a journal at ",
+            place,
+        ),
         Fault::Full => console.write_all(b"union_cat: full\n"),
         Fault::Memory => console.write_all(b"union_cat: out of memory\n"),
         Fault::OldVersion => console.write_all(b"union_cat: wrong journal version\n"),
