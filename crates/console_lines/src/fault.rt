@@ -5,7 +5,7 @@ ghost use Rattle.outside.specs.Sink.{WritesFront};
 ghost use Rattle.console_lines.specs.Faults.{fault_status, fault_line, IsFaultTold};
 
 use crate::end::End;
-use itoa::Buffer;
+use crate::numbered::write_numbered;
 use outside::{Failed, Sink};
 
 /// Why a command ends before its end, where the console tells it.
@@ -47,17 +47,6 @@ impl Fault {
     }
 }
 
-/// Writes the line for a log that is no journal, in three pieces, so that it takes no memory.
-fn write_place<K: Sink>(console: &mut K, place: u64) -> Result<(), Failed>
-    ensures line { OnOk result (Appends (K.written console.old) (K.written console.new) (fault_line (Fault.NotAJournal place))) }
-    ensures front { WritesFront (K.written console.old) (K.written console.new) (fault_line (Fault.NotAJournal place)) }
-    ensures cause { HasCause (K.faults console.old) (K.faults console.new) result }
-{
-    console.write_all(b"union_cat: not a journal at ")?;
-    console.write_all(Buffer::new().format(place).as_bytes())?;
-    console.write_all(b"\n")
-}
-
 fn write_fault<K: Sink>(console: &mut K, fault: Fault) -> Result<(), Failed>
     ensures line { OnOk result (Appends (K.written console.old) (K.written console.new) (fault_line fault)) }
     ensures front { WritesFront (K.written console.old) (K.written console.new) (fault_line fault) }
@@ -67,7 +56,11 @@ fn write_fault<K: Sink>(console: &mut K, fault: Fault) -> Result<(), Failed>
         Fault::Usage => console.write_all(b"union_cat: usage\n"),
         Fault::Input => console.write_all(b"union_cat: input fault\n"),
         Fault::Device => console.write_all(b"union_cat: device fault\n"),
-        Fault::NotAJournal(place) => write_place(console, place),
+        Fault::NotAJournal(place) => write_numbered(
+            console,
+            b"union_cat: not a journal at ",
+            place,
+        ),
         Fault::Full => console.write_all(b"union_cat: full\n"),
         Fault::Memory => console.write_all(b"union_cat: out of memory\n"),
         Fault::OldVersion => console.write_all(b"union_cat: wrong journal version\n"),

@@ -1,0 +1,20 @@
+//! Lines of words and a number.
+ghost use Rattle.std.specs.Prelude.{◌++◌, ◌∷◌, [], OnOk};
+ghost use Rattle.std.specs.Fmt.{decimal};
+ghost use Rattle.std.specs.Io.KnownBytes.{Appends};
+ghost use Rattle.outside.specs.Fault.{HasCause};
+ghost use Rattle.outside.specs.Sink.{WritesFront};
+
+use itoa::Buffer;
+use outside::{Failed, Sink};
+
+/// Writes a line of words and a number behind them, in three pieces, so that it takes no memory.
+pub fn write_numbered<K: Sink>(console: &mut K, words: &[u8], number: u64) -> Result<(), Failed>
+    ensures line { OnOk result (Appends (K.written console.old) (K.written console.new) (words.now ++ decimal number ++ 10 ∷ [])) }
+    ensures front { WritesFront (K.written console.old) (K.written console.new) (words.now ++ decimal number ++ 10 ∷ []) }
+    ensures cause { HasCause (K.faults console.old) (K.faults console.new) result }
+{
+    console.write_all(words)?;
+    console.write_all(Buffer::new().format(number).as_bytes())?;
+    console.write_all(b"\n")
+}
