@@ -1,5 +1,5 @@
 -- Why loading didn't begin, or ended in part; and that it ended whole.
-use Rattle.std.proofs.Common.{◌≡◌, ◌≢◌, ◌⊎◌, inl, inr, ℕ, ◌<◌, List, ◌++◌, length, map, Option, Some, None, Bool, true, false, Result, Ok, Err, IfOk, IfErr, OnOk, OnErr, refl, sym, ap, subst, ◌∙◌, arith}
+use Rattle.std.proofs.Common.{◌≡◌, ◌≢◌, ◌⊎◌, inl, inr, ℕ, ◌<◌, List, ◌++◌, length, map, Option, Some, None, Bool, true, false, IfSome, Result, Ok, Err, IfOk, IfErr, OnOk, OnErr, refl, sym, ap, subst, ◌∙◌, arith}
 use Rattle.std.specs.Prelude.{is_some, All, if◌then◌else◌}
 use Rattle.marc_types.specs.declared.entry.Entry.{Entry}
 use Rattle.marc_types.specs.declared.entry.Limits.{Limits}
@@ -49,19 +49,33 @@ opening_input opening.OldVersion is = cc
 opening_input opening.Full is = cc
 opening_input opening.NoMemory is = cc
 
+-- the faults of a journal, of inputs and of memory
+abbrev IsOfFiles : Fault → Type 0
+IsOfFiles fault.Usage = ⊥
+IsOfFiles fault.OtherHistory = ⊥
+IsOfFiles fault.Input = Unit {0}
+IsOfFiles fault.Device = Unit {0}
+IsOfFiles (fault.NotAJournal place) = Unit {0}
+IsOfFiles fault.Full = Unit {0}
+IsOfFiles fault.Memory = Unit {0}
+IsOfFiles fault.OldVersion = Unit {0}
+
+opening_is : (of : OpenFault) → IsOfFiles (fault_of_opening of)
+opening_is opening.DeviceFault = tt
+opening_is (opening.NotAJournal place) = tt
+opening_is opening.OldVersion = tt
+opening_is opening.Full = tt
+opening_is opening.NoMemory = tt
+
 pub opening_usage : (of : OpenFault) → fault_of_opening of ≡ fault.Usage → ⊥
-opening_usage opening.DeviceFault is = cc
-opening_usage (opening.NotAJournal place) is = cc
-opening_usage opening.OldVersion is = cc
-opening_usage opening.Full is = cc
-opening_usage opening.NoMemory is = cc
+opening_usage of is = subst IsOfFiles is (opening_is of)
 
 pub opening_other_history : (of : OpenFault) → fault_of_opening of ≡ fault.OtherHistory → ⊥
-opening_other_history opening.DeviceFault is = cc
-opening_other_history (opening.NotAJournal place) is = cc
-opening_other_history opening.OldVersion is = cc
-opening_other_history opening.Full is = cc
-opening_other_history opening.NoMemory is = cc
+opening_other_history of is = subst IsOfFiles is (opening_is of)
+
+-- a fault of opening inputs is of no other kind
+pub no_other : (why kind : Fault) → (why ≢ fault.Input → why ≡ fault.Memory) → kind ≢ fault.Input → kind ≢ fault.Memory → why ≢ kind
+no_other why kind other first second is = second (sym is ∙ other (λ input. first (sym is ∙ input)))
 
 -- a journal that was opened, and closed again with the same entries
 pub unbegun : (old new : RoomView) (journal : List ℕ) (why : Fault) (before entries : List Entry) (mark was : Option (List Entry)) (o : Opening)
@@ -71,23 +85,23 @@ unbegun old new journal why before entries mark was o tells other opened same no
     Unbegun before o (either_fault why other) (subst (λ m. IsOpenedFrom old journal before m o) opened.unmarked opened)
     (subst (λ m. IsClosedTo new journal before m o) none (subst (λ es. IsClosedTo new journal es mark o) same (closed (opened.tells tells)))) unread
 
-module _ (a b c d : Bool) where
-  -- no fault: no device failed
-  pub no_device : (if a then Some fault.Device else if b then Some fault.Full else if c then Some fault.Input else if d then Some fault.Memory else None) ≡ None → a ≡ false
-  no_device is = decided a refl
-    where
-      decided : (x : Bool) → a ≡ x → a ≡ false
-      decided true at = let no = sym (ap (λ x. if x then Some fault.Device else if b then Some fault.Full else if c then Some fault.Input else if d then Some fault.Memory else None) at) ∙ is in cc
-      decided false at = at
+-- the fault that decides, by which kinds there are
+abbrev first_fault : Bool → Bool → Bool → Bool → Option Fault
+first_fault device full input memory =
+    if device then Some fault.Device else if full then Some fault.Full else if input then Some fault.Input else if memory then Some fault.Memory else None
 
-device_only : (a b c d : Bool) → (if a then Some fault.Device else if b then Some fault.Full else if c then Some fault.Input else if d then Some fault.Memory else None) ≡ Some fault.Device → a ≡ true
+no_device : (a b c d : Bool) → first_fault a b c d ≡ None → a ≡ false
+no_device false b c d is = refl
+no_device true b c d is = cc
+
+device_only : (a b c d : Bool) → first_fault a b c d ≡ Some fault.Device → a ≡ true
 device_only true b c d is = refl
 device_only false true c d is = cc
 device_only false false true d is = cc
 device_only false false false true is = cc
 device_only false false false false is = cc
 
-input_only : (a b c d : Bool) → (if a then Some fault.Device else if b then Some fault.Full else if c then Some fault.Input else if d then Some fault.Memory else None) ≡ Some fault.Input → c ≡ true
+input_only : (a b c d : Bool) → first_fault a b c d ≡ Some fault.Input → c ≡ true
 input_only true b c d is = cc
 input_only false true c d is = cc
 input_only false false true d is = refl
@@ -95,24 +109,16 @@ input_only false false false true is = cc
 input_only false false false false is = cc
 
 -- another fault than a device's
-not_first : (a b c d : Bool) (why : Fault)
-    → (if a then Some fault.Device else if b then Some fault.Full else if c then Some fault.Input else if d then Some fault.Memory else None) ≡ Some why → why ≢ fault.Device → a ≡ false
+not_first : (a b c d : Bool) (why : Fault) → first_fault a b c d ≡ Some why → why ≢ fault.Device → a ≡ false
 not_first false b c d why is other = refl
 not_first true b c d why is other = let same : fault.Device ≡ why = cc in absurd (other (sym same))
 
-usage_never : (a b c d : Bool) → (if a then Some fault.Device else if b then Some fault.Full else if c then Some fault.Input else if d then Some fault.Memory else None) ≡ Some fault.Usage → ⊥
-usage_never true b c d is = cc
-usage_never false true c d is = cc
-usage_never false false true d is = cc
-usage_never false false false true is = cc
-usage_never false false false false is = cc
-
-other_history_never : (a b c d : Bool) → (if a then Some fault.Device else if b then Some fault.Full else if c then Some fault.Input else if d then Some fault.Memory else None) ≡ Some fault.OtherHistory → ⊥
-other_history_never true b c d is = cc
-other_history_never false true c d is = cc
-other_history_never false false true d is = cc
-other_history_never false false false true is = cc
-other_history_never false false false false is = cc
+loading_is : (a b c d : Bool) → IfSome (first_fault a b c d) IsOfFiles
+loading_is true b c d = tt
+loading_is false true c d = tt
+loading_is false false true d = tt
+loading_is false false false true = tt
+loading_is false false false false = tt
 
 module _ (results : List FileResult) where
   pub device_failed : loading_fault results ≡ Some fault.Device → any_ends end.DeviceFault results ≡ true
@@ -128,13 +134,15 @@ module _ (results : List FileResult) where
   unfolding loading_fault
   source_failed is = input_only (any_ends end.DeviceFault results) (any_ends end.Full results) (any_ends end.ReadFault results) (any_ends end.NoMemory results) is
 
-  pub no_usage : loading_fault results ≡ Some fault.Usage → ⊥
+  is_of_files : IfSome (loading_fault results) IsOfFiles
   unfolding loading_fault
-  no_usage is = usage_never (any_ends end.DeviceFault results) (any_ends end.Full results) (any_ends end.ReadFault results) (any_ends end.NoMemory results) is
+  is_of_files = loading_is (any_ends end.DeviceFault results) (any_ends end.Full results) (any_ends end.ReadFault results) (any_ends end.NoMemory results)
+
+  pub no_usage : loading_fault results ≡ Some fault.Usage → ⊥
+  no_usage is = subst (λ o. IfSome o IsOfFiles) is is_of_files
 
   pub no_other_history : loading_fault results ≡ Some fault.OtherHistory → ⊥
-  unfolding loading_fault
-  no_other_history is = other_history_never (any_ends end.DeviceFault results) (any_ends end.Full results) (any_ends end.ReadFault results) (any_ends end.NoMemory results) is
+  no_other_history is = subst (λ o. IfSome o IsOfFiles) is is_of_files
 
   pub none_device : loading_fault results ≡ None → any_ends end.DeviceFault results ≡ false
   unfolding loading_fault
@@ -261,7 +269,3 @@ if_err_more (Err e) more is = more e refl is
 pub on_ok_at : {T E P : Type 0} (r : Result T E) (x : T) → r ≡ Ok x → OnOk r P → P
 on_ok_at (Ok x) y at is = is
 on_ok_at (Err e) y at is = cc
-
-pub err_at : {T E P : Type 0} (r : Result T E) (e : E) → r ≡ Err e → OnErr r P → P
-err_at (Ok x) e at is = cc
-err_at (Err x) e at is = is

@@ -1,4 +1,5 @@
 mod Opened
 mod Loaded
 mod Begun
+mod Ended
 pub mod Kept

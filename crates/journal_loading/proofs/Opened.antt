@@ -2,12 +2,13 @@
 use Rattle.std.proofs.Common.{◌≡◌, ℕ, ◌+◌, ◌<◌, ◌≤◌, suc, zero, Bool, false, nat_eq, ◌≢◌, List, [], ◌∷◌, ◌++◌, length, map, take, drop, slice_get, get_or, Option, Some, None, IsSome, true, refl, sym, ap, subst, ◌∙◌, arith}
 use Rattle.std.specs.Prelude.{All}
 use Rattle.std.proofs.lemmas.Bool.Decides.{nat_tests}
-use Rattle.std.proofs.lemmas.List.Elements.{All-head, All-tail}
+use Rattle.std.proofs.lemmas.List.Elements.{All-nil, All-head, All-tail}
 use Rattle.outside.specs.Fault.{Rose}
 use Rattle.outside.specs.Room.{RoomView, SameBut}
 use Rattle.command_words.specs.declared.library.Library.{Library}
+use Rattle.console_lines.specs.declared.fault.Fault.{Fault}
 use Rattle.parallel_loading.specs.declared.input.InputFile.{InputFile}
-use Rattle.journal_loading.specs.Inputs.{IsInputFault, IsInputOf, AreInputs, NoInput, OneInput, RisesFrom, lefts_of_inputs}
+use Rattle.journal_loading.specs.Inputs.{IsInputFault, IsInputOf, AreInputs, NoInput, OneInput, AreOpened, IsFresh, RisesFrom, lefts_of_inputs}
 
 some_same : {A : Type 0} {x y : A} → Some x ≡ Some y → x ≡ y
 some_same is = cc
@@ -59,6 +60,16 @@ module _ {S : Type 0} (left : S → Option (List ℕ)) where
   input_more room [] (first ∷ inputs) library input are at is = cc
   input_more room (next ∷ libraries) (first ∷ inputs) library input (OneInput ls is' l i one are) at is =
       OneInput (take (length (inputs ++ input ∷ [])) libraries) (inputs ++ input ∷ []) next first one (input_more room libraries inputs library input are at is)
+
+-- no file was opened
+pub none_opened : {S : Type 0} (left : S → Option (List ℕ)) (faults : S → ℕ) (room : RoomView) (libraries : List Library) (opened : List (InputFile S)) (why : Fault)
+    → opened ≡ [] → AreOpened left faults room libraries opened (Some why)
+none_opened left faults room libraries opened why none = rw none (record {
+  inputs = NoInput;
+  fresh = All-nil (IsFresh faults);
+  few = omega arith;
+  whole = λ no. cc;
+})
 
 module _ {A : Type 0} where
   pub at_end : (left : List A) (last : A) → slice_get (left ++ last ∷ []) (length left) ≡ Some last

@@ -1,9 +1,10 @@
 -- The inputs of a command's files. The rules are this project's own.
-use Rattle.std.specs.Prelude.{◌≡◌, ◌≢◌, ℕ, ◌<◌, ◌≤◌, true, List, [], ◌∷◌, length, map, All, Option, Some, IsSome, IsTrue, slice_get}
+use Rattle.std.specs.Prelude.{◌≡◌, ◌≢◌, ℕ, ◌<◌, ◌≤◌, true, List, [], ◌∷◌, length, map, take, All, Option, Some, None, IsSome, IsTrue, slice_get}
 use Rattle.marc_types.specs.Valid.{is_code}
 use Rattle.outside.specs.Room.{RoomView}
 use Rattle.outside.specs.Fault.{Rose}
 use Rattle.command_words.specs.declared.library.Library.{Library}
+use Rattle.console_lines.specs.declared.fault.Fault.{Fault}
 use Rattle.parallel_loading.specs.declared.input.InputFile.{InputFile}
 
 -- the codes of these libraries obey the rule of codes
@@ -45,6 +46,14 @@ lefts_of_inputs left inputs = map (λ input. left input.source) inputs
 pub record IsFresh {S : Type 0} (faults : S → ℕ) (input : InputFile S) : Type 0 where
   pub faultless : faults input.source ≡ 0
   pub proper : IsTrue (is_code input.code)
+
+-- The files of the first of these libraries were opened, in their order, and had no fault yet: of all, where there is no fault.
+pub record AreOpened {S : Type 0} (left : S → Option (List ℕ)) (faults : S → ℕ) (room : RoomView) (libraries : List Library) (opened : List (InputFile S))
+    (fault : Option Fault) : Type 0 where
+  pub inputs : AreInputs left room (take (length opened) libraries) opened
+  pub fresh : All (IsFresh faults) opened
+  pub few : length opened ≤ length libraries
+  pub whole : fault ≡ None → length opened ≡ length libraries
 
 -- the count of the inputs of a file rose, where its input had a fault; of the files from that number on
 abbrev pub RisesFrom : {S : Type 0} → (S → ℕ) → ℕ → List Library → List (InputFile S) → RoomView → RoomView → Type 0

@@ -1,5 +1,5 @@
 -- What loading a command's files into a journal comes to. The rules are this project's own.
-use Rattle.std.specs.Prelude.{◌≡◌, ◌≢◌, ◌⊎◌, ℕ, ◌+◌, ◌<◌, Bool, true, false, List, [], ◌∷◌, ◌++◌, length, map, take, All, Option, Some, None, Result, Ok, Err, slice_get, if◌then◌else◌}
+use Rattle.std.specs.Prelude.{◌≡◌, ◌≢◌, ◌⊎◌, ℕ, ◌+◌, ◌<◌, Bool, true, false, List, [], ◌∷◌, ◌++◌, length, map, take, All, Option, Some, None, is_some, Result, Ok, Err, slice_get, if◌then◌else◌}
 use Rattle.std.specs.List.{list_any}
 use Rattle.marc_types.specs.declared.entry.Entry.{Entry}
 use Rattle.marc_types.specs.declared.copying.NoMemory.{NoMemory}
@@ -23,7 +23,7 @@ use Rattle.loader_workers.specs.declared.result.FileResult.{FileResult}
 use Rattle.parallel_loading.specs.Files.{IsFileLoaded, AreOfOneFile}
 use Rattle.parallel_loading.specs.declared.input.InputFile.{InputFile}
 use Rattle.room_files.specs.Faults.{fault_of_opening}
-use Rattle.room_files.specs.Journals.{journal_limits, log_bytes, IsOpenedFrom, IsOpenedAs, IsClosedTo, KeepsHistory}
+use Rattle.room_files.specs.Journals.{journal_limits, log_bytes, IsOpenedFrom, IsOpenedAs, IsClosedTo, IsClosedAs, KeepsHistory}
 use Rattle.journal_loading.specs.Inputs.{IsInputFault, AreInputs, IsFresh}
 
 -- the file of a library was loaded by the loader with that number
@@ -173,3 +173,11 @@ pub record IsFinished (results : Result (List FileResult) NoMemory) (are : List 
 pub data IsStopped (why : Fault) : Result (List FileResult) NoMemory → Type 0 where
   Unloaded : (e : NoMemory) → why ≡ fault.Memory → IsStopped why (Err e)
   Faulty : (results : List FileResult) → loading_fault results ≡ Some why → IsStopped why (Ok results)
+
+-- Loading ended by that fault, and the journal over this catalogue was closed: its file, where the room tells and the log told when it
+-- was opened. A mark has its cause in the count of faults.
+pub record IsClosedBy (why : Fault) (results : Result (List FileResult) NoMemory) (old new : RoomView) (journal : List ℕ) (d : DurableView) : Type 0 where
+  pub ended : IsStopped why results
+  pub closed : new.open_as journal ≡ None
+  pub log : old.tells ≡ true → d.opened.tells ≡ true → IsClosedAs new journal d
+  pub cause : is_some d.mark ≡ true → d.opened.faults ≡ 0 → Rose (old.log_faults journal) (new.log_faults journal)

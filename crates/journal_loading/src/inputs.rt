@@ -1,9 +1,9 @@
 //! The inputs of a command's files: opened all before the first is read, and closed on every path.
-ghost use Rattle.std.specs.Prelude.{◌≡◌, ◌≢◌, ◌≤◌, None, All, IsTrue, IfOk, IfErr, IfSome, length, take, [], ◌∷◌, ◌++◌};
+ghost use Rattle.std.specs.Prelude.{◌≡◌, ◌≢◌, ◌≤◌, None, All, IsTrue, IfOk, IfErr, IfSome, length, [], ◌∷◌, ◌++◌};
 ghost use Rattle.marc_types.specs.Valid.{is_code};
 ghost use Rattle.outside.specs.Fault.{Rose};
 ghost use Rattle.outside.specs.Room.{SameBut};
-ghost use Rattle.journal_loading.specs.Inputs.{AreProper, IsInputFault, IsInputOf, AreInputs, IsFresh, RisesFrom, lefts_of_inputs};
+ghost use Rattle.journal_loading.specs.Inputs.{AreProper, IsInputFault, IsInputOf, AreOpened, IsFresh, RisesFrom, lefts_of_inputs};
 
 use command_words::Library;
 use console_lines::Fault;
@@ -49,10 +49,7 @@ pub fn open_inputs<R: Room>(
     ensures lefts { (R.seen room.new).lefts ≡ (R.seen room.old).lefts }
 
     // What was opened: all files, where there is no fault.
-    ensures inputs { AreInputs R.In.left (R.seen room.old) (take (length result.0.items) libraries.now) result.0.items }
-    ensures fresh { All (IsFresh R.In.faults) result.0.items }
-    ensures few { length result.0.items ≤ length libraries.now }
-    ensures whole { result.1 ≡ None → length result.0.items ≡ length libraries.now }
+    ensures opened { AreOpened R.In.left R.In.faults (R.seen room.old) libraries.now result.0.items result.1 }
     ensures cause { IfSome result.1 (λ fault. fault ≡ Fault.Input → IsInputFault libraries.now (R.seen room.old) (R.seen room.new)) }
     ensures fault { IfSome result.1 (λ fault. fault ≢ Fault.Input → fault ≡ Fault.Memory) }
 {

@@ -1,12 +1,9 @@
 //! A command's files, loaded into a journal.
-ghost use Rattle.std.specs.Prelude.{◌≡◌, ℕ, List, true, Some, None, is_some, ◌∷◌, [], IfOk, IfErr, OnOk, OnErr};
-ghost use Rattle.outside.specs.Fault.{Rose};
+ghost use Rattle.std.specs.Prelude.{◌≡◌, ℕ, List, true, Some, None, ◌∷◌, [], IfOk, IfErr, OnOk};
 ghost use Rattle.outside.specs.Room.{AsLog, SameBut};
-ghost use Rattle.durable_catalogue.specs.Durables.{mark_of};
 ghost use Rattle.durable_catalogue.specs.Views.{durable_view};
-ghost use Rattle.room_files.specs.Journals.{IsClosedAs};
 ghost use Rattle.journal_loading.specs.Inputs.{AreLoadable};
-ghost use Rattle.journal_loading.specs.Outcomes.{IsUnbegun, IsLoadingFault, IsFinished, IsStopped, IsFileMissing, HasSameHistory, HasBegun, HasLoaded, Fails};
+ghost use Rattle.journal_loading.specs.Outcomes.{IsUnbegun, IsLoadingFault, IsFinished, IsClosedBy, IsFileMissing, HasSameHistory, HasBegun, HasLoaded, Fails};
 
 use crate::faults::loading_fault;
 use crate::inputs::{close_inputs, open_inputs};
@@ -71,13 +68,8 @@ fn finish<R: Room>(
     ensures apart { SameBut (R.seen room.old) (R.seen room.new) (journal.now ∷ []) }
     ensures lefts { (R.seen room.new).lefts ≡ (R.seen room.old).lefts }
     ensures opened { OnOk result ((R.seen room.new).open_as journal.now ≡ Some AsLog) }
-    ensures closed { OnErr result ((R.seen room.new).open_as journal.now ≡ None) }
     ensures loaded { IfOk result (λ l. (l.durable ≡ durable) × IsFinished results l.results) }
-    ensures ended { IfErr result (λ why. IsStopped why results) }
-    ensures log { OnErr result ((R.seen room.old).tells ≡ true → is_some (R.Log.seen durable.before.value).content ≡ true →
-        IsClosedAs (R.seen room.new) journal.now (durable_view durable)) }
-    ensures cause { OnErr result (is_some (mark_of durable.mark) ≡ true → (R.Log.seen durable.before.value).faults ≡ 0 →
-        Rose ((R.seen room.old).log_faults journal.now) ((R.seen room.new).log_faults journal.now)) }
+    ensures closed { IfErr result (λ why. IsClosedBy why results (R.seen room.old) (R.seen room.new) journal.now (durable_view durable)) }
 {
     match results {
         Err(NoMemory) => {

@@ -1,14 +1,14 @@
-use Rattle.std.proofs.Common.{rules, ◌≡◌, length, take, refl, sym, ap, subst, ◌∙◌, Some, slice_get, None, IsTrue}
+use Rattle.std.proofs.Common.{rules, ◌≡◌, length, take, refl, sym, ap, subst, ◌∙◌, Some, slice_get, None, IsTrue, arith}
 use Rattle.std.proofs.lemmas.List.Elements.{All-nil, All-push}
 use Rattle.marc_types.specs.Valid.{is_code}
 use Rattle.outside.proofs.Rooms.{same_but_itself, same_but_then}
 use Rattle.command_words.specs.declared.library.Library.{Library}
 use Rattle.journal_loading.specs.Inputs.{AreInputs, NoInput, IsFresh}
-use Rattle.journal_loading.proofs.Opened.{got, got_is, fault_since, input_before, input_more}
+use Rattle.journal_loading.proofs.Opened.{got, got_is, fault_since, input_before, input_more, none_opened}
 use Rattle.journal_loading.proofs.inputs.open_inputs.Goals as goal
 
-pub returns-in_default-clause-inputs : goal.returns-in_default-clause-inputs
-returns-in_default-clause-inputs g c = rw c.new.ensures.items NoInput
+pub returns-in_default-clause-opened : goal.returns-in_default-clause-opened
+returns-in_default-clause-opened g c = none_opened g.R.In.Source.left g.R.In.Source.faults _ _ _ _ c.new.ensures.items
 
 pub loop-index-init : goal.loop-index-init
 loop-index-init g c = (same_but_itself _ _, ap length c.in-Ok.ensures.items, refl, rw c.in-Ok.ensures.items (All-nil (IsFresh g.R.In.Source.faults)), rw c.in-Ok.ensures.items NoInput, refl)
@@ -29,8 +29,15 @@ push_reserved-requires g c = let (stays, len, room, fresh, are, lefts) = c.loop-
 pub returns-in-Err-clause-stays : goal.returns-in-Err-clause-stays
 returns-in-Err-clause-stays g c = same_but_then _ _ _ _ c.loop-index.invariant.0 c.in-Err.ensures.stays
 
-pub returns-in-Err-clause-inputs : goal.returns-in-Err-clause-inputs
-returns-in-Err-clause-inputs g c = c.loop-index.invariant.4
+pub returns-in-Err-clause-opened : goal.returns-in-Err-clause-opened
+returns-in-Err-clause-opened g c =
+    let (stays, len, room, fresh, inputs, lefts) = c.loop-index.invariant in
+    let less = c.loop-index-test.true in record {
+      inputs = inputs;
+      fresh = fresh;
+      few = omega (arith, len, less);
+      whole = λ none. cc;
+    }
 
 pub returns-in-Err-clause-lefts : goal.returns-in-Err-clause-lefts
 returns-in-Err-clause-lefts g c = c.in-Err.ensures.lefts ∙ c.loop-index.invariant.5
@@ -68,11 +75,15 @@ loop-index-preserved g c =
 pub returns-clause-stays : goal.returns-clause-stays
 returns-clause-stays g c = c.loop-index.invariant.0
 
-pub returns-clause-inputs : goal.returns-clause-inputs
-returns-clause-inputs g c = c.loop-index.invariant.4
-
 pub returns-clause-lefts : goal.returns-clause-lefts
 returns-clause-lefts g c = c.loop-index.invariant.5
 
-pub returns-clause-whole : goal.returns-clause-whole
-returns-clause-whole g c none = search rules
+pub returns-clause-opened : goal.returns-clause-opened
+returns-clause-opened g c =
+    let (stays, len, room, fresh, inputs, lefts) = c.loop-index.invariant in
+    let all : length c.loop-index.inputs.items ≡ length c.args.libraries.now = search rules in record {
+      inputs = inputs;
+      fresh = fresh;
+      few = omega (arith, all);
+      whole = λ none. all;
+    }

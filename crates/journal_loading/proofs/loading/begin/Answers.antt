@@ -8,7 +8,7 @@ use Rattle.console_lines.specs.declared.fault.Fault.TheVariants as fault
 use Rattle.journal_loading.specs.Inputs.{IsInputFault, AreInputs, IsFresh, lefts_of_inputs}
 use Rattle.journal_loading.specs.Outcomes.{Unopened}
 use Rattle.journal_loading.proofs.Opened.{inputs_after, take_all, fault_between, unread}
-use Rattle.journal_loading.proofs.Begun.{unbegun, opening_usage, opening_other_history, opening_input, opening_device}
+use Rattle.journal_loading.proofs.Begun.{unbegun, opening_usage, opening_other_history, opening_input, opening_device, no_other}
 use Rattle.journal_loading.proofs.loading.begin.Goals as goal
 
 pub returns-in-Err-clause-failed : goal.returns-in-Err-clause-failed
@@ -29,7 +29,7 @@ open_inputs-inputs-requires-clause-free g c κs within k d less =
 
 pub close_inputs-requires-after_bounds : goal.close_inputs-requires-after_bounds
 close_inputs-requires-after_bounds g c κs within =
-    let few = c.open_inputs-inputs.ensures.few in let len = ap length c.from_vec-inputs.ensures in omega (arith, few, len)
+    let few = c.open_inputs-inputs.ensures.opened.few in let len = ap length c.from_vec-inputs.ensures in omega (arith, few, len)
 
 pub close_journal-requires-after_bounds : goal.close_journal-requires-after_bounds
 close_journal-requires-after_bounds g c κs within =
@@ -44,16 +44,16 @@ returns-in-None-clause-begun g c =
     let left = g.R.In.Source.left in
     let libraries = c.args.libraries.now in
     let opened = c.open_inputs-inputs.result.0.items in
-    let whole = c.open_inputs-inputs.ensures.whole c.in-None.is in
-    let all : take (length opened) libraries ≡ libraries = take_all libraries (length opened) whole in
-    let now = subst (λ ls. AreInputs left (seen c.open_journal.new.room) ls opened) all c.open_inputs-inputs.ensures.inputs in
+    let are = c.open_inputs-inputs.ensures.opened in
+    let all : take (length opened) libraries ≡ libraries = take_all libraries (length opened) (are.whole c.in-None.is) in
+    let now = subst (λ ls. AreInputs left (seen c.open_journal.new.room) ls opened) all are.inputs in
     record {
       is_open = c.open_inputs-inputs.ensures.stays.open_names c.args.journal.now tt ∙ c.in-Ok.ensures.opened;
       catalogue = c.in-Ok.ensures.catalogue;
       inputs_are = subst (λ is. AreInputs left (seen c.args.room.now) libraries is) (sym c.from_vec-inputs.ensures)
           (inputs_after left (seen c.args.room.now) (seen c.open_journal.new.room) c.args.journal.now c.open_journal.ensures.apart libraries opened
           c.requires.loadable.apart now);
-      fresh = subst (All (IsFresh g.R.In.Source.faults)) (sym c.from_vec-inputs.ensures) c.open_inputs-inputs.ensures.fresh;
+      fresh = subst (All (IsFresh g.R.In.Source.faults)) (sym c.from_vec-inputs.ensures) are.fresh;
     }
 
 pub returns-in-Some-clause-apart : goal.returns-in-Some-clause-apart
@@ -74,7 +74,7 @@ returns-in-Some-clause-failed g c =
     let opened = c.open_inputs-inputs.result.0.items in
     let first = take (length opened) libraries in
     let inputs = inputs_after left old (seen c.open_journal.new.room) c.args.journal.now c.open_journal.ensures.apart first opened
-    (All-take (λ (l : Library). l.file ≢ c.args.journal.now) (length opened) libraries c.requires.loadable.apart) c.open_inputs-inputs.ensures.inputs in
+    (All-take (λ (l : Library). l.file ≢ c.args.journal.now) (length opened) libraries c.requires.loadable.apart) c.open_inputs-inputs.ensures.opened.inputs in
     let lefts : old.tells ≡ true → new.lefts ≡ map (λ (l : Library). old.file l.file) first ++ old.lefts = λ tells.
     c.close_journal.ensures.lefts ∙ (c.close_inputs.ensures.lefts ∙ (ap (λ ls. lefts_of_inputs left c.from_vec-inputs.result ++ ls) (c.open_inputs-inputs.ensures.lefts ∙ c.open_journal.ensures.lefts)
     ∙ ap (λ ls. ls ++ old.lefts) (ap (lefts_of_inputs left) c.from_vec-inputs.ensures ∙ unread left old tells first opened inputs))) in
@@ -84,15 +84,12 @@ returns-in-Some-clause-failed g c =
           unbegun old new c.args.journal.now c.in-Some.fault d.core.history d.core.history (mark_of d.mark) (mark_of d.mark) o tells
           other c.in-Ok.ensures.catalogue refl c.in-Ok.ensures.catalogue.unmarked (c.close_journal.ensures.log (tells_then ∙ tells))
           c.args.libraries.now (record { count = length opened; lefts_are = lefts tells });
-      device = λ device. let memory = other (λ input. let no : fault.Device ≡ fault.Input = sym device ∙ input in cc) in
-          let no : fault.Device ≡ fault.Memory = sym device ∙ memory in cc;
+      device = λ is. absurd (no_other c.in-Some.fault fault.Device other (λ is. cc) (λ is. cc) is);
       input = λ is.
           fault_between c.args.libraries.now old (seen c.open_journal.new.room) (seen c.open_inputs-inputs.new.room) new c.open_journal.ensures.apart.ins
           (subst (λ o. IfSome o (λ why. why ≡ fault.Input → IsInputFault c.args.libraries.now (seen c.open_journal.new.room) (seen c.open_inputs-inputs.new.room)))
           c.in-Some.is c.open_inputs-inputs.ensures.cause is)
           (λ n. let a = c.close_inputs.ensures.stays.ins n in let b = c.close_journal.ensures.apart.ins n in omega (arith, a, b));
-      no_usage = λ usage. let memory = other (λ input. let no : fault.Usage ≡ fault.Input = sym usage ∙ input in cc) in
-          let no : fault.Usage ≡ fault.Memory = sym usage ∙ memory in cc;
-      no_other_history = λ history. let memory = other (λ input. let no : fault.OtherHistory ≡ fault.Input = sym history ∙ input in cc) in
-          let no : fault.OtherHistory ≡ fault.Memory = sym history ∙ memory in cc;
+      no_usage = no_other c.in-Some.fault fault.Usage other (λ is. cc) (λ is. cc);
+      no_other_history = no_other c.in-Some.fault fault.OtherHistory other (λ is. cc) (λ is. cc);
     }
