@@ -8,9 +8,10 @@ ghost use Rattle.record_store.specs.Store.{shown_row};
 ghost use Rattle.catalogue_rules.specs.State.{linkable_authorities, new_field, rows_of};
 ghost use Rattle.catalogue_rules.specs.Lines.{line, then_words};
 ghost use Rattle.catalogue_rules.specs.Output.{ambiguous_line, place_words};
-ghost use Rattle.ambiguity_report.specs.Beside.{ambiguous_text, lines_beside, rows_lines};
+ghost use Rattle.ambiguity_report.specs.Beside.{rows_lines};
 ghost use Rattle.ambiguity_report.specs.Totals.{AreTotals, HaveRoom};
 
+use crate::beside::{Beside, write_record};
 use crate::standings::standings;
 use crate::totals::Totals;
 use crate::words::{LINE_FEED, add_key_words, begin_with_place};
@@ -37,54 +38,28 @@ fn make_line(
     Ok(())
 }
 
-#[tactic(auto, using(outside::proofs::Fronts::front_none))]
-fn write_field<K: Sink>(
-    class: Class,
-    key: &Key,
-    place: usize,
-    field: &Field,
-    standing: &Standing,
-    text: &mut Vec<u8>,
-    out: &mut K,
-) -> Result<(), WriteFault>
-    ensures bytes { OnOk result
-        (Appends (K.written out.old) (K.written out.new) (ambiguous_text class key.now place field.now standing.now)) }
-    ensures front { WritesFront (K.written out.old) (K.written out.new)
-        (ambiguous_text class key.now place field.now standing.now) }
-    ensures tells { is_some (K.written out.new) ≡ is_some (K.written out.old) }
-    ensures cause { HasWriteCause (K.faults out.old) (K.faults out.new) result }
-{
-    let Standing::Ambiguous(candidates) = standing else {
-        return Ok(());
-    };
-    make_line(text, class, key, place, field, candidates.as_slice())?;
-    out.write_all(text)?;
-    Ok(())
-}
+impl Beside for Standing {
+    ghost use Rattle.ambiguity_report.specs.Beside.{ambiguous_text};
 
-#[tactic(auto, using(outside::proofs::Fronts::writing_begun, outside::proofs::Fronts::writing_more, outside::proofs::Fronts::writing_failed, outside::proofs::Fronts::writing_done))]
-fn write_record<K: Sink>(
-    class: Class,
-    key: &Key,
-    fields: &[Field],
-    standings: &[Standing],
-    text: &mut Vec<u8>,
-    out: &mut K,
-) -> Result<(), WriteFault>
-    ensures bytes { OnOk result
-        (Appends (K.written out.old) (K.written out.new) (lines_beside (ambiguous_text class key.now) 0 fields.now standings.now)) }
-    ensures front { WritesFront (K.written out.old) (K.written out.new)
-        (lines_beside (ambiguous_text class key.now) 0 fields.now standings.now) }
-    ensures tells { is_some (K.written out.new) ≡ is_some (K.written out.old) }
-    ensures cause { HasWriteCause (K.faults out.old) (K.faults out.new) result }
-{
-    for (place, field) in fields.iter().enumerate() {
-        let Some(standing) = standings.get(place) else {
+    ghost field_line = { ambiguous_text };
+
+    #[tactic(auto, using(outside::proofs::Fronts::front_none))]
+    fn write_field<K: Sink>(
+        &self,
+        class: Class,
+        key: &Key,
+        place: usize,
+        field: &Field,
+        text: &mut Vec<u8>,
+        out: &mut K,
+    ) -> Result<(), WriteFault> {
+        let Standing::Ambiguous(candidates) = self else {
             return Ok(());
         };
-        write_field(class, key, place, field, standing, text, out)?;
+        make_line(text, class, key, place, field, candidates.as_slice())?;
+        out.write_all(text)?;
+        Ok(())
     }
-    Ok(())
 }
 
 /// Writes the line of each ambiguous field of the class, records in key order, fields ascending, and counts how its fields stand.

@@ -8,8 +8,9 @@ ghost use Rattle.record_store.specs.Store.{shown_row};
 ghost use Rattle.catalogue_rules.specs.State.{new_field};
 ghost use Rattle.catalogue_rules.specs.Lines.{line, then_word};
 ghost use Rattle.catalogue_rules.specs.Output.{awaits_line, place_words};
-ghost use Rattle.ambiguity_report.specs.Beside.{awaits_text, lines_beside, rows_lines};
+ghost use Rattle.ambiguity_report.specs.Beside.{rows_lines};
 
+use crate::beside::{Beside, write_record};
 use crate::words::{LINE_FEED, add_key_word, begin_with_place};
 use marc_types::{Class, Field, Key, Tie};
 use numbered_store::RowMap;
@@ -33,54 +34,28 @@ fn make_line(
     Ok(())
 }
 
-#[tactic(auto, using(outside::proofs::Fronts::front_none))]
-fn write_field<K: Sink>(
-    class: Class,
-    key: &Key,
-    place: usize,
-    field: &Field,
-    tie: &Tie,
-    text: &mut Vec<u8>,
-    out: &mut K,
-) -> Result<(), WriteFault>
-    ensures bytes { OnOk result
-        (Appends (K.written out.old) (K.written out.new) (awaits_text class key.now place field.now tie.now)) }
-    ensures front { WritesFront (K.written out.old) (K.written out.new)
-        (awaits_text class key.now place field.now tie.now) }
-    ensures tells { is_some (K.written out.new) ≡ is_some (K.written out.old) }
-    ensures cause { HasWriteCause (K.faults out.old) (K.faults out.new) result }
-{
-    let Some(awaited) = &tie.awaits else {
-        return Ok(());
-    };
-    make_line(text, class, key, place, field, awaited.key())?;
-    out.write_all(text)?;
-    Ok(())
-}
+impl Beside for Tie {
+    ghost use Rattle.ambiguity_report.specs.Beside.{awaits_text};
 
-#[tactic(auto, using(outside::proofs::Fronts::writing_begun, outside::proofs::Fronts::writing_more, outside::proofs::Fronts::writing_failed, outside::proofs::Fronts::writing_done))]
-fn write_record<K: Sink>(
-    class: Class,
-    key: &Key,
-    fields: &[Field],
-    ties: &[Tie],
-    text: &mut Vec<u8>,
-    out: &mut K,
-) -> Result<(), WriteFault>
-    ensures bytes { OnOk result
-        (Appends (K.written out.old) (K.written out.new) (lines_beside (awaits_text class key.now) 0 fields.now ties.now)) }
-    ensures front { WritesFront (K.written out.old) (K.written out.new)
-        (lines_beside (awaits_text class key.now) 0 fields.now ties.now) }
-    ensures tells { is_some (K.written out.new) ≡ is_some (K.written out.old) }
-    ensures cause { HasWriteCause (K.faults out.old) (K.faults out.new) result }
-{
-    for (place, field) in fields.iter().enumerate() {
-        let Some(tie) = ties.get(place) else {
+    ghost field_line = { awaits_text };
+
+    #[tactic(auto, using(outside::proofs::Fronts::front_none))]
+    fn write_field<K: Sink>(
+        &self,
+        class: Class,
+        key: &Key,
+        place: usize,
+        field: &Field,
+        text: &mut Vec<u8>,
+        out: &mut K,
+    ) -> Result<(), WriteFault> {
+        let Some(awaited) = &self.awaits else {
             return Ok(());
         };
-        write_field(class, key, place, field, tie, text, out)?;
+        make_line(text, class, key, place, field, awaited.key())?;
+        out.write_all(text)?;
+        Ok(())
     }
-    Ok(())
 }
 
 /// Writes the line of each field of the class that awaits a key, records in key order, fields ascending.

@@ -6,6 +6,7 @@ pub use report::{write_report, write_state_report};
 
 mod ambiguous;
 mod awaits;
+mod beside;
 mod cross;
 mod report;
 mod rows;

@@ -1,20 +1,19 @@
 use Rattle.std.proofs.Common.{◌∙◌, arith}
 use Rattle.outside.proofs.Fronts.{writing_more, writing_failed}
-use Rattle.ambiguity_report.specs.Beside.{awaits_text}
 use Rattle.ambiguity_report.proofs.Fields.{beside_next}
-use Rattle.ambiguity_report.proofs.awaits.write_record.Goals as goal
+use Rattle.ambiguity_report.proofs.beside.write_record.Goals as goal
 
 pub returns-in_err-write_field-clause-front : goal.returns-in_err-write_field-clause-front
 returns-in_err-write_field-clause-front g c =
     writing_failed _ _ _ _ _ _ _ c.loop-place.invariant.writing
-    (beside_next (awaits_text c.args.class c.args.key.now) c.args.fields.now c.args.ties.now c.loop-place.place _ c.in-Some.tie.now
+    (beside_next (g.B.Beside.field_line c.args.class c.args.key.now) c.args.fields.now c.args.besides.now c.loop-place.place _ c.in-Some.beside.now
     (omega arith) c.index-fields-place.is c.in-Some.ensures.lookup.3.0 c.in-Some.ensures.lookup.1)
     c.write_field.ensures.front
 
 pub loop-place-preserved : goal.loop-place-preserved
 loop-place-preserved g c = record {
   writing = writing_more _ _ _ _ _ _ _ c.loop-place.invariant.writing
-      (beside_next (awaits_text c.args.class c.args.key.now) c.args.fields.now c.args.ties.now c.loop-place.place _ c.in-Some.tie.now
+      (beside_next (g.B.Beside.field_line c.args.class c.args.key.now) c.args.fields.now c.args.besides.now c.loop-place.place _ c.in-Some.beside.now
       (omega arith) c.index-fields-place.is c.in-Some.ensures.lookup.3.0 c.in-Some.ensures.lookup.1)
       c.in_ok-write_field.ensures.bytes;
   tells = c.in_ok-write_field.ensures.tells ∙ c.loop-place.invariant.tells;
