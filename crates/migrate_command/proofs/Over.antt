@@ -1,5 +1,6 @@
 -- How a log's history came into another, or why it didn't, from the steps that were taken.
-use Rattle.std.proofs.Common.{◌≡◌, ◌≢◌, ◌∙◌, inl, inr, ℕ, true, List, [], ◌∷◌, length, Result, Ok, Err, refl, sym, ap, subst, arith}
+use Rattle.std.proofs.Common.{◌≡◌, ◌≢◌, ◌∙◌, inl, inr, ℕ, true, List, [], ◌∷◌, length, Result, Ok, Err, OnOk, refl, sym, ap, subst, arith}
+use Rattle.std.specs.Prelude.{IfOk, IfErr}
 use Rattle.std.proofs.Math.Logic.{∥∥₁_elim, ∥∥₁_prop}
 use Rattle.std.specs.Coded.{Coded-set, coded_ℕ}
 use Rattle.marc_types.specs.declared.entry.Entry.{Entry}
@@ -9,9 +10,7 @@ use Rattle.outside.specs.Room.{RoomView, SameBut}
 use Rattle.outside.proofs.Rooms.{same_but_none, same_but_then}
 use Rattle.commit_journal.specs.Log.{version_of}
 use Rattle.entry_record.specs.History.{IsWithin}
-use Rattle.entry_history.specs.Payloads.{IsHistory}
-use Rattle.entry_history.proofs.Histories.{history_once}
-use Rattle.durable_catalogue.specs.Logs.{payloads_of, IsLogOf, HasHistory}
+use Rattle.durable_catalogue.specs.Logs.{IsLogOf, HasHistory}
 use Rattle.durable_catalogue.specs.Openings.{IsUnopened}
 use Rattle.durable_catalogue.specs.declared.fault.OpenFault.{OpenFault}
 use Rattle.durable_catalogue.specs.declared.fault.OpenFault.TheVariants as opening
@@ -21,9 +20,10 @@ use Rattle.console_lines.specs.declared.fault.Fault.TheVariants.{Device, OldVers
 use Rattle.room_files.specs.Faults.{fault_of_opening}
 use Rattle.room_files.specs.Journals as journals
 use Rattle.room_files.specs.Journals.{journal_limits, log_bytes, IsClosedDisk, KeepsHistory, KeepsLog, IsUntouched}
+use Rattle.room_files.proofs.Faults.{opening_device}
 use Rattle.room_files.proofs.Journals.{closed_keeps, keeps_where, unopened_keeps}
 use Rattle.archive_commands.specs.Archives.{HasFittingHistory}
-use Rattle.archive_commands.proofs.Histories.{fitting_history}
+use Rattle.archive_commands.proofs.Histories.{reading_once, fitting_history}
 use Rattle.journal_migration.specs.Migrations.{IsFit, IsUnfit, IsUnmigrated, IsBrought}
 use Rattle.migrate_command.specs.Bringing as bringing
 use Rattle.migrate_command.specs.Bringing.{IsBroughtInto, IsUnbrought, Refused, IsDeviceFaultOf, IsBroughtOver}
@@ -31,20 +31,6 @@ use Rattle.migrate_command.specs.Migrates.{BringsInto, Unopened, HasInEachImage,
 use Rattle.migrate_command.proofs.Endings.{ok_not_err, err_once}
 use Rattle.migrate_command.proofs.Rooms.{bytes_first, bytes_last, brings_across, images_across, keeps_across}
 use mathlib.Core.HLevel.{⊥_prop}
-
-opening_device : (reason : OpenFault) → fault_of_opening reason ≡ Device → reason ≡ opening.DeviceFault
-opening_device opening.DeviceFault is = refl
-opening_device (opening.NotAJournal place) is = cc
-opening_device opening.OldVersion is = cc
-opening_device opening.Full is = cc
-opening_device opening.NoMemory is = cc
-
--- a log is read as one history
-reading_once : (entries others : List Entry) (log : List ℕ) → IsLogOf entries log → IsLogOf others log → entries ≡ others
-reading_once entries others log is also =
-    let same : also.frames ≡ is.frames = cc (is.found, also.found) in
-    history_once (version_of log) [] entries others (payloads_of is.frames) is.holds
-    (subst (λ frames. IsHistory (version_of log) [] (payloads_of frames) others) same also.holds)
 
 -- the old log was not opened
 module _ (from into : List ℕ) (differ : into ≢ from) (old opened : RoomView) (apart : SameBut old opened (from ∷ [])) where
@@ -76,12 +62,21 @@ module _ (from into : List ℕ) (differ : into ≢ from) (old opened : RoomView)
       }
 
 -- it was opened, its history was brought into the new one or not, and it was closed again
-module _ (from into : List ℕ) (differ : into ≢ from) (old opened brought closed : RoomView) (disk : DiskView) (history : List Entry) (version : ℕ)
+module _ (from into : List ℕ) (differ : into ≢ from) (old opened brought closed : RoomView) (disk : DiskView) (history taken : List Entry) (version number : ℕ)
     (first : SameBut old opened (from ∷ [])) (second : SameBut opened brought (into ∷ [])) (last : SameBut brought closed (from ∷ []))
-    (has : old.tells ≡ true → HasHistory history (log_bytes old from)) (named : old.tells ≡ true → version_of (log_bytes old from) ≡ version)
-    (within : IsWithin journal_limits history) (kept : old.tells ≡ true → KeepsLog (log_bytes old from) disk)
-    (log : brought.tells ≡ true → IsClosedDisk disk closed from)
+    (same : history ≡ taken) (took : old.tells ≡ true → HasHistory taken (log_bytes old from)) (fitting : IsWithin journal_limits taken)
+    (is_number : version ≡ number) (numbered : old.tells ≡ true → version_of (log_bytes old from) ≡ number)
+    (kept : old.tells ≡ true → KeepsLog (log_bytes old from) disk) (log : brought.tells ≡ true → IsClosedDisk disk closed from)
     (brings : (was : List ℕ) → opened.tells ≡ true → HasHistory history was → BringsInto history opened brought into) where
+  has : old.tells ≡ true → HasHistory history (log_bytes old from)
+  has tells = subst (λ es. HasHistory es (log_bytes old from)) (sym same) (took tells)
+
+  named : old.tells ≡ true → version_of (log_bytes old from) ≡ version
+  named tells = numbered tells ∙ sym is_number
+
+  within : IsWithin journal_limits history
+  within = subst (IsWithin journal_limits) (sym same) fitting
+
   first_bytes : log_bytes opened into ≡ log_bytes old into
   first_bytes = bytes_first history old opened brought closed from into differ first last
 
@@ -120,7 +115,7 @@ module _ (from into : List ℕ) (differ : into ≢ from) (old opened brought clo
       of_any entries (λ es. BringsInto es old closed into) tells also
       (brings_across history old opened brought closed from into differ first last (brings (log_bytes old from) (first.tells ∙ tells) (has tells)))
 
-  pub over_brought : (count : ℕ) (result : Result ℕ Fault) → result ≡ Ok count → count ≡ length history → IsBroughtInto history version opened brought into
+  over_brought : (count : ℕ) (result : Result ℕ Fault) → result ≡ Ok count → count ≡ length history → IsBroughtInto history version opened brought into
       → IsBroughtOver from into old closed result
   over_brought count result is number b = record {
     keeps = keeps_opened (IsDeviceFaultOf old closed from result);
@@ -163,7 +158,7 @@ module _ (from into : List ℕ) (differ : into ≢ from) (old opened brought clo
       images_brought tells =
           images_across history old opened brought closed from into differ first last (b.durable (log_bytes old from) (first.tells ∙ tells) (has tells))
 
-  pub over_unbrought : (why : Fault) (result : Result ℕ Fault) → result ≡ Err why → IsUnbrought history version opened brought into why
+  over_unbrought : (why : Fault) (result : Result ℕ Fault) → result ≡ Err why → IsUnbrought history version opened brought into why
       → IsBroughtOver from into old closed result
   over_unbrought why result is (bringing.Newest newest other stays) = record {
     keeps = keeps_opened (IsDeviceFaultOf old closed from result);
@@ -217,3 +212,8 @@ module _ (from into : List ℕ) (differ : into ≢ from) (old opened brought clo
           let before = first.log_counts into in
           let behind = last.log_counts into in
           omega (arith, rises, before, behind)
+
+  pub over_either : (result : Result ℕ Fault) → IfOk result (λ count. count ≡ length history) → OnOk result (IsBroughtInto history version opened brought into)
+      → IfErr result (IsUnbrought history version opened brought into) → IsBroughtOver from into old closed result
+  over_either (Ok count) number it why = over_brought count (Ok count) refl number it
+  over_either (Err fault) number it why = over_unbrought fault (Err fault) refl why

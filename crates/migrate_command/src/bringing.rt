@@ -1,5 +1,5 @@
 //! The history of a journal of version 1 is brought into the journal of another name.
-ghost use Rattle.std.specs.Prelude.{◌≡◌, ◌≢◌, ℕ, List, [], ◌∷◌, true, None, IfErr, OnOk};
+ghost use Rattle.std.specs.Prelude.{◌≡◌, ◌≢◌, ℕ, List, [], ◌∷◌, length, true, None, IfOk, IfErr, OnOk};
 ghost use Rattle.outside.specs.Room.{SameBut};
 ghost use Rattle.entry_record.specs.History.{IsWithin};
 ghost use Rattle.durable_catalogue.specs.Logs.{HasHistory};
@@ -16,21 +16,22 @@ use outside::Room;
 use room_files::{JOURNAL_LIMITS, fault_of_opening};
 use std::alloc::Global;
 
-/// Brings the history of a log of that version into the file of that name. A log of the newest version is refused before that is
-/// opened.
+/// Brings the history of a log of that version into the file of that name, and answers how many entries it has. A log of the newest
+/// version is refused before that is opened.
 fn bring_into<R: Room>(
     alloc: Global,
     room: &mut R,
     version: u8,
     history: &[EntryPayload],
     into: &str,
-) -> Result<(), Fault>
+) -> Result<u64, Fault>
     requires free { (R.seen room.old).open_as into.now ≡ None }
     requires within { IsWithin journal_limits history.now }
     ensures apart { SameBut (R.seen room.old) (R.seen room.new) (into.now ∷ []) }
     ensures closed { (R.seen room.new).open_as into.now ≡ None }
     ensures brings { (was : List ℕ) → (R.seen room.old).tells ≡ true → HasHistory history.now was →
         BringsInto history.now (R.seen room.old) (R.seen room.new) into.now }
+    ensures counted { IfOk result (λ count. count ≡ length history.now) }
     ensures brought { OnOk result (IsBroughtInto history.now version (R.seen room.old) (R.seen room.new) into.now) }
     ensures fault { IfErr result (IsUnbrought history.now version (R.seen room.old) (R.seen room.new) into.now) }
 {
@@ -43,7 +44,7 @@ fn bring_into<R: Room>(
     match migrate(alloc, history, log, JOURNAL_LIMITS) {
         Ok(log) => {
             room.close_log(into, log);
-            Ok(())
+            Ok(history.len() as u64)
         }
         Err(failed) => {
             let (log, fault) = failed;
@@ -71,12 +72,7 @@ pub fn bring_over<R: Room>(
         Ok(log) => log,
         Err(fault) => return Err(fault_of_opening(fault)),
     };
-    let history = taken.as_slice();
-    let count = history.len() as u64;
-    let brought = bring_into(alloc, room, log.version(), history, into);
+    let brought = bring_into(alloc, room, log.version(), taken.as_slice(), into);
     close_history(room, from, log);
-    match brought {
-        Ok(()) => Ok(count),
-        Err(fault) => Err(fault),
-    }
+    brought
 }
