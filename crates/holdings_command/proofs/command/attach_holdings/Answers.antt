@@ -116,5 +116,5 @@ returns-clause-ends g c =
     all_stopped _ _ _ _ _ journal out rest opened stays w.apart closing.apart names.1.0 names.1.1.0 _ _ which (stopped which is)) w.stopped)
     (IfErr-weaker written _ _ (λ why unbegun is.
     opened_alone _ _ _ _ journal opened (same_but_then _ _ _ [] stays (unbegun is)) closing.apart) w.memory)
-    (subst (λ text. OnOk written (IsTextTold o.told o.now o.faults o.faults_now text c.in-Ok-prepare.ready.refused o.end)) c.as_str.ensures e.whole)
+    (subst (λ text. OnOk written (IsTextTold o.told o.now o.faults o.faults_now text c.in-Ok-prepare.ready.refused o.end)) c.as_str.ensures.value e.whole)
     e.unwritten e.silent e.memory e.told
