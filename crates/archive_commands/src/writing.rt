@@ -14,11 +14,21 @@ use crate::due::Due;
 use catalogue_core::Catalogue;
 use durable_catalogue::Archive;
 use marc_types::Key;
-use output_files::{write_all_records, write_export, write_report_file};
+use output_files::{write_export, write_report_file};
 use outside::{Room, WriteFault};
 use room_files::close_archive;
 use selection::Selection;
 use std::alloc::Global;
+
+/// Whether an export keeps a key: it keeps all, or those with that code.
+pub fn is_kept(key: &Key, code: Option<&str>) -> bool
+    ensures { result ≡ kept_keys (option_copied code.entry) key.now }
+{
+    match code {
+        None => true,
+        Some(code) => key.code.as_str() == code,
+    }
+}
 
 /// Writes the records of a catalogue into the file `out`: all, or those under keys with that code.
 fn write_kept<R: Room>(
@@ -39,13 +49,8 @@ fn write_kept<R: Room>(
     ensures part { (R.seen room.old).tells ≡ true → IsPartWritten ((R.seen room.old).file out.now) ((R.seen room.new).file out.now)
         (export_of (kept_keys (option_copied code.entry)) (state_of core.now.history)) }
 {
-    match code {
-        None => write_all_records(alloc, room, out, core),
-        Some(code) => {
-            let coded = Selection::new(|key: &Key| key.code.as_str() == code);
-            write_export(alloc, room, out, core, &coded)
-        }
-    }
+    let kept = Selection::new(|key: &Key| is_kept(key, code));
+    write_export(alloc, room, out, core, &kept)
 }
 
 /// Writes what is due of a catalogue into the file `out`. All memory is taken before that is begun.

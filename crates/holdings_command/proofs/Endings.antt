@@ -1,6 +1,6 @@
 -- How the command ends, from what its steps say.
-use Rattle.std.proofs.Common.{◌≡◌, ◌≢◌, ◌∙◌, ◌⊎◌, inl, inr, ℕ, Bool, true, false, List, [], ◌∷◌, Option, refl, sym, ap, subst}
-use Rattle.std.specs.Prelude.{IsSomeAnd, string_bytes, nat_lt, length}
+use Rattle.std.proofs.Common.{◌≡◌, ◌≢◌, ◌∙◌, ◌⊎◌, inl, inr, ℕ, Bool, true, false, List, [], ◌∷◌, Option, Result, Ok, Err, OnOk, refl, sym, ap, subst}
+use Rattle.std.specs.Prelude.{IsSomeAnd, IfErr, string_bytes, nat_lt, length}
 use Rattle.std.specs.Io.KnownBytes.{Appends}
 use Rattle.marc_types.specs.declared.entry.Entry.{Entry}
 use Rattle.outside.specs.Disk.{DiskView}
@@ -37,8 +37,10 @@ use Rattle.holdings_command.specs.Lines.{holdings_results}
 use Rattle.holdings_command.specs.Shelving.{EndsShelving}
 use Rattle.holdings_command.specs.Ready.{IsReady}
 use Rattle.holdings_command.specs.Outputs.{AreWritten, AreStopped, AtFirst, AtSecond}
-use Rattle.holdings_command.specs.Attaching.{rest_unwritten, EndsAttaching, Due, due_of, IsDelivered, OutFailed, RestFailed, ConsoleFailed, Whole, IsAttached, AttachesHoldings}
+use Rattle.holdings_command.specs.Attaching.{rest_unwritten, EndsAttaching, Due, due_of, IsDelivered, OutFailed, RestFailed, ConsoleFailed, Whole, IsAttached, AttachesHoldings, IsTextTold, TextTold, TextUntold}
 use Rattle.holdings_command.specs.declared.ready.Ready.{Ready}
+use Rattle.holdings_command.specs.declared.writing.Hindrance.{Hindrance}
+use Rattle.holdings_command.specs.declared.writing.Hindrance.TheVariants.{NoMemory as RanOut, Unwritten as NotBoth}
 use Rattle.holdings_command.proofs.OnShelves.{there_more}
 
 -- an opening's fault is one of this command, and none of an input
@@ -237,7 +239,7 @@ module _ (journal out rest : List ℕ) (library : Library) (code : Option (List 
     module _ (ready : Ready)
         (is : o.old.tells ≡ true → IsSomeAnd (o.old.file library.file) (λ bytes. IsReady library bytes (state_of history) ready)) where
       -- an output could not be written
-      pub attaches_stopped : (which : Unwritten) → journal ≢ rest → out ≢ rest → o.end ≡ NotWritten which → IsSilent o
+      attaches_stopped : (which : Unwritten) → journal ≢ rest → out ≢ rest → o.end ≡ NotWritten which → IsSilent o
           → AreStopped (journal ∷ out ∷ []) out rest (holdings_export (kept_keys code) (state_of history) ready.shelf) (holdings_rest (state_of history) ready.shelf) o.old o.new which
           → AttachesHoldings journal out rest library code o
       attaches_stopped which no_journal no_out end silent (AtFirst first up part alone) =
@@ -257,7 +259,7 @@ module _ (journal out rest : List ℕ) (library : Library) (code : Option (List 
       module _ (written : o.old.tells ≡ true
           → AreWritten out rest (holdings_export (kept_keys code) (state_of history) ready.shelf) (holdings_rest (state_of history) ready.shelf) o.new) where
         -- the console could not be written
-        pub attaches_untold : o.end ≡ console_unwritten → Rose o.faults o.faults_now → WritesFront o.told o.now (string_bytes ready.text)
+        attaches_untold : o.end ≡ console_unwritten → Rose o.faults o.faults_now → WritesFront o.told o.now (string_bytes ready.text)
             → AttachesHoldings journal out rest library code o
         attaches_untold here up front =
             attaches (subst IsUntold (sym here) tt) (λ also. let no : Console ≡ Out = unwritten_once o.end Console Out here also in cc)
@@ -270,7 +272,7 @@ module _ (journal out rest : List ℕ) (library : Library) (code : Option (List 
             no_other (inr also) = let no : Console ≡ Report = unwritten_once o.end Console Report here also in cc
 
         -- all was done
-        pub attaches_whole : o.end ≡ end_of ready.refused → Appends o.told o.now (string_bytes ready.text) → AttachesHoldings journal out rest library code o
+        attaches_whole : o.end ≡ end_of ready.refused → Appends o.told o.now (string_bytes ready.text) → AttachesHoldings journal out rest library code o
         attaches_whole here line =
             attaches (untold_end ready.refused here) (λ also. not_unwritten Out also) (λ either. absurd (no_other either))
             (λ also. not_unwritten Out also) (λ also. not_unwritten Report also) (λ also. not_unwritten Console also) ready is
@@ -286,3 +288,23 @@ module _ (journal out rest : List ℕ) (library : Library) (code : Option (List 
             no_other : (o.end ≡ out_unwritten) ⊎ (o.end ≡ rest_unwritten) → ⊥
             no_other (inl also) = not_unwritten Out also
             no_other (inr also) = not_unwritten Report also
+
+      -- the outputs were written or not, and the console told
+      pub attaches_ended : {T : Type 0} → (written : Result T Hindrance) → journal ≢ rest → out ≢ rest
+          → OnOk written (o.old.tells ≡ true
+          → AreWritten out rest (holdings_export (kept_keys code) (state_of history) ready.shelf) (holdings_rest (state_of history) ready.shelf) o.new)
+          → IfErr written (λ why. (which : Unwritten) → why ≡ NotBoth which
+          → AreStopped (journal ∷ out ∷ []) out rest (holdings_export (kept_keys code) (state_of history) ready.shelf) (holdings_rest (state_of history) ready.shelf) o.old o.new which)
+          → IfErr written (λ why. why ≡ RanOut → SameBut o.old o.new (journal ∷ []))
+          → OnOk written (IsTextTold o.told o.now o.faults o.faults_now (string_bytes ready.text) ready.refused o.end)
+          → ((which : Unwritten) → written ≡ Err (NotBoth which) → o.end ≡ NotWritten which) → ((which : Unwritten) → written ≡ Err (NotBoth which) → IsSilent o)
+          → (written ≡ Err RanOut → o.end ≡ Told Memory) → (written ≡ Err RanOut → IsTold Memory o) → AttachesHoldings journal out rest library code o
+      attaches_ended (Ok value) no_journal no_out are stopped unbegun told unwritten silent memory tells = by told
+        where
+          by : IsTextTold o.told o.now o.faults o.faults_now (string_bytes ready.text) ready.refused o.end → AttachesHoldings journal out rest library code o
+          by (TextTold end line) = attaches_whole are end line
+          by (TextUntold end up front) = attaches_untold are end up front
+      attaches_ended (Err (NotBoth which)) no_journal no_out are stopped unbegun told unwritten silent memory tells =
+          attaches_stopped which no_journal no_out (unwritten which refl) (silent which refl) (stopped which refl)
+      attaches_ended (Err RanOut) no_journal no_out are stopped unbegun told unwritten silent memory tells =
+          attaches_unread Memory tt (memory refl) (tells refl) (unbegun refl) (λ input. cc)

@@ -29,6 +29,11 @@ use Rattle.holdings_command.specs.Lines.{holdings_results}
 abbrev pub rest_unwritten : End
 rest_unwritten = report_unwritten
 
+-- the console got the text, and the end is by whether something was refused; or it could not be written, and got a front of the text
+pub data IsTextTold (old new : Option (List ℕ)) (before now : ℕ) (text : List ℕ) (refused : Bool) (end : End) : Type 0 where
+  TextTold : end ≡ end_of refused → Appends old new text → IsTextTold old new before now text refused end
+  TextUntold : end ≡ console_unwritten → Rose before now → WritesFront old new text → IsTextTold old new before now text refused end
+
 -- how it ends: a log of an older version is read too
 abbrev pub EndsAttaching : End → Type 0
 EndsAttaching Done = Unit {0}

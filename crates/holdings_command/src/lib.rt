@@ -4,6 +4,7 @@
 pub use command::attach_holdings;
 
 mod command;
+mod ending;
 mod lines;
 mod ready;
 mod shelving;

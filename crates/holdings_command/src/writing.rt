@@ -4,7 +4,6 @@ ghost use Rattle.std.specs.Option.{option_copied};
 ghost use Rattle.outside.specs.Fault.{HasCause, HasWriteCause};
 ghost use Rattle.outside.specs.Room.{SameBut};
 ghost use Rattle.catalogue_rules.specs.Settle.{state_of};
-ghost use Rattle.catalogue_rules.specs.Output.{all_keys};
 ghost use Rattle.selection.specs.Selections.{ForSelected, IsCallable};
 ghost use Rattle.output_files.specs.Outputs.{IsPartWritten};
 ghost use Rattle.console_lines.specs.declared.end.Unwritten.{Unwritten};
@@ -12,6 +11,7 @@ ghost use Rattle.archive_commands.specs.Archives.{kept_keys};
 ghost use Rattle.holdings_export.specs.Output.{holdings_export, holdings_rest};
 ghost use Rattle.holdings_command.specs.Outputs.{AreWritten, AreStopped};
 
+use archive_commands::is_kept;
 use catalogue_core::Catalogue;
 use console_lines::Unwritten;
 use holdings::{HoldingGroups, HoldingShelf};
@@ -49,26 +49,6 @@ fn write_selected<R: Room, F: Fn(&Key) -> bool>(
     Ok(())
 }
 
-/// Writes all records of a listing with their holdings into the file of that name.
-fn write_all<R: Room>(
-    room: &mut R,
-    name: &str,
-    rows: Listing<'_>,
-    groups: &HoldingGroups<'_>,
-) -> Result<(), Failed>
-    requires free { (R.seen room.old).open_as name.now ≡ None }
-    ensures apart { SameBut (R.seen room.old) (R.seen room.new) (name.now ∷ []) }
-    ensures closed { (R.seen room.new).open_as name.now ≡ None }
-    ensures cause { HasCause ((R.seen room.old).out_faults name.now) ((R.seen room.new).out_faults name.now) result }
-    ensures bytes { OnOk result ((R.seen room.old).tells ≡ true →
-        (R.seen room.new).file name.now ≡ Some (holdings_export all_keys rows.entry groups.now)) }
-    ensures part { (R.seen room.old).tells ≡ true →
-        IsPartWritten ((R.seen room.old).file name.now) ((R.seen room.new).file name.now) (holdings_export all_keys rows.entry groups.now) }
-{
-    let everything = Selection::new(|_key: &Key| true);
-    write_selected(room, name, rows, groups, &everything)
-}
-
 /// Writes the records of a listing with their holdings into the file of that name: all, or those under keys with that code.
 fn write_out<R: Room>(
     room: &mut R,
@@ -86,13 +66,8 @@ fn write_out<R: Room>(
     ensures part { (R.seen room.old).tells ≡ true → IsPartWritten ((R.seen room.old).file name.now) ((R.seen room.new).file name.now)
         (holdings_export (kept_keys (option_copied code.entry)) rows.entry groups.now) }
 {
-    match code {
-        None => write_all(room, name, rows, groups),
-        Some(code) => {
-            let coded = Selection::new(|key: &Key| key.code.as_str() == code);
-            write_selected(room, name, rows, groups, &coded)
-        }
-    }
+    let kept = Selection::new(|key: &Key| is_kept(key, code));
+    write_selected(room, name, rows, groups, &kept)
 }
 
 /// Writes holdings whose record isn't kept into the file of that name.

@@ -1,18 +1,14 @@
-use Rattle.std.proofs.Common.{rules, Bool}
-use Rattle.std.specs.Str.{bytes_eq}
-use Rattle.marc_types.specs.declared.key.Key.{Key}
+use Rattle.std.proofs.Common.{rules}
+use Rattle.std.specs.Option.{option_copied}
+use Rattle.archive_commands.specs.Archives.{kept_keys}
 use Rattle.archive_commands.proofs.writing.write_kept.Goals as goal
 
-pub returns-in-None-clause-part : goal.returns-in-None-clause-part
-returns-in-None-clause-part g c told =
-    rw c.in-None.is (c.write_all_records.ensures.part told)
+pub returns-clause-bytes : goal.returns-clause-bytes
+returns-clause-bytes g c =
+    let kept = kept_keys (option_copied c.args.code) in
+    c.write_export.ensures.bytes kept (c.new-kept.ensures.selects kept (search rules))
 
-pub returns-in-Some-clause-bytes : goal.returns-in-Some-clause-bytes
-returns-in-Some-clause-bytes g c =
-    let coded : Key → Bool = λ key. bytes_eq key.code c.in-Some.code.now in
-    rw c.in-Some.is (c.write_export.ensures.bytes coded (c.new-coded.ensures.selects coded (search rules)))
-
-pub returns-in-Some-clause-part : goal.returns-in-Some-clause-part
-returns-in-Some-clause-part g c told =
-    let coded : Key → Bool = λ key. bytes_eq key.code c.in-Some.code.now in
-    rw c.in-Some.is (c.write_export.ensures.part coded (c.new-coded.ensures.selects coded (search rules)) told)
+pub returns-clause-part : goal.returns-clause-part
+returns-clause-part g c told =
+    let kept = kept_keys (option_copied c.args.code) in
+    c.write_export.ensures.part kept (c.new-kept.ensures.selects kept (search rules)) told

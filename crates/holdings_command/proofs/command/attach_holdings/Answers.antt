@@ -1,22 +1,19 @@
-use Rattle.std.proofs.Common.{◌≡◌, ◌∙◌, [], ◌∷◌, refl, sym, ap, subst, arith}
+use Rattle.std.proofs.Common.{◌≡◌, ◌∙◌, [], ◌∷◌, OnOk, sym, ap, subst, arith}
 use Rattle.std.specs.Option.{option_copied}
+use Rattle.std.proofs.lemmas.Result.{IfErr-weaker, on_ok_weaker}
 use Rattle.outside.proofs.Rooms.{same_but_first, same_but_then}
 use Rattle.console_lines.specs.Ends.{outcome}
 use Rattle.console_lines.specs.Faults.{IsFaultTold, fault_line}
-use Rattle.console_lines.specs.declared.end.End.TheVariants.{Told, Unwritten as NotWritten}
-use Rattle.console_lines.specs.declared.end.Unwritten.{Unwritten}
-use Rattle.console_lines.specs.declared.end.Unwritten.TheVariants.{Console}
-use Rattle.console_lines.specs.declared.fault.Fault.TheVariants.{Memory}
+use Rattle.console_lines.specs.declared.end.End.TheVariants.{Told}
 use Rattle.catalogue_core.specs.Catalogues.{Catalogued}
 use Rattle.catalogue_rules.specs.Settle.{state_of}
 use Rattle.durable_catalogue.specs.Logs.{HasHistory}
 use Rattle.entry_record.specs.History.{IsWithin}
 use Rattle.room_files.specs.Journals.{journal_limits, log_bytes}
+use Rattle.holdings_command.specs.Attaching.{IsTextTold}
 use Rattle.holdings_command.specs.Ready.{IsReady}
-use Rattle.holdings_command.specs.declared.writing.Hindrance.{Hindrance}
-use Rattle.holdings_command.specs.declared.writing.Hindrance.TheVariants.{NoMemory as RanOut, Unwritten as NotBoth}
 use Rattle.holdings_command.proofs.Rooms.{closed_three, closed_one, opened_alone, all_apart, closed_behind, all_written, all_stopped, read_there}
-use Rattle.holdings_command.proofs.Endings.{attaches_unopened, was_opened, attaches_unread, attaches_stopped, attaches_untold, attaches_whole}
+use Rattle.holdings_command.proofs.Endings.{attaches_unopened, was_opened, attaches_unread, attaches_ended}
 use Rattle.holdings_command.proofs.command.attach_holdings.Goals as goal
 
 -- the journal was not opened
@@ -72,96 +69,7 @@ pub prepare-requires-clause-free : goal.prepare-requires-clause-free
 prepare-requires-clause-free g c κs within =
     c.open_archive.ensures.apart.open_names c.args.library.now.file (c.requires.file.0, tt) ∙ c.requires.closed c.args.library.now.file
 
--- an output was not written
-by_hindrance : {P : Type 0} (why : Hindrance) → ((which : Unwritten) → why ≡ NotBoth which → P) → (why ≡ RanOut → P) → P
-by_hindrance RanOut stopped ran_out = ran_out refl
-by_hindrance (NotBoth which) stopped ran_out = stopped which refl
-
-pub returns-in-Err-written-clause-closed : goal.returns-in-Err-written-clause-closed
-returns-in-Err-written-clause-closed g c =
-    let w = c.write_both-written.ensures in
-    let closing = c.close_archive-2.ensures in
-    let opened = c.open_archive.ensures.apart in
-    let stays = c.prepare.ensures.stays in
-    let names = c.requires.names in
-    closed_three _ _ c.args.journal.now c.args.out.now c.args.rest.now (all_apart _ _ _ _ _ _ _ _ opened stays w.apart closing.apart) closing.closed
-    (closed_behind _ _ _ _ _ _ _ _ opened stays w.apart closing.apart c.args.out.now names.1.0 w.closed)
-    (closed_behind _ _ _ _ _ _ _ _ opened stays w.apart closing.apart c.args.rest.now names.1.1.0 w.rest_closed) c.requires.closed
-
-pub returns-in-Err-written-clause-apart : goal.returns-in-Err-written-clause-apart
-returns-in-Err-written-clause-apart g c =
-    all_apart _ _ _ _ _ c.args.journal.now c.args.out.now c.args.rest.now c.open_archive.ensures.apart c.prepare.ensures.stays c.write_both-written.ensures.apart
-    c.close_archive-2.ensures.apart
-
-pub returns-in-Err-written-clause-ends : goal.returns-in-Err-written-clause-ends
-returns-in-Err-written-clause-ends g c =
-    let seen = g.R.Room.seen in
-    let a = c.in-Ok.ensures in
-    let w = c.write_both-written.ensures in
-    let e = c.in-Err-written.ensures in
-    let h = c.hindered.ensures in
-    let closing = c.close_archive-2.ensures in
-    let opened = c.open_archive.ensures.apart in
-    let stays = c.prepare.ensures.stays in
-    let names = c.requires.names in
-    let core = c.core-core.result.now in
-    let library = c.args.library.now in
-    let o = outcome g.R.Room.seen g.R.Out.Sink.written g.R.Out.Sink.faults c.args.room.now c.close_archive-2.new.room c.args.console.now c.hindered.new.console c.hindered.result in
-    let log = log_bytes (seen c.args.room.now) c.args.journal.now in
-    let was = was_opened c.args.journal.now c.args.out.now c.args.rest.now library (option_copied c.args.code) o (seen c.write_both-written.new.room)
-    (g.R.Log.Disk.seen c.in-Ok.archive.journal.disk) core.history (λ tells. w.apart.tells ∙ stays.tells ∙ opened.tells ∙ tells) closing.log
-    (λ tells. subst (λ (k : Catalogued). HasHistory k.history log) (sym c.core-core.ensures.value) (a.history tells))
-    (subst (λ (k : Catalogued). IsWithin journal_limits k.history) (sym c.core-core.ensures.value) a.within) a.log.kept in
-    let ready = read_there (λ bytes. IsReady library bytes (state_of core.history) c.in-Ok-prepare.ready) _ _ c.args.journal.now library.file c.requires.file.0 opened
-    c.in-Ok-prepare.ensures.ready in
-    by_hindrance c.in-Err-written.why
-    (λ which is. attaches_stopped c.args.journal.now c.args.out.now c.args.rest.now library (option_copied c.args.code) o core.history was c.in-Ok-prepare.ready ready
-    which names.1.1.0 names.2.1.0 (h.unwritten which is) (h.silent which is)
-    (all_stopped _ _ _ _ _ c.args.journal.now c.args.out.now c.args.rest.now opened stays w.apart closing.apart names.1.0 names.1.1.0 _ _ which (e.stopped which is)))
-    (λ is.
-    let unbegun = same_but_then (seen c.open_archive.new.room) (seen c.prepare.new.room) (seen c.write_both-written.new.room) [] stays (e.memory is) in
-    attaches_unread c.args.journal.now c.args.out.now c.args.rest.now library (option_copied c.args.code) o core.history was
-    Memory tt (h.memory is) (h.told is) (opened_alone _ _ _ _ _ opened unbegun closing.apart) (λ input. cc))
-
-pub returns-in-Ok-write_all-clause-closed : goal.returns-in-Ok-write_all-clause-closed
-returns-in-Ok-write_all-clause-closed g c =
-    let w = c.write_both-written.ensures in
-    let closing = c.close_archive-2.ensures in
-    let opened = c.open_archive.ensures.apart in
-    let stays = c.prepare.ensures.stays in
-    let names = c.requires.names in
-    closed_three _ _ c.args.journal.now c.args.out.now c.args.rest.now (all_apart _ _ _ _ _ _ _ _ opened stays w.apart closing.apart) closing.closed
-    (closed_behind _ _ _ _ _ _ _ _ opened stays w.apart closing.apart c.args.out.now names.1.0 w.closed)
-    (closed_behind _ _ _ _ _ _ _ _ opened stays w.apart closing.apart c.args.rest.now names.1.1.0 w.rest_closed) c.requires.closed
-
-pub returns-in-Ok-write_all-clause-apart : goal.returns-in-Ok-write_all-clause-apart
-returns-in-Ok-write_all-clause-apart g c =
-    all_apart _ _ _ _ _ c.args.journal.now c.args.out.now c.args.rest.now c.open_archive.ensures.apart c.prepare.ensures.stays c.write_both-written.ensures.apart
-    c.close_archive-2.ensures.apart
-
-pub returns-in-Ok-write_all-clause-ends : goal.returns-in-Ok-write_all-clause-ends
-returns-in-Ok-write_all-clause-ends g c =
-    let seen = g.R.Room.seen in
-    let a = c.in-Ok.ensures in
-    let w = c.write_both-written.ensures in
-    let closing = c.close_archive-2.ensures in
-    let opened = c.open_archive.ensures.apart in
-    let stays = c.prepare.ensures.stays in
-    let names = c.requires.names in
-    let core = c.core-core.result.now in
-    let library = c.args.library.now in
-    let o = outcome g.R.Room.seen g.R.Out.Sink.written g.R.Out.Sink.faults c.args.room.now c.close_archive-2.new.room c.args.console.now c.write_all.new.self c.end_of.result in
-    let log = log_bytes (seen c.args.room.now) c.args.journal.now in
-    let was = was_opened c.args.journal.now c.args.out.now c.args.rest.now library (option_copied c.args.code) o (seen c.write_both-written.new.room)
-    (g.R.Log.Disk.seen c.in-Ok.archive.journal.disk) core.history (λ tells. w.apart.tells ∙ stays.tells ∙ opened.tells ∙ tells) closing.log
-    (λ tells. subst (λ (k : Catalogued). HasHistory k.history log) (sym c.core-core.ensures.value) (a.history tells))
-    (subst (λ (k : Catalogued). IsWithin journal_limits k.history) (sym c.core-core.ensures.value) a.within) a.log.kept in
-    let ready = read_there (λ bytes. IsReady library bytes (state_of core.history) c.in-Ok-prepare.ready) _ _ c.args.journal.now library.file c.requires.file.0 opened
-    c.in-Ok-prepare.ensures.ready in
-    attaches_whole c.args.journal.now c.args.out.now c.args.rest.now library (option_copied c.args.code) o core.history was c.in-Ok-prepare.ready ready
-    (all_written _ _ _ _ _ c.args.journal.now c.args.out.now c.args.rest.now opened stays w.apart closing.apart names.1.0 names.1.1.0 _ _ c.in-Ok-written.ensures.written)
-    c.end_of.ensures (rw (← c.as_bytes.ensures.value) c.in-Ok-write_all.ensures.bytes)
-
+-- the outputs were written, or could not be
 pub returns-clause-closed : goal.returns-clause-closed
 returns-clause-closed g c =
     let w = c.write_both-written.ensures in
@@ -181,22 +89,32 @@ returns-clause-apart g c =
 pub returns-clause-ends : goal.returns-clause-ends
 returns-clause-ends g c =
     let seen = g.R.Room.seen in
+    let journal = c.args.journal.now in
+    let out = c.args.out.now in
+    let rest = c.args.rest.now in
+    let library = c.args.library.now in
     let a = c.in-Ok.ensures in
     let w = c.write_both-written.ensures in
+    let e = c.end_of_outputs.ensures in
     let closing = c.close_archive-2.ensures in
     let opened = c.open_archive.ensures.apart in
     let stays = c.prepare.ensures.stays in
     let names = c.requires.names in
     let core = c.core-core.result.now in
-    let library = c.args.library.now in
-    let o = outcome g.R.Room.seen g.R.Out.Sink.written g.R.Out.Sink.faults c.args.room.now c.close_archive-2.new.room c.args.console.now c.write_all.new.self (NotWritten Console) in
-    let log = log_bytes (seen c.args.room.now) c.args.journal.now in
-    let was = was_opened c.args.journal.now c.args.out.now c.args.rest.now library (option_copied c.args.code) o (seen c.write_both-written.new.room)
+    let written = c.write_both-written.result in
+    let o = outcome g.R.Room.seen g.R.Out.Sink.written g.R.Out.Sink.faults c.args.room.now c.close_archive-2.new.room c.args.console.now c.end_of_outputs.new.console c.end_of_outputs.result in
+    let log = log_bytes (seen c.args.room.now) journal in
+    let was = was_opened journal out rest library (option_copied c.args.code) o (seen c.write_both-written.new.room)
     (g.R.Log.Disk.seen c.in-Ok.archive.journal.disk) core.history (λ tells. w.apart.tells ∙ stays.tells ∙ opened.tells ∙ tells) closing.log
     (λ tells. subst (λ (k : Catalogued). HasHistory k.history log) (sym c.core-core.ensures.value) (a.history tells))
     (subst (λ (k : Catalogued). IsWithin journal_limits k.history) (sym c.core-core.ensures.value) a.within) a.log.kept in
-    let ready = read_there (λ bytes. IsReady library bytes (state_of core.history) c.in-Ok-prepare.ready) _ _ c.args.journal.now library.file c.requires.file.0 opened
+    let ready = read_there (λ bytes. IsReady library bytes (state_of core.history) c.in-Ok-prepare.ready) _ _ journal library.file c.requires.file.0 opened
     c.in-Ok-prepare.ensures.ready in
-    attaches_untold c.args.journal.now c.args.out.now c.args.rest.now library (option_copied c.args.code) o core.history was c.in-Ok-prepare.ready ready
-    (all_written _ _ _ _ _ c.args.journal.now c.args.out.now c.args.rest.now opened stays w.apart closing.apart names.1.0 names.1.1.0 _ _ c.in-Ok-written.ensures.written)
-    refl c.in-Err-write_all.ensures.cause.failed (rw (← c.as_bytes.ensures.value) c.write_all.ensures.front)
+    attaches_ended journal out rest library (option_copied c.args.code) o core.history was c.in-Ok-prepare.ready ready written names.1.1.0 names.2.1.0
+    (on_ok_weaker written (all_written _ _ _ _ _ journal out rest opened stays w.apart closing.apart names.1.0 names.1.1.0 _ _) w.written)
+    (IfErr-weaker written _ _ (λ why stopped which is.
+    all_stopped _ _ _ _ _ journal out rest opened stays w.apart closing.apart names.1.0 names.1.1.0 _ _ which (stopped which is)) w.stopped)
+    (IfErr-weaker written _ _ (λ why unbegun is.
+    opened_alone _ _ _ _ journal opened (same_but_then _ _ _ [] stays (unbegun is)) closing.apart) w.memory)
+    (subst (λ text. OnOk written (IsTextTold o.told o.now o.faults o.faults_now text c.in-Ok-prepare.ready.refused o.end)) c.as_str.ensures.value e.whole)
+    e.unwritten e.silent e.memory e.told
