@@ -1,5 +1,5 @@
 -- What an opening answers of a disk.
-use Rattle.std.proofs.Common.{◌≡◌, ◌≤◌, ℕ, true, List, is_some, subst}
+use Rattle.std.proofs.Common.{◌≡◌, ◌≤◌, ℕ, true, List, is_some, sym, subst}
 use Rattle.std.specs.Prelude.{◌≢◌}
 use Rattle.marc_types.specs.declared.entry.Limits.{Limits}
 use Rattle.outside.specs.Disk.{DiskView}
@@ -27,24 +27,26 @@ module _ (old new : DiskView) (opens : Opens old new) (leaves : LeavesContent ol
       later = later;
     }
 
-    -- a log whose frames are not loaded
-    pub unloaded_disk : (limits : Limits) (why : OpenFault) → (IsVersion version → IsUnloaded version frames limits why) → why ≢ DeviceFault
-        → IsRefusedDisk limits old new why
-    unloaded_disk limits why unloads other = record {
-      crash = opening_of old new opens;
-      content = leaves_history old new leaves;
-      left_alone = recovered_alone old new leaves frames place version recovered (why ≡ DeviceFault);
-      settled = recovered_settled frames place version old new why recovered;
-      so = λ log told.
-          let named = subst IsVersion (recovered.named log told) (either_version log) in
-          unloaded frames place version old new limits why recovered (unloads named) log told;
-      later = later;
-      failed = λ device. absurd (other device);
-    }
+    -- a log whose frames are not loaded, of which they were handed on with their version, and whose disk is handed back
+    pub unloaded_disk : (named : ℕ) (handed : List Frame) (closed : DiskView) (limits : Limits) (why : OpenFault) → named ≡ version → handed ≡ frames → closed ≡ new
+        → (IsVersion named → IsUnloaded named handed limits why) → why ≢ DeviceFault → IsRefusedDisk limits old closed why
+    unloaded_disk named handed closed limits why name hands closes unloads other =
+        let reason : IsVersion version → IsUnloaded version frames limits why =
+        λ is. subst (λ v. IsUnloaded v frames limits why) name (subst (λ fs. IsUnloaded named fs limits why) hands (unloads (subst IsVersion (sym name) is))) in
+        subst (λ d. IsRefusedDisk limits old d why) (sym closes) (record {
+          crash = opening_of old new opens;
+          content = leaves_history old new leaves;
+          left_alone = recovered_alone old new leaves frames place version recovered (why ≡ DeviceFault);
+          settled = recovered_settled frames place version old new why recovered;
+          so = λ log told.
+              unloaded frames place version old new limits why recovered (reason (subst IsVersion (recovered.named log told) (either_version log))) log told;
+          later = later;
+          failed = λ device. absurd (other device);
+        })
 
   -- a log that the journal doesn't open
-  pub unopened_disk : (limits : Limits) (fault : JournalFault) → HasOpenCause old new fault → IsRefusedDisk limits old new (open_fault fault)
-  unopened_disk limits fault cause = record {
+  pub unopened_disk : (limits : Limits) (fault : JournalFault) (why : OpenFault) → why ≡ open_fault fault → HasOpenCause old new fault → IsRefusedDisk limits old new why
+  unopened_disk limits fault why is cause = subst (IsRefusedDisk limits old new) (sym is) (record {
     crash = opening_of old new opens;
     content = leaves_history old new leaves;
     left_alone = unwritten_alone old new leaves (open_fault fault ≡ DeviceFault) fault cause (λ device. device);
@@ -52,4 +54,4 @@ module _ (old new : DiskView) (opens : Opens old new) (leaves : LeavesContent ol
     so = unopened old new limits fault cause;
     later = later;
     failed = device_fault old new fault cause;
-  }
+  })

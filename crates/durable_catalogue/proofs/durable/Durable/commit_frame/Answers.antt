@@ -1,13 +1,11 @@
 use Rattle.std.proofs.Common.{◌≤◌, [], ◌++◌, length, sym, ap, subst, ◌∙◌, arith, append-nil}
-use Rattle.std.specs.List.{All}
 use Rattle.commit_journal.specs.declared.frame.Frame.{Frame}
-use Rattle.commit_journal.specs.Journal.{IsSettled}
 use Rattle.entry_record.specs.History.{IsWithin}
-use Rattle.entry_history.specs.Payloads.{IsEntry, CanFollow}
+use Rattle.entry_history.specs.Payloads.{CanFollow}
 use Rattle.durable_catalogue.specs.Durables.{IsKept}
-use Rattle.durable_catalogue.proofs.Frames.{none_marked, frame_held, kept_now, undone_now}
+use Rattle.durable_catalogue.proofs.Frames.{none_marked, kept_now, undone_now, finds_frame, frame_left}
 use Rattle.durable_catalogue.proofs.Histories.{follows_more}
-use Rattle.durable_catalogue.proofs.Keeping.{IsDisk, still_only, kept_marked, kept_committed, frame_or_not}
+use Rattle.durable_catalogue.proofs.Keeping.{IsDisk, still_only, kept_marked, kept_committed}
 use Rattle.durable_catalogue.proofs.durable.Durable.commit_frame.Goals as goal
 
 pub returns-in_default-clause-crash : goal.returns-in_default-clause-crash
@@ -24,15 +22,13 @@ invariant_of-self-in-Ok-appended g c =
     let seen = g.D.Disk.seen in
     let before = seen self.before.value in
     let first = seen self.first.value.disk in
-    let kept = subst (λ es. IsKept self.opened self.core.history es before first (seen self.journal.disk)) (none_marked self.mark c.requires.whole) self.kept in
-    let disk : IsDisk (seen self.journal.disk) = record { content_is_image = g.met.D.Disk.content_is_image self.journal.disk; only_now = g.met.D.Disk.only_now self.journal.disk } in
-    let settled = subst (λ v. IsSettled self.journal.place v (seen self.journal.disk)) self.newest (self.journal.settled (self.broken ∙ c.requires.whole)) in
     let frame : Frame = record { gate = self.journal.place; payload = c.as_slice.result.now } in
-    let parts = c.into_parts-items.ensures in
-    let held = frame_held self.core.history c.args.frame c.as_slice.result.now self.run self.follows c.requires.some parts.batch (subst (All IsEntry) c.items.ensures.value c.each_can_stand_in_a_payload.ensures) c.requires.run (c.as_slice.ensures ∙ parts.payload) in
+    let finds = finds_frame _ _ _ _ _ _ _ _ _ _ _ _ c.requires.whole self.kept (g.met.D.Disk.content_is_image self.journal.disk) (g.met.D.Disk.only_now self.journal.disk)
+    (self.journal.settled (self.broken ∙ c.requires.whole)) self.newest self.follows c.requires.some c.into_parts-items.ensures.batch c.items.ensures.value
+    c.each_can_stand_in_a_payload.ensures c.requires.run (c.as_slice.ensures ∙ c.into_parts-items.ensures.payload) in
     let appended = c.append-appended.ensures in
-    let now = kept_now self.core c.stage_all.new.core c.keep.new.self c.into_parts-items.result.0.items c.args.frame self.unstaged parts.items c.in-Ok.ensures.staged c.keep.ensures in
-    let committed = kept_committed self.opened self.core.history before first (seen self.journal.disk) kept disk self.journal.place settled frame c.args.frame held
+    let now = kept_now self.core c.stage_all.new.core c.keep.new.self c.into_parts-items.result.0.items c.args.frame self.unstaged c.into_parts-items.ensures.items c.in-Ok.ensures.staged c.keep.ensures in
+    let committed = kept_committed self.opened self.core.history before first (seen self.journal.disk) finds.kept finds.disk self.journal.place finds.settled frame c.args.frame finds.held
     (seen c.append-appended.new.self.disk) appended.continues (λ s synced. g.met.D.Disk.synced_by_now self.first.value.disk before.moment s synced) appended.crash appended.cause.later
     c.append-appended.new.self.place c.in-Ok-appended.ensures.settled c.in-Ok-appended.ensures.appended in
     record {
@@ -56,18 +52,16 @@ invariant_of-self-in-Err g c =
     let seen = g.D.Disk.seen in
     let before = seen self.before.value in
     let first = seen self.first.value.disk in
-    let kept = subst (λ es. IsKept self.opened self.core.history es before first (seen self.journal.disk)) (none_marked self.mark c.requires.whole) self.kept in
-    let disk : IsDisk (seen self.journal.disk) = record { content_is_image = g.met.D.Disk.content_is_image self.journal.disk; only_now = g.met.D.Disk.only_now self.journal.disk } in
-    let settled = subst (λ v. IsSettled self.journal.place v (seen self.journal.disk)) self.newest (self.journal.settled (self.broken ∙ c.requires.whole)) in
     let frame : Frame = record { gate = self.journal.place; payload = c.as_slice.result.now } in
-    let parts = c.into_parts-items.ensures in
-    let held = frame_held self.core.history c.args.frame c.as_slice.result.now self.run self.follows c.requires.some parts.batch (subst (All IsEntry) c.items.ensures.value c.each_can_stand_in_a_payload.ensures) c.requires.run (c.as_slice.ensures ∙ parts.payload) in
+    let finds = finds_frame _ _ _ _ _ _ _ _ _ _ _ _ c.requires.whole self.kept (g.met.D.Disk.content_is_image self.journal.disk) (g.met.D.Disk.only_now self.journal.disk)
+    (self.journal.settled (self.broken ∙ c.requires.whole)) self.newest self.follows c.requires.some c.into_parts-items.ensures.batch c.items.ensures.value
+    c.each_can_stand_in_a_payload.ensures c.requires.run (c.as_slice.ensures ∙ c.into_parts-items.ensures.payload) in
     let appended = c.append-appended.ensures in
     let now = undone_now self.core c.stage_all.new.core c.undo.new.self c.into_parts-items.result.0.items self.unstaged c.in-Ok.ensures.staged c.undo.ensures in
-    let marked = kept_marked self.opened self.core.history before first (seen self.journal.disk) kept disk self.journal.place settled frame c.args.frame held
+    let marked = kept_marked self.opened self.core.history before first (seen self.journal.disk) finds.kept finds.disk self.journal.place finds.settled frame c.args.frame finds.held
     (seen c.append-appended.new.self.disk) appended.continues (λ s synced. g.met.D.Disk.synced_by_now self.first.value.disk before.moment s synced) appended.crash appended.cause.later in
     let rose = c.in-Err.ensures.cause.failed in
-    let earlier = kept.faults in
+    let earlier = finds.kept.faults in
     record {
       unstaged = ap (λ core. core.staged) now ∙ self.unstaged;
       limited = ap (λ core. core.limits) now ∙ self.limited;
@@ -77,7 +71,7 @@ invariant_of-self-in-Err g c =
       kept = subst (λ more. IsKept self.opened c.undo.new.self.history more before first (seen c.append-appended.new.self.disk)) (sym c.of-mark.ensures)
           (subst (λ es. IsKept self.opened es c.args.frame before first (seen c.append-appended.new.self.disk)) (sym (ap (λ core. core.history) now)) marked);
       rose = λ marked. omega (arith, rose, earlier);
-      few = subst (λ es. length es ≤ 32) (sym c.of-mark.ensures) parts.batch.few;
+      few = subst (λ es. length es ≤ 32) (sym c.of-mark.ensures) c.into_parts-items.ensures.batch.few;
       within = subst (λ more. IsWithin self.limits (c.undo.new.self.history ++ more)) (sym c.of-mark.ensures)
           (subst (λ es. IsWithin self.limits (es ++ c.args.frame)) (sym (ap (λ core. core.history) now)) c.requires.within);
     }
@@ -85,30 +79,18 @@ invariant_of-self-in-Err g c =
 pub returns-in-Ok-appended-clause-crash : goal.returns-in-Ok-appended-clause-crash
 returns-in-Ok-appended-clause-crash g c log told =
     let self = c.args.self.now in
-    let seen = g.D.Disk.seen in
-    let kept = subst (λ es. IsKept self.opened self.core.history es (seen self.before.value) (seen self.first.value.disk) (seen self.journal.disk)) (none_marked self.mark c.requires.whole) self.kept in
-    let disk : IsDisk (seen self.journal.disk) = record { content_is_image = g.met.D.Disk.content_is_image self.journal.disk; only_now = g.met.D.Disk.only_now self.journal.disk } in
-    let settled = subst (λ v. IsSettled self.journal.place v (seen self.journal.disk)) self.newest (self.journal.settled (self.broken ∙ c.requires.whole)) in
-    let frame : Frame = record { gate = self.journal.place; payload = c.as_slice.result.now } in
-    let parts = c.into_parts-items.ensures in
-    let payload = c.as_slice.ensures ∙ parts.payload in
-    let held = frame_held self.core.history c.args.frame c.as_slice.result.now self.run self.follows c.requires.some parts.batch (subst (All IsEntry) c.items.ensures.value c.each_can_stand_in_a_payload.ensures) c.requires.run payload in
-    frame_or_not self.opened self.core.history (seen self.before.value) (seen self.first.value.disk) (seen self.journal.disk) kept disk self.journal.place settled frame c.args.frame held
-    (seen c.append-appended.new.self.disk) log told payload (c.append-appended.ensures.crash log told)
+    let finds = finds_frame _ _ _ _ _ _ _ _ _ _ _ _ c.requires.whole self.kept (g.met.D.Disk.content_is_image self.journal.disk) (g.met.D.Disk.only_now self.journal.disk)
+    (self.journal.settled (self.broken ∙ c.requires.whole)) self.newest self.follows c.requires.some c.into_parts-items.ensures.batch c.items.ensures.value
+    c.each_can_stand_in_a_payload.ensures c.requires.run (c.as_slice.ensures ∙ c.into_parts-items.ensures.payload) in
+    frame_left _ _ _ _ _ _ _ _ finds log told (c.append-appended.ensures.crash log told)
 
 pub returns-in-Err-clause-crash : goal.returns-in-Err-clause-crash
 returns-in-Err-clause-crash g c log told =
     let self = c.args.self.now in
-    let seen = g.D.Disk.seen in
-    let kept = subst (λ es. IsKept self.opened self.core.history es (seen self.before.value) (seen self.first.value.disk) (seen self.journal.disk)) (none_marked self.mark c.requires.whole) self.kept in
-    let disk : IsDisk (seen self.journal.disk) = record { content_is_image = g.met.D.Disk.content_is_image self.journal.disk; only_now = g.met.D.Disk.only_now self.journal.disk } in
-    let settled = subst (λ v. IsSettled self.journal.place v (seen self.journal.disk)) self.newest (self.journal.settled (self.broken ∙ c.requires.whole)) in
-    let frame : Frame = record { gate = self.journal.place; payload = c.as_slice.result.now } in
-    let parts = c.into_parts-items.ensures in
-    let payload = c.as_slice.ensures ∙ parts.payload in
-    let held = frame_held self.core.history c.args.frame c.as_slice.result.now self.run self.follows c.requires.some parts.batch (subst (All IsEntry) c.items.ensures.value c.each_can_stand_in_a_payload.ensures) c.requires.run payload in
-    frame_or_not self.opened self.core.history (seen self.before.value) (seen self.first.value.disk) (seen self.journal.disk) kept disk self.journal.place settled frame c.args.frame held
-    (seen c.append-appended.new.self.disk) log told payload (c.append-appended.ensures.crash log told)
+    let finds = finds_frame _ _ _ _ _ _ _ _ _ _ _ _ c.requires.whole self.kept (g.met.D.Disk.content_is_image self.journal.disk) (g.met.D.Disk.only_now self.journal.disk)
+    (self.journal.settled (self.broken ∙ c.requires.whole)) self.newest self.follows c.requires.some c.into_parts-items.ensures.batch c.items.ensures.value
+    c.each_can_stand_in_a_payload.ensures c.requires.run (c.as_slice.ensures ∙ c.into_parts-items.ensures.payload) in
+    frame_left _ _ _ _ _ _ _ _ finds log told (c.append-appended.ensures.crash log told)
 
 pub returns-in-Ok-appended-clause-later : goal.returns-in-Ok-appended-clause-later
 returns-in-Ok-appended-clause-later g c = c.append-appended.ensures.continues.later

@@ -2,12 +2,9 @@ use Rattle.std.proofs.Common.{◌≡◌, ◌++◌, [], length, sym, ap, subst, �
 use Rattle.std.proofs.lemmas.List.{append-nil}
 use Rattle.commit_journal.specs.Journal.{IsRecovered}
 use Rattle.entry_record.specs.History.{IsWithin}
-use Rattle.entry_history.specs.Readers.{IsVersion}
 use Rattle.entry_history.specs.Payloads.{IsHistory, CanFollow}
 use Rattle.durable_catalogue.specs.Logs.{payloads_of}
 use Rattle.durable_catalogue.specs.Durables.{IsKept}
-use Rattle.durable_catalogue.specs.Openings.{IsUnloaded}
-use Rattle.durable_catalogue.specs.Opened.{IsRefusedDisk}
 use Rattle.durable_catalogue.proofs.Opened.{next_follows, was_reading, opened_kept, never_full}
 use Rattle.durable_catalogue.proofs.Answered.{opened_disk, unloaded_disk, unopened_disk}
 use Rattle.durable_catalogue.proofs.durable.Durable.open.Goals as goal
@@ -49,39 +46,25 @@ returns-in-Ok-load-clause-history g c log told =
     let holds = subst (λ fs. IsHistory 2 [] (payloads_of fs) history) c.into_vec.ensures done.history in
     ∣ was_reading c.in-Ok.frames journal.place (seen c.args.disk) (seen journal.disk) history recovered c.in-Ok.ensures.crash holds log told ∣₁
 
+pub returns-in-Ok-load-clause-disk : goal.returns-in-Ok-load-clause-disk
+returns-in-Ok-load-clause-disk g c =
+    let was = c.in-Ok.ensures in
+    opened_disk _ _ was.crash was.content was.later c.in-Ok.frames _ _ was.recovered was.synced
+
 pub returns-in-Err-load-clause-old_first : goal.returns-in-Err-load-clause-old_first
 returns-in-Err-load-clause-old_first g c full log told =
     c.in-Ok.ensures.recovered.named log told ∙ (sym c.version.ensures ∙ c.in-Err-load.ensures.old_first full)
 
+pub returns-in-Err-load-clause-refused : goal.returns-in-Err-load-clause-refused
+returns-in-Err-load-clause-refused g c =
+    let was = c.in-Ok.ensures in
+    unloaded_disk _ _ was.crash was.content was.later c.in-Ok.frames _ _ was.recovered c.version.result c.into_vec.result.items _ c.args.limits _
+    c.version.ensures c.into_vec.ensures (ap g.D.Disk.seen c.close.ensures) c.in-Err-load.ensures.fault c.in-Err-load.ensures.no_device
+
 pub returns-in-Err-clause-old_first : goal.returns-in-Err-clause-old_first
 returns-in-Err-clause-old_first g c full log told = absurd (never_full c.in-Err.failed.1 (sym c.open_fault.ensures ∙ full))
 
-pub returns-in-Ok-load-clause-disk : goal.returns-in-Ok-load-clause-disk
-returns-in-Ok-load-clause-disk g c =
-    let seen = g.D.Disk.seen in
-    let journal = c.in-Ok.journal in
-    let was = c.in-Ok.ensures in
-    opened_disk (seen c.args.disk) (seen journal.disk) was.crash was.content was.later c.in-Ok.frames journal.place journal.version was.recovered was.synced
-
-pub returns-in-Err-load-clause-refused : goal.returns-in-Err-load-clause-refused
-returns-in-Err-load-clause-refused g c =
-    let seen = g.D.Disk.seen in
-    let journal = c.in-Ok.journal in
-    let was = c.in-Ok.ensures in
-    let limits = c.args.limits in
-    let fault = c.in-Err-load.fault in
-    subst (λ d. IsRefusedDisk limits (seen c.args.disk) (seen d) fault) (sym c.close.ensures)
-    (unloaded_disk (seen c.args.disk) (seen journal.disk) was.crash was.content was.later c.in-Ok.frames journal.place journal.version was.recovered
-    limits fault
-    (λ named.
-    let why = c.in-Err-load.ensures.fault (subst IsVersion (sym c.version.ensures) named) in
-    subst (λ v. IsUnloaded v c.in-Ok.frames limits fault) c.version.ensures (subst (λ fs. IsUnloaded c.version.result fs limits fault) c.into_vec.ensures why))
-    c.in-Err-load.ensures.no_device)
-
 pub returns-in-Err-clause-refused : goal.returns-in-Err-clause-refused
 returns-in-Err-clause-refused g c =
-    let seen = g.D.Disk.seen in
     let was = c.in-Err.ensures in
-    let limits = c.args.limits in
-    subst (λ f. IsRefusedDisk limits (seen c.args.disk) (seen c.in-Err.failed.0) f) (sym c.open_fault.ensures)
-    (unopened_disk (seen c.args.disk) (seen c.in-Err.failed.0) was.crash was.content was.later limits c.in-Err.failed.1 was.fault)
+    unopened_disk _ _ was.crash was.content was.later c.args.limits _ _ c.open_fault.ensures was.fault

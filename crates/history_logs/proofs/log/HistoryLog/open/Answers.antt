@@ -1,9 +1,7 @@
-use Rattle.std.proofs.Common.{◌≡◌, ◌∙◌, ℕ, List, [], Some, sym, subst}
+use Rattle.std.proofs.Common.{◌≡◌, ◌∙◌, ℕ, List, [], Some, sym, ap, subst}
 use Rattle.entry_history.specs.Readers.{IsVersion}
 use Rattle.entry_history.specs.Payloads.{IsHistory}
 use Rattle.durable_catalogue.specs.Logs.{payloads_of, HasHistory}
-use Rattle.durable_catalogue.specs.Openings.{IsUnloaded}
-use Rattle.durable_catalogue.specs.Opened.{IsRefusedDisk}
 use Rattle.durable_catalogue.proofs.Opened.{reading, either_version}
 use Rattle.durable_catalogue.proofs.Answered.{opened_disk, unloaded_disk, unopened_disk}
 use Rattle.history_logs.proofs.Turns.{is_also}
@@ -24,30 +22,16 @@ returns-in-Ok-take_within-clause-taken g c =
 
 pub returns-in-Ok-take_within-clause-opened : goal.returns-in-Ok-take_within-clause-opened
 returns-in-Ok-take_within-clause-opened g c =
-    let seen = g.D.Disk.seen in
-    let journal = c.in-Ok.journal in
     let was = c.in-Ok.ensures in
-    opened_disk (seen c.args.disk) (seen journal.disk) was.crash was.content was.later c.in-Ok.frames journal.place journal.version was.recovered was.synced
+    opened_disk _ _ was.crash was.content was.later c.in-Ok.frames _ _ was.recovered was.synced
 
 pub returns-in-Err-take_within-clause-refused : goal.returns-in-Err-take_within-clause-refused
 returns-in-Err-take_within-clause-refused g c =
-    let seen = g.D.Disk.seen in
-    let journal = c.in-Ok.journal in
     let was = c.in-Ok.ensures in
-    let limits = c.args.limits in
-    let fault = c.in-Err-take_within.fault in
-    subst (λ d. IsRefusedDisk limits (seen c.args.disk) (seen d) fault) (sym c.close.ensures)
-    (unloaded_disk (seen c.args.disk) (seen journal.disk) was.crash was.content was.later c.in-Ok.frames journal.place journal.version was.recovered
-    limits fault
-    (λ named.
-    let why = c.in-Err-take_within.ensures.fault (subst IsVersion (sym c.version.ensures) named) in
-    subst (λ v. IsUnloaded v c.in-Ok.frames limits fault) c.version.ensures (subst (λ fs. IsUnloaded c.version.result fs limits fault) c.into_vec.ensures why))
-    c.in-Err-take_within.ensures.no_device)
+    unloaded_disk _ _ was.crash was.content was.later c.in-Ok.frames _ _ was.recovered c.version.result c.into_vec.result.items _ c.args.limits _
+    c.version.ensures c.into_vec.ensures (ap g.D.Disk.seen c.close.ensures) c.in-Err-take_within.ensures.fault c.in-Err-take_within.ensures.no_device
 
 pub returns-in-Err-clause-refused : goal.returns-in-Err-clause-refused
 returns-in-Err-clause-refused g c =
-    let seen = g.D.Disk.seen in
     let was = c.in-Err.ensures in
-    let limits = c.args.limits in
-    subst (λ f. IsRefusedDisk limits (seen c.args.disk) (seen c.in-Err.failed.0) f) (sym c.open_fault.ensures)
-    (unopened_disk (seen c.args.disk) (seen c.in-Err.failed.0) was.crash was.content was.later limits c.in-Err.failed.1 was.fault)
+    unopened_disk _ _ was.crash was.content was.later c.args.limits _ _ c.open_fault.ensures was.fault
