@@ -11,6 +11,7 @@ use Rattle.console_lines.specs.declared.end.End.TheVariants.{Told}
 use Rattle.console_lines.specs.declared.fault.Fault.TheVariants as fault
 use Rattle.durable_catalogue.specs.declared.fault.OpenFault.TheVariants as opening
 use Rattle.room_files.proofs.Journals.{unopened_keeps}
+use Rattle.archive_commands.specs.Reads as reading
 use Rattle.archive_commands.specs.Reads.{DueView, due_of, Reads}
 use Rattle.archive_commands.proofs.Endings.{reads_fault}
 use Rattle.plain_commands.proofs.Passes.{passes_told}
@@ -89,8 +90,8 @@ module _ (o : Outcome) (told : o.end ≡ Told fault.Memory) (tells : IsTold faul
   unasked words (Load journal files) takes names =
       loads_failed (libraries_of words) journal o fault.Memory told tells
       (no_memory o.old o.new journal (libraries_of words) _ (closed journal) (λ room. runs.NotLoaded (unbegun journal (libraries_of words))))
-  unasked words (Export journal out code) takes names = reads journal out _
-  unasked words (Report journal out) takes names = reads journal out _
+  unasked words (Export journal out code) takes names = reads journal out (reading.Export code)
+  unasked words (Report journal out) takes names = reads journal out reading.Report
   unasked words (Make seed count out) takes names = makes_no_memory seed count out o told tells (λ room. files.AsItWas (stays.files out tt))
   unasked words (Verify journal) takes names = absurd takes
   unasked words (Matches journal out) takes names = absurd takes
