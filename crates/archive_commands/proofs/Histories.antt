@@ -1,23 +1,14 @@
--- The one history of a log.
-use Rattle.std.proofs.Common.{◌≡◌, ◌∙◌, ℕ, List, [], Option, Some, sym, ap, subst}
+-- What is due of the one history of a log.
+use Rattle.std.proofs.Common.{◌≡◌, ◌∙◌, ℕ, List, Option, Some, sym, ap, subst}
 use Rattle.std.proofs.Math.Logic.{∥∥₁_map, ∥∥₁_elim}
 use Rattle.std.specs.Coded.{Coded-set, coded_ℕ, coded_list}
 use Rattle.marc_types.specs.declared.entry.Entry.{Entry}
-use Rattle.commit_journal.specs.Log.{version_of}
-use Rattle.entry_history.specs.Payloads.{IsHistory}
-use Rattle.entry_history.proofs.Histories.{history_once}
-use Rattle.durable_catalogue.specs.Logs.{payloads_of, IsLogOf, HasHistory}
+use Rattle.durable_catalogue.specs.Logs.{HasHistory}
 use Rattle.entry_record.specs.History.{IsWithin}
 use Rattle.room_files.specs.Journals.{journal_limits}
+use Rattle.room_files.proofs.Histories.{reading_once}
 use Rattle.output_files.specs.Outputs.{IsPartWritten}
 use Rattle.archive_commands.specs.Archives.{HasFittingHistory}
-
--- a log is read as one history
-pub reading_once : (entries others : List Entry) (log : List ℕ) → IsLogOf entries log → IsLogOf others log → entries ≡ others
-reading_once entries others log is also =
-    let same : also.frames ≡ is.frames = cc (is.found, also.found) in
-    history_once (version_of log) [] entries others (payloads_of is.frames) is.holds
-    (subst (λ frames. IsHistory (version_of log) [] (payloads_of frames) others) same also.holds)
 
 -- what is due of one history of a log is due of any other
 pub due_once : (due : List Entry → List ℕ) (entries others : List Entry) (log : List ℕ) → HasHistory entries log → HasHistory others log

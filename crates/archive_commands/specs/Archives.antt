@@ -1,9 +1,7 @@
 -- What commands on a journal that is only read tell and write. The rules are this project's own.
-use Rattle.std.specs.Prelude.{◌≡◌, ℕ, Bool, true, List, bytes_eq, Option, Some, None}
+use Rattle.std.specs.Prelude.{◌≡◌, ℕ, true, List}
 use Rattle.marc_types.specs.declared.entry.Entry.{Entry}
-use Rattle.marc_types.specs.declared.key.Key.{Key}
 use Rattle.outside.specs.Room.{RoomView}
-use Rattle.catalogue_rules.specs.Output.{all_keys}
 use Rattle.durable_catalogue.specs.declared.fault.OpenFault.{OpenFault}
 use Rattle.durable_catalogue.specs.Logs.{IsLogOf}
 use Rattle.durable_catalogue.specs.Openings.{IsUnopened}
@@ -17,11 +15,6 @@ pub record WhyUnopened (room : RoomView) (name : List ℕ) (fault : Fault) : Typ
   pub reason : OpenFault
   pub is : fault ≡ fault_of_opening reason
   pub so : room.tells ≡ true → IsUnopened journal_limits (log_bytes room name) reason
-
--- the keys that an export keeps: all, or those with a code
-abbrev pub kept_keys : Option (List ℕ) → Key → Bool
-kept_keys None = all_keys
-kept_keys (Some code) = λ key. bytes_eq key.code code
 
 -- the log has a history, and it is within the limits
 abbrev pub HasFittingHistory : List ℕ → Type 0

@@ -12,10 +12,11 @@ use Rattle.console_lines.specs.declared.end.End.TheVariants.{Done, Refused, Unwr
 use Rattle.console_lines.specs.declared.end.Unwritten.TheVariants as unwritten
 use Rattle.console_lines.specs.declared.fault.Fault.{Fault}
 use Rattle.console_lines.specs.declared.fault.Fault.TheVariants.{Usage, Input, Device, NotAJournal, Full, Memory, OldVersion, OtherHistory}
+use Rattle.output_files.specs.Kept.{kept_keys}
 use Rattle.output_files.specs.Outputs.{IsPartWritten}
 use Rattle.outside.specs.Room.{SameBut}
 use Rattle.room_files.specs.Journals.{log_bytes, KeepsHistory, IsDurable}
-use Rattle.archive_commands.specs.Archives.{WhyUnopened, kept_keys, HasFittingHistory}
+use Rattle.archive_commands.specs.Archives.{WhyUnopened, HasFittingHistory}
 use Rattle.archive_commands.specs.declared.due.Due.{Due}
 use Rattle.archive_commands.specs.declared.due.Due.TheVariants as due
 

@@ -4,9 +4,8 @@ ghost use Rattle.outside.specs.Room.{SameBut};
 ghost use Rattle.archive_commands.specs.Reads.{due_view, Reads};
 
 use crate::due::Due;
-use crate::ending::end_of_output;
 use crate::writing::write_archive;
-use console_lines::{End, tell};
+use console_lines::{End, end_of_output, tell};
 use outside::Room;
 use room_files::{fault_of_opening, open_archive};
 use std::alloc::Global;

@@ -5,30 +5,20 @@ ghost use Rattle.outside.specs.Fault.{HasWriteCause};
 ghost use Rattle.outside.specs.Room.{AsLog, SameBut};
 ghost use Rattle.catalogue_rules.specs.Settle.{state_of};
 ghost use Rattle.catalogue_rules.specs.Output.{export_of};
+ghost use Rattle.output_files.specs.Kept.{kept_keys};
 ghost use Rattle.output_files.specs.Outputs.{IsOutput, IsPartWritten};
 ghost use Rattle.room_files.specs.Journals.{IsClosedDisk};
-ghost use Rattle.archive_commands.specs.Archives.{kept_keys};
 ghost use Rattle.archive_commands.specs.Reads.{due_view, due_of};
 
 use crate::due::Due;
 use catalogue_core::Catalogue;
 use durable_catalogue::Archive;
 use marc_types::Key;
-use output_files::{write_export, write_report_file};
+use output_files::{is_kept, write_export, write_report_file};
 use outside::{Room, WriteFault};
 use room_files::close_archive;
 use selection::Selection;
 use std::alloc::Global;
-
-/// Whether an export keeps a key: it keeps all, or those with that code.
-pub fn is_kept(key: &Key, code: Option<&str>) -> bool
-    ensures { result ≡ kept_keys (option_copied code.entry) key.now }
-{
-    match code {
-        None => true,
-        Some(code) => key.code.as_str() == code,
-    }
-}
 
 /// Writes the records of a catalogue into the file `out`: all, or those under keys with that code.
 fn write_kept<R: Room>(

@@ -19,7 +19,7 @@ const LIMITS: Limits = Limits {
 const STRIDE: u64 = 32;
 
 /// What came of a workload, each with the number of commits.
-#[derive(Clone, Copy, Debug, PartialEq, Eq)]
+#[derive(Clone, Copy)]
 pub(crate) enum Found {
     Alike(u64),
     Different(u64),
@@ -27,7 +27,7 @@ pub(crate) enum Found {
 }
 
 /// What came of one commit to both.
-#[derive(Clone, Copy, Debug, PartialEq, Eq)]
+#[derive(Clone, Copy)]
 enum Committed {
     Alike,
     Different,

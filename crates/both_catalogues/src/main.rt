@@ -39,11 +39,19 @@ fn compare(alloc: Global, seed: u64) -> Result<Found, NoMemory> {
     compare_workload::<Brand>(alloc, seed, RECORDS, Blank::new(2))
 }
 
+/// Prints a number between two texts. (A format would take the prover some twenty seconds.)
+fn print_number(rt: &impl Print, before: &str, number: u64, after: &str) -> io::Result<()> {
+    rt.write_all(before.as_bytes())?;
+    rt.print(number)?;
+    rt.write_all(after.as_bytes())
+}
+
 fn tell(rt: &HostRuntime, seed: u64, found: Result<Found, NoMemory>) -> io::Result<()> {
+    print_number(rt, "workload ", seed, ": ")?;
     match found {
-        Ok(Found::Alike(records)) => println!(rt; "workload {seed}: {records} commits alike"),
-        Ok(Found::Different(at)) => println!(rt; "workload {seed}: DIFFERENT AFTER {at}"),
-        Ok(Found::NotTaken(at)) => println!(rt; "workload {seed}: NOT TAKEN {at}"),
-        Err(NoMemory) => println!(rt; "workload {seed}: NO MEMORY"),
+        Ok(Found::Alike(records)) => print_number(rt, "", records, " commits alike\n"),
+        Ok(Found::Different(at)) => print_number(rt, "DIFFERENT AFTER ", at, "\n"),
+        Ok(Found::NotTaken(at)) => print_number(rt, "NOT TAKEN ", at, "\n"),
+        Err(NoMemory) => rt.write_all(b"NO MEMORY\n"),
     }
 }

@@ -13,31 +13,32 @@ use Rattle.catalogue_tables.specs.Rows.{PutsAuthority}
 use Rattle.catalogue_tables.specs.Waiting.{AreNumbersOf}
 use Rattle.catalogue_tables.proofs.Seams.{numbers_alike, numbers_low}
 
-module _ (old new : List Form) (one : Form) (number : ℕ) (keeps : Keeps same_form old new) (of : IsNumberOf same_form new one number) where
-  known_step : (xs : List Form) → AllByRecursion (λ t. is_known same_form old t ≡ true) xs → AllByRecursion (λ t. is_known same_form new t ≡ true) (xs ++ one ∷ [])
+module _ {T : Type 0} (same : T → T → Bool) (old new : List T) (one : T) (number : ℕ) (keeps : Keeps same old new) (of : IsNumberOf same new one number) where
+  known_step : (xs : List T) → AllByRecursion (λ t. is_known same old t ≡ true) xs → AllByRecursion (λ t. is_known same new t ≡ true) (xs ++ one ∷ [])
   known_step [] known = (of.known, tt)
   known_step (x ∷ xs) known = (keeps.known x known.0, known_step xs known.1)
 
-  map_step : (xs : List Form) → AllByRecursion (λ t. is_known same_form old t ≡ true) xs → map (number_of same_form old) xs ++ number ∷ [] ≡ map (number_of same_form new) (xs ++ one ∷ [])
+  map_step : (xs : List T) → AllByRecursion (λ t. is_known same old t ≡ true) xs → map (number_of same old) xs ++ number ∷ [] ≡ map (number_of same new) (xs ++ one ∷ [])
   map_step [] known = ap (λ (n : ℕ). n ∷ []) of.is
   map_step (x ∷ xs) known =
-      let here : number_of same_form old x ≡ number_of same_form new x = sym (keeps.same_number x known.0) in
+      let here : number_of same old x ≡ number_of same new x = sym (keeps.same_number x known.0) in
       let rest = map_step xs known.1 in
       λ i. here i ∷ rest i
 
-  numbers_step : (xs : List Form) (numbers : List ℕ) → AreNumbersOf same_form old xs numbers → AreNumbersOf same_form new (xs ++ one ∷ []) (numbers ++ number ∷ [])
+  numbers_step : (xs : List T) (numbers : List ℕ) → AreNumbersOf same old xs numbers → AreNumbersOf same new (xs ++ one ∷ []) (numbers ++ number ∷ [])
   numbers_step xs numbers are = record {
     known = known_step xs are.known;
     are = ap (λ (ns : List ℕ). ns ++ number ∷ []) are.are ∙ map_step xs are.known;
   }
 
--- one more form has its number
-pub numbers_more : (old new : List Form) (things : List Form) (i : ℕ) (one : Form) (numbers after : List ℕ) (number : ℕ) → Keeps same_form old new → i < length things → one ≡ get_or things i one
-    → AreNumbersOf same_form old (take i things) numbers → IsNumberOf same_form new one number → after ≡ numbers ++ number ∷ [] → AreNumbersOf same_form new (take (i + 1) things) after
-numbers_more old new things i one numbers after number keeps low is are of pushed =
-    let whole : take i things ++ one ∷ [] ≡ take (i + 1) things = ap (λ (t : Form). take i things ++ t ∷ []) is ∙ sym (take_more things i one low) in
-    subst (AreNumbersOf same_form new (take (i + 1) things)) (sym pushed)
-    (subst (λ (ts : List Form). AreNumbersOf same_form new ts (numbers ++ number ∷ [])) whole (numbers_step old new one number keeps of (take i things) numbers are))
+-- one more thing has its number
+pub numbers_more : {T : Type 0} (same : T → T → Bool) (old new things : List T) (i : ℕ) (one : T) (numbers after : List ℕ) (number : ℕ) → Keeps same old new → i < length things
+    → one ≡ get_or things i one → AreNumbersOf same old (take i things) numbers → IsNumberOf same new one number → after ≡ numbers ++ number ∷ []
+    → AreNumbersOf same new (take (i + 1) things) after
+numbers_more {T} same old new things i one numbers after number keeps low is are of pushed =
+    let whole : take i things ++ one ∷ [] ≡ take (i + 1) things = ap (λ (t : T). take i things ++ t ∷ []) is ∙ sym (take_more things i one low) in
+    subst (AreNumbersOf same new (take (i + 1) things)) (sym pushed)
+    (subst (λ (ts : List T). AreNumbersOf same new ts (numbers ++ number ∷ [])) whole (numbers_step same old new one number keeps of (take i things) numbers are))
 
 -- the row of an authority whose forms have their numbers
 pub puts_authority : (middle names : List Form) (number own : ℕ) (established : Form) (see_from : List Form) (traced : List ℕ) (bare : Bool) (row : Forms) (old new : Indexed)

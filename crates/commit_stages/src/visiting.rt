@@ -47,7 +47,7 @@ pub(crate) fn look_at_field(store: &LinkedStore, seat: Seat) -> Option<FieldAt<'
 }
 
 // The field at a place of a record.
-#[tactic(auto, using(crate::proofs::Reading::tied_read, crate::proofs::Reading::tied_off))]
+#[tactic(auto, using(record_store::proofs::Joined::tied_read, record_store::proofs::Joined::tied_off))]
 fn field_in(kept: &Kept, place: u32) -> Option<FieldAt<'_>>
     ensures { option_map field_as result ≡ field_at place (kept_record kept.now) }
 {

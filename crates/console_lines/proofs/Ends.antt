@@ -1,6 +1,10 @@
 -- What an end says of the others.
-use Rattle.std.proofs.Common.{◌≡◌, Bool, true, false, sym, subst, ◌∙◌}
-use Rattle.console_lines.specs.Ends.{end_of, IsAllDone, IsUntold}
+use Rattle.std.proofs.Common.{◌≡◌, ◌≢◌, ◌∙◌, ℕ, Bool, true, false, List, Option, sym, subst}
+use Rattle.std.specs.Io.KnownBytes.{Appends}
+use Rattle.outside.specs.Fault.{Rose}
+use Rattle.outside.specs.Sink.{WritesFront}
+use Rattle.outside.proofs.Fronts.{front_all}
+use Rattle.console_lines.specs.Ends.{end_of, IsAllDone, IsUntold, IsResultTold, ResultTold, ResultUntold, out_unwritten, report_unwritten, console_unwritten}
 use Rattle.console_lines.specs.declared.fault.Fault.{Fault}
 use Rattle.console_lines.specs.declared.end.End.{End}
 use Rattle.console_lines.specs.declared.end.End.TheVariants.{Done, Unwritten, Told}
@@ -45,3 +49,38 @@ told_not_all end why is all = subst IsAllDone is all
 pub all_of : (refused : Bool) → IsAllDone (end_of refused)
 all_of true = tt
 all_of false = tt
+
+pub untold_of : (refused : Bool) → IsUntold (end_of refused)
+untold_of true = tt
+untold_of false = tt
+
+-- what a result that was told, or of which the console got a front, says of the end and of the console
+module _ {old new : Option (List ℕ)} {before now : ℕ} {text : List ℕ} {refused : Bool} {end : End} where
+  pub result_untold : IsResultTold old new before now text refused end → IsUntold end
+  result_untold (ResultTold is line) = subst IsUntold (sym is) (untold_of refused)
+  result_untold (ResultUntold is rose front) = subst IsUntold (sym is) tt
+
+  pub result_done : IsResultTold old new before now text refused end → IsAllDone end → end ≡ end_of refused
+  result_done (ResultTold is line) all = is
+  result_done (ResultUntold is rose front) all = absurd (all_not_unwritten end Console all is)
+
+  pub result_line : IsResultTold old new before now text refused end → IsAllDone end → Appends old new text
+  result_line (ResultTold is line) all = line
+  result_line (ResultUntold is rose front) all = absurd (all_not_unwritten end Console all is)
+
+  pub result_front : IsResultTold old new before now text refused end → WritesFront old new text
+  result_front (ResultTold is line) = front_all old new text line
+  result_front (ResultUntold is rose front) = front
+
+  -- the console alone can be unwritten
+  result_console : (which : Which) → IsResultTold old new before now text refused end → end ≡ Unwritten which → which ≡ Console
+  result_console which (ResultTold is line) also = absurd (all_not_unwritten (end_of refused) which (all_of refused) (sym is ∙ also))
+  result_console which (ResultUntold is rose front) also = unwritten_once end which Console also is
+
+  pub result_no_output : IsResultTold old new before now text refused end → (end ≢ out_unwritten) × (end ≢ report_unwritten)
+  result_no_output told =
+      ((λ also. let no : Out ≡ Console = result_console Out told also in cc), (λ also. let no : Report ≡ Console = result_console Report told also in cc))
+
+  pub result_cause : IsResultTold old new before now text refused end → end ≡ console_unwritten → Rose before now
+  result_cause (ResultTold is line) also = absurd (all_not_unwritten (end_of refused) Console (all_of refused) (sym is ∙ also))
+  result_cause (ResultUntold is rose front) also = rose

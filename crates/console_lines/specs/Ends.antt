@@ -1,6 +1,9 @@
 -- How a command ends, and what it did. The statuses are this project's own.
 use Rattle.std.specs.Prelude.{◌≡◌, ℕ, Bool, List, Option, if◌then◌else◌}
+use Rattle.std.specs.Io.KnownBytes.{Appends}
+use Rattle.outside.specs.Fault.{Rose}
 use Rattle.outside.specs.Room.{RoomView}
+use Rattle.outside.specs.Sink.{WritesFront}
 use Rattle.console_lines.specs.Faults.{fault_status, fault_line, IsFaultTold}
 use Rattle.console_lines.specs.declared.fault.Fault.{Fault}
 use Rattle.console_lines.specs.declared.end.End.{End}
@@ -40,6 +43,11 @@ IsUntold Done = Unit {0}
 IsUntold Refused = Unit {0}
 IsUntold (Unwritten which) = Unit {0}
 IsUntold (Told fault) = ⊥
+
+-- the console got the text, and the end is by whether something was refused; or it could not be written, and got a front of the text
+pub data IsResultTold (old new : Option (List ℕ)) (before now : ℕ) (text : List ℕ) (refused : Bool) (end : End) : Type 0 where
+  ResultTold : end ≡ end_of refused → Appends old new text → IsResultTold old new before now text refused end
+  ResultUntold : end ≡ console_unwritten → Rose before now → WritesFront old new text → IsResultTold old new before now text refused end
 
 -- What a command did: the room before and after, what the console had been told and is told now, its faults, and the end.
 pub record Outcome : Type 1 where

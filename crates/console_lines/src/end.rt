@@ -1,5 +1,5 @@
 ghost use Rattle.std.specs.Prelude.{◌≡◌};
-ghost use Rattle.console_lines.specs.Ends.{end_status};
+ghost use Rattle.console_lines.specs.Ends.{end_of, end_status};
 
 use crate::fault::Fault;
 
@@ -12,6 +12,15 @@ pub enum Unwritten {
     Report,
     /// The console.
     Console,
+}
+
+/// What kept a command's outputs from being written.
+#[derive(Clone, Copy, Debug, PartialEq, Eq)]
+pub enum Hindrance {
+    /// Memory ran out.
+    NoMemory,
+    /// One of them could not be written.
+    Unwritten(Unwritten),
 }
 
 /// How a command ends.
@@ -28,6 +37,13 @@ pub enum End {
 }
 
 impl End {
+    /// The end where all was done: whether something was refused.
+    pub fn of(refused: bool) -> End
+        ensures { result ≡ end_of refused }
+    {
+        if refused { End::Refused } else { End::Done }
+    }
+
     /// The exit status.
     pub fn status(self) -> u8
         ensures { result ≡ end_status self }

@@ -1,13 +1,15 @@
 //! What the console is told: the lines of results, and of faults.
 #![tactic(auto)]
 
-pub use end::{End, Unwritten};
+pub use end::{End, Hindrance, Unwritten};
+pub use ending::{end_of_output, end_of_outputs, tell_result};
 pub use fault::{Fault, tell};
 pub use numbered::write_numbered;
 pub use results::{made_text, refused_text, results_text, totals_text};
 pub use totals::{Sums, Totals};
 
 mod end;
+mod ending;
 mod fault;
 mod lines;
 mod numbered;

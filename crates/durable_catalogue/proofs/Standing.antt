@@ -1,15 +1,11 @@
 -- How a field of a kept record stands, as it is seen.
-use Rattle.std.proofs.Common.{◌≡◌, ◌∙◌, sym, ap, ℕ, zero, suc, List, [], ◌∷◌, Option, Some, None, refl}
-use Rattle.std.specs.Prelude.{slice_get}
-use Rattle.std.specs.Option.{option_map, option_map_or}
+use Rattle.std.proofs.Common.{◌≡◌, ◌∙◌, sym, ap, List, Option, Some, None, refl}
+use Rattle.std.specs.Option.{option_map_or}
 use Rattle.marc_types.specs.declared.key.Class.{Class}
 use Rattle.marc_types.specs.declared.key.Key.{Key}
-use Rattle.marc_types.specs.declared.field.Field.{Field}
 use Rattle.marc_types.specs.declared.form.Kind.{Kind}
-use Rattle.marc_types.specs.declared.entry.Tie.{Tie}
-use Rattle.marc_types.specs.declared.entry.Kept.{Kept}
 use Rattle.entry_record.specs.Authority.{Linkable, heading_kind}
-use Rattle.catalogue_rules.specs.State.{KeptField, kept_field, kept_record, tied}
+use Rattle.catalogue_rules.specs.State.{KeptField}
 use Rattle.catalogue_rules.specs.Choice as choices
 use Rattle.catalogue_rules.specs.Choice.{Choice, Link, choice}
 use Rattle.catalogue_rules.specs.Receipt as definition
@@ -17,36 +13,6 @@ use Rattle.catalogue_tables.specs.Stands.{field_standing, stands_as}
 use Rattle.catalogue_tables.specs.declared.standing.Standing.{Standing}
 use Rattle.catalogue_tables.specs.declared.standing.Standing.TheVariants.{Linked, Ambiguous, Unlinked, NoHeading}
 use Rattle.durable_catalogue.specs.Told.{Told, ToldLinked, ToldAmbiguous, ToldUnlinked, ToldNoHeading, told_by, field_told}
-use Rattle.record_store.proofs.Joined.{record_get}
-
--- ---- a field and its tie, read at one place of a kept record
-
-no_field : (fields : List Field) (ties : List Tie) (i : ℕ) → slice_get fields i ≡ None → slice_get (tied fields ties) i ≡ None
-no_field [] ties i off = refl
-no_field (f ∷ fields) [] i off = refl
-no_field (f ∷ fields) (t ∷ ties) zero off = cc
-no_field (f ∷ fields) (t ∷ ties) (suc i) off = no_field fields ties i off
-
-no_tie : (fields : List Field) (ties : List Tie) (i : ℕ) → slice_get ties i ≡ None → slice_get (tied fields ties) i ≡ None
-no_tie [] ties i off = refl
-no_tie (f ∷ fields) [] i off = refl
-no_tie (f ∷ fields) (t ∷ ties) zero off = cc
-no_tie (f ∷ fields) (t ∷ ties) (suc i) off = no_tie fields ties i off
-
-pub tied_off : (kept : Kept) (i : ℕ) → None ≡ slice_get kept.rec.fields i → None ≡ slice_get (kept_record kept).fields i
-unfolding kept_record
-tied_off kept i off = sym (no_field kept.rec.fields kept.links i (sym off))
-
-tie_off : (kept : Kept) (i : ℕ) → slice_get kept.links i ≡ None → slice_get (kept_record kept).fields i ≡ None
-unfolding kept_record
-tie_off kept i off = no_tie kept.rec.fields kept.links i off
-
-pub tied_read : (kept : Kept) (i : ℕ) (f : Field) (t : Option Tie) → Some f ≡ slice_get kept.rec.fields i → t ≡ slice_get kept.links i
-    → option_map (kept_field f) t ≡ slice_get (kept_record kept).fields i
-tied_read kept i f None here tie = sym (tie_off kept i (sym tie))
-tied_read kept i f (Some t) here tie = sym (record_get kept i f t (sym here) (sym tie))
-
--- ---- what is told of it
 
 -- a linked field is told by its key
 pub told_linked : (all : List Linkable) (class : Class) (h : KeptField) (key : Key) → h.tie.key ≡ Some key → field_told all class h ≡ ToldLinked key

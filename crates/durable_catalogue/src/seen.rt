@@ -67,7 +67,7 @@ fn field_under<'a>(engine: &'a Engine, place: &Place) -> Option<(&'a Field, &'a 
     }
 }
 
-#[tactic(auto, using(crate::proofs::Standing::tied_read, crate::proofs::Standing::tied_off))]
+#[tactic(auto, using(record_store::proofs::Joined::tied_read, record_store::proofs::Joined::tied_off))]
 fn field_in(kept: &Kept, place: u32) -> Option<(&Field, &Tie)>
     ensures { option_map field_as result ≡ field_at place (kept_record kept.now) }
 {

@@ -8,3 +8,4 @@ mod of_holdings;
 mod of_match_report;
 mod of_reading;
 mod of_record_store;
+mod pieces;

@@ -215,3 +215,55 @@ module _ (items : List ℕ) (live : ℕ) (within : live ≤ length items) (n : �
   pub ascends_out : (keys : List Key) (from : ℕ) (new : List ℕ) → from < live → new ≡ insert (remove items from) (live - 1) n → Ascends keys (take live items) → Ascends keys (take (live - 1) new)
   ascends_out keys from new low is ascends =
       subst (Ascends keys) (sym (ap (take (live - 1)) is ∙ front_out items live within from n low)) (ascends_remove keys (take live items) from ascends)
+
+-- ---- a number that moves, as it was found
+
+module _ (items : List ℕ) (live : ℕ) (within : live ≤ length items) (n : ℕ) (keys : List Key) (l : Listed) (view : shown items live ≡ l) (now : List ℕ) (now_is : now ≡ l.live) where
+  live_now : now ≡ take live items
+  live_now = now_is ∙ ap (λ (x : Listed). x.live) (sym view)
+
+  ascends_now : Ascends keys l.live → Ascends keys (take live items)
+  ascends_now ascends = subst (λ (x : Listed). Ascends keys x.live) (sym view) ascends
+
+  -- from a place that is held for it to its place in key order
+  module _ (held : List ℕ) (held_is : held ≡ l.held) (from to : ℕ) (new : List ℕ) (found : position (λ m. m == n) held ≡ Some from) (bound : to ≤ length now)
+      (part : IsPartitionPoint (λ m. number_cmp keys m n ≡ Less) (λ m. number_cmp keys m n ≡ Greater) now to) (is : new ≡ insert (remove items (live + from)) to (get_or items (live + from) 0)) where
+    held_there : position (λ m. m == n) (drop live items) ≡ Some from
+    held_there = ap (λ (x : Listed). position (λ m. m == n) x.held) view ∙ ap (position (λ m. m == n)) (sym held_is) ∙ found
+
+    part_there : IsPartitionPoint (λ m. number_cmp keys m n ≡ Less) (λ m. number_cmp keys m n ≡ Greater) (take live items) to
+    part_there = subst (λ xs. IsPartitionPoint (λ m. number_cmp keys m n ≡ Less) (λ m. number_cmp keys m n ≡ Greater) xs to) live_now part
+
+    place : to ≤ live
+    place =
+        let low : to ≤ length (take live items) = subst (λ (xs : List ℕ). to ≤ length xs) live_now bound in
+        omega (arith, length-take-le live items within, low)
+
+    moved : new ≡ insert (remove items (live + from)) to n
+    moved = is ∙ ap (insert (remove items (live + from)) to) (moves_held items live within n from held_there)
+
+    pub goes_in : shown new (live + 1) ≡ entered keys n l
+    goes_in = entered_moved items live within n keys from to new held_there place part_there moved ∙ ap (entered keys n) view
+
+    pub goes_in_ascends : n < length keys → Ascends keys l.live → Ascends keys (take (live + 1) new)
+    goes_in_ascends known ascends = ascends_into items live within n keys from to new known place part_there moved (ascends_now ascends)
+
+  -- out of the order
+  module _ (from : ℕ) (new : List ℕ) (bound : from < length now) (found : slice_get now from ≡ Some n) (is : new ≡ insert (remove items from) (live - 1) (get_or items from 0))
+      (ascends : Ascends keys l.live) where
+    low : from < live
+    low =
+        let there : from < length (take live items) = subst (λ (xs : List ℕ). from < length xs) live_now bound in
+        omega (arith, length-take-le live items within, there)
+
+    found_there : slice_get (take live items) from ≡ Some n
+    found_there = ap (λ (xs : List ℕ). slice_get xs from) (sym live_now) ∙ found
+
+    taken : new ≡ insert (remove items from) (live - 1) n
+    taken = is ∙ ap (insert (remove items from) (live - 1)) (moves_live items live within n from low found_there)
+
+    pub goes_out : shown new (live - 1) ≡ withdrawn n l
+    goes_out = let order = ascends_now ascends in withdrawn_moved items live within n keys from new order.rising low found_there taken ∙ ap (withdrawn n) view
+
+    pub goes_out_ascends : Ascends keys (take (live - 1) new)
+    goes_out_ascends = ascends_out items live within n keys from new low taken (ascends_now ascends)

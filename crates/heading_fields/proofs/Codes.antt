@@ -13,7 +13,7 @@ use Rattle.marc_types.specs.Valid.{is_graphic, is_data, is_text, is_subfield}
 use Rattle.heading_fields.specs.Tables.{is_controlled, is_subdivision}
 use Rattle.heading_fields.specs.Parts.{is_dividing, is_part}
 use Rattle.heading_fields.specs.Numbers.{without_blanks, key_text, is_naming, number_of, is_blankless}
-use Rattle.heading_fields.proofs.Passing.{full_from, all_from, full_append, full_weaker, filter_full}
+use Rattle.heading_fields.proofs.Passing.{full_from, all_from, each_append, full_weaker, filter_full}
 
 zero_not_controlled : (kind : Kind) → is_controlled kind 48 ≡ false
 unfolding is_controlled
@@ -122,7 +122,7 @@ pub number_is_subfield : (key : Key) → is_text key.code ≡ true → is_text k
 unfolding is_subfield is_text key_text
 number_is_subfield key hc hn =
     all_from is_data (0x28 ∷ key.code ++ 0x29 ∷ key.number)
-    (refl, full_append is_data key.code (0x29 ∷ key.number) (full_from is_data key.code hc) (refl, full_from is_data key.number hn))
+    (refl, each_append true is_data key.code (0x29 ∷ key.number) (full_from is_data key.code hc) (refl, full_from is_data key.number hn))
 
 -- the length of a key's text
 pub length-key_text : (key : Key) → length (key_text key) ≡ length key.code + length key.number + 2

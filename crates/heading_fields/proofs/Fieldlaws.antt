@@ -16,7 +16,7 @@ use Rattle.heading_fields.specs.Parts.{written_length, part, base_part, field_pa
 use Rattle.marc_types.specs.Fields.{tag_of, subfields_of}
 use Rattle.heading_fields.specs.Numbers.{is_naming, unnumbered, is_blankless}
 use Rattle.heading_fields.specs.Rewriting.{indicator_of, rewritten_indicator, rewriting, rewritten_subfields, unlinking}
-use Rattle.heading_fields.proofs.Passing.{full_from, all_from, full_filter}
+use Rattle.heading_fields.proofs.Passing.{full_from, all_from, each_filter}
 use Rattle.heading_fields.proofs.Codes.{number_is_subfield}
 use Rattle.heading_fields.proofs.Sublaws.{part-rewritten, base-rewritten, rewritten_subfields_twice, outside-rewritten, size-rewritten, size_outside, size_filter, full_rewritten, none_named, part_is_some, part-unnumbered}
 
@@ -193,6 +193,6 @@ is_field_unlinking (Control tag text) key hf = hf
 is_field_unlinking (Variable tag ind1 ind2 subs) key hf =
     let v = variable_field tag ind1 ind2 subs hf in
     let kept = λ (s : Subfield). not (is_naming key s) in
-    let all = all_from is_subfield (unnumbered key subs) (full_filter is_subfield kept subs (full_from is_subfield subs v.subfields)) in
+    let all = all_from is_subfield (unnumbered key subs) (each_filter true is_subfield kept subs (full_from is_subfield subs v.subfields)) in
     is_field_from tag ind1 ind2 (unnumbered key subs)
     (record { tag_ok = v.tag_ok; not_control = v.not_control; first = v.first; second = v.second; subfields = all })

@@ -3,23 +3,22 @@ use Rattle.std.proofs.Common.{◌≡◌, ◌≢◌, Bool, true, false, not, cond
 use Rattle.std.specs.List.{list_all}
 use Rattle.heading_fields.specs.Parts.{before, onward}
 
+-- the test says so of every element
+abbrev pub Each : {A : Type 0} → Bool → (A → Bool) → List A → Type 0
+Each said test [] = Unit {0}
+Each said test (x ∷ xs) = (test x ≡ said) × Each said test xs
+
 -- no element passes
 abbrev pub Free : {A : Type 0} → (A → Bool) → List A → Type 0
-Free test [] = Unit {0}
-Free test (x ∷ xs) = (test x ≡ false) × Free test xs
+Free test xs = Each false test xs
 
 -- every element passes
 abbrev pub Full : {A : Type 0} → (A → Bool) → List A → Type 0
-Full test [] = Unit {0}
-Full test (x ∷ xs) = (test x ≡ true) × Full test xs
+Full test xs = Each true test xs
 
-pub free_append : {A : Type 0} (p : A → Bool) (xs ys : List A) → Free p xs → Free p ys → Free p (xs ++ ys)
-free_append p [] ys f g = g
-free_append p (x ∷ xs) ys f g = (f.0, free_append p xs ys f.1 g)
-
-pub full_append : {A : Type 0} (p : A → Bool) (xs ys : List A) → Full p xs → Full p ys → Full p (xs ++ ys)
-full_append p [] ys f g = g
-full_append p (x ∷ xs) ys f g = (f.0, full_append p xs ys f.1 g)
+pub each_append : {A : Type 0} (said : Bool) (p : A → Bool) (xs ys : List A) → Each said p xs → Each said p ys → Each said p (xs ++ ys)
+each_append said p [] ys f g = g
+each_append said p (x ∷ xs) ys f g = (f.0, each_append said p xs ys f.1 g)
 
 pub before_free : {A : Type 0} (p : A → Bool) (xs ys : List A) → Free p xs → before p (xs ++ ys) ≡ xs ++ before p ys
 before_free p [] ys f = refl
@@ -79,55 +78,30 @@ pub filter_not_is_free : {A : Type 0} (p : A → Bool) (xs : List A) → Free p 
 filter_not_is_free p [] = tt
 filter_not_is_free p (x ∷ xs) = filter_not_is_free_at p x (filter (λ y. not (p y)) xs) (p x) refl (filter_not_is_free p xs)
 
-free_if : {A : Type 0} (p : A → Bool) (x : A) (zs : List A) (b : Bool) → p x ≡ false → Free p zs → Free p (cond b (x ∷ zs) zs)
-free_if p x zs true e f = (e, f)
-free_if p x zs false e f = f
+each_if : {A : Type 0} (said : Bool) (p : A → Bool) (x : A) (zs : List A) (b : Bool) → p x ≡ said → Each said p zs → Each said p (cond b (x ∷ zs) zs)
+each_if said p x zs true e f = (e, f)
+each_if said p x zs false e f = f
 
--- a filter, a front and a tail keep that none passes
-pub free_filter : {A : Type 0} (p q : A → Bool) (xs : List A) → Free p xs → Free p (filter q xs)
-free_filter p q [] f = tt
-free_filter p q (x ∷ xs) f = free_if p x (filter q xs) (q x) f.0 (free_filter p q xs f.1)
+-- a filter, a front and a tail keep what the test says of all
+pub each_filter : {A : Type 0} (said : Bool) (p q : A → Bool) (xs : List A) → Each said p xs → Each said p (filter q xs)
+each_filter said p q [] f = tt
+each_filter said p q (x ∷ xs) f = each_if said p x (filter q xs) (q x) f.0 (each_filter said p q xs f.1)
 
-free_front_if : {A : Type 0} (p : A → Bool) (x : A) (zs : List A) (b : Bool) → p x ≡ false → Free p zs → Free p (if b then [] else x ∷ zs)
-free_front_if p x zs true e f = tt
-free_front_if p x zs false e f = (e, f)
+each_front_if : {A : Type 0} (said : Bool) (p : A → Bool) (x : A) (zs : List A) (b : Bool) → p x ≡ said → Each said p zs → Each said p (if b then [] else x ∷ zs)
+each_front_if said p x zs true e f = tt
+each_front_if said p x zs false e f = (e, f)
 
-pub free_before : {A : Type 0} (p q : A → Bool) (xs : List A) → Free p xs → Free p (before q xs)
-free_before p q [] f = tt
-free_before p q (x ∷ xs) f = free_front_if p x (before q xs) (q x) f.0 (free_before p q xs f.1)
+pub each_before : {A : Type 0} (said : Bool) (p q : A → Bool) (xs : List A) → Each said p xs → Each said p (before q xs)
+each_before said p q [] f = tt
+each_before said p q (x ∷ xs) f = each_front_if said p x (before q xs) (q x) f.0 (each_before said p q xs f.1)
 
-free_tail_if : {A : Type 0} (p : A → Bool) (xs zs : List A) (b : Bool) → Free p xs → Free p zs → Free p (if b then xs else zs)
-free_tail_if p xs zs true e f = e
-free_tail_if p xs zs false e f = f
+each_tail_if : {A : Type 0} (said : Bool) (p : A → Bool) (xs zs : List A) (b : Bool) → Each said p xs → Each said p zs → Each said p (if b then xs else zs)
+each_tail_if said p xs zs true e f = e
+each_tail_if said p xs zs false e f = f
 
-pub free_onward : {A : Type 0} (p q : A → Bool) (xs : List A) → Free p xs → Free p (onward q xs)
-free_onward p q [] f = tt
-free_onward p q (x ∷ xs) f = free_tail_if p (x ∷ xs) (onward q xs) (q x) f (free_onward p q xs f.1)
-
-full_if : {A : Type 0} (p : A → Bool) (x : A) (zs : List A) (b : Bool) → p x ≡ true → Full p zs → Full p (cond b (x ∷ zs) zs)
-full_if p x zs true e f = (e, f)
-full_if p x zs false e f = f
-
--- a filter, a front and a tail keep that all pass
-pub full_filter : {A : Type 0} (p q : A → Bool) (xs : List A) → Full p xs → Full p (filter q xs)
-full_filter p q [] f = tt
-full_filter p q (x ∷ xs) f = full_if p x (filter q xs) (q x) f.0 (full_filter p q xs f.1)
-
-full_front_if : {A : Type 0} (p : A → Bool) (x : A) (zs : List A) (b : Bool) → p x ≡ true → Full p zs → Full p (if b then [] else x ∷ zs)
-full_front_if p x zs true e f = tt
-full_front_if p x zs false e f = (e, f)
-
-pub full_before : {A : Type 0} (p q : A → Bool) (xs : List A) → Full p xs → Full p (before q xs)
-full_before p q [] f = tt
-full_before p q (x ∷ xs) f = full_front_if p x (before q xs) (q x) f.0 (full_before p q xs f.1)
-
-full_tail_if : {A : Type 0} (p : A → Bool) (xs zs : List A) (b : Bool) → Full p xs → Full p zs → Full p (if b then xs else zs)
-full_tail_if p xs zs true e f = e
-full_tail_if p xs zs false e f = f
-
-pub full_onward : {A : Type 0} (p q : A → Bool) (xs : List A) → Full p xs → Full p (onward q xs)
-full_onward p q [] f = tt
-full_onward p q (x ∷ xs) f = full_tail_if p (x ∷ xs) (onward q xs) (q x) f (full_onward p q xs f.1)
+pub each_onward : {A : Type 0} (said : Bool) (p q : A → Bool) (xs : List A) → Each said p xs → Each said p (onward q xs)
+each_onward said p q [] f = tt
+each_onward said p q (x ∷ xs) f = each_tail_if said p (x ∷ xs) (onward q xs) (q x) f (each_onward said p q xs f.1)
 
 -- where a test implies another, what is free of the other is free of it, and what is full of it is full of the other
 pub free_weaker : {A : Type 0} (p q : A → Bool) → ((x : A) → p x ≡ false → q x ≡ false) → (xs : List A) → Free p xs → Free q xs

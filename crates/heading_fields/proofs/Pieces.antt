@@ -7,7 +7,7 @@ use Rattle.marc_types.specs.declared.form.Kind.{Kind}
 use Rattle.heading_fields.specs.Parts.{before, onward, is_dividing, region, behind, is_part, part}
 use Rattle.heading_fields.specs.Numbers.{is_naming, unnumbered, number_of}
 use Rattle.heading_fields.specs.Rewriting.{front, rest, rewritten_subfields}
-use Rattle.heading_fields.proofs.Passing.{Free, Full, free_append, before_free, onward_free, filter_not_free, before_is_free, filter_is_full, filter_not_is_free, free_filter, free_before, free_onward, tail_begins}
+use Rattle.heading_fields.proofs.Passing.{Free, Full, each_append, before_free, onward_free, filter_not_free, before_is_free, filter_is_full, filter_not_is_free, each_filter, each_before, each_onward, tail_begins}
 use Rattle.heading_fields.proofs.Codes.{dividing_not_naming, number_not_part, number_not_dividing}
 
 -- the subfields between the `$0` and the first subdivision, or the end
@@ -49,14 +49,14 @@ base_region : (f h : List Subfield) (n : Subfield) (m b : List Subfield) → Fre
     before is_dividing b ≡ [] → region false (laid f h n m b) ≡ (f ++ h) ++ n ∷ m
 unfolding laid
 base_region f h n m b df dh dn dm db =
-    let none : Free is_dividing ((f ++ h) ++ n ∷ m) = free_append is_dividing (f ++ h) (n ∷ m) (free_append is_dividing f h df dh) (dn, dm) in
+    let none : Free is_dividing ((f ++ h) ++ n ∷ m) = each_append false is_dividing (f ++ h) (n ∷ m) (each_append false is_dividing f h df dh) (dn, dm) in
     before_free is_dividing ((f ++ h) ++ n ∷ m) b none ∙ rw db (append-nil ((f ++ h) ++ n ∷ m))
 
 base_behind : (f h : List Subfield) (n : Subfield) (m b : List Subfield) → Free is_dividing f → Free is_dividing h → is_dividing n ≡ false → Free is_dividing m →
     onward is_dividing b ≡ b → behind false (laid f h n m b) ≡ b
 unfolding laid
 base_behind f h n m b df dh dn dm db =
-    let none : Free is_dividing ((f ++ h) ++ n ∷ m) = free_append is_dividing (f ++ h) (n ∷ m) (free_append is_dividing f h df dh) (dn, dm) in
+    let none : Free is_dividing ((f ++ h) ++ n ∷ m) = each_append false is_dividing (f ++ h) (n ∷ m) (each_append false is_dividing f h df dh) (dn, dm) in
     onward_free is_dividing ((f ++ h) ++ n ∷ m) b none ∙ db
 
 regions : (whole : Bool) (kind : Kind) (key : Key) (heading subs : List Subfield) →
@@ -73,10 +73,10 @@ regions false kind key heading subs =
     let h = filter p (region false heading) in
     let m = unnumbered key (filter (λ s. not (p s)) (onward p (region false subs))) in
     let b = unnumbered key (behind false subs) in
-    let df : Free is_dividing f = free_filter is_dividing kept (before p (region false subs)) (free_before is_dividing p (region false subs) (region_undivided subs)) in
-    let dh : Free is_dividing h = free_filter is_dividing p (region false heading) (region_undivided heading) in
-    let dm : Free is_dividing m = free_filter is_dividing kept (filter (λ s. not (p s)) (onward p (region false subs)))
-    (free_filter is_dividing (λ s. not (p s)) (onward p (region false subs)) (free_onward is_dividing p (region false subs) (region_undivided subs))) in
+    let df : Free is_dividing f = each_filter false is_dividing kept (before p (region false subs)) (each_before false is_dividing p (region false subs) (region_undivided subs)) in
+    let dh : Free is_dividing h = each_filter false is_dividing p (region false heading) (region_undivided heading) in
+    let dm : Free is_dividing m = each_filter false is_dividing kept (filter (λ s. not (p s)) (onward p (region false subs)))
+    (each_filter false is_dividing (λ s. not (p s)) (onward p (region false subs)) (each_onward false is_dividing p (region false subs) (region_undivided subs))) in
     let ends = tail_begins is_dividing kept (dividing_not_naming key) subs in
     (base_region f h (number_of key) m b df dh (number_not_dividing key) dm ends.0, base_behind f h (number_of key) m b df dh (number_not_dividing key) dm ends.1)
 
@@ -90,10 +90,10 @@ rewritten_pieces whole kind key heading subs =
     let kept = λ (s : Subfield). not (is_naming key s) in
     let both = regions whole kind key heading subs in
     record {
-      front_outside = free_filter p kept (before p (region whole subs)) (before_is_free p (region whole subs));
+      front_outside = each_filter false p kept (before p (region whole subs)) (before_is_free p (region whole subs));
       heading_part = filter_is_full p (region whole heading);
       number_outside = number_not_part whole kind key;
-      middle_outside = free_filter p kept (filter (λ s. not (p s)) (onward p (region whole subs))) (filter_not_is_free p (onward p (region whole subs)));
+      middle_outside = each_filter false p kept (filter (λ s. not (p s)) (onward p (region whole subs))) (filter_not_is_free p (onward p (region whole subs)));
       in_region = both.0;
       in_behind = both.1;
       front_unnumbered = unnumbered_twice key (before p (region whole subs));

@@ -10,7 +10,7 @@ use Rattle.marc_types.specs.Valid.{subfields_size}
 use Rattle.heading_fields.specs.Parts.{before, onward, is_dividing, region, behind, is_part, part, outside}
 use Rattle.heading_fields.specs.Numbers.{is_naming, unnumbered, number_of, is_blankless}
 use Rattle.heading_fields.specs.Rewriting.{front, rest, rewritten_subfields}
-use Rattle.heading_fields.proofs.Passing.{Free, Full, full_append, before_free, onward_free, filter_free, filter_not_free, filter_full, filter_not_full, before_full, onward_full, filter_not_is_free, free_before, full_filter, full_before, full_onward, free_weaker, cut_filter}
+use Rattle.heading_fields.proofs.Passing.{Free, Full, each_append, before_free, onward_free, filter_free, filter_not_free, filter_full, filter_not_full, before_full, onward_full, filter_not_is_free, each_before, each_filter, each_onward, free_weaker, cut_filter}
 use Rattle.heading_fields.proofs.Codes.{part_not_naming, dividing_not_naming, outside_not_dividing, outside_base, dividing_is_part, undivided_part, number_is_naming, length-key_text}
 use Rattle.heading_fields.proofs.Pieces.{middle, laid, rewritten_is_laid, IsLaid, rewritten_pieces}
 
@@ -153,11 +153,11 @@ size_outside whole kind key subs =
 
 full_region : (test : Subfield → Bool) (whole : Bool) (subs : List Subfield) → Full test subs → Full test (region whole subs)
 full_region test true subs f = f
-full_region test false subs f = full_before test is_dividing subs f
+full_region test false subs f = each_before true test is_dividing subs f
 
 full_behind : (test : Subfield → Bool) (whole : Bool) (subs : List Subfield) → Full test subs → Full test (behind whole subs)
 full_behind test true subs f = tt
-full_behind test false subs f = full_onward test is_dividing subs f
+full_behind test false subs f = each_onward true test is_dividing subs f
 
 -- what holds of each subfield of the field and of the heading, and of the `$0`, holds of each of the rewritten field
 pub full_rewritten : (test : Subfield → Bool) (whole : Bool) (kind : Kind) (key : Key) (heading subs : List Subfield) →
@@ -168,13 +168,13 @@ full_rewritten test whole kind key heading subs fh fs fn =
     let kept = λ (s : Subfield). not (is_naming key s) in
     let other = λ (s : Subfield). not (is_part whole kind s) in
     let inside = full_region test whole subs fs in
-    let front_full = full_filter test kept (before p (region whole subs)) (full_before test p (region whole subs) inside) in
-    let part_full = full_filter test p (region whole heading) (full_region test whole heading fh) in
+    let front_full = each_filter true test kept (before p (region whole subs)) (each_before true test p (region whole subs) inside) in
+    let part_full = each_filter true test p (region whole heading) (full_region test whole heading fh) in
     let others = filter other (onward p (region whole subs)) in
-    let others_full = full_filter test other (onward p (region whole subs)) (full_onward test p (region whole subs) inside) in
-    let rest_full = full_filter test kept (others ++ behind whole subs) (full_append test others (behind whole subs) others_full (full_behind test whole subs fs)) in
-    full_append test (unnumbered key (before p (region whole subs)) ++ filter p (region whole heading)) (number_of key ∷ unnumbered key (others ++ behind whole subs))
-    (full_append test (unnumbered key (before p (region whole subs))) (filter p (region whole heading)) front_full part_full) (fn, rest_full)
+    let others_full = each_filter true test other (onward p (region whole subs)) (each_onward true test p (region whole subs) inside) in
+    let rest_full = each_filter true test kept (others ++ behind whole subs) (each_append true test others (behind whole subs) others_full (full_behind test whole subs fs)) in
+    each_append true test (unnumbered key (before p (region whole subs)) ++ filter p (region whole heading)) (number_of key ∷ unnumbered key (others ++ behind whole subs))
+    (each_append true test (unnumbered key (before p (region whole subs))) (filter p (region whole heading)) front_full part_full) (fn, rest_full)
 
 -- no `$0` that names the key is left
 pub none_named : (key : Key) (subs : List Subfield) → list_any (is_naming key) (unnumbered key subs) ≡ false
@@ -212,7 +212,7 @@ base_before_at kind x hs ys false e ih = rw e (ap (λ zs. cond (is_part false ki
 -- what is outside the base part adds nothing behind it
 base_before : (kind : Kind) (hs ys : List Subfield) → Free (is_part false kind) ys →
     filter (is_part false kind) (before is_dividing (hs ++ ys)) ≡ filter (is_part false kind) (before is_dividing hs)
-base_before kind [] ys f = filter_free (is_part false kind) (before is_dividing ys) (free_before (is_part false kind) is_dividing ys f)
+base_before kind [] ys f = filter_free (is_part false kind) (before is_dividing ys) (each_before false (is_part false kind) is_dividing ys f)
 base_before kind (x ∷ hs) ys f = base_before_at kind x hs ys (is_dividing x) refl (base_before kind hs ys f)
 
 base_of_laid : (kind : Kind) (key : Key) (f h : List Subfield) (n : Subfield) (m b : List Subfield) → IsLaid true kind key f h n m b → b ≡ [] →

@@ -1,12 +1,10 @@
 -- How the command ends, from what its steps say.
-use Rattle.std.proofs.Common.{◌≡◌, ◌≢◌, ◌∙◌, ◌⊎◌, inl, inr, ℕ, Bool, true, false, List, [], ◌∷◌, Option, Result, Ok, Err, OnOk, refl, sym, ap, subst}
+use Rattle.std.proofs.Common.{◌≡◌, ◌≢◌, ◌∙◌, ◌⊎◌, inl, inr, ℕ, true, List, [], ◌∷◌, Option, Result, Ok, Err, OnOk, refl, sym, ap, subst}
 use Rattle.std.specs.Prelude.{IsSomeAnd, IfErr, string_bytes, nat_lt, length}
-use Rattle.std.specs.Io.KnownBytes.{Appends}
 use Rattle.marc_types.specs.declared.entry.Entry.{Entry}
 use Rattle.outside.specs.Disk.{DiskView}
 use Rattle.outside.specs.Fault.{Rose}
 use Rattle.outside.specs.Room.{RoomView, SameBut}
-use Rattle.outside.specs.Sink.{WritesFront}
 use Rattle.command_words.specs.declared.library.Library.{Library}
 use Rattle.catalogue_rules.specs.State.{State}
 use Rattle.catalogue_rules.specs.Settle.{state_of}
@@ -15,19 +13,22 @@ use Rattle.entry_record.specs.History.{IsWithin}
 use Rattle.durable_catalogue.specs.Openings.{IsUnopened}
 use Rattle.durable_catalogue.specs.declared.fault.OpenFault.{OpenFault}
 use Rattle.durable_catalogue.specs.declared.fault.OpenFault.TheVariants as opening
-use Rattle.console_lines.specs.Ends.{Outcome, IsTold, IsUntold, IsSilent, end_of, out_unwritten, console_unwritten}
+use Rattle.console_lines.specs.Ends.{Outcome, IsTold, IsUntold, IsSilent, IsResultTold, ResultTold, ResultUntold, out_unwritten, console_unwritten}
 use Rattle.console_lines.specs.declared.end.End.{End}
 use Rattle.console_lines.specs.declared.end.End.TheVariants.{Done, Refused, Unwritten as NotWritten, Told}
 use Rattle.console_lines.specs.declared.end.Unwritten.{Unwritten}
 use Rattle.console_lines.specs.declared.end.Unwritten.TheVariants.{Out, Report, Console}
+use Rattle.console_lines.specs.declared.end.Hindrance.{Hindrance}
+use Rattle.console_lines.specs.declared.end.Hindrance.TheVariants.{NoMemory as RanOut, Unwritten as NotBoth}
 use Rattle.console_lines.specs.declared.fault.Fault.{Fault}
 use Rattle.console_lines.specs.declared.fault.Fault.TheVariants.{Usage, Input, Device, NotAJournal, Full, Memory, OldVersion, OtherHistory}
-use Rattle.console_lines.proofs.Ends.{told_once, told_not_unwritten, never_told, unwritten_once, all_not_unwritten, all_of}
+use Rattle.console_lines.proofs.Ends.{told_once, told_not_unwritten, never_told, unwritten_once, result_untold, result_no_output, result_cause}
 use Rattle.room_files.specs.Journals.{journal_limits, log_bytes, IsClosedDisk, KeepsHistory, KeepsLog, IsDurable}
 use Rattle.room_files.specs.Faults.{fault_of_opening}
-use Rattle.room_files.proofs.Faults.{opening_device}
+use Rattle.room_files.proofs.Faults.{opening_device, opening_input}
 use Rattle.room_files.proofs.Journals.{closed_keeps, closed_durable, keeps_where}
-use Rattle.archive_commands.specs.Archives.{WhyUnopened, kept_keys}
+use Rattle.output_files.specs.Kept.{kept_keys}
+use Rattle.archive_commands.specs.Archives.{WhyUnopened}
 use Rattle.archive_commands.proofs.Histories.{due_once, fitting_history}
 use Rattle.holdings.specs.declared.holding.Holding.{Holding}
 use Rattle.holdings.specs.Shelves.{shelf_of}
@@ -37,26 +38,17 @@ use Rattle.holdings_command.specs.Lines.{holdings_results}
 use Rattle.holdings_command.specs.Shelving.{EndsShelving}
 use Rattle.holdings_command.specs.Ready.{IsReady}
 use Rattle.holdings_command.specs.Outputs.{AreWritten, AreStopped, AtFirst, AtSecond}
-use Rattle.holdings_command.specs.Attaching.{rest_unwritten, EndsAttaching, Due, due_of, IsDelivered, OutFailed, RestFailed, ConsoleFailed, Whole, IsAttached, AttachesHoldings, IsTextTold, TextTold, TextUntold}
+use Rattle.holdings_command.specs.Attaching.{rest_unwritten, EndsAttaching, Due, due_of, IsDelivered, OutFailed, RestFailed, ConsoleFailed, Whole, IsAttached, AttachesHoldings}
 use Rattle.holdings_command.specs.declared.ready.Ready.{Ready}
-use Rattle.holdings_command.specs.declared.writing.Hindrance.{Hindrance}
-use Rattle.holdings_command.specs.declared.writing.Hindrance.TheVariants.{NoMemory as RanOut, Unwritten as NotBoth}
 use Rattle.holdings_command.proofs.OnShelves.{there_more}
 
--- an opening's fault is one of this command, and none of an input
+-- an opening's fault is one of this command
 ends_unopened : (reason : OpenFault) → reason ≢ opening.OldVersion → EndsAttaching (Told (fault_of_opening reason))
 ends_unopened opening.DeviceFault current = tt
 ends_unopened (opening.NotAJournal place) current = tt
 ends_unopened opening.OldVersion current = absurd (current refl)
 ends_unopened opening.Full current = tt
 ends_unopened opening.NoMemory current = tt
-
-no_input : (reason : OpenFault) → fault_of_opening reason ≡ Input → ⊥
-no_input opening.DeviceFault is = cc
-no_input (opening.NotAJournal place) is = cc
-no_input opening.OldVersion is = cc
-no_input opening.Full is = cc
-no_input opening.NoMemory is = cc
 
 -- a fault of reading the file is one of this command, and none of a device
 ends_unread : (why : Fault) → EndsShelving why → EndsAttaching (Told why)
@@ -148,7 +140,7 @@ module _ (journal out rest : List ℕ) (library : Library) (code : Option (List 
         no_rest = λ also. absurd (told_not_unwritten o.end fault Out is also);
         silent = λ either. absurd (told_not_stopped fault is either);
         device = λ also. cause (opening_device reason (told_once o.end fault Device is also));
-        input = λ also. absurd (no_input reason (told_once o.end fault Input is also));
+        input = λ also. absurd (opening_input reason (told_once o.end fault Input is also));
         out_cause = λ also. absurd (told_not_unwritten o.end fault Out is also);
         rest_cause = λ also. absurd (told_not_unwritten o.end fault Report is also);
         console_cause = λ also. absurd (told_not_unwritten o.end fault Console is also);
@@ -163,7 +155,7 @@ module _ (journal out rest : List ℕ) (library : Library) (code : Option (List 
 
       not_behind : IsUntold o.end ⊎ (o.end ≡ Told Input) → ⊥
       not_behind (inl untold) = never_told o.end (fault_of_opening reason) untold is
-      not_behind (inr also) = no_input reason (told_once o.end (fault_of_opening reason) Input is also)
+      not_behind (inr also) = opening_input reason (told_once o.end (fault_of_opening reason) Input is also)
 
   -- the journal was opened, and closed again
   pub record WasOpened (history : List Entry) : Type 1 where
@@ -256,38 +248,27 @@ module _ (journal out rest : List ℕ) (library : Library) (code : Option (List 
           (λ also. let no : Report ≡ Console = unwritten_once o.end Report Console here also in cc) ready is
           (λ bytes tells. RestFailed here (whole tells) (part tells) silent)
 
-      module _ (written : o.old.tells ≡ true
-          → AreWritten out rest (holdings_export (kept_keys code) (state_of history) ready.shelf) (holdings_rest (state_of history) ready.shelf) o.new) where
-        -- the console could not be written
-        attaches_untold : o.end ≡ console_unwritten → Rose o.faults o.faults_now → WritesFront o.told o.now (string_bytes ready.text)
-            → AttachesHoldings journal out rest library code o
-        attaches_untold here up front =
-            attaches (subst IsUntold (sym here) tt) (λ also. let no : Console ≡ Out = unwritten_once o.end Console Out here also in cc)
-            (λ either. absurd (no_other either)) (λ also. let no : Console ≡ Out = unwritten_once o.end Console Out here also in cc)
-            (λ also. let no : Console ≡ Report = unwritten_once o.end Console Report here also in cc) (λ also. up) ready is
-            (λ bytes tells. ConsoleFailed here (written tells).whole (written tells).rest_whole front)
-          where
-            no_other : (o.end ≡ out_unwritten) ⊎ (o.end ≡ rest_unwritten) → ⊥
-            no_other (inl also) = let no : Console ≡ Out = unwritten_once o.end Console Out here also in cc
-            no_other (inr also) = let no : Console ≡ Report = unwritten_once o.end Console Report here also in cc
+      -- both were written, and the console was told the text or a front of it
+      attaches_told : (o.old.tells ≡ true
+          → AreWritten out rest (holdings_export (kept_keys code) (state_of history) ready.shelf) (holdings_rest (state_of history) ready.shelf) o.new)
+          → IsResultTold o.told o.now o.faults o.faults_now (string_bytes ready.text) ready.refused o.end → AttachesHoldings journal out rest library code o
+      attaches_told written told =
+          attaches (result_untold told) (λ also. absurd (no_output.0 also)) (λ either. absurd (no_other either))
+          (λ also. absurd (no_output.0 also)) (λ also. absurd (no_output.1 also)) (result_cause told) ready is (λ bytes tells. delivered bytes (written tells) told)
+        where
+          no_output : (o.end ≢ out_unwritten) × (o.end ≢ rest_unwritten)
+          no_output = result_no_output told
 
-        -- all was done
-        attaches_whole : o.end ≡ end_of ready.refused → Appends o.told o.now (string_bytes ready.text) → AttachesHoldings journal out rest library code o
-        attaches_whole here line =
-            attaches (untold_end ready.refused here) (λ also. not_unwritten Out also) (λ either. absurd (no_other either))
-            (λ also. not_unwritten Out also) (λ also. not_unwritten Report also) (λ also. not_unwritten Console also) ready is
-            (λ bytes tells. Whole here (written tells).whole (written tells).rest_whole line)
-          where
-            untold_end : (b : Bool) → o.end ≡ end_of b → IsUntold o.end
-            untold_end true e = subst IsUntold (sym e) tt
-            untold_end false e = subst IsUntold (sym e) tt
+          no_other : (o.end ≡ out_unwritten) ⊎ (o.end ≡ rest_unwritten) → ⊥
+          no_other (inl also) = no_output.0 also
+          no_other (inr also) = no_output.1 also
 
-            not_unwritten : {P : Type 0} (which : Unwritten) → o.end ≡ NotWritten which → P
-            not_unwritten which also = absurd (all_not_unwritten (end_of ready.refused) which (all_of ready.refused) (sym here ∙ also))
-
-            no_other : (o.end ≡ out_unwritten) ⊎ (o.end ≡ rest_unwritten) → ⊥
-            no_other (inl also) = not_unwritten Out also
-            no_other (inr also) = not_unwritten Report also
+          delivered : (bytes : List ℕ)
+              → AreWritten out rest (holdings_export (kept_keys code) (state_of history) ready.shelf) (holdings_rest (state_of history) ready.shelf) o.new
+              → IsResultTold o.told o.now o.faults o.faults_now (string_bytes ready.text) ready.refused o.end
+              → IsDelivered (ready_due library code bytes (state_of history) ready out rest o) out rest o
+          delivered bytes are (ResultTold end line) = Whole end are.whole are.rest_whole line
+          delivered bytes are (ResultUntold end up front) = ConsoleFailed end are.whole are.rest_whole front
 
       -- the outputs were written or not, and the console told
       pub attaches_ended : {T : Type 0} → (written : Result T Hindrance) → journal ≢ rest → out ≢ rest
@@ -296,14 +277,10 @@ module _ (journal out rest : List ℕ) (library : Library) (code : Option (List 
           → IfErr written (λ why. (which : Unwritten) → why ≡ NotBoth which
           → AreStopped (journal ∷ out ∷ []) out rest (holdings_export (kept_keys code) (state_of history) ready.shelf) (holdings_rest (state_of history) ready.shelf) o.old o.new which)
           → IfErr written (λ why. why ≡ RanOut → SameBut o.old o.new (journal ∷ []))
-          → OnOk written (IsTextTold o.told o.now o.faults o.faults_now (string_bytes ready.text) ready.refused o.end)
+          → OnOk written (IsResultTold o.told o.now o.faults o.faults_now (string_bytes ready.text) ready.refused o.end)
           → ((which : Unwritten) → written ≡ Err (NotBoth which) → o.end ≡ NotWritten which) → ((which : Unwritten) → written ≡ Err (NotBoth which) → IsSilent o)
           → (written ≡ Err RanOut → o.end ≡ Told Memory) → (written ≡ Err RanOut → IsTold Memory o) → AttachesHoldings journal out rest library code o
-      attaches_ended (Ok value) no_journal no_out are stopped unbegun told unwritten silent memory tells = by told
-        where
-          by : IsTextTold o.told o.now o.faults o.faults_now (string_bytes ready.text) ready.refused o.end → AttachesHoldings journal out rest library code o
-          by (TextTold end line) = attaches_whole are end line
-          by (TextUntold end up front) = attaches_untold are end up front
+      attaches_ended (Ok value) no_journal no_out are stopped unbegun told unwritten silent memory tells = attaches_told are told
       attaches_ended (Err (NotBoth which)) no_journal no_out are stopped unbegun told unwritten silent memory tells =
           attaches_stopped which no_journal no_out (unwritten which refl) (silent which refl) (stopped which refl)
       attaches_ended (Err RanOut) no_journal no_out are stopped unbegun told unwritten silent memory tells =

@@ -16,8 +16,9 @@ use Rattle.console_lines.specs.declared.end.End.TheVariants.{Done, Refused, Unwr
 use Rattle.console_lines.specs.declared.fault.Fault.{Fault}
 use Rattle.console_lines.specs.declared.fault.Fault.TheVariants.{Usage, Input, Device, NotAJournal, Full, Memory, OldVersion, OtherHistory}
 use Rattle.room_files.specs.Journals.{log_bytes, KeepsHistory, IsDurable}
+use Rattle.output_files.specs.Kept.{kept_keys}
 use Rattle.output_files.specs.Outputs.{IsPartWritten}
-use Rattle.archive_commands.specs.Archives.{WhyUnopened, kept_keys, HasFittingHistory}
+use Rattle.archive_commands.specs.Archives.{WhyUnopened, HasFittingHistory}
 use Rattle.holdings.specs.declared.holding.Holding.{Holding}
 use Rattle.holdings.specs.Shelves.{shelf_of}
 use Rattle.file_holdings.specs.Files.{AreHoldings}
@@ -28,11 +29,6 @@ use Rattle.holdings_command.specs.Lines.{holdings_results}
 -- the end where REST could not be written: it is the second output, as REPORT is that of `run`
 abbrev pub rest_unwritten : End
 rest_unwritten = report_unwritten
-
--- the console got the text, and the end is by whether something was refused; or it could not be written, and got a front of the text
-pub data IsTextTold (old new : Option (List ℕ)) (before now : ℕ) (text : List ℕ) (refused : Bool) (end : End) : Type 0 where
-  TextTold : end ≡ end_of refused → Appends old new text → IsTextTold old new before now text refused end
-  TextUntold : end ≡ console_unwritten → Rose before now → WritesFront old new text → IsTextTold old new before now text refused end
 
 -- how it ends: a log of an older version is read too
 abbrev pub EndsAttaching : End → Type 0

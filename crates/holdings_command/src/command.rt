@@ -5,11 +5,10 @@ ghost use Rattle.command_words.specs.Command.{AreNames};
 ghost use Rattle.console_lines.specs.Ends.{outcome};
 ghost use Rattle.holdings_command.specs.Attaching.{AttachesHoldings};
 
-use crate::ending::end_of_outputs;
 use crate::ready::{Ready, prepare};
 use crate::writing::write_both;
 use command_words::Library;
-use console_lines::{End, tell};
+use console_lines::{End, end_of_outputs, tell};
 use outside::Room;
 use room_files::{close_archive, fault_of_opening, open_archive};
 use std::alloc::Global;

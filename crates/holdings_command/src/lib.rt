@@ -4,7 +4,6 @@
 pub use command::attach_holdings;
 
 mod command;
-mod ending;
 mod lines;
 mod ready;
 mod shelving;

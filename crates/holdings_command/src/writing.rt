@@ -5,18 +5,18 @@ ghost use Rattle.outside.specs.Fault.{HasCause, HasWriteCause};
 ghost use Rattle.outside.specs.Room.{SameBut};
 ghost use Rattle.catalogue_rules.specs.Settle.{state_of};
 ghost use Rattle.selection.specs.Selections.{ForSelected, IsCallable};
+ghost use Rattle.output_files.specs.Kept.{kept_keys};
 ghost use Rattle.output_files.specs.Outputs.{IsPartWritten};
 ghost use Rattle.console_lines.specs.declared.end.Unwritten.{Unwritten};
-ghost use Rattle.archive_commands.specs.Archives.{kept_keys};
 ghost use Rattle.holdings_export.specs.Output.{holdings_export, holdings_rest};
 ghost use Rattle.holdings_command.specs.Outputs.{AreWritten, AreStopped};
 
-use archive_commands::is_kept;
 use catalogue_core::Catalogue;
-use console_lines::Unwritten;
+use console_lines::{Hindrance, Unwritten};
 use holdings::{HoldingGroups, HoldingShelf};
 use holdings_export::{Listing, WaitingHoldings, write_holdings};
 use marc_types::Key;
+use output_files::is_kept;
 use outside::{Failed, Room, WriteFault};
 use selection::Selection;
 use std::alloc::Global;
@@ -121,12 +121,6 @@ fn write_records<R: Room>(
     };
     write_out(room, name, rows, &groups, code)?;
     Ok(())
-}
-
-/// What kept an output from being written: want of memory before the first was begun, or which one could not be written.
-pub enum Hindrance {
-    NoMemory,
-    Unwritten(Unwritten),
 }
 
 /// Writes the records of a catalogue with their holdings into the file `out`, and then holdings that wait for a record into the file

@@ -1,7 +1,6 @@
 -- What is still to come after a read, and behind what is passed.
-use Rattle.std.proofs.Common.{◌≡◌, ℕ, ◌≤◌, List, [], ◌++◌, length, drop, Option, Some, None, refl, sym, ap, ◌∙◌, arith, append_assoc, append-nil, length-append, length-drop, ◌+◌}
+use Rattle.std.proofs.Common.{◌≡◌, ℕ, ◌≤◌, List, ◌++◌, length, drop, Option, ap, ◌∙◌, arith, length-append, length-drop, ◌+◌}
 use Rattle.std.proofs.lemmas.Grind.{common_steps}
-use Rattle.std.specs.Io.KnownBytes.{Consumes, IsAtEnd}
 use Rattle.journal_input.specs.Coming.{Comes, ComesOn}
 
 drop_front : (n : ℕ) (a b : List ℕ) → n ≤ length a → drop n (a ++ b) ≡ drop n a ++ b
@@ -14,30 +13,6 @@ comes_behind count window bytes left within c = record {
   told = c.told;
   is = ap (drop count) c.is ∙ drop_front count window c.rest within;
 }
-
-pub comes_more : (window read bytes : List ℕ) (old new : Option (List ℕ)) → Consumes old new read → Comes window old bytes → Comes (window ++ read) new bytes
-comes_more window read bytes None new consumed c = let told = c.told in cc
-comes_more window read bytes (Some xs) None consumed c = absurd consumed
-comes_more window read bytes (Some xs) (Some ys) consumed c =
-    let same : xs ≡ c.rest = (let told = c.told in cc) in
-    record {
-      rest = ys;
-      told = refl;
-      is = c.is ∙ ap (λ l. window ++ l) (sym same ∙ consumed) ∙ sym (append_assoc window read ys);
-    }
-
-pub comes_none : (window read bytes : List ℕ) (old new : Option (List ℕ)) → Consumes old new read → read ≡ [] → IsAtEnd new → Comes window old bytes
-    → bytes ≡ window
-comes_none window read bytes None new consumed none end c = let told = c.told in cc
-comes_none window read bytes (Some xs) None consumed none end c = absurd consumed
-comes_none window read bytes (Some xs) (Some ys) consumed none end c =
-    let same : xs ≡ c.rest = (let told = c.told in cc) in
-    let nothing : xs ≡ [] = consumed ∙ ap (λ l. l ++ ys) none ∙ end in
-    c.is ∙ ap (λ l. window ++ l) (sym same ∙ nothing) ∙ append-nil window
-
--- nothing is passed yet
-pub comes_first : (window bytes : List ℕ) (left : Option (List ℕ)) (place : ℕ) → Comes window left bytes → ComesOn place bytes place window left
-comes_first window bytes left place c = record { now = bytes; comes = c; size = refl }
 
 -- so many more bytes are read and passed
 pub comes_passed : (from place count next : ℕ) (bytes window filled passed : List ℕ) (left read after : Option (List ℕ)) → ComesOn from bytes place window left

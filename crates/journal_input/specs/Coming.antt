@@ -1,5 +1,5 @@
 -- The bytes of an input as they come.
-use Rattle.std.specs.Prelude.{◌≡◌, ℕ, ◌+◌, ◌≤◌, List, ◌++◌, length, Option, Some, Result, IsErrOf}
+use Rattle.std.specs.Prelude.{◌≡◌, ℕ, ◌+◌, ◌<◌, ◌≤◌, List, ◌++◌, length, Option, Some, Result, IsErrOf}
 use Rattle.outside.specs.Fault.{Rose}
 use Rattle.journal_input.specs.declared.fault.ReadFault.{ReadFault}
 use Rattle.journal_input.specs.declared.fault.ReadFault.TheVariants as read
@@ -11,6 +11,16 @@ pub record Comes (window : List ℕ) (left : Option (List ℕ)) (bytes : List �
   pub rest : List ℕ
   pub told : left ≡ Some rest
   pub is : bytes ≡ window ++ rest
+
+-- a read gave some bytes: more are in the window, and the input has fewer to give
+pub record HasMore (old new : List ℕ) (bound bound_now : ℕ) : Type 0 where
+  pub longer : length old < length new
+  pub fewer : bound_now < bound
+
+-- a read gave none: what is in the window is all that was to come
+pub record HasNoMore (old new : List ℕ) (left : Option (List ℕ)) : Type 0 where
+  pub same : new ≡ old
+  pub all : (bytes : List ℕ) → Comes old left bytes → bytes ≡ old
 
 -- behind those bytes from a place on these are still to come, from another place on
 pub record ComesOn (from : ℕ) (bytes : List ℕ) (place : ℕ) (window : List ℕ) (left : Option (List ℕ)) : Type 0 where

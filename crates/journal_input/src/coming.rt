@@ -1,6 +1,6 @@
 //! The bytes of an input as they come, with as many as are looked at together in memory.
 ghost use Rattle.std.specs.Prelude.{◌≡◌, ℕ, ◌+◌, ◌<◌, ◌≤◌, ◌^◌, List, [], drop, length, true, false, IfOk, OnOk};
-ghost use Rattle.journal_input.specs.Coming.{Comes, HasReadCause};
+ghost use Rattle.journal_input.specs.Coming.{Comes, HasMore, HasNoMore, HasReadCause};
 
 use crate::fault::ReadFault;
 use outside::Source;
@@ -59,10 +59,9 @@ impl<S: Source> Coming<S> {
     /// Reads some more bytes, at most so many; `Ok(false)` at the end.
     fn read_more(&mut self, most: usize) -> Result<bool, ReadFault>
         requires { 0 < most }
-        ensures more { IfOk result (λ some. some ≡ true → length self.old.window.items < length self.new.window.items) }
-        ensures falls { IfOk result (λ some. some ≡ true → S.bound self.new.source < S.bound self.old.source) }
-        ensures end { IfOk result (λ some. some ≡ false → (b : List ℕ) → Comes self.old.window.items (S.left self.old.source) b → b ≡ self.old.window.items) }
-        ensures none { IfOk result (λ some. some ≡ false → self.new.window.items ≡ self.old.window.items) }
+        ensures more { IfOk result (λ some. some ≡ true →
+            HasMore self.old.window.items self.new.window.items (S.bound self.old.source) (S.bound self.new.source)) }
+        ensures end { IfOk result (λ some. some ≡ false → HasNoMore self.old.window.items self.new.window.items (S.left self.old.source)) }
         ensures comes { OnOk result ((b : List ℕ) → Comes self.old.window.items (S.left self.old.source) b →
             Comes self.new.window.items (S.left self.new.source) b) }
         ensures place { self.new.place ≡ self.old.place }

@@ -34,21 +34,6 @@ either_fault fault.Memory other = inr refl
 either_fault fault.OldVersion other = inr (other (λ is. cc))
 either_fault fault.OtherHistory other = inr (other (λ is. cc))
 
--- a fault of opening a journal is none of an input
-pub opening_device : (of : OpenFault) → fault_of_opening of ≡ fault.Device → of ≡ opening.DeviceFault
-opening_device opening.DeviceFault is = refl
-opening_device (opening.NotAJournal place) is = cc
-opening_device opening.OldVersion is = cc
-opening_device opening.Full is = cc
-opening_device opening.NoMemory is = cc
-
-pub opening_input : (of : OpenFault) → fault_of_opening of ≡ fault.Input → ⊥
-opening_input opening.DeviceFault is = cc
-opening_input (opening.NotAJournal place) is = cc
-opening_input opening.OldVersion is = cc
-opening_input opening.Full is = cc
-opening_input opening.NoMemory is = cc
-
 -- the faults of a journal, of inputs and of memory
 abbrev IsOfFiles : Fault → Type 0
 IsOfFiles fault.Usage = ⊥

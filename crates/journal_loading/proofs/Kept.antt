@@ -5,25 +5,17 @@ use Rattle.marc_types.specs.declared.entry.Entry.{Entry}
 use Rattle.outside.specs.Room.{RoomView, bytes_or_none}
 use Rattle.command_words.specs.declared.library.Library.{Library}
 use Rattle.console_lines.specs.declared.fault.Fault.{Fault}
-use Rattle.commit_journal.specs.Log.{version_of}
-use Rattle.entry_history.specs.Payloads.{IsHistory}
-use Rattle.entry_history.proofs.Histories.{history_once}
 use Rattle.durable_catalogue.specs.Images.{Holds}
-use Rattle.durable_catalogue.specs.Logs.{payloads_of, IsLogOf, HasHistory}
+use Rattle.durable_catalogue.specs.Logs.{IsLogOf, HasHistory}
 use Rattle.durable_catalogue.proofs.Images.{front_of, whole_is}
 use Rattle.loader_workers.specs.declared.result.FileResult.{FileResult}
 use Rattle.room_files.specs.Journals.{log_bytes, KeepsHistory}
 use Rattle.room_files.specs.Journals as journals
+use Rattle.room_files.proofs.Histories.{reading_once}
 use Rattle.journal_loading.specs.Outcomes.{AreLibrariesLoaded, NoLibrary, OneLibrary, IsUnbegun, Unopened, Unbegun, IsLoadingFault, NotBegun, InPart, IsFileMissing, HasSameHistory}
 
 some_same : {A : Type 0} {x y : A} → Some x ≡ Some y → x ≡ y
 some_same is = cc
-
-reading_once : (entries others : List Entry) (log : List ℕ) → IsLogOf entries log → IsLogOf others log → entries ≡ others
-reading_once entries others log is also =
-    let same : also.frames ≡ is.frames = cc (is.found, also.found) in
-    history_once (version_of log) [] entries others (payloads_of is.frames) is.holds
-    (subst (λ frames. IsHistory (version_of log) [] (payloads_of frames) others) same also.holds)
 
 -- an image that has all entries has the history
 whole_history : (entries : List Entry) (image : List ℕ) → Holds (length entries) entries [] image → HasHistory entries image

@@ -1,7 +1,7 @@
 -- The tables agree with the records once a field and its rows are exchanged, and while keys and forms get numbers.
 use Rattle.std.proofs.Common.{◌≡◌, ◌∙◌, sym, ap, refl, subst, ℕ, ◌<◌, Bool, true, false, cond, List, length, Option, Some, None, if◌then◌else◌, inl}
 use Rattle.std.specs.Prelude.{◌||◌, nat_eq, slice_get}
-use Rattle.std.specs.Option.{option_map, option_map_or}
+use Rattle.std.specs.Option.{option_map}
 use Rattle.std.proofs.lemmas.Option.{slice_get-get_or}
 use Rattle.marc_types.specs.declared.form.Form.{Form}
 use Rattle.marc_types.specs.declared.key.Class.{Class}
@@ -29,6 +29,7 @@ use Rattle.linking_laws.specs.Visits.{waits_for_key}
 use Rattle.linking_laws.proofs.Exchanges.{field_swapped, outlines_swapped}
 use Rattle.linking_laws.proofs.Pairs.{Both, linkables_same, place_of, rows_from}
 use Rattle.linking_laws.proofs.Partial.{ascend_by, place_is}
+use Rattle.linking_laws.proofs.Agreeing.{exchanged}
 use Rattle.form_index.specs.Index.{Indexed}
 use Rattle.form_index.specs.Order.{key_at, no_key}
 use Rattle.catalogue_tables.specs.Following.{TellsAuthorities}
@@ -45,23 +46,6 @@ use Rattle.linked_store.specs.Contents.{Contents, at_seat}
 use Rattle.linked_store.specs.Leading.{leading_by, leads, leads_at, leads_form}
 use Rattle.linked_store.specs.Sound.{AgreesWith, key_lists, keys_of, seen_links, seen_waits, state_in}
 use Rattle.linked_store.specs.Turning.{IsLinkOf, IsWaitOf, turned}
-
--- ---- one place of a state
-
-place_holds : (test : Class → KeptField → Bool) (p q : Place) (old h : KeptField) (s : State) (b : Bool) → same_place p q ≡ b → field_under p s ≡ Some old →
-    (if b then test p.class h else holds_at test s q) ≡ option_map_or (test q.class) (if b then option_map (λ (x : KeptField). h) (field_under q s) else field_under q s) false
-place_holds test p q old h s true e there =
-    let same = place_is p q e in
-    ap (λ (x : Place). test x.class h) same
-    ∙ sym (ap (λ (o : Option KeptField). option_map_or (test q.class) (option_map (λ (x : KeptField). h) o) false) (sym (ap (λ (x : Place). field_under x s) same) ∙ there))
-place_holds test p q old h s false e there = refl
-
-exchanged : (test : Class → KeptField → Bool) (p q : Place) (old h : KeptField) (s : State) (after before : Bool) → field_under p s ≡ Some old →
-    after ≡ (if same_place p q then test p.class h else before) → before ≡ holds_at test s q → after ≡ holds_at test (swapped p h s) q
-exchanged test p q old h s after before there new was =
-    new ∙ ap (λ (b : Bool). if same_place p q then test p.class h else b) was
-    ∙ place_holds test p q old h s (same_place p q) refl there
-    ∙ sym (ap (λ (o : Option KeptField). option_map_or (test q.class) o false) (field_swapped p q h s))
 
 -- ---- a seat of a store and its place
 

@@ -5,12 +5,11 @@ use Rattle.std.specs.Cmp.{unsigned_Decides}
 use Rattle.std.specs.List.{AllByRecursion}
 use Rattle.std.specs.Option.{option_and_then, option_map_or}
 use Rattle.std.proofs.lemmas.Cmp.{eq_by_cmp_equiv}
-use Rattle.std.proofs.lemmas.List.{take_more}
 use Rattle.marc_types.specs.declared.form.Form.{Form}
 use Rattle.marc_types.specs.declared.key.Class.{Class}
 use Rattle.marc_types.specs.declared.key.Key.{Key}
 use Rattle.marc_types.specs.Order.{same_form, same_key, form_cmp_total, key_cmp_total}
-use Rattle.numbering.specs.Numbers.{is_known, number_of, IsNumberOf, Keeps}
+use Rattle.numbering.specs.Numbers.{is_known, number_of, Keeps}
 use Rattle.numbering.specs.declared.seat.Seat.{Seat}
 use Rattle.numbering.proofs.Numberlaws.{alike, number_below}
 use Rattle.catalogue_rules.specs.State.{KeptField, KeptRecord, State}
@@ -25,7 +24,7 @@ use Rattle.linking_laws.specs.Partway.{IsSteady, swapped}
 use mathlib.Core.Bool.{false≢true}
 use Rattle.catalogue_tables.specs.Asked.{first_of}
 use Rattle.catalogue_tables.specs.Seam.{HasKey, KeyLists, place_at}
-use Rattle.catalogue_tables.specs.Waiting.{AreNumbersOf, one_or_two}
+use Rattle.catalogue_tables.specs.Waiting.{one_or_two}
 use Rattle.catalogue_tables.proofs.Seams.{keeps_then, numbers_alike, numbers_low}
 use Rattle.linked_store.specs.Contents.{CanGoBack, Contents, Step}
 use Rattle.linked_store.proofs.Going.{can_join}
@@ -242,30 +241,6 @@ link_still x y o l same is = link_kept x.keys.authorities y.keys.authorities o l
 
 pub state_then : (seat : Seat) (h : KeptField) (x y z : Linked) → IsUnchanged x y → HasKey x.keys seat → z.state ≡ swapped (place_at y.keys seat) h y.state → z.state ≡ swapped (place_at x.keys seat) h x.state
 state_then seat h x y z same low is = is ∙ (λ i. swapped (same.ahead.keys.places seat low i) h (same.state i))
-
--- ---- numbers of keys
-
-module _ (old new : List Key) (one : Key) (number : ℕ) (keeps : Keeps same_key old new) (of : IsNumberOf same_key new one number) where
-  known_step : (xs : List Key) → AllByRecursion (λ t. is_known same_key old t ≡ true) xs → AllByRecursion (λ t. is_known same_key new t ≡ true) (xs ++ one ∷ [])
-  known_step [] known = (of.known, tt)
-  known_step (x ∷ xs) known = (keeps.known x known.0, known_step xs known.1)
-
-  map_step : (xs : List Key) → AllByRecursion (λ t. is_known same_key old t ≡ true) xs → map (number_of same_key old) xs ++ number ∷ [] ≡ map (number_of same_key new) (xs ++ one ∷ [])
-  map_step [] known = ap (λ (n : ℕ). n ∷ []) of.is
-  map_step (x ∷ xs) known =
-      let here : number_of same_key old x ≡ number_of same_key new x = sym (keeps.same_number x known.0) in
-      let rest = map_step xs known.1 in
-      λ i. here i ∷ rest i
-
-pub keys_numbered : (old new : List Key) (keys : List Key) (i : ℕ) (one : Key) (numbers after : List ℕ) (number : ℕ) → Keeps same_key old new → i < length keys → one ≡ get_or keys i one
-    → AreNumbersOf same_key old (take i keys) numbers → IsNumberOf same_key new one number → after ≡ numbers ++ number ∷ [] → AreNumbersOf same_key new (take (i + 1) keys) after
-keys_numbered old new keys i one numbers after number keeps low is are of pushed =
-    let whole : take i keys ++ one ∷ [] ≡ take (i + 1) keys = ap (λ (t : Key). take i keys ++ t ∷ []) is ∙ sym (take_more keys i one low) in
-    subst (AreNumbersOf same_key new (take (i + 1) keys)) (sym pushed)
-    (subst (λ (ts : List Key). AreNumbersOf same_key new ts (numbers ++ number ∷ [])) whole (record {
-      known = known_step old new one number keeps of (take i keys) are.known;
-      are = ap (λ (ns : List ℕ). ns ++ number ∷ []) are.are ∙ map_step old new one number keeps of (take i keys) are.known;
-    }))
 
 -- the way back goes on
 pub can_on : (f g : Frame) → GoesOn f g → CanGoBack (steps_of f) (contents f) → CanGoBack (steps_of g) (contents g)

@@ -1,5 +1,5 @@
 -- The row that a seat can have, as its field tells.
-use Rattle.std.proofs.Common.{◌≡◌, ◌∙◌, sym, ap, refl, subst, ℕ, zero, suc, Bool, true, false, List, [], ◌∷◌, Option, Some, None, is_some, ◌<◌, length}
+use Rattle.std.proofs.Common.{◌≡◌, ◌∙◌, sym, ap, refl, subst, ℕ, Bool, true, false, Option, Some, None, is_some, ◌<◌, length}
 use Rattle.std.specs.Prelude.{slice_get, if◌then◌else◌}
 use Rattle.std.specs.List.{IsDistinct}
 use Rattle.std.specs.Option.{option_map, option_map_or}
@@ -14,8 +14,8 @@ use Rattle.marc_types.specs.Order.{same_form, same_key}
 use Rattle.numbering.specs.declared.seat.Seat.{Seat}
 use Rattle.heading_fields.specs.Tables.{kind_of}
 use Rattle.entry_record.specs.Authority.{has_form, heading_kind, option_filter}
-use Rattle.catalogue_rules.specs.State.{KeptField, kept_field, kept_record, tied}
-use Rattle.record_store.proofs.Joined.{record_get}
+use Rattle.catalogue_rules.specs.State.{KeptField, kept_field, kept_record}
+use Rattle.record_store.proofs.Joined.{tied_off, tied_read}
 use Rattle.numbered_store.specs.Numbered.{field_of}
 use Rattle.linking_laws.specs.Tables.{asks_at, holds_at, linked_at}
 use Rattle.linking_laws.specs.Waiting.{asked_forms, is_form_among}
@@ -35,30 +35,12 @@ use Rattle.linked_store.proofs.Outside.{none_at}
 
 -- ---- a field read at a place
 
-no_field : (fields : List Field) (ties : List Tie) (i : ℕ) → slice_get fields i ≡ None → slice_get (tied fields ties) i ≡ None
-no_field [] ties i off = refl
-no_field (f ∷ fields) [] i off = refl
-no_field (f ∷ fields) (t ∷ ties) zero off = cc
-no_field (f ∷ fields) (t ∷ ties) (suc i) off = no_field fields ties i off
-
-no_tie : (fields : List Field) (ties : List Tie) (i : ℕ) → slice_get ties i ≡ None → slice_get (tied fields ties) i ≡ None
-no_tie [] ties i off = refl
-no_tie (f ∷ fields) [] i off = refl
-no_tie (f ∷ fields) (t ∷ ties) zero off = cc
-no_tie (f ∷ fields) (t ∷ ties) (suc i) off = no_tie fields ties i off
-
 pub held_off : (class : Class) (kept : Kept) (i : ℕ) → None ≡ slice_get kept.rec.fields i → Nothing ≡ row_held class (slice_get (kept_record kept).fields i)
-unfolding kept_record
-held_off class kept i off = sym (ap (row_held class) (no_field kept.rec.fields kept.links i (sym off)))
-
-tie_off : (kept : Kept) (i : ℕ) → slice_get kept.links i ≡ None → slice_get (kept_record kept).fields i ≡ None
-unfolding kept_record
-tie_off kept i off = no_tie kept.rec.fields kept.links i off
+held_off class kept i off = ap (row_held class) (tied_off kept i off)
 
 pub held_read : (class : Class) (kept : Kept) (i : ℕ) (f : Field) (t : Option Tie) → Some f ≡ slice_get kept.rec.fields i → t ≡ slice_get kept.links i
     → row_held class (option_map (kept_field f) t) ≡ row_held class (slice_get (kept_record kept).fields i)
-held_read class kept i f None here tie = ap (row_held class) (sym (tie_off kept i (sym tie)))
-held_read class kept i f (Some t) here tie = ap (row_held class) (sym (record_get kept i f t (sym here) (sym tie)))
+held_read class kept i f t here tie = ap (row_held class) (tied_read kept i f t here tie)
 
 -- ---- what the tables have
 

@@ -1,5 +1,5 @@
 -- A field that stays linked to the same authority leaves all rows as they are.
-use Rattle.std.proofs.Common.{◌≡◌, ◌∙◌, sym, ap, refl, subst, ℕ, zero, suc, arith, Bool, true, false, cond, List, [], ◌∷◌, length, Option, Some, None, IfSome, is_some}
+use Rattle.std.proofs.Common.{◌≡◌, ◌∙◌, sym, ap, refl, subst, ℕ, Bool, true, false, cond, List, Option, Some, None, IfSome, is_some}
 use Rattle.std.specs.Prelude.{slice_get, if◌then◌else◌}
 use Rattle.std.specs.List.{IsDistinct}
 use Rattle.std.specs.Option.{option_map, option_map_or}
@@ -13,8 +13,9 @@ use Rattle.numbering.specs.Numbers.{number_of}
 use Rattle.numbering.specs.Seats.{same_seat, seat_Decides}
 use Rattle.numbering.specs.declared.seat.Seat.{Seat}
 use Rattle.heading_fields.specs.Tables.{kind_of}
-use Rattle.catalogue_rules.specs.State.{KeptField, kept_record, tied}
+use Rattle.catalogue_rules.specs.State.{KeptField, kept_record}
 use Rattle.numbered_store.specs.Numbered.{field_of as field_by_number, with_field_of}
+use Rattle.record_store.proofs.Joined.{tie_at}
 use Rattle.link_table.specs.Links.{is_linked}
 use Rattle.linking_laws.specs.Partway.{IsSteady, swapped}
 use Rattle.linking_laws.specs.Tables.{linked_at}
@@ -39,23 +40,15 @@ use Rattle.linked_store.proofs.Wanting.{wants_linked}
 
 -- ---- the tie at a place
 
-tie_read : (fields : List Field) (ties : List Tie) (i : ℕ) → length ties ≡ length fields → slice_get ties i ≡ option_map (λ (h : KeptField). h.tie) (slice_get (tied fields ties) i)
-tie_read [] [] i e = refl
-tie_read [] (t ∷ ties) i e = absurd (omega (arith, e))
-tie_read (f ∷ fields) [] i e = absurd (omega (arith, e))
-tie_read (f ∷ fields) (t ∷ ties) zero e = refl
-tie_read (f ∷ fields) (t ∷ ties) (suc i) e = tie_read fields ties i (omega (arith, e))
-
 alike_by : (tie : Tie) (o : Option KeptField) → option_map_or (λ (own : Tie). same_link own tie) (option_map (λ (h : KeptField). h.tie) o) false ≡ is_linked_alike tie o
 alike_by tie None = refl
 alike_by tie (Some h) = refl
 
 alike_found : (kept : Kept) (i : ℕ) (tie : Tie) (own : Option Tie) → own ≡ slice_get kept.links i
     → option_map_or (λ (t : Tie). same_link t tie) own false ≡ is_linked_alike tie (slice_get (kept_record kept).fields i)
-unfolding kept_record
 alike_found kept i tie own is =
-    ap (λ (o : Option Tie). option_map_or (λ (t : Tie). same_link t tie) o false) (is ∙ tie_read kept.rec.fields kept.links i kept.tied)
-    ∙ alike_by tie (slice_get (tied kept.rec.fields kept.links) i)
+    ap (λ (o : Option Tie). option_map_or (λ (t : Tie). same_link t tie) o false) (is ∙ sym (tie_at kept i))
+    ∙ alike_by tie (slice_get (kept_record kept).fields i)
 
 pub alike_read : (kept : Kept) (i : ℕ) (tie own : Tie) → Some own ≡ slice_get kept.links i → same_link own tie ≡ is_linked_alike tie (slice_get (kept_record kept).fields i)
 alike_read kept i tie own is = alike_found kept i tie (Some own) is

@@ -47,7 +47,7 @@ place_at test p q old h s true e there =
     ∙ sym (ap (λ (o : Option KeptField). option_map_or (test q.class) (option_map (λ (x : KeptField). h) o) false) (sym (ap (λ (x : Place). field_under x s) same) ∙ there))
 place_at test p q old h s false e there = refl
 
-exchanged : (test : Class → KeptField → Bool) (p q : Place) (old h : KeptField) (s : State) (after before : Bool) → field_under p s ≡ Some old →
+pub exchanged : (test : Class → KeptField → Bool) (p q : Place) (old h : KeptField) (s : State) (after before : Bool) → field_under p s ≡ Some old →
     after ≡ (if same_place p q then test p.class h else before) → before ≡ holds_at test s q → after ≡ holds_at test (swapped p h s) q
 exchanged test p q old h s after before there new was =
     new ∙ ap (λ (b : Bool). if same_place p q then test p.class h else b) was

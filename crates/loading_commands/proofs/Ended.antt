@@ -12,12 +12,12 @@ use Rattle.command_words.specs.declared.library.Library.{Library}
 use Rattle.command_words.specs.Command.{AreNames}
 use Rattle.catalogue_rules.specs.Settle.{state_of}
 use Rattle.catalogue_rules.specs.Output.{export_of, all_keys}
-use Rattle.console_lines.specs.Ends.{Outcome, IsTold, IsAllDone, IsUntold, IsSilent, end_of, out_unwritten, report_unwritten, console_unwritten}
+use Rattle.console_lines.specs.Ends.{Outcome, IsTold, IsSilent, IsResultTold, end_of, out_unwritten, report_unwritten}
 use Rattle.console_lines.specs.declared.end.End.TheVariants.{Told}
 use Rattle.console_lines.specs.declared.end.Unwritten.TheVariants as unwritten
 use Rattle.console_lines.specs.declared.fault.Fault.{Fault}
 use Rattle.console_lines.specs.declared.fault.Fault.TheVariants as fault
-use Rattle.console_lines.proofs.Ends.{told_once, told_not_unwritten, never_told, told_not_all, all_not_unwritten, out_not_console, out_not_report, report_not_console}
+use Rattle.console_lines.proofs.Ends.{told_once, told_not_unwritten, never_told, told_not_all, all_not_unwritten, out_not_console, out_not_report, report_not_console, result_untold, result_done, result_line, result_front, result_no_output, result_cause}
 use Rattle.loader_workers.specs.declared.result.FileResult.{FileResult}
 use Rattle.output_files.specs.Outputs.{IsPartWritten}
 use Rattle.journal_loading.specs.Outcomes.{Fails}
@@ -58,11 +58,7 @@ module _ (libraries : List Library) (journal : List ℕ) (o : Outcome) where
   pub record TellsLines (results : List FileResult) : Type 0 where
     pub text : List ℕ
     pub refused : Bool
-    pub untold : IsUntold o.end
-    pub no_output : (o.end ≢ out_unwritten) × (o.end ≢ report_unwritten)
-    pub done : IsAllDone o.end → o.end ≡ end_of refused
-    pub whole : IsAllDone o.end → Appends o.told o.now text
-    pub front : WritesFront o.told o.now text
+    pub told : IsResultTold o.told o.now o.faults o.faults_now text refused o.end
     pub refused_is : refused ≡ has_refused results
     pub text_is : text ≡ files_text libraries results
 
@@ -82,27 +78,28 @@ module _ (libraries : List Library) (journal : List ℕ) (o : Outcome) where
   }
 
   pub loads_told : (entries : List Entry) (results : List FileResult) → TellsLines results
-      → (o.old.tells ≡ true → MergedBy o.old o.new journal libraries entries results) → (o.end ≡ console_unwritten → Rose o.faults o.faults_now) → Loads libraries journal o
-  loads_told entries results t merged cause = record {
-    ends = loading_untold o.end t.untold t.no_output;
-    told = λ why also. absurd (never_told o.end why t.untold also);
-    because = λ why also. absurd (never_told o.end why t.untold also);
-    missing = λ why also. absurd (never_told o.end why t.untold also);
-    device = λ also. absurd (never_told o.end fault.Device t.untold also);
-    input = λ also. absurd (never_told o.end fault.Input t.untold also);
-    console_cause = cause;
-    no_output = t.no_output;
-    whole = λ all tells.
-        let m = merged tells in
-        record {
-          merged = m.merged;
-          console = subst (Appends o.told o.now) (t.text_is ∙ m.text_is) (t.whole all);
-          end_is = t.done all ∙ ap (λ b. end_of b) (t.refused_is ∙ m.any_is);
-        };
-    untold = λ failed tells.
-        let m = merged tells in
-        record { merged = m.merged; console = subst (WritesFront o.told o.now) (t.text_is ∙ m.text_is) t.front };
-  }
+      → (o.old.tells ≡ true → MergedBy o.old o.new journal libraries entries results) → Loads libraries journal o
+  loads_told entries results t merged =
+      let untold = result_untold t.told in record {
+        ends = loading_untold o.end untold (result_no_output t.told);
+        told = λ why also. absurd (never_told o.end why untold also);
+        because = λ why also. absurd (never_told o.end why untold also);
+        missing = λ why also. absurd (never_told o.end why untold also);
+        device = λ also. absurd (never_told o.end fault.Device untold also);
+        input = λ also. absurd (never_told o.end fault.Input untold also);
+        console_cause = result_cause t.told;
+        no_output = result_no_output t.told;
+        whole = λ all tells.
+            let m = merged tells in
+            record {
+              merged = m.merged;
+              console = subst (Appends o.told o.now) (t.text_is ∙ m.text_is) (result_line t.told all);
+              end_is = result_done t.told all ∙ ap (λ b. end_of b) (t.refused_is ∙ m.any_is);
+            };
+        untold = λ failed tells.
+            let m = merged tells in
+            record { merged = m.merged; console = subst (WritesFront o.told o.now) (t.text_is ∙ m.text_is) (result_front t.told) };
+      }
 
   neither : {A B : Type 0} {C : Type 0} → (A → ⊥) → (B → ⊥) → A ⊎ B → C
   neither first second (inl a) = absurd (first a)
@@ -132,39 +129,41 @@ module _ (libraries : List Library) (journal : List ℕ) (o : Outcome) where
         }
 
     pub runs_told : (entries : List Entry) (results : List FileResult) → TellsLines results
-        → (o.old.tells ≡ true → MergedBy o.old o.new journal libraries entries results) → (o.end ≡ console_unwritten → Rose o.faults o.faults_now) → (o.old.tells ≡ true → AreOutputs o.new out report entries)
+        → (o.old.tells ≡ true → MergedBy o.old o.new journal libraries entries results) → (o.old.tells ≡ true → AreOutputs o.new out report entries)
         → Runs libraries journal out report o
-    runs_told entries results t merged cause outputs = record {
-      ends = running_untold o.end t.untold;
-      told = λ why also. absurd (never_told o.end why t.untold also);
-      because = λ why also. absurd (never_told o.end why t.untold also);
-      missing = λ why also. absurd (never_told o.end why t.untold also);
-      untouched = λ why also. absurd (never_told o.end why t.untold also);
-      device = λ also. absurd (never_told o.end fault.Device t.untold also);
-      input = λ also. absurd (never_told o.end fault.Input t.untold also);
-      out_cause = λ also. absurd (t.no_output.0 also);
-      report_cause = λ also. absurd (t.no_output.1 also);
-      console_cause = cause;
-      whole = λ all tells.
-          let m = merged tells in
-          record {
-            merged = m.merged;
-            outputs = subst (AreOutputs o.new out report) m.entries_are (outputs tells);
-            console = subst (Appends o.told o.now) (t.text_is ∙ m.text_is) (t.whole all);
-            end_is = t.done all ∙ ap (λ b. end_of b) (t.refused_is ∙ m.any_is);
-          };
-      no_report = neither t.no_output.0 (λ also. never_told o.end fault.Memory t.untold also);
-      silent = neither t.no_output.0 t.no_output.1;
-      in_out = λ also. absurd (t.no_output.0 also);
-      in_report = λ also. absurd (t.no_output.1 also);
-      untold = λ failed tells.
-          let m = merged tells in
-          record {
-            merged = m.merged;
-            outputs = subst (AreOutputs o.new out report) m.entries_are (outputs tells);
-            console = subst (WritesFront o.told o.now) (t.text_is ∙ m.text_is) t.front;
-          };
-    }
+    runs_told entries results t merged outputs =
+        let untold = result_untold t.told in
+        let no_output = result_no_output t.told in record {
+          ends = running_untold o.end untold;
+          told = λ why also. absurd (never_told o.end why untold also);
+          because = λ why also. absurd (never_told o.end why untold also);
+          missing = λ why also. absurd (never_told o.end why untold also);
+          untouched = λ why also. absurd (never_told o.end why untold also);
+          device = λ also. absurd (never_told o.end fault.Device untold also);
+          input = λ also. absurd (never_told o.end fault.Input untold also);
+          out_cause = λ also. absurd (no_output.0 also);
+          report_cause = λ also. absurd (no_output.1 also);
+          console_cause = result_cause t.told;
+          whole = λ all tells.
+              let m = merged tells in
+              record {
+                merged = m.merged;
+                outputs = subst (AreOutputs o.new out report) m.entries_are (outputs tells);
+                console = subst (Appends o.told o.now) (t.text_is ∙ m.text_is) (result_line t.told all);
+                end_is = result_done t.told all ∙ ap (λ b. end_of b) (t.refused_is ∙ m.any_is);
+              };
+          no_report = neither no_output.0 (λ also. never_told o.end fault.Memory untold also);
+          silent = neither no_output.0 no_output.1;
+          in_out = λ also. absurd (no_output.0 also);
+          in_report = λ also. absurd (no_output.1 also);
+          untold = λ failed tells.
+              let m = merged tells in
+              record {
+                merged = m.merged;
+                outputs = subst (AreOutputs o.new out report) m.entries_are (outputs tells);
+                console = subst (WritesFront o.told o.now) (t.text_is ∙ m.text_is) (result_front t.told);
+              };
+        }
 
     -- an output was not written, behind files that were loaded whole
     module _ (entries : List Entry) (results : List FileResult) (silent : IsSilent o)

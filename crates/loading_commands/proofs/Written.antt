@@ -7,15 +7,17 @@ use Rattle.outside.proofs.Rooms.{same_but_then, same_but_more, same_but_none}
 use Rattle.catalogue_rules.specs.Settle.{state_of}
 use Rattle.catalogue_rules.specs.Output.{export_of, all_keys, report_of}
 use Rattle.command_words.specs.Command.{AreNames}
+use Rattle.console_lines.specs.declared.end.Hindrance.{Hindrance}
+use Rattle.console_lines.specs.declared.end.Hindrance.TheVariants.{NoMemory, Unwritten}
+use Rattle.console_lines.specs.declared.end.Unwritten.TheVariants.{Out, Report}
 use Rattle.output_files.specs.Outputs.{IsPartWritten}
 use Rattle.loading_commands.specs.Outputs.{AreUnwritten}
 use Rattle.loading_commands.specs.Runs.{AreOutputs, AreOutAndPart}
-use Rattle.loading_commands.specs.declared.outputs.OutputsFault.{OutputsFault}
-use Rattle.loading_commands.specs.declared.outputs.OutputsFault.TheVariants.{OutFault, ReportFault, NoMemory}
 
 module _ (old new : RoomView) (out report : List ℕ) (entries : List Entry) where
   pub nothing_begun : SameBut old new [] → AreUnwritten old new out report entries NoMemory
   nothing_begun apart = record {
+    no_console = λ is. cc;
     out_cause = λ is. cc;
     report_cause = λ is. cc;
     no_report = λ other. same_but_none old new (out ∷ []) apart;
@@ -26,8 +28,9 @@ module _ (old new : RoomView) (out report : List ℕ) (entries : List Entry) whe
 
   pub out_failed : SameBut old new (out ∷ []) → Rose (old.out_faults out) (new.out_faults out)
       → (old.tells ≡ true → IsPartWritten (old.file out) (new.file out) (export_of all_keys (state_of entries)))
-      → AreUnwritten old new out report entries OutFault
+      → AreUnwritten old new out report entries (Unwritten Out)
   out_failed apart rose part = record {
+    no_console = λ is. cc;
     out_cause = λ is. rose;
     report_cause = λ is. cc;
     no_report = λ other. apart;
@@ -45,8 +48,9 @@ module _ (old new : RoomView) (out report : List ℕ) (entries : List Entry) whe
       report_is = subst (λ f. IsPartWritten f (new.file report) (report_of (state_of entries))) (first.files report (differ, tt)) (part (first.tells ∙ tells));
     }
 
-    pub report_rose : Rose (mid.out_faults report) (new.out_faults report) → AreUnwritten old new out report entries ReportFault
+    pub report_rose : Rose (mid.out_faults report) (new.out_faults report) → AreUnwritten old new out report entries (Unwritten Report)
     report_rose rose = record {
+      no_console = λ is. cc;
       out_cause = λ is. cc;
       report_cause = λ is. let earlier = first.outs report in omega (arith, earlier, rose);
       no_report = λ other. absurd (other refl);
@@ -59,6 +63,7 @@ module _ (old new : RoomView) (out report : List ℕ) (entries : List Entry) whe
   pub report_unbegun : (mid : RoomView) → SameBut old mid (out ∷ []) → SameBut mid new []
       → (old.tells ≡ true → mid.file out ≡ Some (export_of all_keys (state_of entries))) → AreUnwritten old new out report entries NoMemory
   report_unbegun mid first unbegun whole = record {
+    no_console = λ is. cc;
     out_cause = λ is. cc;
     report_cause = λ is. cc;
     no_report = λ other. same_but_then old mid new (out ∷ []) first (same_but_none mid new (out ∷ []) unbegun);
@@ -87,31 +92,31 @@ module _ (old mid wrote new : RoomView) (journal out report : List ℕ) (entries
   rose_between : (name : List ℕ) → Rose (mid.out_faults name) (wrote.out_faults name) → Rose (old.out_faults name) (new.out_faults name)
   rose_between name rose = let first = opened.outs name in let last = closing.outs name in omega (arith, first, rose, last)
 
-  module _ (fault : OutputsFault) (are : AreUnwritten mid wrote out report entries fault) where
-    pub out_rose : fault ≡ OutFault → Rose (old.out_faults out) (new.out_faults out)
+  module _ (why : Hindrance) (are : AreUnwritten mid wrote out report entries why) where
+    pub out_rose : why ≡ Unwritten Out → Rose (old.out_faults out) (new.out_faults out)
     out_rose is = rose_between out (are.out_cause is)
 
-    pub report_rose_too : fault ≡ ReportFault → Rose (old.out_faults report) (new.out_faults report)
+    pub report_rose_too : why ≡ Unwritten Report → Rose (old.out_faults report) (new.out_faults report)
     report_rose_too is = rose_between report (are.report_cause is)
 
-    pub no_report : fault ≢ ReportFault → SameBut old new (journal ∷ out ∷ [])
+    pub no_report : why ≢ Unwritten Report → SameBut old new (journal ∷ out ∷ [])
     no_report unfailed =
         let names_too = journal ∷ out ∷ [] in
         same_but_then old mid new names_too (same_but_more old mid (journal ∷ []) names_too (λ n other. (other.0, tt)) opened)
         (same_but_then mid wrote new names_too (same_but_more mid wrote (out ∷ []) names_too (λ n other. other.1) (are.no_report unfailed))
         (same_but_more wrote new (journal ∷ []) names_too (λ n other. (other.0, tt)) closing))
 
-    pub in_out : fault ≡ OutFault → old.tells ≡ true → IsPartWritten (old.file out) (new.file out) (export_of all_keys (state_of entries))
+    pub in_out : why ≡ Unwritten Out → old.tells ≡ true → IsPartWritten (old.file out) (new.file out) (export_of all_keys (state_of entries))
     in_out is tells = part_between out (export_of all_keys (state_of entries)) (λ same. names.1.0 (sym same)) (are.in_out is (opened.tells ∙ tells))
 
-    pub in_report : fault ≡ ReportFault → old.tells ≡ true → AreOutAndPart old new out report entries
+    pub in_report : why ≡ Unwritten Report → old.tells ≡ true → AreOutAndPart old new out report entries
     in_report fails tells =
         let is = are.in_report fails (opened.tells ∙ tells) in record {
           export = out_is ∙ is.export;
           report_is = part_between report (report_of (state_of entries)) (λ same. names.1.1.0 (sym same)) is.report_is;
         }
 
-    pub ran_out : fault ≡ NoMemory → SameBut old new (journal ∷ []) ⊎ (old.tells ≡ true → new.file out ≡ Some (export_of all_keys (state_of entries)))
+    pub ran_out : why ≡ NoMemory → SameBut old new (journal ∷ []) ⊎ (old.tells ≡ true → new.file out ≡ Some (export_of all_keys (state_of entries)))
     ran_out is = by_case (are.memory is)
       where
         names_too : List (List ℕ)

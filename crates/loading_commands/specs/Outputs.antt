@@ -5,17 +5,19 @@ use Rattle.outside.specs.Fault.{Rose}
 use Rattle.outside.specs.Room.{RoomView, SameBut}
 use Rattle.catalogue_rules.specs.Settle.{state_of}
 use Rattle.catalogue_rules.specs.Output.{export_of, all_keys}
+use Rattle.console_lines.specs.declared.end.Hindrance.{Hindrance}
+use Rattle.console_lines.specs.declared.end.Hindrance.TheVariants.{NoMemory, Unwritten}
+use Rattle.console_lines.specs.declared.end.Unwritten.TheVariants.{Out, Report, Console}
 use Rattle.output_files.specs.Outputs.{IsPartWritten}
 use Rattle.loading_commands.specs.Runs.{AreOutAndPart}
-use Rattle.loading_commands.specs.declared.outputs.OutputsFault.{OutputsFault}
-use Rattle.loading_commands.specs.declared.outputs.OutputsFault.TheVariants.{OutFault, ReportFault, NoMemory}
 
--- why the outputs are not written, and what is there then
-pub record AreUnwritten (old new : RoomView) (out report : List ℕ) (entries : List Entry) (fault : OutputsFault) : Type 0 where
-  pub out_cause : fault ≡ OutFault → Rose (old.out_faults out) (new.out_faults out)
-  pub report_cause : fault ≡ ReportFault → Rose (old.out_faults report) (new.out_faults report)
-  pub no_report : fault ≢ ReportFault → SameBut old new (out ∷ [])
-  pub in_out : fault ≡ OutFault → old.tells ≡ true → IsPartWritten (old.file out) (new.file out) (export_of all_keys (state_of entries))
-  pub in_report : fault ≡ ReportFault → old.tells ≡ true → AreOutAndPart old new out report entries
+-- what hinders the outputs, and what is there then
+pub record AreUnwritten (old new : RoomView) (out report : List ℕ) (entries : List Entry) (why : Hindrance) : Type 0 where
+  pub no_console : why ≢ Unwritten Console
+  pub out_cause : why ≡ Unwritten Out → Rose (old.out_faults out) (new.out_faults out)
+  pub report_cause : why ≡ Unwritten Report → Rose (old.out_faults report) (new.out_faults report)
+  pub no_report : why ≢ Unwritten Report → SameBut old new (out ∷ [])
+  pub in_out : why ≡ Unwritten Out → old.tells ≡ true → IsPartWritten (old.file out) (new.file out) (export_of all_keys (state_of entries))
+  pub in_report : why ≡ Unwritten Report → old.tells ≡ true → AreOutAndPart old new out report entries
   -- memory ran out before anything was begun, or before REPORT was
-  pub memory : fault ≡ NoMemory → SameBut old new [] ⊎ (old.tells ≡ true → new.file out ≡ Some (export_of all_keys (state_of entries)))
+  pub memory : why ≡ NoMemory → SameBut old new [] ⊎ (old.tells ≡ true → new.file out ≡ Some (export_of all_keys (state_of entries)))

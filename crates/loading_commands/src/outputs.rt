@@ -5,29 +5,20 @@ ghost use Rattle.loading_commands.specs.Outputs.{AreUnwritten};
 ghost use Rattle.loading_commands.specs.Runs.{AreOutputs};
 
 use catalogue_core::Catalogue;
+use console_lines::{Hindrance, Unwritten};
 use output_files::{write_all_records, write_report_file};
 use outside::{Room, WriteFault};
 use std::alloc::Global;
 
-/// Why the outputs of a run are not written.
-#[derive(Clone, Copy, Debug, PartialEq, Eq)]
-pub enum OutputsFault {
-    /// OUT could not be written, and REPORT isn't begun.
-    OutFault,
-    /// REPORT could not be written.
-    ReportFault,
-    /// Memory ran out before OUT is begun, or behind OUT before REPORT is.
-    NoMemory,
-}
-
-/// Writes the export of a catalogue into the file `out`, and then its report into the file `report`.
+/// Writes the export of a catalogue into the file `out`, and then its report into the file `report`. Memory may run out before `out` is
+/// begun, or behind it before `report` is.
 pub fn write_outputs<R: Room>(
     alloc: Global,
     room: &mut R,
     out: &str,
     report: &str,
     core: &Catalogue,
-) -> Result<(), OutputsFault>
+) -> Result<(), Hindrance>
     requires free { (R.seen room.old).open_as out.now ≡ None }
     requires report_free { (R.seen room.old).open_as report.now ≡ None }
     requires differ { report.now ≢ out.now }
@@ -40,12 +31,12 @@ pub fn write_outputs<R: Room>(
 {
     match write_all_records(alloc, room, out, core) {
         Ok(()) => {}
-        Err(WriteFault::OutputFault) => return Err(OutputsFault::OutFault),
-        Err(WriteFault::NoMemory) => return Err(OutputsFault::NoMemory),
+        Err(WriteFault::OutputFault) => return Err(Hindrance::Unwritten(Unwritten::Out)),
+        Err(WriteFault::NoMemory) => return Err(Hindrance::NoMemory),
     }
     match write_report_file(alloc, room, report, core) {
         Ok(()) => Ok(()),
-        Err(WriteFault::OutputFault) => Err(OutputsFault::ReportFault),
-        Err(WriteFault::NoMemory) => Err(OutputsFault::NoMemory),
+        Err(WriteFault::OutputFault) => Err(Hindrance::Unwritten(Unwritten::Report)),
+        Err(WriteFault::NoMemory) => Err(Hindrance::NoMemory),
     }
 }

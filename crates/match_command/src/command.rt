@@ -5,8 +5,7 @@ ghost use Rattle.match_command.specs.Telling.{TellsMatches};
 
 use crate::taking::HistoryMatches;
 use crate::writing::write_history;
-use archive_commands::end_of_output;
-use console_lines::{End, tell};
+use console_lines::{End, end_of_output, tell};
 use history_logs::open_history;
 use outside::Room;
 use room_files::fault_of_opening;

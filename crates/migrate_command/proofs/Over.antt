@@ -21,9 +21,10 @@ use Rattle.room_files.specs.Faults.{fault_of_opening}
 use Rattle.room_files.specs.Journals as journals
 use Rattle.room_files.specs.Journals.{journal_limits, log_bytes, IsClosedDisk, KeepsHistory, KeepsLog, IsUntouched}
 use Rattle.room_files.proofs.Faults.{opening_device}
+use Rattle.room_files.proofs.Histories.{reading_once}
 use Rattle.room_files.proofs.Journals.{closed_keeps, keeps_where, unopened_keeps}
 use Rattle.archive_commands.specs.Archives.{HasFittingHistory}
-use Rattle.archive_commands.proofs.Histories.{reading_once, fitting_history}
+use Rattle.archive_commands.proofs.Histories.{fitting_history}
 use Rattle.journal_migration.specs.Migrations.{IsFit, IsUnfit, IsUnmigrated, IsBrought}
 use Rattle.migrate_command.specs.Bringing as bringing
 use Rattle.migrate_command.specs.Bringing.{IsBroughtInto, IsUnbrought, Refused, IsDeviceFaultOf, IsBroughtOver}

@@ -1,3 +1,4 @@
 pub mod Numbers
+pub mod PageSize
 pub mod Pages
 pub mod Seats

@@ -1,8 +1,9 @@
--- Rows by number, in pages of 1,024: the row of a number, if its page is there.
+-- Rows by number, in pages: the row of a number, if its page is there.
 use Rattle.std.specs.Prelude.{ℕ, ◌/◌, ◌%◌, Bool, Option, Some, None, is_some, Vec, slice_get, unwrap_or}
 use Rattle.std.specs.Borrow.{Lends, LendsIf, MutBor, Fml, RattleType}
 use Rattle.std.specs.Vec.{with_item}
 use Rattle.std.specs.declared.alloc.Global.{Global}
+use Rattle.numbering.specs.PageSize.{rows_of_page}
 use Rattle.numbering.specs.declared.pages.Pages.{Pages}
 use Rattle.numbering.specs.contracts.pages.Pages.{the_row}
 
@@ -14,7 +15,7 @@ module _ {T : Type 0} where
 
   -- the row of a number, if it is there
   unfoldable pub there : Pages T → ℕ → Option T
-  there pages n = row_in_page (slice_get pages.pages.items (n / 1024)) (n % 1024)
+  there pages n = row_in_page (slice_get pages.pages.items (n / rows_of_page)) (n % rows_of_page)
 
   -- whether a number has a row, blank or not
   abbrev pub is_there : Pages T → ℕ → Bool
@@ -31,7 +32,7 @@ module _ {T : Type 0} where
 
   -- the pages with this row under the number, where one is there
   unfoldable pub with_row_under : Pages T → ℕ → T → Pages T
-  with_row_under pages n row = with_in pages (slice_get pages.pages.items (n / 1024)) (n / 1024) (n % 1024) row
+  with_row_under pages n row = with_in pages (slice_get pages.pages.items (n / rows_of_page)) (n / rows_of_page) (n % rows_of_page) row
 
 module _ (T : RattleType) (pages : MutBor (Pages T.Denot)) (n : ℕ) where
   -- once the borrow r ends, the number has the last row written through r

@@ -1,6 +1,7 @@
 ghost use Rattle.std.specs.Prelude.{◌≡◌, ◌<◌, ◌≤◌, ℕ, None, Some, true, length, slice_index_or, option_copied, OnOk};
 ghost use Rattle.std.specs.Option.{option_copied_mut};
 ghost use Rattle.std.specs.Borrow.{sem};
+ghost use Rattle.numbering.specs.PageSize.{rows_of_page};
 
 use marc_types::NoMemory;
 use std::alloc::Global;
@@ -36,7 +37,7 @@ pub struct Pages<T> {
 fn fill<T: Blank>(alloc: Global, page: &mut Vec<T>) -> Result<(), NoMemory>
     ensures same { (i : ℕ) → slice_index_or page.new.items i T.blank ≡ slice_index_or page.old.items i T.blank }
     ensures longer { length page.old.items ≤ length page.new.items }
-    ensures whole { OnOk result (1024 ≤ length page.new.items) }
+    ensures whole { OnOk result (rows_of_page ≤ length page.new.items) }
 {
     if page.is_empty() {
         page.reserve_exact(PAGE)?;

@@ -2,6 +2,8 @@
 //! again on every path.
 #![tactic(auto)]
 
+pub use kept::is_kept;
 pub use output::{write_all_records, write_export, write_report_file};
 
+mod kept;
 mod output;

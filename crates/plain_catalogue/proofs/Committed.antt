@@ -14,7 +14,7 @@ use Rattle.plain_catalogue.specs.Stands.{field_standing, standings_of}
 use Rattle.plain_catalogue.specs.KeptRecords.{kept_record}
 use Rattle.plain_catalogue.specs.declared.standing.Standing.{Standing}
 use Rattle.plain_catalogue.proofs.Halfway.{record_same}
-use Rattle.plain_catalogue.proofs.Ties.{length_tied}
+use Rattle.record_store.proofs.Joined.{joined_length}
 
 pub put_kept : (key : Key) (kept : Kept) (r : KeptRecord) (done now : List (Key × Kept)) → kept_record kept ≡ r → now ≡ insert_entry key_cmp done key kept →
     kept_rows now ≡ insert_entry key_cmp (kept_rows done) key r
@@ -33,5 +33,5 @@ length_map f (x ∷ xs) = ap suc (length_map f xs)
 pub few_fields : (all : List Linkable) (class : Class) (standings : List Standing) (kept : Kept) → standings ≡ standings_of all class (kept_record kept) → length standings ≤ 8331
 few_fields all class standings kept is =
     let few = record_bounds kept.rec.leader kept.rec.fields kept.rec.valid in
-    let same : length standings ≡ length kept.rec.fields = ap length is ∙ length_map (field_standing all class) (kept_record kept).fields ∙ length_tied kept.rec.fields kept.links kept.tied in
+    let same : length standings ≡ length kept.rec.fields = ap length is ∙ length_map (field_standing all class) (kept_record kept).fields ∙ joined_length kept.rec.fields kept.links kept.tied in
     omega (arith, few.0)

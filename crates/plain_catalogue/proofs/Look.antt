@@ -1,5 +1,5 @@
 -- What is found beside the records: under a key, and at a place.
-use Rattle.std.proofs.Common.{◌≡◌, ℕ, zero, suc, Bool, true, false, cond, List, [], ◌∷◌, length, map, Option, Some, None, refl, sym, ap, ◌∙◌, arith}
+use Rattle.std.proofs.Common.{◌≡◌, ℕ, zero, suc, Bool, true, false, cond, List, [], ◌∷◌, map, Option, Some, None, refl, sym, ap, ◌∙◌}
 use Rattle.std.specs.Prelude.{slice_get}
 use Rattle.std.specs.Option.{option_map, option_and_then, option_map_or}
 use Rattle.std.specs.Map.{lookup}
@@ -10,8 +10,9 @@ use Rattle.marc_types.specs.declared.field.Field.{Field}
 use Rattle.marc_types.specs.declared.entry.Tie.{Tie}
 use Rattle.marc_types.specs.declared.entry.Kept.{Kept}
 use Rattle.record_store.specs.Store as store
+use Rattle.record_store.proofs.Joined.{tie_at}
 use Rattle.entry_record.specs.Authority.{Linkable, linkable_of}
-use Rattle.catalogue_rules.specs.State.{KeptField, KeptRecord, Row, fields_of, tied, kept_record}
+use Rattle.catalogue_rules.specs.State.{KeptField, KeptRecord, Row, fields_of, kept_record}
 use Rattle.catalogue_rules.specs.Receipt as definition
 use Rattle.plain_catalogue.specs.Stands.{stands_as, field_standing, standings_of}
 use Rattle.plain_catalogue.specs.Behind.{authority_row, standings_rows}
@@ -77,27 +78,6 @@ standing_found all class key i rows shelf found are is =
     ∙ standing_in all class i (lookup (same_key key) rows)
 
 -- ---- the key of a link
-
-suc_not_zero : (n : ℕ) → suc n ≡ 0 → ⊥
-suc_not_zero n e = omega arith
-
-zero_not_suc : (n : ℕ) → 0 ≡ suc n → ⊥
-zero_not_suc n e = omega arith
-
-less : (m n : ℕ) → suc m ≡ suc n → m ≡ n
-less m n e = omega arith
-
-tie_joined : (fields : List Field) (ties : List Tie) (i : ℕ) → length ties ≡ length fields → option_map (λ (h : KeptField). h.tie) (slice_get (tied fields ties) i) ≡ slice_get ties i
-tie_joined [] [] i e = refl
-tie_joined [] (tie ∷ ties) i e = absurd (suc_not_zero (length ties) e)
-tie_joined (field ∷ fields) [] i e = absurd (zero_not_suc (length fields) e)
-tie_joined (field ∷ fields) (tie ∷ ties) zero e = refl
-tie_joined (field ∷ fields) (tie ∷ ties) (suc i) e = tie_joined fields ties i (less (length ties) (length fields) e)
-
--- the tie at a place of a kept record
-pub tie_at : (kept : Kept) (i : ℕ) → option_map (λ (h : KeptField). h.tie) (store.field_at i (kept_record kept)) ≡ slice_get kept.links i
-unfolding kept_record
-tie_at kept i = tie_joined kept.rec.fields kept.links i kept.tied
 
 key_of_tie : (o : Option KeptField) → option_and_then (λ (tie : Tie). tie.key) (option_map (λ (h : KeptField). h.tie) o) ≡ option_and_then (λ (h : KeptField). h.tie.key) o
 key_of_tie None = refl

@@ -29,7 +29,7 @@ use Rattle.plain_catalogue.specs.KeptRecords.{CanStand}
 use Rattle.plain_catalogue.specs.Drafts.{IsDraft}
 use Rattle.plain_catalogue.specs.declared.records.Draft.{Draft}
 use Rattle.plain_catalogue.specs.declared.settling.Loosening.{Loosening}
-use Rattle.plain_catalogue.proofs.Ties.{length_tied, fields_tied}
+use Rattle.record_store.proofs.Joined.{joined_length, joined_fields}
 
 -- ---- a choice links to one of the authorities
 
@@ -188,9 +188,9 @@ drafted_record all l class leader fields ties d can even valid size draft =
     let hs = tied fields ties in
     let each = recursion_from_All CanStand all can in
     let made : map (λ (h : KeptField). h.field) (map (field_after all l class) hs) ≡ d.fields.items =
-    sym (ap (map (λ (h : KeptField). h.field)) draft.fields_are) ∙ fields_tied d.fields.items d.ties.items (sym draft.even) in
-    let before : list_all is_field (map (λ (h : KeptField). h.field) hs) ≡ true = rw (fields_tied fields ties even) (fields_sound leader fields valid) in
+    sym (ap (map (λ (h : KeptField). h.field)) draft.fields_are) ∙ joined_fields d.fields.items d.ties.items (sym draft.even) in
+    let before : list_all is_field (map (λ (h : KeptField). h.field) hs) ≡ true = rw (joined_fields fields ties even) (fields_sound leader fields valid) in
     let long : length (map (λ (h : KeptField). h.field) (map (field_after all l class) hs)) ≡ length fields =
-    length_map (λ (h : KeptField). h.field) (map (field_after all l class) hs) ∙ length_map (field_after all l class) hs ∙ length_tied fields ties even in
+    length_map (λ (h : KeptField). h.field) (map (field_after all l class) hs) ∙ length_map (field_after all l class) hs ∙ joined_length fields ties even in
     subst (λ (xs : List Field). is_record leader xs ≡ true) made
     (is_record_by leader fields (map (λ (h : KeptField). h.field) (map (field_after all l class) hs)) valid (all_sound all each l class hs before) long size)

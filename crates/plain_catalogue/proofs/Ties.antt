@@ -34,16 +34,6 @@ take_one [] i x e = cc
 take_one (y ∷ ys) zero x e = let same : y ≡ x = cc in ap (λ z. z ∷ []) same
 take_one (y ∷ ys) (suc i) x e = ap (λ l. y ∷ l) (take_one ys i x e)
 
-pub length_tied : (fields : List Field) (ties : List Tie) → length ties ≡ length fields → length (tied fields ties) ≡ length fields
-length_tied [] ties e = refl
-length_tied (f ∷ fs) [] e = absurd (omega arith)
-length_tied (f ∷ fs) (t ∷ ts) e = ap suc (length_tied fs ts (omega arith))
-
-pub fields_tied : (fields : List Field) (ties : List Tie) → length ties ≡ length fields → map (λ h. h.field) (tied fields ties) ≡ fields
-fields_tied [] ties e = refl
-fields_tied (f ∷ fs) [] e = absurd (omega arith)
-fields_tied (f ∷ fs) (t ∷ ts) e = ap (λ l. f ∷ l) (fields_tied fs ts (omega arith))
-
 pub tied_new : (fields : List Field) → tied fields (map (λ (f : Field). new_tie) fields) ≡ map new_field fields
 tied_new [] = refl
 tied_new (f ∷ fs) = ap (λ l. new_field f ∷ l) (tied_new fs)

@@ -5,16 +5,16 @@ use Rattle.std.proofs.lemmas.Bool.{le-ltb}
 use Rattle.std.proofs.lemmas.List.Sums.{sum_by-append, sum_by-cons}
 use Rattle.marc_types.specs.declared.entry.Entry.{Entry}
 use Rattle.entry_record.specs.History.{entry_size, entries_size}
-use Rattle.catalogue_core.specs.Catalogues.{is_full}
 use Rattle.marc_types.specs.Limits.{most_entries, most_bytes}
-use Rattle.plain_commands.specs.Totals.{holding}
+use Rattle.plain_commands.specs.Loading.{lacks_room}
 
 neither : (a b : Bool) → a ≡ false → b ≡ false → (a || b) ≡ false
 neither a b first second = ap (λ x. x || b) first ∙ second
 
 -- there is room for the next of entries that are all within the limits
 pub room_for_next : (accepted before after all : List Entry) (e : Entry) → accepted ++ before ≡ all → before ≡ e ∷ after
-    → length all ≤ most_entries → entries_size all ≤ most_bytes → is_full (holding accepted) e ≡ false
+    → length all ≤ most_entries → entries_size all ≤ most_bytes → lacks_room accepted e ≡ false
+unfolding lacks_room
 room_for_next accepted before after all e split next few small =
     let none = append-nil accepted in
     let number = ap (length {A = Entry}) split in

@@ -1,12 +1,17 @@
 -- How the loading of a file ends.
-use Rattle.std.proofs.Common.{◌≡◌, ◌∙◌, ℕ, true, List, ◌++◌, ap, subst}
+use Rattle.std.proofs.Common.{◌≡◌, ◌∙◌, ℕ, ◌≤◌, Bool, true, false, List, ◌++◌, Option, Some, None, Ok, Err, ap, arith, refl, subst, sym, cond}
+use Rattle.std.specs.Option.{option_map}
 use Rattle.marc_types.specs.declared.entry.Entry.{Entry}
-use Rattle.catalogue_core.specs.Catalogues.{is_full}
+use Rattle.outside.specs.Fault.{Rose}
+use Rattle.marc_stream.specs.Pieces.{Item, items}
+use Rattle.marc_stream.specs.Stream.{opened}
 use Rattle.file_entries.specs.Files.{IsEntryOf, IsJudged}
-use Rattle.file_entries.specs.Entries.{FileView, GivesEntry, IsEnd, IsAnswered}
-use Rattle.file_entries.proofs.Judged.{answered_all}
-use Rattle.plain_commands.specs.Totals.{holding, IsWithinLimits}
-use Rattle.plain_commands.specs.Loading.{LoadedView, IsLoaded, IsFullAt}
+use Rattle.file_entries.specs.Entries.{FileView, IsSameFile, GivesEntry, IsEnd, IsFault, IsAnswered}
+use Rattle.file_entries.proofs.Judged.{answered_all, answered_entry, answered_refused}
+use Rattle.console_lines.specs.declared.fault.Fault.{Fault}
+use Rattle.console_lines.specs.declared.fault.Fault.TheVariants.{Usage, Input, Device, NotAJournal, Full, Memory, OldVersion, OtherHistory}
+use Rattle.plain_commands.specs.Totals.{IsWithinLimits}
+use Rattle.plain_commands.specs.Loading.{LoadedView, lacks_room, IsLoaded, IsFullAt, IsTakenUp, TakenAsEntry, TakenAsRefused, IsOverfull, TakesNext, Loads, known_items}
 
 -- no item is left
 pub loaded_all : (start now end : FileView) (loaded : LoadedView) → start.loader ≡ 0 → IsAnswered start now loaded.accepted loaded.refused
@@ -19,7 +24,8 @@ loaded_all start now end loaded loader so_far ended within told = record {
 
 -- the next entry doesn't fit
 pub full_here : (start now next : FileView) (loaded : LoadedView) (e : Entry) → start.loader ≡ 0 → IsAnswered start now loaded.accepted loaded.refused
-    → GivesEntry now next e → is_full (holding loaded.accepted) e ≡ true → start.stream.tells ≡ true → IsFullAt start.library start.stream.coming
+    → GivesEntry now next e → lacks_room loaded.accepted e ≡ true → start.stream.tells ≡ true → IsFullAt start.library start.stream.coming
+unfolding lacks_room
 full_here start now next loaded e loader so_far given full told = record {
   done = so_far.done;
   accepted = loaded.accepted;
@@ -33,3 +39,94 @@ full_here start now next loaded e loader so_far given full told = record {
       (subst (λ (library : List ℕ). IsEntryOf library now.loader given.item e) so_far.same.library given.is);
   full = full;
 }
+
+-- ---- item by item
+
+rose_later : (start before now : ℕ) → start ≤ before → Rose before now → Rose start now
+rose_later start before now earlier rose = omega (arith, earlier, rose)
+
+-- one more item was taken up
+pub answered_taken : (start now next : FileView) (before after : LoadedView) → IsAnswered start now before.accepted before.refused
+    → IsSameFile now next → IsTakenUp now before next after → IsAnswered start next after.accepted after.refused
+answered_taken start now next before after so_far same (TakenAsEntry e gives is) =
+    subst (λ (l : LoadedView). IsAnswered start next l.accepted l.refused) (sym is)
+    (answered_entry start now next before.accepted before.refused e so_far same gives)
+answered_taken start now next before after so_far same (TakenAsRefused item gives is) =
+    subst (λ (l : LoadedView). IsAnswered start next l.accepted l.refused) (sym is)
+    (answered_refused start now next before.accepted before.refused item so_far same gives)
+
+known_is : (tells : Bool) (coming items : List Item) → cond tells (Some coming) None ≡ Some items → (tells ≡ true) × (coming ≡ items)
+known_is true coming items is = (refl, cc)
+known_is false coming items is = cc
+
+pub known_opened : (left : Option (List ℕ)) (bound faults : ℕ) → known_items (opened left bound faults) ≡ option_map items left
+known_opened None bound faults = refl
+known_opened (Some bytes) bound faults = refl
+
+-- all items were taken up
+pub loads_all : (start now end : FileView) (before loaded : LoadedView) → start.loader ≡ 0 → IsAnswered start now before.accepted before.refused
+    → TakesNext now before (Ok false) end loaded → IsWithinLimits loaded.accepted
+    → Loads start.library (known_items start.stream) start.stream.faults end.stream.faults (Ok loaded)
+loads_all start now end before loaded loader so_far (ended, same) within =
+    let so : IsAnswered start now loaded.accepted loaded.refused =
+    subst (λ (l : LoadedView). IsAnswered start now l.accepted l.refused) (sym same) so_far in
+    record {
+      loaded = λ all told. let known = known_is start.stream.tells start.stream.coming all told in
+          subst (λ l. IsLoaded start.library l loaded) known.1 (loaded_all start now end loaded loader so ended within known.0);
+      full = tt;
+      faults = omega (arith, so_far.faults, ended.ends.reads.faults);
+      cause = tt;
+      kind = tt;
+    }
+
+module _ (start now next : FileView) (before : LoadedView) (so_far : IsAnswered start now before.accepted before.refused) where
+  -- the next entry didn't fit
+  loads_to_full : start.loader ≡ 0 → now.stream.faults ≤ next.stream.faults → IsOverfull now before next
+      → Loads start.library (known_items start.stream) start.stream.faults next.stream.faults (Err Full)
+  loads_to_full loader faults over = record {
+    loaded = tt;
+    full = λ is all told. let known = known_is start.stream.tells start.stream.coming all told in
+        subst (λ l. IsFullAt start.library l) known.1
+        (full_here start now next before over.next loader so_far over.gives over.full known.0);
+    faults = omega (arith, so_far.faults, faults);
+    cause = λ is. cc;
+    kind = tt;
+  }
+
+  -- the source failed
+  loads_to_fault : IsFault now next → Loads start.library (known_items start.stream) start.stream.faults next.stream.faults (Err Input)
+  loads_to_fault failed = record {
+    loaded = tt;
+    full = λ is. cc;
+    faults = omega (arith, so_far.faults, failed.fails.reads.faults);
+    cause = λ is. rose_later start.stream.faults now.stream.faults next.stream.faults so_far.faults failed.fails.rose;
+    kind = tt;
+  }
+
+  -- memory ran out
+  loads_to_memory : now.stream.faults ≤ next.stream.faults
+      → Loads start.library (known_items start.stream) start.stream.faults next.stream.faults (Err Memory)
+  loads_to_memory faults = record {
+    loaded = tt;
+    full = λ is. cc;
+    faults = omega (arith, so_far.faults, faults);
+    cause = λ is. cc;
+    kind = tt;
+  }
+
+-- a fault came before
+pub loads_in_part : (start now next : FileView) (before after : LoadedView) (fault : Fault) → start.loader ≡ 0
+    → IsAnswered start now before.accepted before.refused → now.stream.faults ≤ next.stream.faults → TakesNext now before (Err fault) next after
+    → Loads start.library (known_items start.stream) start.stream.faults next.stream.faults (Err fault)
+loads_in_part start now next before after Full loader so_far faults takes = loads_to_full start now next before so_far loader faults takes
+loads_in_part start now next before after Input loader so_far faults takes = loads_to_fault start now next before so_far takes
+loads_in_part start now next before after Memory loader so_far faults takes = loads_to_memory start now next before so_far faults
+loads_in_part start now next before after Usage loader so_far faults takes = absurd takes
+loads_in_part start now next before after Device loader so_far faults takes = absurd takes
+loads_in_part start now next before after (NotAJournal place) loader so_far faults takes = absurd takes
+loads_in_part start now next before after OldVersion loader so_far faults takes = absurd takes
+loads_in_part start now next before after OtherHistory loader so_far faults takes = absurd takes
+
+-- nothing was loaded, for want of memory
+pub loads_nothing : (library : List ℕ) (told : Option (List Item)) (faults : ℕ) → Loads library told faults faults (Err Memory)
+loads_nothing library told faults = record { loaded = tt; full = λ is. cc; faults = omega arith; cause = λ is. cc; kind = tt }

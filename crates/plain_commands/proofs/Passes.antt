@@ -1,7 +1,6 @@
 -- How a pass ended.
-use Rattle.std.proofs.Common.{◌≡◌, ◌≢◌, ◌∙◌, ℕ, Bool, true, false, ◌==◌, ◌<◌, List, length, sym, ap, subst, arith, Option, Some, []}
+use Rattle.std.proofs.Common.{◌≡◌, ◌≢◌, ◌∙◌, ℕ, Bool, true, List, length, sym, ap, subst, arith, Option, Some, []}
 use Rattle.std.specs.Prelude.{string_bytes, nat_lt, IsSomeAnd}
-use Rattle.std.proofs.lemmas.Bool.{eqb-true, eqb-false, lt-ltb}
 use Rattle.std.specs.Io.KnownBytes.{Appends}
 use Rattle.outside.specs.Fault.{Rose}
 use Rattle.outside.specs.Room.{RoomView, SameBut}
@@ -10,19 +9,18 @@ use Rattle.outside.proofs.Rooms.{same_but_then}
 use Rattle.marc_stream.specs.Pieces.{items}
 use Rattle.command_words.specs.declared.library.Library.{Library}
 use Rattle.catalogue_core.specs.Catalogues.{Catalogued}
-use Rattle.console_lines.specs.Ends.{Outcome, IsTold, IsAllDone, IsSilent, end_of, out_unwritten, report_unwritten, console_unwritten}
+use Rattle.console_lines.specs.Ends.{Outcome, IsTold, IsAllDone, IsUntold, IsResultTold, end_of, out_unwritten, console_unwritten}
 use Rattle.console_lines.specs.declared.end.End.{End}
-use Rattle.console_lines.specs.declared.end.End.TheVariants.{Done, Refused, Told}
+use Rattle.console_lines.specs.declared.end.End.TheVariants.{Told}
 use Rattle.console_lines.specs.declared.end.Unwritten.TheVariants.{Out, Report, Console}
 use Rattle.console_lines.specs.declared.fault.Fault.{Fault}
 use Rattle.console_lines.specs.declared.fault.Fault.TheVariants.{Input, Full, Memory}
-use Rattle.console_lines.proofs.Ends.{told_once, told_not_unwritten, told_not_all}
+use Rattle.console_lines.proofs.Ends.{told_once, told_not_unwritten, told_not_all, all_not_unwritten, out_not_console, result_done, result_line, result_front, result_no_output, result_cause}
 use Rattle.plain_commands.specs.Totals.{holding}
 use Rattle.output_files.specs.Outputs.{IsPartWritten}
 use Rattle.plain_commands.specs.Loading.{EndsLoading, IsFullAt}
-use Rattle.plain_commands.specs.Passing.{exported, IsReady, IsPassed, IsPassedInPart, IsPassedUntold, Passes}
+use Rattle.plain_commands.specs.Passing.{exported, IsReady, IsPassed, IsPassedInPart, IsPassedUntold, IsDelivered, EndsDelivering, Passes}
 use Rattle.plain_commands.proofs.There.{there_more}
-use Rattle.file_entries.specs.declared.refused.RefusedItem.{RefusedItem}
 use Rattle.plain_commands.specs.declared.ready.Ready.{Ready}
 
 module _ (library : Library) (bytes : List ℕ) (new : Option (List ℕ)) (ready : Ready) (core : Catalogued)
@@ -59,19 +57,56 @@ module _ (library : Library) (bytes : List ℕ) (new : Option (List ℕ)) (ready
     console = subst (WritesFront told now) is.text wrote;
   }
 
--- nothing was refused
-pub end_of_none : (items refused : List RefusedItem) → items ≡ refused → (length items == 0) ≡ true → Done ≡ end_of (nat_lt 0 (length refused))
-end_of_none items refused same none =
-    let zero : length refused ≡ 0 = sym (ap (length {A = RefusedItem}) same) ∙ eqb-true (length items) 0 none in
-    ap (λ n. end_of (nat_lt 0 n)) (sym zero)
+-- what was done since a later moment
+abbrev pub since : RoomView → Outcome → Outcome
+since mid o = record {
+  old = mid;
+  new = o.new;
+  told = o.told;
+  now = o.now;
+  faults = o.faults;
+  faults_now = o.faults_now;
+  end = o.end;
+}
 
--- something was refused
-pub end_of_some : (items refused : List RefusedItem) → items ≡ refused → (length items == 0) ≡ false → Refused ≡ end_of (nat_lt 0 (length refused))
-end_of_some items refused same some =
-    let len : length items ≡ length refused = ap (length {A = RefusedItem}) same in
-    let more : ¬ (length items ≡ 0) = eqb-false (length items) 0 some in
-    let lt : 0 < length refused = omega arith in
-    ap (λ (b : Bool). end_of b) (sym (lt-ltb 0 (length refused) lt))
+module _ (library : Library) (bytes out : List ℕ) (o : Outcome) where
+  -- a fault was told, and nothing is said of what was delivered
+  pub delivered_nothing : (why : Fault) → o.end ≡ Told why → IsDelivered library bytes out o
+  delivered_nothing why is = record {
+    whole = λ all. absurd (told_not_all o.end why is all);
+    part = λ also. absurd (told_not_unwritten o.end why Out is also);
+    untold = λ also. absurd (told_not_unwritten o.end why Console is also);
+  }
+
+  pub delivered_in_part : o.end ≡ out_unwritten → IsPassedInPart library bytes (o.old.file out) (o.new.file out) → IsDelivered library bytes out o
+  delivered_in_part ends is = record {
+    whole = λ all. absurd (all_not_unwritten o.end Out all ends);
+    part = λ also. is;
+    untold = λ also. absurd (out_not_console o.end ends also);
+  }
+
+  -- OUT was written, and the result was told as far as the console could be written
+  pub delivered_told : {text : List ℕ} {refused : Bool} → IsResultTold o.told o.now o.faults o.faults_now text refused o.end
+      → (o.end ≡ end_of refused → Appends o.told o.now text → IsPassed library bytes (o.new.file out) o.told o.now o.end)
+      → (WritesFront o.told o.now text → IsPassedUntold library bytes (o.new.file out) o.told o.now) → IsDelivered library bytes out o
+  delivered_told told whole untold = record {
+    whole = λ all. whole (result_done told all) (result_line told all);
+    part = λ also. absurd ((result_no_output told).0 also);
+    untold = λ also. untold (result_front told);
+  }
+
+-- what the console was told of a result says of OUT and the console
+pub ends_told : (out : List ℕ) (o : Outcome) {text : List ℕ} {refused : Bool} → IsResultTold o.told o.now o.faults o.faults_now text refused o.end
+    → EndsDelivering out o
+ends_told out o told = record {
+  out_cause = λ also. absurd ((result_no_output told).0 also);
+  console_cause = result_cause told;
+  no_report = (result_no_output told).1;
+  silent = λ also. absurd ((result_no_output told).0 also);
+}
+
+pub no_fault_told : (end : End) (why : Fault) → IsUntold end → end ≡ Told why → ⊥
+no_fault_told end why untold is = subst IsUntold is untold
 
 module _ (library : Library) (out : List ℕ) (o : Outcome) where
   -- a fault was told before anything was written
@@ -94,30 +129,26 @@ module _ (library : Library) (out : List ℕ) (o : Outcome) where
 
   -- what was made ready was delivered, into a room where the file had been read
   pub passes_delivered : (mid : RoomView) (ready : Ready) → SameBut o.old mid []
-      → ((why : Fault) → o.end ≡ Told why → (why ≡ Memory) × SameBut mid o.new [] × IsTold why o) → o.end ≢ report_unwritten
-      → (o.end ≡ out_unwritten → Rose (mid.out_faults out) (o.new.out_faults out)) → (o.end ≡ console_unwritten → Rose o.faults o.faults_now)
-      → (o.end ≡ out_unwritten → IsSilent o)
+      → ((why : Fault) → o.end ≡ Told why → (why ≡ Memory) × SameBut mid o.new [] × IsTold why o) → EndsDelivering out (since mid o)
       → (o.old.tells ≡ true → IsSomeAnd (o.old.file library.file) (λ bytes. IsReady library bytes ready))
-      → ((l : Library) (bytes : List ℕ) → mid.tells ≡ true → IsReady l bytes ready → IsAllDone o.end
-      → IsPassed l bytes (o.new.file out) o.told o.now o.end)
-      → ((l : Library) (bytes : List ℕ) → mid.tells ≡ true → IsReady l bytes ready → o.end ≡ out_unwritten
-      → IsPassedInPart l bytes (mid.file out) (o.new.file out))
-      → ((l : Library) (bytes : List ℕ) → mid.tells ≡ true → IsReady l bytes ready → o.end ≡ console_unwritten
-      → IsPassedUntold l bytes (o.new.file out) o.told o.now)
+      → ((l : Library) (bytes : List ℕ) → mid.tells ≡ true → IsReady l bytes ready → IsDelivered l bytes out (since mid o))
       → Passes library out o
-  passes_delivered mid ready stays fault no_report out_cause console_cause silent is whole part untold = record {
+  passes_delivered mid ready stays fault ends is delivered = record {
     told = λ why also.
         let memory = fault why also in
         (memory.2, subst EndsLoading (sym memory.0) tt, same_but_then o.old mid o.new [] stays memory.1);
     input = λ also. let is : Input ≡ Memory = (fault Input also).0 in cc;
-    out_cause = λ also. let earlier = stays.outs out in let rose = out_cause also in omega (arith, earlier, rose);
-    console_cause = console_cause;
-    no_report = no_report;
+    out_cause = λ also. let earlier = stays.outs out in let rose = ends.out_cause also in omega (arith, earlier, rose);
+    console_cause = ends.console_cause;
+    no_report = ends.no_report;
     full = λ also. let is : Full ≡ Memory = (fault Full also).0 in cc;
-    whole = λ all tells. there_more (o.old.file library.file) (λ bytes ready_is. whole library bytes (stays.tells ∙ tells) ready_is all) (is tells);
-    silent = silent;
-    part = λ also tells. there_more (o.old.file library.file)
+    whole = λ all tells.
+        there_more (o.old.file library.file) (λ bytes ready_is. (delivered library bytes (stays.tells ∙ tells) ready_is).whole all) (is tells);
+    silent = ends.silent;
+    part = λ also tells.
+        there_more (o.old.file library.file)
         (λ bytes ready_is. subst (λ f. IsPassedInPart library bytes f (o.new.file out)) (stays.files out tt)
-        (part library bytes (stays.tells ∙ tells) ready_is also)) (is tells);
-    untold = λ also tells. there_more (o.old.file library.file) (λ bytes ready_is. untold library bytes (stays.tells ∙ tells) ready_is also) (is tells);
+        ((delivered library bytes (stays.tells ∙ tells) ready_is).part also)) (is tells);
+    untold = λ also tells.
+        there_more (o.old.file library.file) (λ bytes ready_is. (delivered library bytes (stays.tells ∙ tells) ready_is).untold also) (is tells);
   }

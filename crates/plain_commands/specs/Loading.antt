@@ -1,8 +1,11 @@
 -- What a file's items make of an empty catalogue.
-use Rattle.std.specs.Prelude.{◌≡◌, ℕ, true, List, [], ◌∷◌, ◌++◌}
+use Rattle.std.specs.Prelude.{◌≡◌, ℕ, ◌≤◌, Bool, true, false, List, [], ◌∷◌, ◌++◌, Option, Some, None, Result, Ok, Err, IfOk, IfErr, cond}
 use Rattle.marc_types.specs.declared.entry.Entry.{Entry}
+use Rattle.outside.specs.Fault.{Rose}
 use Rattle.marc_stream.specs.Pieces.{Item}
+use Rattle.marc_stream.specs.Stream.{Stream}
 use Rattle.catalogue_core.specs.Catalogues.{Catalogued, is_full}
+use Rattle.file_entries.specs.Entries.{FileView, IsSameFile, GivesEntry, GivesRefused, IsEnd, IsFault}
 use Rattle.file_entries.specs.Files.{IsEntryOf, IsJudged}
 use Rattle.file_entries.specs.declared.refused.RefusedItem.{RefusedItem}
 use Rattle.console_lines.specs.declared.fault.Fault.{Fault}
@@ -29,6 +32,10 @@ with_accepted l e = record { accepted = l.accepted ++ e ∷ []; refused = l.refu
 
 abbrev pub with_refused : LoadedView → RefusedItem → LoadedView
 with_refused l item = record { accepted = l.accepted; refused = l.refused ++ item ∷ [] }
+
+-- the limits have no room for an entry behind these
+unfoldable pub lacks_room : List Entry → Entry → Bool
+lacks_room accepted e = is_full (holding accepted) e
 
 -- the items were judged, and the accepted entries are within the limits
 pub record IsLoaded (library : List ℕ) (items : List Item) (loaded : LoadedView) : Type 0 where
@@ -58,3 +65,39 @@ EndsLoading Device = ⊥
 EndsLoading (NotAJournal place) = ⊥
 EndsLoading OldVersion = ⊥
 EndsLoading OtherHistory = ⊥
+
+-- one more item of a file was taken up
+pub data IsTakenUp (old : FileView) (before : LoadedView) (new : FileView) (after : LoadedView) : Type 0 where
+  TakenAsEntry : (e : Entry) → GivesEntry old new e → after ≡ with_accepted before e → IsTakenUp old before new after
+  TakenAsRefused : (item : RefusedItem) → GivesRefused old new item → after ≡ with_refused before item → IsTakenUp old before new after
+
+-- the next item is an entry, for which the limits have no room
+pub record IsOverfull (old : FileView) (before : LoadedView) (new : FileView) : Type 0 where
+  pub next : Entry
+  pub gives : GivesEntry old new next
+  pub full : lacks_room before.accepted next ≡ true
+
+-- what becomes of the next item, by whether there was one
+abbrev pub TakesNext : FileView → LoadedView → Result Bool Fault → FileView → LoadedView → Type 0
+TakesNext old before (Ok true) new after = IsTakenUp old before new after
+TakesNext old before (Ok false) new after = IsEnd old new × (after ≡ before)
+TakesNext old before (Err Full) new after = IsOverfull old before new
+TakesNext old before (Err Input) new after = IsFault old new
+TakesNext old before (Err Memory) new after = Unit {0}
+TakesNext old before (Err Usage) new after = ⊥
+TakesNext old before (Err Device) new after = ⊥
+TakesNext old before (Err (NotAJournal place)) new after = ⊥
+TakesNext old before (Err OldVersion) new after = ⊥
+TakesNext old before (Err OtherHistory) new after = ⊥
+
+-- the items that are to come, where the source tells its bytes
+abbrev pub known_items : Stream → Option (List Item)
+known_items stream = cond stream.tells (Some stream.coming) None
+
+-- How the loading of items ends, where these are told, with the count of their source's faults before and now.
+pub record Loads (library : List ℕ) (told : Option (List Item)) (before now : ℕ) (result : Result LoadedView Fault) : Type 0 where
+  pub loaded : IfOk result (λ loaded. (items : List Item) → told ≡ Some items → IsLoaded library items loaded)
+  pub full : IfErr result (λ fault. fault ≡ Full → (items : List Item) → told ≡ Some items → IsFullAt library items)
+  pub faults : before ≤ now
+  pub cause : IfErr result (λ fault. fault ≡ Input → Rose before now)
+  pub kind : IfErr result EndsLoading

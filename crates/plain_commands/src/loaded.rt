@@ -1,7 +1,7 @@
-ghost use Rattle.std.specs.Prelude.{◌≡◌, OnOk, OnErr, IfErr};
-ghost use Rattle.catalogue_core.specs.Catalogues.{is_full, IsDue};
+ghost use Rattle.std.specs.Prelude.{◌≡◌, OnOk, OnErr, IfErr, length, nat_lt};
+ghost use Rattle.catalogue_core.specs.Catalogues.{IsDue};
 ghost use Rattle.plain_commands.specs.Totals.{holding, totals_of, IsWithinLimits};
-ghost use Rattle.plain_commands.specs.Loading.{nothing_loaded, with_accepted, with_refused};
+ghost use Rattle.plain_commands.specs.Loading.{nothing_loaded, lacks_room, with_accepted, with_refused};
 
 use catalogue_core::{Catalogue, CoreFault};
 use console_lines::{Sums, Totals};
@@ -46,6 +46,7 @@ impl Loaded {
 
     /// Commits an entry. Full comes before all else, where with this entry the limits would be passed. After either fault
     /// nothing is changed.
+    #[tactic(auto, unfolding(crate::specs::Loading::lacks_room))]
     pub fn commit<L: Ledger>(
         &mut self,
         alloc: Global,
@@ -53,7 +54,7 @@ impl Loaded {
         steps: &mut Steps<L>,
     ) -> Result<(), CoreFault>
         ensures accepted { OnOk result (self.new ≡ with_accepted self.old item) }
-        ensures fault { IfErr result (IsDue (is_full (holding self.old.accepted) item)) }
+        ensures fault { IfErr result (IsDue (lacks_room self.old.accepted item)) }
         ensures err { OnErr result (self.new ≡ self.old) }
     {
         let receipt = self.core.commit(alloc, item, steps)?;
@@ -81,6 +82,13 @@ impl Loaded {
         ensures { result.now ≡ self.now.refused }
     {
         self.refused.as_slice()
+    }
+
+    /// Whether an item was refused.
+    pub fn has_refused(&self) -> bool
+        ensures { result ≡ nat_lt 0 (length self.now.refused) }
+    {
+        !self.refused.is_empty()
     }
 
     /// What is counted of the file.

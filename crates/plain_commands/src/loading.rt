@@ -1,9 +1,11 @@
-ghost use Rattle.std.specs.Prelude.{◌≡◌, ◌<◌, ◌≤◌, ℕ, List, true, false, Some, None, IsSomeAnd, IsTrue, IfOk, IfErr, []};
+ghost use Rattle.std.specs.Prelude.{◌≡◌, ◌<◌, ◌≤◌, true, false, None, IsSomeAnd, IsTrue, IfOk, IfErr, []};
+ghost use Rattle.std.specs.Option.{option_map};
 ghost use Rattle.marc_types.specs.Valid.{is_code};
 ghost use Rattle.outside.specs.Fault.{Rose};
 ghost use Rattle.outside.specs.Room.{SameBut};
 ghost use Rattle.marc_stream.specs.Pieces.{items};
-ghost use Rattle.plain_commands.specs.Loading.{EndsLoading, IsLoaded, IsFullAt};
+ghost use Rattle.file_entries.specs.Entries.{IsSameFile};
+ghost use Rattle.plain_commands.specs.Loading.{EndsLoading, IsLoaded, IsFullAt, Loads, TakesNext, known_items};
 
 use crate::loaded::Loaded;
 use catalogue_core::CoreFault;
@@ -19,6 +21,34 @@ use std::sync::ledger::{Blank, Ledger};
 /// The loader of the only file of a pass.
 const LOADER: u32 = 0;
 
+/// Takes the next item up, and answers whether there was one.
+fn take_next<S: Source, L: Ledger>(
+    alloc: Global,
+    entries: &mut FileEntries<S>,
+    loaded: &mut Loaded,
+    steps: &mut Steps<L>,
+) -> Result<bool, Fault>
+    requires going { entries.old.over ≡ false }
+    ensures same { IsSameFile entries.old entries.new }
+    ensures faults { entries.old.stream.faults ≤ entries.new.stream.faults }
+    ensures takes { TakesNext entries.old loaded.old result entries.new loaded.new }
+{
+    match entries.next(alloc) {
+        NextEntry::Entry(item) => match loaded.commit(alloc, item, steps) {
+            Ok(()) => Ok(true),
+            Err(CoreFault::Full) => Err(Fault::Full),
+            Err(CoreFault::NoMemory) => Err(Fault::Memory),
+        },
+        NextEntry::Refused(item) => match loaded.refuse(item) {
+            Ok(()) => Ok(true),
+            Err(NoMemory) => Err(Fault::Memory),
+        },
+        NextEntry::End => Ok(false),
+        NextEntry::ReadFault => Err(Fault::Input),
+        NextEntry::NoMemory => Err(Fault::Memory),
+    }
+}
+
 fn load_entries<S: Source, L: Ledger>(
     alloc: Global,
     entries: &mut FileEntries<S>,
@@ -26,33 +56,12 @@ fn load_entries<S: Source, L: Ledger>(
 ) -> Result<Loaded, Fault>
     requires going { entries.old.over ≡ false }
     requires loader { entries.old.loader ≡ 0 }
-    ensures loaded { IfOk result (λ loaded. entries.old.stream.tells ≡ true → IsLoaded entries.old.library entries.old.stream.coming loaded) }
-    ensures full { IfErr result (λ fault. fault ≡ Fault.Full → entries.old.stream.tells ≡ true →
-        IsFullAt entries.old.library entries.old.stream.coming) }
-    ensures faults { entries.old.stream.faults ≤ entries.new.stream.faults }
-    ensures cause { IfErr result (λ fault. fault ≡ Fault.Input → Rose entries.old.stream.faults entries.new.stream.faults) }
-    ensures kind { IfErr result EndsLoading }
+    ensures { Loads entries.old.library (known_items entries.old.stream) entries.old.stream.faults entries.new.stream.faults result }
 {
     let mut loaded = Loaded::new(alloc);
-    'items: loop {
-        match entries.next(alloc) {
-            NextEntry::Entry(item) => match loaded.commit(alloc, item, steps) {
-                Ok(()) => {}
-                Err(CoreFault::Full) => return Err(Fault::Full),
-                Err(CoreFault::NoMemory) => return Err(Fault::Memory),
-            },
-            NextEntry::Refused(item) => match loaded.refuse(item) {
-                Ok(()) => {}
-                Err(NoMemory) => return Err(Fault::Memory),
-            },
-            NextEntry::End => {
-                loaded.is_within_limits();
-                return Ok(loaded);
-            }
-            NextEntry::ReadFault => return Err(Fault::Input),
-            NextEntry::NoMemory => return Err(Fault::Memory),
-        }
-    }
+    'items: while take_next(alloc, entries, &mut loaded, steps)? {}
+    loaded.is_within_limits();
+    Ok(loaded)
 }
 
 /// Loads a source whose steps nobody asks for.
@@ -66,11 +75,7 @@ fn load_counted<S: Source, L: Ledger>(
     requires name { blank.name ≡ L.name }
     requires parts { blank.parts ≡ L.parts }
     requires shared { 0 < blank.parts }
-    ensures loaded { IfOk result.0 (λ loaded. (bytes : List ℕ) → S.left source ≡ Some bytes → IsLoaded library (items bytes) loaded) }
-    ensures full { IfErr result.0 (λ fault. fault ≡ Fault.Full → (bytes : List ℕ) → S.left source ≡ Some bytes → IsFullAt library (items bytes)) }
-    ensures later { S.faults source ≤ S.faults result.1 }
-    ensures cause { IfErr result.0 (λ fault. fault ≡ Fault.Input → Rose (S.faults source) (S.faults result.1)) }
-    ensures kind { IfErr result.0 EndsLoading }
+    ensures { Loads library (option_map items (S.left source)) (S.faults source) (S.faults result.1) result.0 }
 {
     let mut steps = Steps::<L>::new(blank);
     match FileEntries::new(alloc, source, library, LOADER) {
@@ -84,11 +89,7 @@ fn load_counted<S: Source, L: Ledger>(
 
 fn load_source<S: Source>(alloc: Global, source: S, library: Text) -> (Result<Loaded, Fault>, S)
     requires library { IsTrue (is_code library) }
-    ensures loaded { IfOk result.0 (λ loaded. (bytes : List ℕ) → S.left source ≡ Some bytes → IsLoaded library (items bytes) loaded) }
-    ensures full { IfErr result.0 (λ fault. fault ≡ Fault.Full → (bytes : List ℕ) → S.left source ≡ Some bytes → IsFullAt library (items bytes)) }
-    ensures later { S.faults source ≤ S.faults result.1 }
-    ensures cause { IfErr result.0 (λ fault. fault ≡ Fault.Input → Rose (S.faults source) (S.faults result.1)) }
-    ensures kind { IfErr result.0 EndsLoading }
+    ensures { Loads library (option_map items (S.left source)) (S.faults source) (S.faults result.1) result.0 }
 {
     load_counted::<S, Brand>(alloc, source, library, Blank::new(1))
 }

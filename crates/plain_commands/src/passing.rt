@@ -2,12 +2,12 @@ ghost use Rattle.std.specs.Prelude.{◌≡◌, ℕ, List, true, None, IsTrue, �
 ghost use Rattle.marc_types.specs.Valid.{is_code};
 ghost use Rattle.outside.specs.Room.{SameBut};
 ghost use Rattle.command_words.specs.declared.library.Library.{Library};
-ghost use Rattle.console_lines.specs.Ends.{outcome, IsAllDone, IsTold, out_unwritten, console_unwritten};
-ghost use Rattle.plain_commands.specs.Passing.{IsReady, IsPassed, IsPassedInPart, IsPassedUntold, EndsDelivering, Passes};
+ghost use Rattle.console_lines.specs.Ends.{outcome, IsTold};
+ghost use Rattle.plain_commands.specs.Passing.{IsReady, IsDelivered, EndsDelivering, Passes};
 
 use crate::ready::{Ready, prepare};
 use command_words::Library;
-use console_lines::{End, Fault, Unwritten, tell};
+use console_lines::{End, Fault, Unwritten, tell, tell_result};
 use output_files::write_all_records;
 use outside::{Room, Sink, WriteFault};
 use std::alloc::Global;
@@ -34,28 +34,14 @@ fn deliver<R: Room>(
         (outcome R.seen R.Out.written R.Out.faults room.old room.new console.old console.new result) }
 
     // What is there then, of a file with these bytes.
-    ensures whole { (library : Library) (bytes : List ℕ) → (R.seen room.old).tells ≡ true → IsReady library bytes ready.now →
-        IsAllDone result → IsPassed library bytes ((R.seen room.new).file out.now)
-        (R.Out.written console.old) (R.Out.written console.new) result }
-    ensures part { (library : Library) (bytes : List ℕ) → (R.seen room.old).tells ≡ true → IsReady library bytes ready.now →
-        result ≡ out_unwritten → IsPassedInPart library bytes ((R.seen room.old).file out.now) ((R.seen room.new).file out.now) }
-    ensures told { (library : Library) (bytes : List ℕ) → (R.seen room.old).tells ≡ true → IsReady library bytes ready.now →
-        result ≡ console_unwritten → IsPassedUntold library bytes ((R.seen room.new).file out.now)
-        (R.Out.written console.old) (R.Out.written console.new) }
+    ensures delivered { (library : Library) (bytes : List ℕ) → (R.seen room.old).tells ≡ true → IsReady library bytes ready.now →
+        IsDelivered library bytes out.now
+        (outcome R.seen R.Out.written R.Out.faults room.old room.new console.old console.new result) }
 {
     match write_all_records(alloc, room, out, ready.loaded.core()) {
-        Ok(()) => {}
-        Err(WriteFault::OutputFault) => return End::Unwritten(Unwritten::Out),
-        Err(WriteFault::NoMemory) => return tell(console, Fault::Memory),
-    }
-    match console.write_all(ready.text.as_bytes()) {
-        Ok(()) => {}
-        Err(_) => return End::Unwritten(Unwritten::Console),
-    }
-    if ready.loaded.refused().is_empty() {
-        End::Done
-    } else {
-        End::Refused
+        Ok(()) => tell_result(console, ready.text.as_str(), ready.loaded.has_refused()),
+        Err(WriteFault::OutputFault) => End::Unwritten(Unwritten::Out),
+        Err(WriteFault::NoMemory) => tell(console, Fault::Memory),
     }
 }
 

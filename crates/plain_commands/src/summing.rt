@@ -1,8 +1,6 @@
 ghost use Rattle.marc_types.specs.Limits.{most_entries};
 ghost use Rattle.std.specs.Prelude.{◌≡◌, ◌<◌, ◌≤◌, false, OnOk, IfOk, string_bytes};
-ghost use Rattle.catalogue_core.specs.Catalogues.{is_full};
-ghost use Rattle.plain_commands.specs.Totals.{holding};
-ghost use Rattle.plain_commands.specs.Loading.{with_accepted};
+ghost use Rattle.plain_commands.specs.Loading.{lacks_room, with_accepted};
 ghost use Rattle.plain_commands.specs.Making.{workload_sums, workload_line};
 
 use crate::loaded::Loaded;
@@ -24,7 +22,7 @@ fn commit<L: Ledger>(
     entry: Prepared,
     steps: &mut Steps<L>,
 ) -> Result<(), NoMemory>
-    requires { is_full (holding loaded.old.accepted) entry ≡ false }
+    requires { lacks_room loaded.old.accepted entry ≡ false }
     ensures { OnOk result (loaded.new ≡ with_accepted loaded.old entry) }
 {
     match loaded.commit(alloc, entry, steps) {

@@ -49,6 +49,48 @@ pub record_get : (kept : Kept) (i : ℕ) (field : Field) (tie : Tie) → slice_g
 unfolding kept_record
 record_get kept i field tie f t = joined_get kept.rec.fields kept.links i field tie f t
 
+-- ---- a field and its tie, read at one place
+
+no_tied_field : (fields : List Field) (ties : List Tie) (i : ℕ) → slice_get fields i ≡ None → slice_get (tied fields ties) i ≡ None
+no_tied_field [] ties i off = refl
+no_tied_field (f ∷ fields) [] i off = refl
+no_tied_field (f ∷ fields) (t ∷ ties) zero off = cc
+no_tied_field (f ∷ fields) (t ∷ ties) (suc i) off = no_tied_field fields ties i off
+
+no_tie : (fields : List Field) (ties : List Tie) (i : ℕ) → slice_get ties i ≡ None → slice_get (tied fields ties) i ≡ None
+no_tie [] ties i off = refl
+no_tie (f ∷ fields) [] i off = refl
+no_tie (f ∷ fields) (t ∷ ties) zero off = cc
+no_tie (f ∷ fields) (t ∷ ties) (suc i) off = no_tie fields ties i off
+
+pub tied_off : (kept : Kept) (i : ℕ) → None ≡ slice_get kept.rec.fields i → None ≡ slice_get (kept_record kept).fields i
+unfolding kept_record
+tied_off kept i off = sym (no_tied_field kept.rec.fields kept.links i (sym off))
+
+tie_off : (kept : Kept) (i : ℕ) → slice_get kept.links i ≡ None → slice_get (kept_record kept).fields i ≡ None
+unfolding kept_record
+tie_off kept i off = no_tie kept.rec.fields kept.links i off
+
+pub tied_read : (kept : Kept) (i : ℕ) (f : Field) (t : Option Tie) → Some f ≡ slice_get kept.rec.fields i → t ≡ slice_get kept.links i
+    → option_map (kept_field f) t ≡ slice_get (kept_record kept).fields i
+tied_read kept i f None here tie = sym (tie_off kept i (sym tie))
+tied_read kept i f (Some t) here tie = sym (record_get kept i f t (sym here) (sym tie))
+
+joined_tie : (fields : List Field) (ties : List Tie) (i : ℕ) → length ties ≡ length fields
+    → option_map (λ (h : KeptField). h.tie) (slice_get (tied fields ties) i) ≡ slice_get ties i
+joined_tie [] [] i same = refl
+joined_tie [] (t ∷ ties) i same = absurd (omega (arith, same))
+joined_tie (f ∷ fields) [] i same = absurd (omega (arith, same))
+joined_tie (f ∷ fields) (t ∷ ties) zero same = refl
+joined_tie (f ∷ fields) (t ∷ ties) (suc i) same = joined_tie fields ties i (omega (arith, same))
+
+-- the tie at a place of a kept record
+pub tie_at : (kept : Kept) (i : ℕ) → option_map (λ (h : KeptField). h.tie) (slice_get (kept_record kept).fields i) ≡ slice_get kept.links i
+unfolding kept_record
+tie_at kept i = joined_tie kept.rec.fields kept.links i kept.tied
+
+-- ---- kept records without a place, and with one
+
 no_place : (h : List KeptField) (i : ℕ) → length h ≤ i → slice_get h i ≡ None
 no_place [] i beyond = refl
 no_place (h ∷ hs) zero beyond = absurd (omega (arith, beyond))

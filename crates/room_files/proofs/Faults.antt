@@ -2,7 +2,7 @@
 use Rattle.std.proofs.Common.{◌≡◌, refl}
 use Rattle.durable_catalogue.specs.declared.fault.OpenFault.{OpenFault}
 use Rattle.durable_catalogue.specs.declared.fault.OpenFault.TheVariants as opening
-use Rattle.console_lines.specs.declared.fault.Fault.TheVariants.{Device}
+use Rattle.console_lines.specs.declared.fault.Fault.TheVariants.{Input, Device}
 use Rattle.room_files.specs.Faults.{fault_of_opening}
 
 -- a device's fault alone is told as one
@@ -12,3 +12,11 @@ opening_device (opening.NotAJournal place) is = cc
 opening_device opening.OldVersion is = cc
 opening_device opening.Full is = cc
 opening_device opening.NoMemory is = cc
+
+-- and none as one of an input
+pub opening_input : (reason : OpenFault) → fault_of_opening reason ≡ Input → ⊥
+opening_input opening.DeviceFault is = cc
+opening_input (opening.NotAJournal place) is = cc
+opening_input opening.OldVersion is = cc
+opening_input opening.Full is = cc
+opening_input opening.NoMemory is = cc

@@ -8,3 +8,4 @@ mod of_naco_form;
 mod of_selection;
 mod of_workload;
 mod of_workload_entries;
+mod steps;

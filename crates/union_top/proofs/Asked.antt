@@ -1,11 +1,13 @@
 -- What a command comes to for whose libraries there is no memory.
-use Rattle.std.proofs.Common.{◌≡◌, false, true≢false, ℕ, ◌≤◌, List, [], ◌∷◌, length, get_or, None, refl, ap, ◌∙◌, arith}
+use Rattle.std.proofs.Common.{◌≡◌, ◌≢◌, false, true≢false, ℕ, ◌≤◌, List, [], ◌∷◌, length, get_or, Some, None, refl, sym, ap, subst, ◌∙◌, arith}
 use Rattle.std.specs.Prelude.{All, IsTrue}
 use Rattle.marc_types.specs.Valid.{is_code}
 use Rattle.outside.specs.Room.{SameBut, IsNoneOf}
 use Rattle.outside.proofs.Rooms.{same_but_none}
 use Rattle.command_words.specs.declared.library.Library.{Library}
-use Rattle.command_words.specs.Command.{Command, Pass, Run, Load, Export, Report, Make, Verify, Matches, Holdings, Migrate, Help, Version, libraries_of, names_of, AreNames}
+use Rattle.command_words.specs.Command.{Command, Pass, Run, Load, Export, Report, Make, Verify, Matches, Holdings, Migrate, Help, Version, command_of, libraries_of, names_of, AreNames}
+use Rattle.command_words.specs.Asked.{command_asked}
+use Rattle.command_words.specs.declared.asked.Request.{Request}
 use Rattle.console_lines.specs.Ends.{Outcome, IsTold}
 use Rattle.console_lines.specs.declared.end.End.TheVariants.{Told}
 use Rattle.console_lines.specs.declared.fault.Fault.TheVariants as fault
@@ -19,10 +21,21 @@ use Rattle.plain_commands.proofs.Made.{makes_no_memory}
 use Rattle.output_files.specs.Outputs as files
 use Rattle.journal_loading.specs.Outcomes.{IsLoadingFault, NotBegun, Unopened}
 use Rattle.journal_loading.specs.Inputs.{AreLoadable}
-use Rattle.union_top.specs.Commands.{is_alone, Ends}
+use Rattle.union_top.specs.Commands.{is_alone, Ends, CarriesOut}
 use Rattle.loading_commands.specs.Runs as runs
 use Rattle.holdings_command.proofs.Endings.{attaches_unopened}
 use Rattle.loading_commands.proofs.Ended.{loads_failed, runs_failed, no_memory}
+
+-- what a request asks for is what the request that it is asks for
+pub asked_as : (words : List (List ℕ)) (asked : Request) {is : Request} → command_of words ≡ Some (command_asked asked) → asked ≡ is
+    → command_of words ≡ Some (command_asked is)
+asked_as words asked {is} asks same = asks ∙ ap (λ r. Some (command_asked r)) same
+
+-- and it is carried out as that one is
+pub carries : (words : List (List ℕ)) (asked : Request) {is : Request} {o : Outcome} → asked ≡ is → ((name : List ℕ) → o.new.open_as name ≡ None)
+    → SameBut o.old o.new (names_of (command_asked is)) → Ends words (command_asked is) o → o.end ≢ Told fault.Usage → CarriesOut words (command_asked asked) o
+carries words asked {is} {o} same closed apart ends no_usage =
+    subst (λ r. CarriesOut words (command_asked r) o) (sym same) (record { closed = closed; apart = apart; ends = ends; no_usage = no_usage })
 
 -- the libraries of a command's files can be loaded into its journal, the first of its names
 pub loadable : (libraries : List Library) (journal : List ℕ) (names : List (List ℕ)) (files : ℕ) → length libraries ≡ files → 1 ≤ files → files ≤ 64
@@ -101,3 +114,12 @@ module _ (o : Outcome) (told : o.end ≡ Told fault.Memory) (tells : IsTold faul
   unasked words (Migrate from into) takes names = absurd takes
   unasked words (Help topic) takes names = absurd takes
   unasked words Version takes names = absurd takes
+
+  -- and so is a command that wants memory before it begins
+  pub carried_unasked : (words : List (List ℕ)) (command : Command) → NamesFiles command → AreNames (names_of command) → CarriesOut words command o
+  carried_unasked words command takes names = record {
+    closed = closed;
+    apart = same_but_none o.old o.new (names_of command) stays;
+    ends = unasked words command takes names;
+    no_usage = λ usage. let no : Told fault.Memory ≡ Told fault.Usage = sym told ∙ usage in cc;
+  }

@@ -9,11 +9,12 @@ use Rattle.console_lines.specs.declared.end.End.{End}
 use Rattle.console_lines.specs.declared.end.End.TheVariants.{Done, Refused, Unwritten, Told}
 use Rattle.console_lines.specs.declared.fault.Fault.TheVariants as fault
 use Rattle.archive_commands.specs.Reads as reading
+use Rattle.match_command.specs.Telling.{matches_due}
 use Rattle.journal_loading.specs.Inputs.{IsInputFault}
 use Rattle.program_help.specs.Telling.{help_text, version_text}
 use Rattle.union_top.specs.Commands.{Ends}
 use Rattle.union_top.specs.Complete.{Around, InStayed, InputsStayed, IsUnhindered}
-use Rattle.union_top.proofs.Fitting.{EndsWell, well_status, passes_well, makes_well, reads_well, matches_well, attaches_well, loads_well, runs_well}
+use Rattle.union_top.proofs.Fitting.{EndsWell, well_status, passes_well, makes_well, reads_well, attaches_well, loads_well, runs_well}
 use Rattle.union_top.proofs.Untroubled.{verify_well, tells_well}
 use Rattle.union_top.proofs.Migrated.{migrates_well}
 
@@ -55,15 +56,15 @@ module _ (o : Outcome) where
       loads_well o (libraries_of words) journal l u.fits (λ is. s.2 (l.console_cause is))
       (λ is. none_failed (around_of o) (libraries_of words) s.0 (l.input is)) (λ is. s.1 (l.device is))
   ends_well words (Export journal out code) r u =
-      reads_well o journal out (reading.Export code) r u.fits (λ is. u.stayed.1 (r.out_cause is)) (λ is. u.stayed.0 (r.device is))
+      reads_well o journal out (reading.due_of (reading.Export code)) r u.fits (λ is. u.stayed.1 (r.out_cause is)) (λ is. u.stayed.0 (r.device is))
   ends_well words (Report journal out) r u =
-      reads_well o journal out reading.Report r u.fits (λ is. u.stayed.1 (r.out_cause is)) (λ is. u.stayed.0 (r.device is))
+      reads_well o journal out (reading.due_of reading.Report) r u.fits (λ is. u.stayed.1 (r.out_cause is)) (λ is. u.stayed.0 (r.device is))
   ends_well words (Make seed count out) m u =
       makes_well o seed count out m (λ is. u.stayed.0 (m.out_cause is)) (λ is. u.stayed.1 (m.console_cause is))
   ends_well words (Verify journal) v u =
       verify_well o journal v u.fits (λ is. u.stayed.1 (v.console_cause is)) (λ is. u.stayed.0 (v.input is))
   ends_well words (Matches journal out) r u =
-      matches_well o journal out r u.fits (λ is. u.stayed.1 (r.out_cause is)) (λ is. u.stayed.0 (r.device is))
+      reads_well o journal out matches_due r u.fits (λ is. u.stayed.1 (r.out_cause is)) (λ is. u.stayed.0 (r.device is))
   ends_well words (Holdings journal out rest code) ends u =
       let a = ends u.fits.library u.fits.named in
       let s = u.stayed in

@@ -19,21 +19,18 @@ use Rattle.console_lines.specs.declared.end.End.TheVariants.{Done, Refused, Unwr
 use Rattle.console_lines.specs.declared.end.Unwritten.TheVariants as unwritten
 use Rattle.console_lines.specs.declared.fault.Fault.{Fault}
 use Rattle.console_lines.specs.declared.fault.Fault.TheVariants as fault
-use Rattle.durable_catalogue.specs.declared.fault.OpenFault.{OpenFault}
-use Rattle.durable_catalogue.specs.declared.fault.OpenFault.TheVariants as opening
 use Rattle.room_files.specs.Faults.{fault_of_opening}
 use Rattle.room_files.specs.Journals.{log_bytes}
-use Rattle.archive_commands.specs.Reads.{DueView, Reads, EndsReading}
+use Rattle.archive_commands.specs.Reads.{ReadsJournal, EndsReading}
 use Rattle.plain_commands.specs.Loading.{IsFullAt, EndsLoading}
 use Rattle.plain_commands.specs.Making.{Makes, EndsMake}
 use Rattle.plain_commands.specs.Totals.{IsWithinLimits}
-use Rattle.match_command.specs.Telling.{TellsMatches}
 use Rattle.holdings_command.specs.Attaching.{EndsAttaching}
 use Rattle.loading_commands.specs.Loading.{Loads, Runs}
 use Rattle.union_top.specs.Commands.{Ends}
 use Rattle.union_top.specs.Fits.{FitsPass, FitsLoad, FitsReading, FitsHoldings}
 use Rattle.union_top.proofs.Made.{made, made_first}
-use Rattle.union_top.proofs.Unopened.{MayBe, may_be}
+use Rattle.union_top.proofs.Unopened.{may_be, opening_well}
 use Rattle.union_top.proofs.Judgements.{fits_judged}
 use Rattle.union_top.proofs.Remaining.{Remains, of_load, of_run}
 
@@ -80,22 +77,6 @@ load_why fault.Memory remains usage input device = refl
 load_why fault.OldVersion remains usage input device = absurd remains
 load_why fault.OtherHistory remains usage input device = absurd remains
 
--- one of an opening that does, where an old version is read too
-read_why : (log : List ℕ) (of : OpenFault) → MayBe log of → EndsReading (Told (fault_of_opening of)) → (fault_of_opening of ≡ fault.Device → ⊥) → fault_of_opening of ≡ fault.Memory
-read_why log opening.DeviceFault may ends device = absurd (device refl)
-read_why log (opening.NotAJournal place) may ends device = absurd may
-read_why log opening.OldVersion may ends device = absurd ends
-read_why log opening.Full may ends device = absurd may
-read_why log opening.NoMemory may ends device = refl
-
--- the same of the command that reads a file of holdings behind it
-attach_why : (log : List ℕ) (of : OpenFault) → MayBe log of → EndsAttaching (Told (fault_of_opening of)) → (fault_of_opening of ≡ fault.Device → ⊥) → fault_of_opening of ≡ fault.Memory
-attach_why log opening.DeviceFault may ends device = absurd (device refl)
-attach_why log (opening.NotAJournal place) may ends device = absurd may
-attach_why log opening.OldVersion may ends device = absurd ends
-attach_why log opening.Full may ends device = absurd may
-attach_why log opening.NoMemory may ends device = refl
-
 -- a file whose accepted entries are within the limits leaves no next one that passes them
 never_full_at : (library : List ℕ) (items : List Item) (accepted : List Entry) (refused : List RefusedItem) → IsJudged library 0 items accepted refused → IsWithinLimits accepted
     → IsFullAt library items → ⊥
@@ -135,23 +116,14 @@ module _ (o : Outcome) where
   makes_well seed count out m no_out no_console =
       by_end o.end no_out (λ is. subst EndsMake is m.ends) no_console (λ why is. subst EndsMake is m.ends)
 
-  pub reads_well : (journal out : List ℕ) (due : DueView) → Reads journal out due o → FitsReading o.old journal
+  pub reads_well : (journal out : List ℕ) (due : List Entry → List ℕ) → ReadsJournal journal out due o → FitsReading o.old journal
       → Never out_unwritten → Never (Told fault.Device) → EndsWell o.end
   reads_well journal out due r f no_out no_device =
       by_end o.end no_out (λ is. subst EndsReading is r.ends) (λ is. subst EndsReading is r.ends)
       (λ why is.
       let w = (r.told why is).1 in
-      w.is ∙ read_why (log_bytes o.old journal) w.reason (may_be (log_bytes o.old journal) w.reason f.history (w.so f.tells))
-      (subst EndsReading (is ∙ ap Told w.is) r.ends) (λ device. no_device (is ∙ ap Told (w.is ∙ device))))
-
-  pub matches_well : (journal out : List ℕ) → TellsMatches journal out o → FitsReading o.old journal
-      → Never out_unwritten → Never (Told fault.Device) → EndsWell o.end
-  matches_well journal out r f no_out no_device =
-      by_end o.end no_out (λ is. subst EndsReading is r.ends) (λ is. subst EndsReading is r.ends)
-      (λ why is.
-      let w = (r.told why is).1 in
-      w.is ∙ read_why (log_bytes o.old journal) w.reason (may_be (log_bytes o.old journal) w.reason f.history (w.so f.tells))
-      (subst EndsReading (is ∙ ap Told w.is) r.ends) (λ device. no_device (is ∙ ap Told (w.is ∙ device))))
+      w.is ∙ opening_well (log_bytes o.old journal) w.reason (λ old. subst EndsReading (is ∙ ap Told (w.is ∙ ap fault_of_opening old)) r.ends)
+      (may_be (log_bytes o.old journal) w.reason f.history (w.so f.tells)) (λ device. no_device (is ∙ ap Told (w.is ∙ device))))
 
   pub attaches_well : (words : List (List ℕ)) (journal out rest : List ℕ) (code : Option (List ℕ)) → Ends words (Holdings journal out rest code) o
       → FitsHoldings o.old journal (libraries_of words) → Never out_unwritten → Never report_unwritten → Never console_unwritten
@@ -161,8 +133,8 @@ module _ (o : Outcome) where
       by_end o.end no_out no_rest no_console
       (λ why is.
       let w = a.because why is (λ same. no_input (is ∙ ap Told same)) in
-      w.is ∙ attach_why (log_bytes o.old journal) w.reason (may_be (log_bytes o.old journal) w.reason f.reading.history (w.so f.reading.tells))
-      (subst EndsAttaching (is ∙ ap Told w.is) a.ends) (λ device. no_device (is ∙ ap Told (w.is ∙ device))))
+      w.is ∙ opening_well (log_bytes o.old journal) w.reason (λ old. subst EndsAttaching (is ∙ ap Told (w.is ∙ ap fault_of_opening old)) a.ends)
+      (may_be (log_bytes o.old journal) w.reason f.reading.history (w.so f.reading.tells)) (λ device. no_device (is ∙ ap Told (w.is ∙ device))))
 
   pub loads_well : (libraries : List Library) (journal : List ℕ) → Loads libraries journal o → FitsLoad o.old journal libraries
       → Never console_unwritten → Never (Told fault.Input) → Never (Told fault.Device) → EndsWell o.end

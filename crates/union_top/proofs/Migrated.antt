@@ -1,5 +1,5 @@
 -- A migration that fits ends well, or memory ran out, where no fault of a device or of the console ended it.
-use Rattle.std.proofs.Common.{◌≡◌, ◌≢◌, ◌⊎◌, inl, inr, ℕ, List, [], ◌∷◌, refl, sym, ap, subst, ◌∙◌, arith}
+use Rattle.std.proofs.Common.{◌≡◌, ◌⊎◌, inl, inr, ℕ, List, [], ◌∷◌, refl, sym, ap, subst, ◌∙◌, arith}
 use Rattle.std.proofs.Math.Logic.{∥∥₁_map, ∥∥₁_elim, ∥∥₁_prop}
 use Rattle.marc_types.specs.declared.entry.Entry.{Entry}
 use Rattle.outside.specs.Room.{SameBut}
@@ -10,11 +10,9 @@ use Rattle.console_lines.specs.declared.end.Unwritten.TheVariants.{Out, Report, 
 use Rattle.console_lines.specs.declared.fault.Fault.{Fault}
 use Rattle.console_lines.specs.declared.fault.Fault.TheVariants as fault
 use Rattle.commit_journal.specs.Log.{version_of}
-use Rattle.durable_catalogue.specs.declared.fault.OpenFault.{OpenFault}
-use Rattle.durable_catalogue.specs.declared.fault.OpenFault.TheVariants as opening
 use Rattle.durable_catalogue.specs.Logs.{IsLogOf, HasHistory}
-use Rattle.room_files.specs.Faults.{fault_of_opening}
 use Rattle.room_files.specs.Journals.{journal_limits, log_bytes}
+use Rattle.room_files.proofs.Histories.{reading_once}
 use Rattle.archive_commands.specs.Archives.{HasFittingHistory}
 use Rattle.journal_migration.specs.Migrations.{Begins, AreWithin, IsFit, IsUnmigrated}
 use Rattle.journal_migration.specs.declared.fault.MigrateFault.{MigrateFault}
@@ -22,7 +20,7 @@ use Rattle.journal_migration.specs.declared.fault.MigrateFault.TheVariants as mi
 use Rattle.migrate_command.specs.Faults.{fault_of_migrating}
 use Rattle.migrate_command.specs.Migrates.{EndsMigrating, WhyNotFrom, NotOpened, Newest, WhyNotInto, Migrates}
 use Rattle.union_top.specs.Fits.{FitsMigrate}
-use Rattle.union_top.proofs.Unopened.{MayBe, may_be, no_journal, reading_once}
+use Rattle.union_top.proofs.Unopened.{may_be, no_journal, opening_well}
 use mathlib.Core.HLevel.{⊥_prop}
 
 migrated_well : (end : End) → EndsMigrating end → (end ≡ console_unwritten → ⊥) → ((why : Fault) → end ≡ Told why → why ≡ fault.Memory)
@@ -33,15 +31,6 @@ migrated_well (Unwritten Out) kind console told = absurd kind
 migrated_well (Unwritten Report) kind console told = absurd kind
 migrated_well (Unwritten Console) kind console told = absurd (console refl)
 migrated_well (Told why) kind console told = inr (ap Told (told why refl))
-
--- a fault of the old journal's opening that remains
-opening_well : (log : List ℕ) (reason : OpenFault) → reason ≢ opening.OldVersion → MayBe log reason → (fault_of_opening reason ≡ fault.Device → ⊥)
-    → fault_of_opening reason ≡ fault.Memory
-opening_well log opening.DeviceFault current may device = absurd (device refl)
-opening_well log (opening.NotAJournal place) current may device = absurd may
-opening_well log opening.OldVersion current may device = absurd (current refl)
-opening_well log opening.Full current may device = absurd may
-opening_well log opening.NoMemory current may device = refl
 
 -- one of the new journal that does, where that is fit for the old one's history
 module _ (from into : List ℕ) (history entries : List Entry) (was : HasHistory history from) (fits : ∥ IsFit journal_limits history entries into ∥₁) where

@@ -20,11 +20,12 @@ use Rattle.archive_commands.specs.Archives.{HasFittingHistory}
 use Rattle.archive_commands.proofs.Histories.{fitting_history}
 use Rattle.journal_loading.specs.Outcomes.{IsLoadedInPart, IsUnbegun, Unopened, Unbegun, IsLoadingFault, NotBegun, InPart, any_ends, loading_fault}
 use Rattle.room_files.specs.Faults.{fault_of_opening}
+use Rattle.room_files.proofs.Histories.{reading_once}
 use Rattle.loading_commands.specs.Runs.{WhyNotLoad, WhyNotRun}
 use Rattle.loading_commands.specs.Runs as runs
 use Rattle.union_top.proofs.Judgements.{FitsJudged}
 use Rattle.union_top.proofs.Crowded.{all_parts, crowded, never_crowded}
-use Rattle.union_top.proofs.Unopened.{MayBe, may_be, reading_once}
+use Rattle.union_top.proofs.Unopened.{MayBe, may_be}
 use mathlib.Core.HLevel.{⊥_prop}
 
 -- a fault that a loading may end with, which nothing but a count hinders

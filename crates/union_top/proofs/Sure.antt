@@ -27,7 +27,7 @@ use Rattle.entry_record.specs.History.{IsWithin}
 use Rattle.output_files.specs.Outputs.{IsPartWritten}
 use Rattle.room_files.specs.Journals.{journal_limits, log_bytes, KeepsHistory}
 use Rattle.archive_commands.specs.Reads as reads
-use Rattle.archive_commands.specs.Reads.{Reads}
+use Rattle.archive_commands.specs.Reads.{ReadsJournal}
 use Rattle.match_command.specs.Telling.{matches_due}
 use Rattle.plain_commands.specs.Making.{Makes, workload_line}
 use Rattle.plain_commands.specs.Passing.{Passes, IsPassedInPart, IsPassedUntold, exported, results}
@@ -52,7 +52,7 @@ use Rattle.union_top.specs.Fits.{FitsPass, FitsLoad, FitsReading, FitsHoldings, 
 use Rattle.union_top.specs.Complete.{Around, LogStayed}
 use Rattle.union_top.specs.Sure.{HoldsLog, HoldsText, PassCase, LoadCase, HoldingsCase, holdings_due, IsSurePass, IsSureMake, IsSureReading, IsSureVerify, IsSureHoldings, IsSureMigrate, IsSureLoad, IsSureRun, IsSure}
 use Rattle.union_top.proofs.Complete.{around_of, one_stayed, none_failed, neither}
-use Rattle.union_top.proofs.Fitting.{EndsWell, well_status, Never, passes_well, makes_well, reads_well, matches_well, attaches_well, loads_well, runs_well}
+use Rattle.union_top.proofs.Fitting.{EndsWell, well_status, Never, passes_well, makes_well, reads_well, attaches_well, loads_well, runs_well}
 use Rattle.union_top.proofs.Framed.{part_no_longer}
 use Rattle.union_top.proofs.Held.{in_stayed, inputs_stayed, out_stayed, log_stayed, same_stayed, kept_stayed, text_stayed}
 use Rattle.union_top.proofs.Judgements.{fits_judged}
@@ -134,11 +134,10 @@ module _ (o : Outcome) (promises : (n : List ℕ) → o.new.promise n ≡ o.old.
       ∥∥₁_elim f.history ⊥_prop (λ (one : (entries : List Entry) × IsLogOf entries (log_bytes o.old journal) × IsWithin journal_limits entries).
       out_stayed a promises kept out (due one.0) (h.output one.0 ∣ one.1 ∣₁) (part one.0 is f.tells ∣ one.1 ∣₁) (cause is))
 
-  sure_read : (journal out : List ℕ) (due : reads.DueView) → Reads journal out due o → FitsReading o.old journal
-      → IsSureReading (reads.due_of due) journal out a → EndsWell o.end
+  sure_read : (journal out : List ℕ) (due : List Entry → List ℕ) → ReadsJournal journal out due o → FitsReading o.old journal
+      → IsSureReading due journal out a → EndsWell o.end
   sure_read journal out due r f h =
-      reads_well o journal out due r f (no_out (reads.due_of due) journal out f h r.part r.out_cause)
-      (no_device journal h.log (r.keeps f.tells) r.device)
+      reads_well o journal out due r f (no_out due journal out f h r.part r.out_cause) (no_device journal h.log (r.keeps f.tells) r.device)
 
   sure_verify : (journal : List ℕ) → Verifies journal o → FitsVerify o.old journal → IsSureVerify journal a → EndsWell o.end
   sure_verify journal v f h =
@@ -298,13 +297,11 @@ module _ (o : Outcome) (promises : (n : List ℕ) → o.new.promise n ≡ o.old.
   ends_sure words (Pass out) ends u = sure_pass words out ends u.fits u.holds
   ends_sure words (Run journal out report files) r u = sure_run (libraries_of words) journal out report r u.fits u.holds
   ends_sure words (Load journal files) l u = sure_load (libraries_of words) journal u.fits u.holds l
-  ends_sure words (Export journal out code) r u = sure_read journal out (reads.Export code) r u.fits u.holds
-  ends_sure words (Report journal out) r u = sure_read journal out reads.Report r u.fits u.holds
+  ends_sure words (Export journal out code) r u = sure_read journal out (reads.due_of (reads.Export code)) r u.fits u.holds
+  ends_sure words (Report journal out) r u = sure_read journal out (reads.due_of reads.Report) r u.fits u.holds
   ends_sure words (Make seed count out) m u = sure_make seed count out m u.holds
   ends_sure words (Verify journal) v u = sure_verify journal v u.fits u.holds
-  ends_sure words (Matches journal out) r u =
-      matches_well o journal out r u.fits (no_out matches_due journal out u.fits u.holds r.part r.out_cause)
-      (no_device journal u.holds.log (r.keeps u.fits.tells) r.device)
+  ends_sure words (Matches journal out) r u = sure_read journal out matches_due r u.fits u.holds
   ends_sure words (Holdings journal out rest code) ends u = sure_holdings words journal out rest code ends u.fits u.holds
   ends_sure words (Migrate from into) m u = sure_migrate from into m u.fits u.holds
   ends_sure words (Help topic) t u = sure_text (help_text topic) t u.holds

@@ -1,8 +1,9 @@
 -- Why a log isn't opened that has a history within the limits.
-use Rattle.std.proofs.Common.{◌≡◌, ℕ, List, [], ◌∷◌, ◌++◌, Ok, Err, sym, ap, subst, ◌∙◌}
+use Rattle.std.proofs.Common.{◌≡◌, ◌≢◌, ℕ, List, [], ◌∷◌, ◌++◌, Ok, Err, refl, sym, ap, subst, ◌∙◌}
 use Rattle.std.proofs.Math.Logic.{∥∥₁_elim}
 use Rattle.std.proofs.lemmas.List.{map-append}
 use Rattle.marc_types.specs.declared.entry.Entry.{Entry}
+use Rattle.console_lines.specs.declared.fault.Fault.TheVariants as fault
 use Rattle.commit_journal.specs.declared.frame.Frame.{Frame}
 use Rattle.commit_journal.specs.Log.{version_of}
 use Rattle.entry_history.specs.Payloads.{Holds, IsHistory, NoMore, OneMore}
@@ -12,7 +13,9 @@ use Rattle.durable_catalogue.specs.declared.fault.OpenFault.TheVariants as openi
 use Rattle.durable_catalogue.specs.Logs.{payloads_of, IsLogOf}
 use Rattle.durable_catalogue.specs.Openings.{IsBadFrame, NoGate, NoPayload, IsUnopened}
 use Rattle.entry_record.specs.History.{IsWithin}
+use Rattle.room_files.specs.Faults.{fault_of_opening}
 use Rattle.room_files.specs.Journals.{journal_limits}
+use Rattle.room_files.proofs.Histories.{reading_once}
 use Rattle.archive_commands.specs.Archives.{HasFittingHistory}
 use mathlib.Core.HLevel.{⊥_prop}
 
@@ -32,12 +35,6 @@ no_bad_frame version frames place entries holds b =
     let split = history_split version [] (payloads_of b.front) b.bad.payload (payloads_of b.behind) entries (subst (λ ps. IsHistory version [] ps entries) payloads holds) in
     let same : split.0 ≡ b.entries = history_once version [] split.0 b.entries (payloads_of b.front) split.1 b.history in
     b.invalid split.2.0 (subst (λ es. Holds version es split.2.0 b.bad.payload) same split.2.1)
-
-pub reading_once : (entries others : List Entry) (log : List ℕ) → IsLogOf entries log → IsLogOf others log → entries ≡ others
-reading_once entries others log is also =
-    let same : also.frames ≡ is.frames = cc (is.found, also.found) in
-    history_once (version_of log) [] entries others (payloads_of is.frames) is.holds
-    (subst (λ frames. IsHistory (version_of log) [] (payloads_of frames) others) same also.holds)
 
 -- why a log isn't opened that has a history within the limits
 abbrev pub MayBe : List ℕ → OpenFault → Type 0
@@ -59,3 +56,12 @@ may_be log (opening.NotAJournal place) fits so = ∥∥₁_elim fits ⊥_prop (�
 may_be log opening.OldVersion fits so = so.0
 may_be log opening.Full fits so = ∥∥₁_elim fits ⊥_prop (λ f. so.2 (subst (IsWithin journal_limits) (reading_once f.0 so.0 log f.1 so.1) f.2))
 may_be log opening.NoMemory fits so = tt
+
+-- a fault of an opening that remains
+pub opening_well : (log : List ℕ) (reason : OpenFault) → reason ≢ opening.OldVersion → MayBe log reason → (fault_of_opening reason ≡ fault.Device → ⊥)
+    → fault_of_opening reason ≡ fault.Memory
+opening_well log opening.DeviceFault current may device = absurd (device refl)
+opening_well log (opening.NotAJournal place) current may device = absurd may
+opening_well log opening.OldVersion current may device = absurd (current refl)
+opening_well log opening.Full current may device = absurd may
+opening_well log opening.NoMemory current may device = refl

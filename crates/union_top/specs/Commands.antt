@@ -1,9 +1,12 @@
 -- How each command ends.
-use Rattle.std.specs.Prelude.{◌≡◌, ℕ, Bool, true, false, List, [], ◌∷◌}
+use Rattle.std.specs.Prelude.{◌≡◌, ◌≢◌, ℕ, Bool, true, false, List, [], ◌∷◌, None}
+use Rattle.outside.specs.Room.{SameBut}
 use Rattle.command_words.specs.declared.library.Library.{Library}
-use Rattle.command_words.specs.Command.{Command, Pass, Run, Load, Export, Report, Make, Verify, Matches, Holdings, Migrate, Help, Version, libraries_of}
+use Rattle.command_words.specs.Command.{Command, Pass, Run, Load, Export, Report, Make, Verify, Matches, Holdings, Migrate, Help, Version, libraries_of, names_of}
 use Rattle.console_lines.specs.Ends.{Outcome, end_status}
 use Rattle.console_lines.specs.declared.end.End.{End}
+use Rattle.console_lines.specs.declared.end.End.TheVariants.{Told}
+use Rattle.console_lines.specs.declared.fault.Fault.TheVariants.{Usage}
 use Rattle.archive_commands.specs.Reads as reads
 use Rattle.archive_commands.specs.Reads.{Reads}
 use Rattle.plain_commands.specs.Passing.{Passes}
@@ -44,6 +47,14 @@ Ends words (Holdings journal out rest code) o = (library : Library) → librarie
 Ends words (Migrate from into) o = Migrates from into o
 Ends words (Help topic) o = Tells (help_text topic) o
 Ends words Version o = Tells version_text o
+
+-- a command of some words was carried out: no name is left open, no file changes but its log and outputs, and it ended as it does, and
+-- not as words end that are no command
+pub record CarriesOut (words : List (List ℕ)) (command : Command) (o : Outcome) : Type 0 where
+  pub closed : (name : List ℕ) → o.new.open_as name ≡ None
+  pub apart : SameBut o.old o.new (names_of command)
+  pub ends : Ends words command o
+  pub no_usage : o.end ≢ Told Usage
 
 -- the same with its exit status, which is the end as a number
 abbrev pub EndsWith : List (List ℕ) → Command → ℕ → (End → Outcome) → Type 0

@@ -1,10 +1,10 @@
-ghost use Rattle.std.specs.Prelude.{◌≡◌, ◌≢◌, ◌↔◌, ◌⊎◌, ℕ, ◌≤◌, List, true, false, Some, None, [], IfSome, IfNone};
+ghost use Rattle.std.specs.Prelude.{◌≡◌, ◌↔◌, ◌⊎◌, ℕ, ◌≤◌, List, true, false, Some, None, [], IfSome, IfNone};
 ghost use Rattle.outside.specs.Room.{SameBut};
 ghost use Rattle.command_words.specs.Command.{Command, command_of, names_of};
 ghost use Rattle.command_words.specs.Asked.{command_asked};
 ghost use Rattle.console_lines.specs.Ends.{outcome};
 ghost use Rattle.console_lines.specs.Faults.{IsFaultTold, fault_line};
-ghost use Rattle.union_top.specs.Commands.{is_alone, Ends, EndsWith};
+ghost use Rattle.union_top.specs.Commands.{is_alone, CarriesOut, EndsWith};
 ghost use Rattle.union_top.specs.Complete.{around, IsUnhindered};
 ghost use Rattle.union_top.specs.Sure.{IsSure};
 ghost use Rattle.union_top.specs.Carried.{LoadsFiles, AreCarriedOut};
@@ -56,11 +56,8 @@ fn run_alone<R: Room>(
     requires asks { command_of words.now ≡ Some (command_asked asked) }
     requires alone { is_alone (command_asked asked) ≡ true }
     requires closed { (name : List ℕ) → (R.seen room.old).open_as name ≡ None }
-    ensures closed { (name : List ℕ) → (R.seen room.new).open_as name ≡ None }
-    ensures apart { SameBut (R.seen room.old) (R.seen room.new) (names_of (command_asked asked.entry)) }
-    ensures ends { Ends words.now (command_asked asked.entry)
+    ensures { CarriesOut words.now (command_asked asked.entry)
         (outcome R.seen R.Out.written R.Out.faults room.old room.new console.old console.new result) }
-    ensures command { result ≢ End.Told Fault.Usage }
 {
     files_are_named(words);
     names_are_apart(words);
@@ -133,11 +130,8 @@ fn run_loading<H: Threads + Wait + Sync, R: Room, G: Gate + Sync>(
     requires asks { command_of words.now ≡ Some (command_asked asked) }
     requires loads { is_alone (command_asked asked) ≡ false }
     requires closed { (name : List ℕ) → (R.seen room.old).open_as name ≡ None }
-    ensures closed { (name : List ℕ) → (R.seen room.new).open_as name ≡ None }
-    ensures apart { SameBut (R.seen room.old) (R.seen room.new) (names_of (command_asked asked.entry)) }
-    ensures ends { Ends words.now (command_asked asked.entry)
+    ensures { CarriesOut words.now (command_asked asked.entry)
         (outcome R.seen R.Out.written R.Out.faults room.old room.new console.old console.new result) }
-    ensures command { result ≢ End.Told Fault.Usage }
 {
     files_are_named(words);
     names_are_apart(words);
@@ -180,11 +174,8 @@ fn carry_out<H: Threads + Wait + Sync, R: Room, G: Gate + Sync>(
 ) -> End
     requires asks { command_of words.now ≡ Some (command_asked asked) }
     requires closed { (name : List ℕ) → (R.seen room.old).open_as name ≡ None }
-    ensures closed { (name : List ℕ) → (R.seen room.new).open_as name ≡ None }
-    ensures apart { SameBut (R.seen room.old) (R.seen room.new) (names_of (command_asked asked.entry)) }
-    ensures ends { Ends words.now (command_asked asked.entry)
+    ensures { CarriesOut words.now (command_asked asked.entry)
         (outcome R.seen R.Out.written R.Out.faults room.old room.new console.old console.new result) }
-    ensures command { result ≢ End.Told Fault.Usage }
 {
     if is_alone(asked) {
         run_alone(alloc, words, asked, room, console)

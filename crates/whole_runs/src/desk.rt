@@ -3,7 +3,7 @@ ghost use Rattle.std.specs.Prelude.{◌≡◌, ℕ, List, None, IfOk};
 ghost use Rattle.outside_mem.specs.Room.{room_view};
 
 use crate::room::{empty_room, with_fault, with_file, with_shut};
-use crate::shown::shown;
+use crate::shown::{print_all, print_number, shown};
 use crate::step::Step;
 use crate::turns::{Doorkeeper, Turns};
 use command_words::Words;
@@ -87,7 +87,31 @@ fn crashed(
     with_file(empty_room(alloc), name, image).map_err(|_| failed())
 }
 
-/// Carries out the command of some words, and prints the words, what the console is told and the status.
+/// Carries out the command of some words over a room: the status, and what the console is told.
+fn ran<H: Threads + Wait + Sync>(
+    threads: &H,
+    alloc: Global,
+    words: &Words,
+    room: &mut MemRoom,
+    turns: Turns,
+) -> (u8, Vec<u8>)
+    requires { (name : List ℕ) → (room_view room.old).open_as name ≡ None }
+    ensures { (name : List ℕ) → (room_view room.new).open_as name ≡ None }
+{
+    let mut console = MemSink::new(alloc, Vec::new(alloc));
+    let gate = Doorkeeper::new(turns);
+    let status = run(threads, alloc, words, room, &mut console, &gate);
+    (status, console.into_bytes())
+}
+
+/// Prints the words of a command, what the console was told and the status.
+fn tell(rt: &HostRuntime, line: &str, status: u8, told: &[u8]) -> io::Result<()> {
+    let told = shown(rt.alloc(), told)?;
+    print_all(rt, &["$ ", line, "\n", told.as_str()])?;
+    print_number(rt, "status ", u64::from(status), "\n")
+}
+
+/// Carries out the command of some words, and prints what comes of it.
 fn carried_out<H: Threads + Wait + Sync>(
     rt: &HostRuntime,
     threads: &H,
@@ -98,41 +122,61 @@ fn carried_out<H: Threads + Wait + Sync>(
     requires { (name : List ℕ) → (room_view room).open_as name ≡ None }
     ensures { IfOk result (λ room. (name : List ℕ) → (room_view room).open_as name ≡ None) }
 {
-    let alloc = rt.alloc();
-    let words = words_of(alloc, line)?;
+    let words = words_of(rt.alloc(), line)?;
     let mut room = room;
-    let mut console = MemSink::new(alloc, Vec::new(alloc));
-    let gate = Doorkeeper::new(turns);
-    let status = run(threads, alloc, &words, &mut room, &mut console, &gate);
-    println!(rt; "$ {line}")?;
-    print!(rt; "{}", shown(alloc, console.bytes())?)?;
-    println!(rt; "status {status}")?;
+    let (status, told) = ran(threads, rt.alloc(), &words, &mut room, turns);
+    tell(rt, line, status, told.as_slice())?;
     Ok(room)
 }
 
 fn show(rt: &HostRuntime, room: &MemRoom, name: &str) -> io::Result<()> {
     match room.file(name) {
-        Some(bytes) => println!(rt; "{name}: {}", shown(rt.alloc(), bytes)?),
-        None => println!(rt; "{name} isn't there"),
+        Some(bytes) => {
+            let bytes = shown(rt.alloc(), bytes)?;
+            print_all(rt, &[name, ": ", bytes.as_str(), "\n"])
+        }
+        None => print_all(rt, &[name, " isn't there\n"]),
     }
 }
 
 fn size(rt: &HostRuntime, room: &MemRoom, name: &str) -> io::Result<()> {
     match room.file(name) {
-        Some(bytes) => println!(rt; "{name} has {} bytes", bytes.len()),
-        None => println!(rt; "{name} isn't there"),
+        Some(bytes) => {
+            print_all(rt, &[name])?;
+            print_number(rt, " has ", bytes.len() as u64, " bytes\n")
+        }
+        None => print_all(rt, &[name, " isn't there\n"]),
     }
 }
 
 fn compare(rt: &HostRuntime, room: &MemRoom, one: &str, other: &str) -> io::Result<()> {
-    if room.file(one) == room.file(other) {
-        println!(rt; "{one} is {other}")
+    let verdict = if room.file(one) == room.file(other) {
+        " is "
     } else {
-        println!(rt; "{one} ISN'T {other}")
+        " ISN'T "
+    };
+    print_all(rt, &[one, verdict, other, "\n"])
+}
+
+/// The words of a journal's export.
+fn export_of(alloc: Global, journal: &str) -> io::Result<Words> {
+    let mut line = String::new(alloc);
+    for piece in ["export ", journal, " ", EXPORT] {
+        line.push_str(piece)?;
+    }
+    words_of(alloc, line.as_str())
+}
+
+/// Prints the status of an export, and how many bytes are exported.
+fn tell_export(rt: &HostRuntime, status: u8, bytes: Option<&[u8]>) -> io::Result<()> {
+    print_number(rt, " status ", u64::from(status), "")?;
+    match bytes {
+        Some(bytes) => print_number(rt, ", ", bytes.len() as u64, " bytes\n"),
+        None => print_all(rt, &["\n"]),
     }
 }
 
-/// Carries out an export of a journal over a room, and prints the status and how many bytes are exported.
+/// Carries out an export of a journal over a room, and prints what comes of it.
 fn exported<H: Threads + Wait + Sync>(
     rt: &HostRuntime,
     threads: &H,
@@ -141,19 +185,10 @@ fn exported<H: Threads + Wait + Sync>(
 ) -> io::Result<()>
     requires { (name : List ℕ) → (room_view room).open_as name ≡ None }
 {
-    let alloc = rt.alloc();
-    let words = words_of(
-        alloc,
-        format!(in alloc; "export {journal} {EXPORT}")?.as_str(),
-    )?;
+    let words = export_of(rt.alloc(), journal)?;
     let mut room = room;
-    let mut console = MemSink::new(alloc, Vec::new(alloc));
-    let gate = Doorkeeper::new(Turns::Open);
-    let status = run(threads, alloc, &words, &mut room, &mut console, &gate);
-    match room.file(EXPORT) {
-        Some(bytes) => println!(rt; " status {status}, {} bytes", bytes.len()),
-        None => println!(rt; " status {status}"),
-    }
+    let (status, _told) = ran(threads, rt.alloc(), &words, &mut room, Turns::Open);
+    tell_export(rt, status, room.file(EXPORT))
 }
 
 /// Prints what comes of an export of each image of a closed log.
@@ -169,7 +204,8 @@ fn images<H: Threads + Wait + Sync>(
     for moment in 0..log.moments() {
         for choice in 0..CHOICES {
             let image = crashed(rt.alloc(), room, journal, moment, choice)?;
-            print!(rt; "moment {moment}, choice {choice}:")?;
+            print_number(rt, "moment ", moment, ", choice ")?;
+            print_number(rt, "", u64::from(choice), ":")?;
             exported(rt, threads, image, journal)?;
         }
     }
@@ -179,11 +215,11 @@ fn images<H: Threads + Wait + Sync>(
 /// Prints what a step asks to see.
 fn look(rt: &HostRuntime, room: &MemRoom, step: Step<'_>, line: &str) -> io::Result<()> {
     match step {
-        Step::Title => println!(rt; "{line}"),
+        Step::Title => print_all(rt, &[line, "\n"]),
         Step::Show(name) => show(rt, room, name),
         Step::Size(name) => size(rt, room, name),
         Step::Same(one, other) => compare(rt, room, one, other),
-        Step::Unknown => println!(rt; "NO STEP: {line}"),
+        Step::Unknown => print_all(rt, &["NO STEP: ", line, "\n"]),
         _ => Ok(()),
     }
 }

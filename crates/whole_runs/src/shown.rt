@@ -1,6 +1,13 @@
-//! Bytes as they are printed.
+//! What is printed, without a format, since the prover takes some twenty seconds for one.
 use std::alloc::{AllocError, Global};
-use std::fmt::Write;
+use std::io;
+
+const DIGITS: &[u8; 16] = b"0123456789abcdef";
+
+/// The last digit of a number to the base 16.
+fn digit(number: u8) -> char {
+    char::from(DIGITS[usize::from(number % 16)])
+}
 
 /// The bytes as text: graphic ASCII characters and blanks stand for themselves, a line's end for itself, and any other byte is
 /// written as `\` and two digits to the base 16.
@@ -10,9 +17,25 @@ pub fn shown(alloc: Global, bytes: &[u8]) -> Result<String, AllocError> {
         if byte.is_ascii_graphic() || *byte == b' ' || *byte == b'\n' {
             text.push(char::from(*byte))?;
         } else {
-            let code = format!(in alloc; "\\{byte:02x}")?;
-            text.push_str(code.as_str())?;
+            text.push('\\')?;
+            text.push(digit(*byte / 16))?;
+            text.push(digit(*byte))?;
         }
     }
     Ok(text)
+}
+
+/// Prints texts one after another.
+pub fn print_all(rt: &impl Print, texts: &[&str]) -> io::Result<()> {
+    for text in texts {
+        rt.write_all(text.as_bytes())?;
+    }
+    Ok(())
+}
+
+/// Prints a number between two texts.
+pub fn print_number(rt: &impl Print, before: &str, number: u64, after: &str) -> io::Result<()> {
+    rt.write_all(before.as_bytes())?;
+    rt.print(number)?;
+    rt.write_all(after.as_bytes())
 }

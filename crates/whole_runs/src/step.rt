@@ -2,7 +2,7 @@
 use crate::turns::Turns;
 
 /// What a line asks for.
-#[derive(Clone, Copy, Debug)]
+#[derive(Clone, Copy)]
 pub enum Step<'a> {
     /// Begins with an empty room, and prints the line.
     Title,

@@ -5,7 +5,7 @@ use std::sync::atomic::{AtomicU32, Ordering};
 use std::thread;
 
 /// How loaders take turns: as it happens; one entry a turn; or two loaders in an order of their own, one entry a turn.
-#[derive(Clone, Copy, Debug, PartialEq, Eq)]
+#[derive(Clone, Copy)]
 pub enum Turns {
     Open,
     OneByOne,
@@ -62,7 +62,7 @@ impl Doorkeeper {
 
 impl Gate for Doorkeeper {
     fn before(&self, _rt: &impl Wait, loader: u32, ordinal: u64) {
-        if self.turns == Turns::Alternating {
+        if let Turns::Alternating = self.turns {
             match (loader, ordinal) {
                 (1, 1) => self.wait_for(0, FIRST_AT_2),
                 (0, 2) => self.wait_for(FIRST_AT_2, SECOND_AT_2),

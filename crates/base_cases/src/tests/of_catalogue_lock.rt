@@ -74,51 +74,6 @@ fn raced<R: Threads + Wait + Sync>(
     Some(tally.numbers().len())
 }
 
-/// The first two passes.
-fn pair(passes: Vec<Pass<Tally>>, lock: &HistoryLock<Tally>) -> Option<(Pass<Tally>, Pass<Tally>)>
-    requires { All (IsReady lock.now) passes.items }
-    ensures first { IfSome result (λ r. IsReady lock.now r.0) }
-    ensures second { IfSome result (λ r. IsReady lock.now r.1) }
-{
-    let mut passes = passes;
-    let second = passes.pop()?;
-    let first = passes.pop()?;
-    Some((first, second))
-}
-
-fn listed(
-    alloc: Global,
-    first: Pass<Tally>,
-    second: Pass<Tally>,
-    lock: &HistoryLock<Tally>,
-) -> Option<Passes<Tally>>
-    requires first { IsPassOf lock.now first }
-    requires second { IsPassOf lock.now second }
-    ensures own { IfSome result (λ r. All (IsPassOf lock.now) r) }
-    ensures len { IfSome result (λ r. length r ≡ 2) }
-{
-    let mut passes = Vec::new(alloc);
-    passes.push(first).ok()?;
-    passes.push(second).ok()?;
-    Some(Passes::from_vec(passes))
-}
-
-/// The worked row: what the turns of two passes answer, and what is left.
-fn row<R: Wait>(
-    rt: &R,
-    alloc: Global,
-) -> Option<(Option<u64>, Option<u64>, Option<u64>, u64, Tally)> {
-    let (lock, passes) = opened(alloc, 2, 2)?;
-    let (mut left, mut right) = pair(passes, &lock)?;
-    let first = lock.turn(rt, &mut left, 5);
-    let second = lock.turn(rt, &mut right, 7);
-    let refused = lock.turn(rt, &mut left, 9);
-    let count = lock.look(rt, &mut right, &());
-    lock.meet(&mut left, &mut right);
-    let passes = listed(alloc, left, right, &lock)?;
-    Some((first, second, refused, count, lock.close(passes)))
-}
-
 /// One pass alone: its count after more turns than there is room for.
 fn alone<R: Wait>(rt: &R, alloc: Global) -> Option<(u64, Tally)> {
     let (lock, mut passes) = opened(alloc, 3, 1)?;
@@ -131,11 +86,6 @@ fn alone<R: Wait>(rt: &R, alloc: Global) -> Option<(u64, Tally)> {
 
 #[test]
 fn the_worked_row(rt: HostRuntime) -> Result<(), Fail> {
-    let Some((first, second, refused, count, tally)) = row(&rt, rt.alloc()) else {
-        panic!(rt; "no memory")
-    };
-    assert!(rt; first == Some(0) && second == Some(1) && refused.is_none() && count == 2);
-    assert!(rt; tally.numbers() == [5, 7].as_slice());
     let Ok(met) = worked_row(&rt, rt.alloc()) else {
         panic!(rt; "no memory")
     };
@@ -153,14 +103,9 @@ fn one_pass_is_told_when_the_room_ends(rt: HostRuntime) -> Result<(), Fail> {
     Ok(())
 }
 
+/// Two threads by a thousand turns, and sixty-four by fifty.
 #[test]
-fn two_threads_by_a_thousand_turns(rt: HostRuntime) -> Result<(), Fail> {
+fn threads_take_turns(rt: HostRuntime) {
     assert!(rt; raced(&rt, rt.alloc(), 2000, 2, 1000) == Some(2000));
-    Ok(())
-}
-
-#[test]
-fn sixty_four_threads_by_fifty_turns(rt: HostRuntime) -> Result<(), Fail> {
     assert!(rt; raced(&rt, rt.alloc(), 4000, 64, 50) == Some(3200));
-    Ok(())
 }

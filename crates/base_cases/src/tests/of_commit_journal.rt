@@ -2,6 +2,7 @@ use commit_journal::{Frames, Journal, JournalFault, LARGEST_PAYLOAD};
 use outside::Disk;
 use outside_mem::MemDisk;
 use std::alloc::Global;
+use std::process::Abort;
 use std::test::Fail;
 
 /// No log of a test is longer.
@@ -17,56 +18,72 @@ fn disk_of(alloc: Global, bytes: &[u8], fails: &[u64]) -> Result<MemDisk, Fail> 
     Ok(MemDisk::new(alloc, bytes, fails.to_vec(alloc)?))
 }
 
-fn open(alloc: Global, bytes: &[u8]) -> Result<(Journal<MemDisk>, Frames), Fail> {
-    match Journal::open(alloc, disk_of(alloc, bytes, &[])?) {
-        Ok(opened) => Ok(opened),
-        Err((_disk, fault)) => Err(fault)?,
+// The opening tells nothing more, so that a test's proof knows no more.
+fn opened(
+    alloc: Global,
+    disk: MemDisk,
+) -> Result<(Journal<MemDisk>, Frames), (MemDisk, JournalFault)> {
+    Journal::open(alloc, disk)
+}
+
+/// How many frames a log opens to, or why it doesn't.
+fn found(alloc: Global, bytes: &[u8]) -> Result<Result<usize, JournalFault>, Fail> {
+    match opened(alloc, disk_of(alloc, bytes, &[])?) {
+        Ok((_journal, frames)) => Ok(Ok(frames.len())),
+        Err((_disk, fault)) => Ok(Err(fault)),
     }
 }
 
-/// How many frames a log opens to.
-fn count(alloc: Global, bytes: &[u8]) -> Result<usize, Fail> {
-    let (_journal, frames) = open(alloc, bytes)?;
-    Ok(frames.len())
+fn open(alloc: Global, bytes: &[u8]) -> Result<(Journal<MemDisk>, Frames), Fail> {
+    match opened(alloc, disk_of(alloc, bytes, &[])?) {
+        Ok(opened) => Ok(opened),
+        Err((_disk, fault)) => Err(Fail::from(fault)),
+    }
 }
 
 /// Whether a payload was appended; not to a journal that is broken or of version 1.
 fn append(journal: &mut Journal<MemDisk>, payload: &[u8]) -> bool {
-    let fits = !payload.is_empty() && payload.len() <= LARGEST_PAYLOAD;
-    let takes = !journal.is_broken() && journal.version() == 2;
-    fits && takes && journal.append(payload).is_ok()
+    if payload.is_empty() || payload.len() > LARGEST_PAYLOAD {
+        return false;
+    }
+    if journal.is_broken() || journal.version() != 2 {
+        return false;
+    }
+    journal.append(payload).is_ok()
 }
+
+/// The disk of a log to which a payload was appended.
+fn appended(rt: &impl Abort, alloc: Global, log: &[u8], payload: &[u8]) -> Result<MemDisk, Fail> {
+    let (mut journal, _frames) = open(alloc, log)?;
+    assert!(rt; append(&mut journal, payload));
+    Ok(journal.close())
+}
+
+const LOGS: [(&[u8], Result<usize, JournalFault>); 8] = [
+    (b"", Ok(0)),
+    (b"xxxxxxxxxxxxxxxxx", Ok(0)),
+    (b"xxxxxxxxxxxxxxxxxx", Err(JournalFault::NotAJournal(0))),
+    (b"UNIONCAT JNL 03\nC ", Err(JournalFault::NotAJournal(14))),
+    (b"UNIONCAT JNL 02\nO\0", Err(JournalFault::NotAJournal(16))),
+    (
+        b"UNIONCAT JNL 02\nO\0\0\0\x01xO\0\0\0\0C",
+        Err(JournalFault::NotAJournal(22)),
+    ),
+    (b"UNIONCAT JNL 01\nO\0\0\0\x01xC", Ok(1)),
+    (b"UNIONCAT JNL 02\nZ\0\0\0\x01xZ\0\0\0\x02abCO", Ok(2)),
+];
 
 #[test]
 fn logs_open_to_their_frames_or_are_none(rt: HostRuntime) -> Result<(), Fail> {
-    let alloc = rt.alloc();
-    let cases: [(&[u8], Result<usize, u64>); 8] = [
-        (b"", Ok(0)),
-        (b"xxxxxxxxxxxxxxxxx", Ok(0)),
-        (b"xxxxxxxxxxxxxxxxxx", Err(0)),
-        (b"UNIONCAT JNL 03\nC ", Err(14)),
-        (b"UNIONCAT JNL 02\nO\0", Err(16)),
-        (b"UNIONCAT JNL 02\nO\0\0\0\x01xO\0\0\0\0C", Err(22)),
-        (b"UNIONCAT JNL 01\nO\0\0\0\x01xC", Ok(1)),
-        (b"UNIONCAT JNL 02\nZ\0\0\0\x01xZ\0\0\0\x02abCO", Ok(2)),
-    ];
-    for (bytes, want) in cases {
-        let found = match Journal::open(alloc, disk_of(alloc, bytes, &[])?) {
-            Ok((_journal, frames)) => Ok(frames.len()),
-            Err((_disk, fault)) => match fault {
-                JournalFault::NotAJournal(place) => Err(place),
-                _ => Err(fault)?,
-            },
-        };
-        assert_eq!(rt; found, want);
+    for (bytes, want) in &LOGS {
+        assert!(rt; found(rt.alloc(), bytes)? == *want);
     }
     Ok(())
 }
 
 #[test]
 fn a_blank_log_is_written_anew(rt: HostRuntime) -> Result<(), Fail> {
-    let alloc = rt.alloc();
-    let (journal, _frames) = open(alloc, b"UNIONCAT")?;
+    let (journal, _frames) = open(rt.alloc(), b"UNIONCAT")?;
     assert_eq!(rt; journal.version(), 2);
     let disk = journal.close();
     assert_eq!(rt; disk.bytes(), EMPTY);
@@ -75,40 +92,64 @@ fn a_blank_log_is_written_anew(rt: HostRuntime) -> Result<(), Fail> {
     Ok(())
 }
 
+/// A log with another byte as its first gate.
+fn with_gate(rt: &impl Abort, alloc: Global, log: &[u8], gate: u8) -> Result<Vec<u8>, Fail> {
+    let mut other = log.to_vec(alloc)?;
+    assert!(rt; other.len() > 16);
+    other[16] = gate;
+    Ok(other)
+}
+
+/// The frames of a log of version 2.
+fn frames_of(rt: &impl Abort, alloc: Global, log: &[u8]) -> Result<Frames, Fail> {
+    let (journal, frames) = open(alloc, log)?;
+    assert_eq!(rt; journal.version(), 2);
+    Ok(frames)
+}
+
+fn is_one_frame(frames: &Frames, gate: u64, payload: &[u8]) -> bool {
+    match frames.as_slice() {
+        [frame] => frame.gate == gate && frame.payload.as_slice() == payload,
+        _ => false,
+    }
+}
+
 #[test]
 fn a_payload_is_appended_and_read_again(rt: HostRuntime) -> Result<(), Fail> {
-    let alloc = rt.alloc();
-    let (mut journal, frames) = open(alloc, b"")?;
-    assert!(rt; frames.is_empty());
-    assert!(rt; append(&mut journal, &[7; 188]));
-    let disk = journal.close();
+    let disk = appended(&rt, rt.alloc(), b"", &[7; 188])?;
     let log = disk.bytes();
     assert_eq!(rt; log.len(), 210);
-    assert_eq!(rt; &log[..21], b"UNIONCAT JNL 02\nO\0\0\0\xBC".as_slice());
-    assert_eq!(rt; log[209], b'C');
-    let mut other = log.to_vec(alloc)?;
-    other[16] = 0x5A;
-    let (journal, frames) = open(alloc, &other)?;
-    assert_eq!(rt; journal.version(), 2);
-    assert_eq!(rt; frames.len(), 1);
-    let frame = &frames.as_slice()[0];
-    assert_eq!(rt; frame.gate, 16);
-    assert_eq!(rt; frame.payload.as_slice(), [7; 188].as_slice());
+    assert!(rt; log.starts_with(b"UNIONCAT JNL 02\nO\0\0\0\xBC"));
+    assert!(rt; log.ends_with(b"C"));
+    let other = with_gate(&rt, rt.alloc(), log, 0x5A)?;
+    let frames = frames_of(&rt, rt.alloc(), other.as_slice())?;
+    assert!(rt; is_one_frame(&frames, 16, &[7; 188]));
     Ok(())
+}
+
+/// How many frames a crash leaves.
+fn left(
+    rt: &impl Abort,
+    alloc: Global,
+    disk: &MemDisk,
+    moment: u64,
+    choice: u8,
+) -> Result<usize, Fail> {
+    assert!(rt; moment < disk.moments());
+    let image = disk.crash(alloc, moment, choice)?;
+    let (_journal, frames) = open(alloc, image.as_slice())?;
+    Ok(frames.len())
 }
 
 #[test]
 fn a_crash_leaves_what_was_promised(rt: HostRuntime) -> Result<(), Fail> {
-    let alloc = rt.alloc();
-    let (mut journal, _frames) = open(alloc, TORN)?;
-    assert!(rt; append(&mut journal, b"two"));
-    let disk = journal.close();
+    let disk = appended(&rt, rt.alloc(), TORN, b"two")?;
     // The opening's first sync is moment 1. The last moments are those after the four calls of the append: the frame, a
     // sync, the open gate, a sync.
     assert_eq!(rt; disk.moments(), 8);
-    for moment in 1..disk.moments() {
-        for choice in [0, 1, 2] {
-            let found = count(alloc, &disk.crash(alloc, moment, choice)?)?;
+    for moment in 1..8 {
+        for choice in 0..3 {
+            let found = left(&rt, rt.alloc(), &disk, moment, choice)?;
             let least = if moment == 7 { 2 } else { 1 };
             let most = if moment < 6 { 1 } else { 2 };
             assert!(rt; least <= found && found <= most);
@@ -117,22 +158,25 @@ fn a_crash_leaves_what_was_promised(rt: HostRuntime) -> Result<(), Fail> {
     Ok(())
 }
 
+/// Where a call fails: whether the frame that was there is found, and another only behind it.
+fn keeps_the_frame(alloc: Global, call: u64) -> Result<bool, Fail> {
+    match opened(alloc, disk_of(alloc, TORN, &[call])?) {
+        Ok((mut journal, _frames)) => {
+            let is_done = append(&mut journal, b"two");
+            let is_sound = journal.is_broken() != is_done;
+            let frames = found(alloc, journal.close().bytes())?;
+            Ok(is_sound && (frames == Ok(1) || frames == Ok(2)))
+        }
+        Err((disk, fault)) => {
+            Ok(fault == JournalFault::DeviceFault && found(alloc, disk.bytes())? == Ok(1))
+        }
+    }
+}
+
 #[test]
 fn each_call_may_fail(rt: HostRuntime) -> Result<(), Fail> {
-    let alloc = rt.alloc();
     for call in 0..16 {
-        match Journal::open(alloc, disk_of(alloc, TORN, &[call])?) {
-            Ok((mut journal, _frames)) => {
-                let done = append(&mut journal, b"two");
-                assert_eq!(rt; journal.is_broken(), !done);
-                let found = count(alloc, journal.close().bytes())?;
-                assert!(rt; 1 <= found && found <= 2);
-            }
-            Err((disk, fault)) => {
-                assert_eq!(rt; fault, JournalFault::DeviceFault);
-                assert_eq!(rt; count(alloc, disk.bytes())?, 1);
-            }
-        }
+        assert!(rt; keeps_the_frame(rt.alloc(), call)?);
     }
     Ok(())
 }

@@ -86,16 +86,6 @@ fn is_told_when_closed(room: &mut MemRoom, name: &str, bytes: &[u8]) -> Result<b
 }
 
 #[test]
-fn a_room_gives_what_is_put(rt: HostRuntime) -> Result<(), Fail> {
-    let alloc = rt.alloc();
-    let mut room = MemRoom::new(alloc);
-    put(alloc, &mut room, "in", b"bytes")?;
-    assert!(rt; has(&room, "in", b"bytes"));
-    assert_eq!(rt; read_twice(&mut room, "in", &mut [0; 8])?, [Ok(5), Ok(0)]);
-    Ok(())
-}
-
-#[test]
 fn a_room_keeps_what_is_closed(rt: HostRuntime) -> Result<(), Fail> {
     let mut room = MemRoom::new(rt.alloc());
     assert!(rt; is_told_when_closed(&mut room, "out", b"more")?);
@@ -103,16 +93,14 @@ fn a_room_keeps_what_is_closed(rt: HostRuntime) -> Result<(), Fail> {
 }
 
 #[test]
-fn a_room_fails_where_it_is_told_to(rt: HostRuntime) -> Result<(), Fail> {
+fn a_room_gives_what_is_put_and_fails_where_it_is_told_to(rt: HostRuntime) -> Result<(), Fail> {
     let alloc = rt.alloc();
     let mut room = MemRoom::new(alloc);
     assert!(rt; !opens_input(&mut room, "in"));
     put(alloc, &mut room, "in", b"bytes")?;
+    assert!(rt; read_twice(&mut room, "in", &mut [0; 8])? == [Ok(5), Ok(0)]);
     fail(&mut room, "in", 0)?;
-    assert_eq!(rt;
-        read_twice(&mut room, "in", &mut [0; 8])?,
-        [Err(Failed), Ok(5)]
-    );
+    assert!(rt; read_twice(&mut room, "in", &mut [0; 8])? == [Err(Failed), Ok(5)]);
     fail_opening(&mut room, "in")?;
     assert!(rt; !opens_input(&mut room, "in"));
     assert!(rt; has(&room, "in", b"bytes"));

@@ -1,10 +1,12 @@
 ghost use Rattle.std.specs.Prelude.{◌≡◌, None};
 
 use super::steps::{
-    assert_read, cut, opens_input, opens_log, read_twice, write, write_at, write_log,
+    assert_read, cut, len, opens_input, opens_log, read, read_twice, sync, write, write_all,
+    write_at, write_log,
 };
-use outside::{Disk, Failed, Room, Sink, Source};
+use outside::{Disk, Failed, Room};
 use outside_real::{FileDisk, FileRoom, FileSink, FileSource, LONGEST_INPUT};
+use std::alloc::Global;
 use std::fs::{File, OpenOptions};
 use std::process::Abort;
 use std::test::Fail;
@@ -12,108 +14,165 @@ use std::{env, fs, process};
 
 mod holding;
 
-// A path among the temporary files that no other run of the tests has: it ends with the digits of the process's number, the last first.
-fn path_of(rt: &HostRuntime, name: &str) -> Result<String, Fail> {
-    let folder = env::temp_dir(rt)?;
-    let mut path = String::new(rt.alloc());
-    for part in [folder.as_str(), "/union_cat-", name, "-"] {
-        path.push_str(part)?;
+// Each of these stands behind a function without a clause, so that a test's proof needn't know what the system's calls say.
+fn joined(alloc: Global, parts: &[&str]) -> Result<String, Fail> {
+    let mut text = String::new(alloc);
+    for part in parts {
+        text.push_str(part)?;
     }
+    Ok(text)
+}
+
+// The digits of the process's number, the last first.
+fn own_digits(rt: &HostRuntime) -> Result<String, Fail> {
+    let mut digits = String::new(rt.alloc());
     let mut number = process::id(rt.process());
     for _ in 0..10 {
-        path.push((b'0' + (number % 10) as u8) as char)?;
+        digits.push((b'0' + (number % 10) as u8) as char)?;
         number /= 10;
     }
-    Ok(path)
+    Ok(digits)
+}
+
+// A path among the temporary files that no other run of the tests has.
+fn path_of(rt: &HostRuntime, name: &str) -> Result<String, Fail> {
+    let folder = env::temp_dir(rt)?;
+    let digits = own_digits(rt)?;
+    joined(
+        rt.alloc(),
+        &[folder.as_str(), "/union_cat-", name, "-", digits.as_str()],
+    )
+}
+
+fn make(rt: &HostRuntime, path: &str, bytes: &[u8]) -> Result<(), Fail> {
+    Ok(fs::write(rt, path, bytes)?)
+}
+
+fn remove(rt: &HostRuntime, path: &str) -> Result<(), Fail> {
+    Ok(fs::remove_file(rt, path)?)
+}
+
+fn has(rt: &HostRuntime, path: &str, bytes: &[u8]) -> Result<bool, Fail> {
+    let found = fs::read(rt, path)?;
+    Ok(found.as_slice() == bytes)
+}
+
+fn source_of(rt: &HostRuntime, path: &str) -> Result<FileSource<File>, Fail> {
+    Ok(FileSource::new(File::open(rt, path)?))
+}
+
+fn faults_of_source(source: &FileSource<File>) -> u64 {
+    source.faults()
+}
+
+// A source of that file, which is removed.
+fn last_source_of(rt: &HostRuntime, path: &str) -> Result<FileSource<File>, Fail> {
+    let source = source_of(rt, path)?;
+    remove(rt, path)?;
+    Ok(source)
 }
 
 #[test]
 fn a_source_gives_the_bytes_of_a_file(rt: HostRuntime) -> Result<(), Fail> {
     let path = path_of(&rt, "source")?;
-    fs::write(&rt, path.as_str(), b"bytes".as_slice())?;
-    let mut source = FileSource::new(File::open(&rt, path.as_str())?);
-    fs::remove_file(&rt, path.as_str())?;
+    make(&rt, path.as_str(), b"bytes")?;
+    let mut source = last_source_of(&rt, path.as_str())?;
     let mut buffer = [0; 4];
-    assert_read(
-        &rt,
-        &mut source,
-        &mut buffer,
-        Ok(4),
-        b"byte",
-        LONGEST_INPUT - 4,
-    );
-    assert_read(
-        &rt,
-        &mut source,
-        &mut buffer,
-        Ok(1),
-        b"syte",
-        LONGEST_INPUT - 5,
-    );
-    assert_read(
-        &rt,
-        &mut source,
-        &mut buffer,
-        Ok(0),
-        b"syte",
-        LONGEST_INPUT - 5,
-    );
-    assert_eq!(rt; source.faults(), 0);
+    let left = LONGEST_INPUT;
+    assert_read(&rt, &mut source, &mut buffer, Ok(4), b"byte", left - 4);
+    assert_read(&rt, &mut source, &mut buffer, Ok(1), b"syte", left - 5);
+    assert_read(&rt, &mut source, &mut buffer, Ok(0), b"syte", left - 5);
+    assert!(rt; faults_of_source(&source) == 0);
     Ok(())
 }
 
 #[test]
 fn a_folder_is_no_source(rt: HostRuntime) -> Result<(), Fail> {
     let folder = env::temp_dir(&rt)?;
-    let mut source = FileSource::new(File::open(&rt, folder.as_str())?);
-    assert_eq!(rt; source.read(&mut [0; 4]), Err(Failed));
-    assert_eq!(rt; source.faults(), 1);
+    let mut source = source_of(&rt, folder.as_str())?;
+    assert!(rt; read(&mut source, &mut [0; 4]) == Err(Failed));
+    assert!(rt; faults_of_source(&source) == 1);
     Ok(())
+}
+
+fn gathering(alloc: Global, file: File) -> FileSink<File> {
+    FileSink::gathering(alloc, file)
+}
+
+fn flush(sink: &mut FileSink<File>) -> Result<(), Failed> {
+    sink.flush()
+}
+
+fn faults_of_sink(sink: &FileSink<File>) -> u64 {
+    sink.faults()
+}
+
+// Whether both pieces are gathered and written.
+fn writes(sink: &mut FileSink<File>, first: &[u8], second: &[u8]) -> bool {
+    write_all(sink, first).is_ok() && write_all(sink, second).is_ok() && flush(sink).is_ok()
+}
+
+fn writes_to(rt: &HostRuntime, path: &str, first: &[u8], second: &[u8]) -> Result<bool, Fail> {
+    let mut sink = gathering(rt.alloc(), File::create(rt, path)?);
+    Ok(writes(&mut sink, first, second))
 }
 
 #[test]
 fn a_sink_gathers_and_writes(rt: HostRuntime) -> Result<(), Fail> {
     let path = path_of(&rt, "sink")?;
-    let mut sink = FileSink::gathering(rt.alloc(), File::create(&rt, path.as_str())?);
-    assert_eq!(rt; sink.write_all(b"one"), Ok(()));
-    assert_eq!(rt; sink.write_all(b" two"), Ok(()));
-    assert_eq!(rt; sink.flush(), Ok(()));
-    let written = fs::read(&rt, path.as_str())?;
-    fs::remove_file(&rt, path.as_str())?;
-    assert_eq!(rt; written.as_slice(), b"one two".as_slice());
-    Ok(())
+    assert!(rt; writes_to(&rt, path.as_str(), b"one", b" two")?);
+    assert!(rt; has(&rt, path.as_str(), b"one two")?);
+    remove(&rt, path.as_str())
+}
+
+fn opened(rt: &HostRuntime, path: &str, how: &OpenOptions) -> Result<File, Fail> {
+    Ok(how.open(rt, path)?)
 }
 
 #[test]
 fn a_sink_fails_where_the_device_is_full(rt: HostRuntime) -> Result<(), Fail> {
     let mut how = OpenOptions::new();
     how.write(true);
-    let mut sink = FileSink::gathering(rt.alloc(), how.open(&rt, "/dev/full")?);
-    assert_eq!(rt; sink.write_all(b"gathered"), Ok(()));
-    assert_eq!(rt; sink.flush(), Err(Failed));
-    assert_eq!(rt; sink.faults(), 1);
-    assert_eq!(rt; sink.write_all(b"more"), Err(Failed));
+    let mut sink = gathering(rt.alloc(), opened(&rt, "/dev/full", &how)?);
+    assert!(rt; write_all(&mut sink, b"gathered") == Ok(()));
+    assert!(rt; flush(&mut sink) == Err(Failed));
+    assert!(rt; faults_of_sink(&sink) == 1);
+    assert!(rt; write_all(&mut sink, b"more") == Err(Failed));
     Ok(())
+}
+
+// A disk over that file, which is removed.
+fn disk_of(rt: &HostRuntime, path: &str) -> Result<FileDisk, Fail> {
+    let mut how = OpenOptions::new();
+    how.read(true).write(true).create(true);
+    let disk = FileDisk::new(opened(rt, path, &how)?)?;
+    remove(rt, path)?;
+    Ok(disk)
+}
+
+fn read_at(disk: &mut FileDisk, at: u64, buffer: &mut [u8; 8]) -> Result<usize, Failed> {
+    disk.read_at(at, buffer)
+}
+
+fn faults_of_disk(disk: &FileDisk) -> u64 {
+    disk.faults()
 }
 
 #[test]
 fn a_disk_is_written_cut_and_read(rt: HostRuntime) -> Result<(), Fail> {
     let path = path_of(&rt, "disk")?;
-    let mut how = OpenOptions::new();
-    how.read(true).write(true).create(true);
-    let mut disk = FileDisk::new(how.open(&rt, path.as_str())?)?;
-    fs::remove_file(&rt, path.as_str())?;
-    assert_eq!(rt; write_at(&rt, &mut disk, 0, b"abcdef"), Ok(()));
-    assert_eq!(rt; disk.len(), 6);
-    assert_eq!(rt; write_at(&rt, &mut disk, 2, b"XY"), Ok(()));
-    assert_eq!(rt; disk.len(), 6);
-    assert_eq!(rt; cut(&rt, &mut disk, 4), Ok(()));
-    assert_eq!(rt; disk.sync(), Ok(()));
+    let mut disk = disk_of(&rt, path.as_str())?;
+    assert!(rt; write_at(&rt, &mut disk, 0, b"abcdef") == Ok(()));
+    assert!(rt; len(&disk) == 6);
+    assert!(rt; write_at(&rt, &mut disk, 2, b"XY") == Ok(()));
+    assert!(rt; len(&disk) == 6);
+    assert!(rt; cut(&rt, &mut disk, 4) == Ok(()));
+    assert!(rt; sync(&mut disk) == Ok(()));
     let mut buffer = [0; 8];
-    assert_eq!(rt; disk.read_at(1, &mut buffer), Ok(3));
-    assert_eq!(rt; buffer, *b"bXY\0\0\0\0\0");
-    assert_eq!(rt; disk.read_at(4, &mut buffer), Ok(0));
-    assert_eq!(rt; disk.faults(), 0);
+    assert!(rt; read_at(&mut disk, 1, &mut buffer) == Ok(3));
+    assert!(rt; buffer == *b"bXY\0\0\0\0\0");
+    assert!(rt; read_at(&mut disk, 4, &mut buffer) == Ok(0));
+    assert!(rt; faults_of_disk(&disk) == 0);
     Ok(())
 }
 
@@ -123,11 +182,11 @@ fn assert_opens_and_closes<R: Room>(rt: &impl Abort, room: &mut R, name: &str)
 {
     assert!(rt; !opens_input(room, name));
     assert!(rt; opens_log(room, name));
-    assert_eq!(rt; write(room, name, b"more"), Some(Ok(())));
-    assert_eq!(rt; write_log(room, name, b"M"), Some(Ok(())));
+    assert!(rt; write(room, name, b"more") == Some(Ok(())));
+    assert!(rt; write_log(room, name, b"M") == Some(Ok(())));
     let mut buffer = [0; 8];
-    assert_eq!(rt; read_twice(room, name, &mut buffer), Ok([Ok(4), Ok(0)]));
-    assert_eq!(rt; buffer, *b"More\0\0\0\0");
+    assert!(rt; read_twice(room, name, &mut buffer) == Ok([Ok(4), Ok(0)]));
+    assert!(rt; buffer == *b"More\0\0\0\0");
 }
 
 #[test]
@@ -135,6 +194,5 @@ fn a_room_opens_and_closes_files(rt: HostRuntime) -> Result<(), Fail> {
     let path = path_of(&rt, "room")?;
     let mut room = FileRoom::new(rt.clone()?, rt.alloc());
     assert_opens_and_closes(&rt, &mut room, &path);
-    fs::remove_file(&rt, path.as_str())?;
-    Ok(())
+    remove(&rt, path.as_str())
 }

@@ -16,9 +16,18 @@ pub(crate) fn assert_read<S: Source, const LEN: usize>(
 )
     requires { 0 < LEN }
 {
-    assert_eq!(rt; source.read(buffer), answer);
-    assert_eq!(rt; *buffer, *bytes);
-    assert_eq!(rt; source.remaining(), left);
+    assert!(rt; source.read(buffer) == answer);
+    assert!(rt; *buffer == *bytes);
+    assert!(rt; source.remaining() == left);
+}
+
+pub(crate) fn read<S: Source, const LEN: usize>(
+    source: &mut S,
+    buffer: &mut [u8; LEN],
+) -> Result<usize, Failed>
+    requires { 0 < LEN }
+{
+    source.read(buffer)
 }
 
 pub(crate) fn write_all<K: Sink>(sink: &mut K, piece: &[u8]) -> Result<(), Failed> {

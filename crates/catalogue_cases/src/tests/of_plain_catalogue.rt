@@ -1,11 +1,9 @@
 ghost use Rattle.std.specs.Prelude.{◌≡◌, ◌<◌, []};
 
+use super::catalogues::{Piece, item_of};
 use catalogue_core::CoreFault;
-use entry_record::{Prepared, admit};
-use marc_types::{
-    Class, Field, Fields, Key, Leader, Limits, Place, Receipt, Record, Status, Subfield, Subfields,
-    Tag, Text, can_be_code, makes_record,
-};
+use entry_record::Prepared;
+use marc_types::{Class, Key, Limits, Place, Receipt, Status, Text};
 use plain_catalogue::Catalogue;
 use record_store::Steps;
 use std::alloc::Global;
@@ -14,67 +12,35 @@ use std::process::Abort;
 use std::sync::ledger::{Blank, Ledger};
 use std::test::Fail;
 
-/// A record with one heading at the most: leader 05 and 06, the control number, and the text of a 100, if any.
-type Line = (u8, u8, &'static str, &'static str);
+const SMITH: Piece = (
+    "ULIB",
+    b"00069nz  a2200049   4500001000300000100001600003\x1en1\x1e1 \x1faSmith, John\x1e\x1d",
+);
 
-const SMITH: Line = (b'n', b'z', "n1", "Smith, John");
+const SMITH_TOO: Piece = (
+    "ULIB",
+    b"00070nz  a2200049   4500001000300000100001700003\x1en2\x1e1 \x1faSMITH, JOHN.\x1e\x1d",
+);
 
-const SMITH_TOO: Line = (b'n', b'z', "n2", "SMITH, JOHN.");
+const SMITHSON: Piece = (
+    "ULIB",
+    b"00072nz  a2200049   4500001000300000100001900003\x1en2\x1e1 \x1faSmithson, John\x1e\x1d",
+);
 
-const SMITHSON: Line = (b'n', b'z', "n2", "Smithson, John");
+const JACK: Piece = (
+    "ULIB",
+    b"00069nz  a2200049   4500001000300000100001600003\x1en1\x1e1 \x1faSmith, Jack\x1e\x1d",
+);
 
-const JACK: Line = (b'n', b'z', "n1", "Smith, Jack");
+const NO_SMITH: Piece = (
+    "ULIB",
+    b"00041dz  a2200037   4500001000300000\x1en1\x1e\x1d",
+);
 
-const NO_SMITH: Line = (b'd', b'z', "n1", "");
-
-const BOOK: Line = (b'n', b'a', "b2", "Smith, John.");
-
-fn tag(a: u8, b: u8, c: u8) -> Tag {
-    Tag { a, b, c }
-}
-
-fn fields_of(alloc: Global, number: &str, name: &str) -> Result<Fields, Fail> {
-    let mut fields = Vec::new(alloc);
-    fields.push(Field::Control {
-        tag: tag(b'0', b'0', b'1'),
-        text: Text::from_str(alloc, number)?,
-    })?;
-    if !name.is_empty() {
-        let mut subs = Vec::new(alloc);
-        subs.push(Subfield {
-            code: b'a',
-            text: Text::from_str(alloc, name)?,
-        })?;
-        fields.push(Field::Variable {
-            tag: tag(b'1', b'0', b'0'),
-            ind1: b'1',
-            ind2: b' ',
-            subs: Subfields::from_vec(subs),
-        })?;
-    }
-    Ok(Fields::from_vec(fields))
-}
-
-fn item(rt: &impl Abort, alloc: Global, line: &Line) -> Result<Prepared, Fail> {
-    let (status, rtype, number, name) = *line;
-    let leader = Leader {
-        status,
-        rtype,
-        level: b' ',
-        control: b' ',
-        encoding: b' ',
-        form: b' ',
-        linked: b' ',
-    };
-    let fields = fields_of(alloc, number, name)?;
-    let code = Text::from_str(alloc, "ULIB")?;
-    assert!(rt; makes_record(&leader, fields.as_slice()));
-    assert!(rt; can_be_code(code.as_str().as_bytes()));
-    match admit(alloc, Record { leader, fields }, &code, 0, 1) {
-        Ok(item) => Ok(item),
-        Err(_fault) => panic!(rt; "not admitted"),
-    }
-}
+const BOOK: Piece = (
+    "ULIB",
+    b"00070na  a2200049   4500001000300000100001700003\x1eb2\x1e1 \x1faSmith, John.\x1e\x1d",
+);
 
 /// The place of a bibliographic record's heading.
 fn place(alloc: Global, number: &str) -> Result<Place, Fail> {
@@ -96,19 +62,49 @@ fn look(rt: &impl Abort, answer: Result<Receipt, CoreFault>, expected: (u64, u32
     }
 }
 
+// What comes after needs of a commit only that nothing is staged: its other clauses stay in here.
+fn take<L: Ledger>(
+    alloc: Global,
+    catalogue: &mut Catalogue,
+    item: Prepared,
+    steps: &mut Steps<L>,
+) -> Result<Receipt, CoreFault>
+    requires { catalogue.old.staged ≡ [] }
+    ensures { catalogue.new.staged ≡ [] }
+{
+    catalogue.commit(alloc, item, steps)
+}
+
+fn stage<L: Ledger>(
+    alloc: Global,
+    catalogue: &mut Catalogue,
+    item: Prepared,
+    steps: &mut Steps<L>,
+) -> Result<Receipt, CoreFault>
+    requires { catalogue.old.staged ≡ [] }
+{
+    catalogue.stage(alloc, item, steps)
+}
+
+fn undo(catalogue: &mut Catalogue)
+    ensures { catalogue.new.staged ≡ [] }
+{
+    catalogue.undo();
+}
+
 fn commit<L: Ledger>(
     rt: &impl Abort,
     alloc: Global,
     catalogue: &mut Catalogue,
-    line: &Line,
+    piece: &Piece,
     steps: &mut Steps<L>,
     expected: (u64, u32, u32, u64),
 ) -> Result<(), Fail>
     requires { catalogue.old.staged ≡ [] }
     ensures { catalogue.new.staged ≡ [] }
 {
-    let item = item(rt, alloc, line)?;
-    look(rt, catalogue.commit(alloc, item, steps), expected);
+    let item = item_of(rt, alloc, piece)?;
+    look(rt, take(alloc, catalogue, item, steps), expected);
     Ok(())
 }
 
@@ -149,10 +145,10 @@ fn stage_and_undo<L: Ledger>(
     requires { catalogue.old.staged ≡ [] }
     ensures { catalogue.new.staged ≡ [] }
 {
-    let smithson = item(rt, alloc, &SMITHSON)?;
-    look(rt, catalogue.stage(alloc, smithson, steps), (3, 0, 0, 1));
+    let smithson = item_of(rt, alloc, &SMITHSON)?;
+    look(rt, stage(alloc, catalogue, smithson, steps), (3, 0, 0, 1));
     assert!(rt; is_linked(catalogue, book));
-    catalogue.undo();
+    undo(catalogue);
     assert!(rt; is_ambiguous(catalogue, book));
     Ok(())
 }

@@ -1,33 +1,8 @@
-ghost use Rattle.std.specs.Prelude.{Some};
-
 use command_words::Topic;
 use console_lines::End;
-use outside::{Failed, Sink};
+use outside_mem::MemSink;
 use program_help::{help, version};
-use std::test::Fail;
-
-/// A console in memory.
-#[derive(Drop)]
-struct Page {
-    bytes: Vec<u8>,
-    faults: u64,
-}
-
-impl Sink for Page {
-    ghost written = { λ page. Some page.bytes.items };
-
-    ghost faults = { λ page. page.faults };
-
-    fn write_all(&mut self, piece: &[u8]) -> Result<(), Failed> {
-        match self.bytes.extend_from_slice(piece) {
-            Ok(()) => Ok(()),
-            Err(_) => {
-                self.faults = self.faults.saturating_add(1);
-                Err(Failed)
-            }
-        }
-    }
-}
+use std::alloc::Global;
 
 const TOPICS: [(Topic, &str); 13] = [
     (Topic::All, "union_cat, a union catalogue"),
@@ -51,33 +26,34 @@ const TOPICS: [(Topic, &str); 13] = [
     (Topic::Version, "union_cat version\n"),
 ];
 
-#[test]
-fn each_text_begins_with_its_words(rt: HostRuntime) -> Result<(), Fail> {
-    for (topic, words) in TOPICS {
-        let mut page = Page {
-            bytes: Vec::new(rt.alloc()),
-            faults: 0,
-        };
-        assert_eq!(rt; help(&mut page, topic), End::Done);
-        assert!(rt;
-            page.bytes.as_slice().starts_with(words.as_bytes()),
-            "{words}"
-        );
-    }
-    Ok(())
+fn helped(alloc: Global, topic: Topic) -> (End, Vec<u8>) {
+    let mut page = MemSink::new(alloc, Vec::new(alloc));
+    let end = help(&mut page, topic);
+    (end, page.into_bytes())
 }
 
 #[test]
-fn the_version(rt: HostRuntime) -> Result<(), Fail> {
-    let mut page = Page {
-        bytes: Vec::new(rt.alloc()),
-        faults: 0,
-    };
-    assert_eq!(rt; version(&mut page), End::Done);
+fn each_text_begins_with_its_words(rt: HostRuntime) {
+    for (topic, words) in &TOPICS {
+        let (end, bytes) = helped(rt.alloc(), *topic);
+        assert!(rt; end == End::Done);
+        assert!(rt; bytes.as_slice().starts_with(words.as_bytes()));
+    }
+}
+
+fn versioned(alloc: Global) -> (End, Vec<u8>) {
+    let mut page = MemSink::new(alloc, Vec::new(alloc));
+    let end = version(&mut page);
+    (end, page.into_bytes())
+}
+
+#[test]
+fn the_version(rt: HostRuntime) {
+    let (end, bytes) = versioned(rt.alloc());
+    assert!(rt; end == End::Done);
     assert!(rt;
-        page.bytes
+        bytes
             .as_slice()
             .starts_with(b"union_cat 1.0\nproved with rattle-kit-")
     );
-    Ok(())
 }

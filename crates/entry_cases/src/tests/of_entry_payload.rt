@@ -1,34 +1,38 @@
+use super::pieces::{TWAIN, prepared};
 use entry_payload::EntryPayload;
 use entry_record::Prepared;
-use marc_types::{Text, can_be_code};
-use reading::prepare;
+use marc_types::NoMemory;
 use std::alloc::Global;
-use std::process::Abort;
 use std::test::Fail;
 
-/// Mark Twain's authority record.
-const TWAIN: &[u8] =
-    b"00158nz  a2200073n  4500001001000000003000400010100002800014400004200042\x1en79021164\x1eDLC\x1e1 \x1faTwain, Mark,\x1fd1835-1910\x1e1 \x1faClemens, Samuel Langhorne,\x1fd1835-1910\x1e\x1d";
+fn payload_of(alloc: Global, item: &Prepared) -> Result<EntryPayload, NoMemory> {
+    EntryPayload::of(alloc, item)
+}
 
-fn prepared(rt: &impl Abort, alloc: Global) -> Result<Prepared, Fail> {
-    let library = Text::from_str(alloc, "DLC")?;
-    assert!(rt; can_be_code(library.as_bytes()));
-    let item = prepare(alloc, TWAIN, &library, 0, 1)?;
-    Ok(item)
+fn is_of(entry: &EntryPayload, item: &Prepared) -> bool {
+    entry.is_of(item)
 }
 
 fn has_payload_of(entry: &EntryPayload, item: &Prepared) -> bool {
     entry.payload().len() == 187 && entry.payload() == item.payload()
 }
 
+fn set_run(item: &mut Prepared, run: u64) {
+    item.set_run(run);
+}
+
+// Whether an entry's payload is its own, until the entry is of another run.
+fn is_of_its_run(alloc: Global, item: &mut Prepared) -> Result<bool, NoMemory> {
+    let entry = payload_of(alloc, item)?;
+    let is_its = has_payload_of(&entry, item) && is_of(&entry, item);
+    set_run(item, 1);
+    Ok(is_its && !is_of(&entry, item))
+}
+
 /// An entry has the payload that it was prepared with, and is no entry of another run.
 #[test]
 fn an_entry_has_its_payload(rt: HostRuntime) -> Result<(), Fail> {
-    let mut item = prepared(&rt, rt.alloc())?;
-    let entry = EntryPayload::of(rt.alloc(), &item)?;
-    assert!(rt; has_payload_of(&entry, &item));
-    assert!(rt; entry.is_of(&item));
-    item.set_run(1);
-    assert!(rt; !entry.is_of(&item));
+    let mut item = prepared(&rt, rt.alloc(), "DLC", TWAIN)?;
+    assert!(rt; is_of_its_run(rt.alloc(), &mut item)?);
     Ok(())
 }

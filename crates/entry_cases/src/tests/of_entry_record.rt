@@ -13,19 +13,23 @@ fn leader(status: u8, rtype: u8) -> Leader {
     }
 }
 
+/// Leader bytes 05 and 06, the class, and whether a record with them deletes.
+const LEADERS: [(u8, u8, Class, bool); 6] = [
+    (b'n', b'z', Class::Authority, false),
+    (b'd', b'z', Class::Authority, true),
+    (b's', b'z', Class::Authority, true),
+    (b'n', b'a', Class::Bibliographic, false),
+    (b'd', b'a', Class::Bibliographic, true),
+    (b's', b'a', Class::Bibliographic, false),
+];
+
+fn is_of(leader: &Leader, class: Class, deletes: bool) -> bool {
+    class_of(leader) == class && is_deletion(leader) == deletes
+}
+
 #[test]
 fn classes_and_deletions(rt: HostRuntime) {
-    let table = [
-        (b'n', b'z', Class::Authority, false),
-        (b'd', b'z', Class::Authority, true),
-        (b's', b'z', Class::Authority, true),
-        (b'n', b'a', Class::Bibliographic, false),
-        (b'd', b'a', Class::Bibliographic, true),
-        (b's', b'a', Class::Bibliographic, false),
-    ];
-    for (status, rtype, class, deletes) in table {
-        let leader = leader(status, rtype);
-        assert_eq!(rt; class_of(&leader), class);
-        assert_eq!(rt; is_deletion(&leader), deletes);
+    for (status, rtype, class, deletes) in &LEADERS {
+        assert!(rt; is_of(&leader(*status, *rtype), *class, *deletes));
     }
 }

@@ -1,5 +1,5 @@
 use file_entries::{FileEntries, NextEntry};
-use marc_types::{Refusal, Text, can_be_code};
+use marc_types::{Text, can_be_code};
 use outside_mem::MemSource;
 use std::alloc::Global;
 use std::process::Abort;
@@ -20,41 +20,38 @@ fn opened(rt: &impl Abort, alloc: Global) -> Result<FileEntries<MemSource>, Fail
     }
 }
 
-fn next_is_entry(alloc: Global, entries: &mut FileEntries<MemSource>) -> bool {
-    if entries.is_over() {
-        return false;
-    }
-    match entries.next(alloc) {
+/// What comes next: 0 for an entry of number b3, and its ordinal and loader; the number of a refusal, and the item's ordinal and
+/// offset; or 255 for the end.
+fn seen(next: NextEntry) -> (u8, u64, u64) {
+    match next {
         NextEntry::Entry(item) => {
             let entry = item.entry();
-            (entry.ordinal, entry.loader) == (1, 3) && entry.key.number.as_str() == "b3"
+            let is_b3 = entry.key.number.as_str() == "b3";
+            (
+                if is_b3 { 0 } else { 254 },
+                entry.ordinal,
+                u64::from(entry.loader),
+            )
         }
-        _ => false,
+        NextEntry::Refused(item) => (item.refusal.number(), item.ordinal, item.offset),
+        NextEntry::End => (255, 0, 0),
+        _ => (254, 0, 0),
     }
 }
 
-fn next_is_refused(alloc: Global, entries: &mut FileEntries<MemSource>) -> bool {
+fn next_seen(alloc: Global, entries: &mut FileEntries<MemSource>) -> (u8, u64, u64) {
     if entries.is_over() {
-        return false;
+        return (254, 0, 0);
     }
-    match entries.next(alloc) {
-        NextEntry::Refused(item) => {
-            (item.ordinal, item.offset) == (2, 65) && item.refusal == Refusal::Unfinished
-        }
-        _ => false,
-    }
-}
-
-fn next_is_the_end(alloc: Global, entries: &mut FileEntries<MemSource>) -> bool {
-    !entries.is_over() && matches!(entries.next(alloc), NextEntry::End) && entries.is_over()
+    seen(entries.next(alloc))
 }
 
 #[test]
 fn an_entry_and_a_refused_item(rt: HostRuntime) -> Result<(), Fail> {
-    let alloc = rt.alloc();
-    let mut entries = opened(&rt, alloc)?;
-    assert!(rt; next_is_entry(alloc, &mut entries));
-    assert!(rt; next_is_refused(alloc, &mut entries));
-    assert!(rt; next_is_the_end(alloc, &mut entries));
+    let mut entries = opened(&rt, rt.alloc())?;
+    assert!(rt; next_seen(rt.alloc(), &mut entries) == (0, 1, 3));
+    assert!(rt; next_seen(rt.alloc(), &mut entries) == (2, 2, 65));
+    assert!(rt; next_seen(rt.alloc(), &mut entries) == (255, 0, 0));
+    assert!(rt; entries.is_over());
     Ok(())
 }

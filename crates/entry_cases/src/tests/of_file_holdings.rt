@@ -25,33 +25,37 @@ fn number_of_next(alloc: Global, items: &mut FileHoldings<MemSource>) -> u8 {
     }
 }
 
-#[test]
-fn a_holding_and_two_refused_items(rt: HostRuntime) -> Result<(), Fail> {
-    let alloc = rt.alloc();
-    let bytes = Vec::from_slice(alloc, FILE)?;
-    let source = MemSource::new(bytes, 7, Vec::new(alloc));
+fn opened(alloc: Global) -> Result<FileHoldings<MemSource>, Fail> {
+    let source = MemSource::new(Vec::from_slice(alloc, FILE)?, 7, Vec::new(alloc));
     let library = Text::from_str(alloc, "ULIB")?;
     match FileHoldings::new(alloc, source, library) {
-        Ok(mut items) => {
-            for number in [0, 17, 2, 255, 255] {
-                assert_eq!(rt; number_of_next(alloc, &mut items), number);
-            }
-            Ok(())
-        }
+        Ok(items) => Ok(items),
         Err((_source, fault)) => Err(Fail::from(fault)),
     }
 }
 
 #[test]
-fn the_holding_of_a_piece(rt: HostRuntime) -> Result<(), Fail> {
-    let alloc = rt.alloc();
-    let library = Text::from_str(alloc, "ULIB")?;
-    match prepare_holding(alloc, HOLDING.as_slice(), &library) {
-        Ok(item) => {
-            assert_eq!(rt; item.key().number.as_str(), "h1");
-            assert_eq!(rt; item.target().number.as_str(), "b1");
-            Ok(())
-        }
-        Err(_fault) => panic!(rt; "no holding"),
+fn a_holding_and_two_refused_items(rt: HostRuntime) -> Result<(), Fail> {
+    let mut items = opened(rt.alloc())?;
+    for number in &[0, 17, 2, 255, 255] {
+        assert!(rt; number_of_next(rt.alloc(), &mut items) == *number);
     }
+    Ok(())
+}
+
+/// Whether a piece is a holding of these numbers.
+fn is_holding(alloc: Global, piece: &[u8], library: &Text, number: &str, target: &str) -> bool {
+    match prepare_holding(alloc, piece, library) {
+        Ok(item) => {
+            item.key().number.as_str() == number && item.target().number.as_str() == target
+        }
+        Err(_fault) => false,
+    }
+}
+
+#[test]
+fn the_holding_of_a_piece(rt: HostRuntime) -> Result<(), Fail> {
+    let library = Text::from_str(rt.alloc(), "ULIB")?;
+    assert!(rt; is_holding(rt.alloc(), HOLDING.as_slice(), &library, "h1", "b1"));
+    Ok(())
 }

@@ -61,21 +61,29 @@ const TARGETS: [(Row, &str, &str); 5] = [
 ];
 
 /// Whether a holding is the first of its library and has this target and leader byte 05.
-fn is_holding(holding: &Holding, target: [&str; 2], status: u8) -> bool {
+fn is_holding(holding: &Holding, code: &str, number: &str, status: u8) -> bool {
     let found = holding.target();
     holding.key().number.as_str() == "h1"
-        && [found.code.as_str(), found.number.as_str()] == target
+        && found.code.as_str() == code
+        && found.number.as_str() == number
         && holding.rec().leader.status == status
+}
+
+fn is_admitted(
+    rt: &impl Abort,
+    alloc: Global,
+    (row, code, target): &(Row, &str, &str),
+) -> Result<bool, Fail> {
+    match admitted(rt, alloc, row, code)? {
+        Ok(holding) => Ok(is_holding(&holding, code, target, row.0)),
+        Err(_fault) => Ok(false),
+    }
 }
 
 #[test]
 fn targets_of_holdings(rt: HostRuntime) -> Result<(), Fail> {
-    let alloc = rt.alloc();
-    for (row, code, target) in TARGETS {
-        match admitted(&rt, alloc, &row, code)? {
-            Ok(holding) => assert!(rt; is_holding(&holding, [code, target], row.0)),
-            Err(_fault) => assert!(rt; false),
-        }
+    for case in &TARGETS {
+        assert!(rt; is_admitted(&rt, rt.alloc(), case)?);
     }
     Ok(())
 }
@@ -91,14 +99,21 @@ const REFUSALS: [(Row, &str, u8); 8] = [
     ((b'n', b'x', "h1", &[LONG]), "ULIB", 17),
 ];
 
+fn is_refused(
+    rt: &impl Abort,
+    alloc: Global,
+    (row, code, number): &(Row, &str, u8),
+) -> Result<bool, Fail> {
+    match admitted(rt, alloc, row, code)? {
+        Err(HoldingFault::Refused(refusal)) => Ok(refusal.number() == *number),
+        _ => Ok(false),
+    }
+}
+
 #[test]
 fn refusals_in_order(rt: HostRuntime) -> Result<(), Fail> {
-    let alloc = rt.alloc();
-    for (row, code, number) in REFUSALS {
-        match admitted(&rt, alloc, &row, code)? {
-            Err(HoldingFault::Refused(refusal)) => assert_eq!(rt; refusal.number(), number),
-            _ => assert!(rt; false),
-        }
+    for case in &REFUSALS {
+        assert!(rt; is_refused(&rt, rt.alloc(), case)?);
     }
     Ok(())
 }
@@ -132,15 +147,18 @@ fn has_two_rows(shelf: &HoldingShelf) -> bool {
     }
 }
 
+fn shelve(rt: &impl Abort, alloc: Global, shelf: &mut HoldingShelf, row: &Row) -> Result<(), Fail> {
+    match admitted(rt, alloc, row, "ULIB")? {
+        Ok(holding) => Ok(shelf.put(alloc, holding)?),
+        Err(_fault) => panic!(rt; "not admitted"),
+    }
+}
+
 #[test]
 fn a_replaced_and_a_deleted_holding(rt: HostRuntime) -> Result<(), Fail> {
-    let alloc = rt.alloc();
-    let mut shelf = HoldingShelf::new(alloc);
-    for row in SHELVED {
-        match admitted(&rt, alloc, &row, "ULIB")? {
-            Ok(holding) => shelf.put(alloc, holding)?,
-            Err(_fault) => assert!(rt; false),
-        }
+    let mut shelf = HoldingShelf::new(rt.alloc());
+    for row in &SHELVED {
+        shelve(&rt, rt.alloc(), &mut shelf, row)?;
     }
     assert_eq!(rt; shelf.len(), 2);
     assert!(rt; has_two_rows(&shelf));

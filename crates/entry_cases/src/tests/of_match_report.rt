@@ -1,7 +1,9 @@
-use marc_types::{Text, can_be_code};
-use match_report::{Matches, isbn_of};
+use super::pieces::prepared;
+use entry_record::Prepared;
+use marc_types::{NoMemory, Text};
+use match_report::{Groups, Matches, isbn_of};
+use outside::Failed;
 use outside_mem::MemSink;
-use reading::prepare;
 use std::alloc::Global;
 use std::process::Abort;
 use std::test::Fail;
@@ -23,53 +25,61 @@ const BY_LCCN: &[u8] =
 
 const DELETED: &[u8] = b"00041dam a2200037 a 4500001000300000\x1eb1\x1e\x1d";
 
-// What is told when these pieces were committed in turn.
-fn told(rt: &impl Abort, alloc: Global, pieces: &[&[u8]]) -> Result<Vec<u8>, Fail> {
-    let library = Text::from_str(alloc, "ULIB")?;
-    assert!(rt; can_be_code(library.as_bytes()));
-    let mut table = Matches::new(alloc);
-    for piece in pieces {
-        let item = prepare(alloc, piece, &library, 0, 1)?;
-        table.put(alloc, item.entry())?;
-    }
-    let groups = table.groups(alloc)?;
+// Each call in a function of its own, since its clauses would be unfolded at each later goal.
+fn groups_of(alloc: Global, table: &Matches) -> Result<Groups<'_>, NoMemory> {
+    table.groups(alloc)
+}
+
+fn write(groups: &Groups<'_>, out: &mut MemSink) -> Result<(), Failed> {
+    groups.write(out)
+}
+
+fn put(alloc: Global, table: &mut Matches, item: &Prepared) -> Result<(), NoMemory> {
+    table.put(alloc, item.entry())
+}
+
+fn isbn(alloc: Global, text: &Text) -> Result<Option<[u8; 13]>, NoMemory> {
+    isbn_of(alloc, text)
+}
+
+fn written(alloc: Global, table: &Matches) -> Result<Vec<u8>, Fail> {
     let mut out = MemSink::new(alloc, Vec::new(alloc));
-    groups.write(&mut out)?;
+    let groups = groups_of(alloc, table)?;
+    write(&groups, &mut out)?;
     Ok(out.into_bytes())
 }
 
-#[test]
-fn older_and_todays_form_match(rt: HostRuntime) -> Result<(), Fail> {
-    let lines = told(&rt, rt.alloc(), &[TEN, THIRTEEN])?;
-    assert_eq!(&rt;
-        lines.as_slice(),
-        b"ISBN 9780306406157 (ULIB)b1 (ULIB)b2\nTOTAL groups=1\n".as_slice()
-    );
-    Ok(())
+// What is told when these pieces were committed in turn.
+fn told(rt: &impl Abort, alloc: Global, pieces: &[&[u8]]) -> Result<Vec<u8>, Fail> {
+    let mut table = Matches::new(alloc);
+    for piece in pieces {
+        let item = prepared(rt, alloc, "ULIB", piece)?;
+        put(alloc, &mut table, &item)?;
+    }
+    written(alloc, &table)
 }
 
-#[test]
-fn a_replaced_record_matches_no_more(rt: HostRuntime) -> Result<(), Fail> {
-    let lines = told(&rt, rt.alloc(), &[TEN, THIRTEEN, WITHOUT])?;
-    assert_eq!(&rt; lines.as_slice(), b"TOTAL groups=0\n".as_slice());
-    Ok(())
-}
+// Pieces, and what is told of them: an older and today's form match; a replaced record matches no more; nor does a deleted one;
+// and a number counts once in a record.
+const TOLD: [(&[&[u8]], &[u8]); 4] = [
+    (
+        &[TEN, THIRTEEN],
+        b"ISBN 9780306406157 (ULIB)b1 (ULIB)b2\nTOTAL groups=1\n",
+    ),
+    (&[TEN, THIRTEEN, WITHOUT], b"TOTAL groups=0\n"),
+    (
+        &[TEN, THIRTEEN, TWICE, DELETED, BY_LCCN],
+        b"ISBN 9780306406157 (ULIB)b2 (ULIB)b3\nLCCN 85123456 (ULIB)b0 (ULIB)b3\nTOTAL groups=2\n",
+    ),
+    (&[TWICE], b"TOTAL groups=0\n"),
+];
 
 #[test]
-fn a_deleted_record_matches_no_more(rt: HostRuntime) -> Result<(), Fail> {
-    let lines = told(&rt, rt.alloc(), &[TEN, THIRTEEN, TWICE, DELETED, BY_LCCN])?;
-    assert_eq!(&rt;
-        lines.as_slice(),
-        b"ISBN 9780306406157 (ULIB)b2 (ULIB)b3\nLCCN 85123456 (ULIB)b0 (ULIB)b3\nTOTAL groups=2\n".as_slice()
-    );
-    Ok(())
-}
-
-#[test]
-fn a_number_counts_once_in_a_record(rt: HostRuntime) -> Result<(), Fail> {
-    let alloc = rt.alloc();
-    let lines = told(&rt, alloc, &[TWICE])?;
-    assert_eq!(&rt; lines.as_slice(), b"TOTAL groups=0\n".as_slice());
+fn groups_of_records(rt: HostRuntime) -> Result<(), Fail> {
+    for (pieces, lines) in &TOLD {
+        let told = told(&rt, rt.alloc(), pieces)?;
+        assert!(rt; told.as_slice() == *lines);
+    }
     Ok(())
 }
 
@@ -91,17 +101,20 @@ const TEXTS: [(&str, &str); 14] = [
     ("", ""),
 ];
 
+// The number of a text, empty where it has none.
+fn number_of(alloc: Global, text: &str) -> Result<Vec<u8>, Fail> {
+    let text = Text::from_str(alloc, text)?;
+    match isbn(alloc, &text)? {
+        Some(isbn) => Ok(isbn.as_slice().to_vec(alloc)?),
+        None => Ok(Vec::new(alloc)),
+    }
+}
+
 #[test]
 fn numbers_of_texts(rt: HostRuntime) -> Result<(), Fail> {
-    let alloc = rt.alloc();
-    for (text, due) in TEXTS {
-        let text = Text::from_str(alloc, text)?;
-        let found = isbn_of(alloc, &text)?;
-        let found = match &found {
-            Some(isbn) => isbn.as_slice(),
-            None => b"".as_slice(),
-        };
-        assert_eq!(&rt; found, due.as_bytes());
+    for (text, due) in &TEXTS {
+        let number = number_of(rt.alloc(), text)?;
+        assert!(rt; number.as_slice() == due.as_bytes());
     }
     Ok(())
 }

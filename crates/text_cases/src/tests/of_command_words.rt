@@ -1,3 +1,4 @@
+use super::steps::expect;
 use command_words::{Library, Request, Topic, Words, libraries, request};
 use marc_types::{NoMemory, Text};
 use std::alloc::Global;
@@ -20,7 +21,7 @@ fn asks(words: &Words, asked: Option<Request<'_>>) -> bool {
 fn expect_asked(rt: &impl Abort, alloc: Global, rows: &[(&str, Request<'_>)]) -> Result<(), Fail> {
     for (line, asked) in rows {
         let words = words_of(alloc, line)?;
-        assert!(rt; asks(&words, Some(*asked)), "{line}");
+        expect(rt, asks(&words, Some(*asked)), line);
     }
     Ok(())
 }
@@ -28,7 +29,7 @@ fn expect_asked(rt: &impl Abort, alloc: Global, rows: &[(&str, Request<'_>)]) ->
 fn expect_none(rt: &impl Abort, alloc: Global, lines: &[&str]) -> Result<(), Fail> {
     for line in lines {
         let words = words_of(alloc, line)?;
-        assert!(rt; asks(&words, None), "{line}");
+        expect(rt, asks(&words, None), line);
     }
     Ok(())
 }

@@ -1,3 +1,4 @@
+use super::steps::expect;
 use iso2709_record::{Layout, RawField, check, decode, first_subfield};
 use marc_types::{Leader, Refusal, Tag};
 use std::alloc::Global;
@@ -155,7 +156,7 @@ fn is_answer(bytes: &[u8], answer: &Result<Layout, Refusal>) -> bool {
 #[test]
 fn the_first_fault_is_the_answer(rt: HostRuntime) {
     for (change, places, answer) in &CHANGES {
-        assert!(rt; is_answer(&changed(&rt, places), answer), "{change}");
+        expect(&rt, is_answer(&changed(&rt, places), answer), change);
     }
 }
 
@@ -269,8 +270,7 @@ fn subfields_are_cut_off(rt: HostRuntime) {
     let mut rest: &[u8] = b"\x1faTwain, Mark,\x1fd\x1f0(DLC)n79021164";
     for (code, text) in &CUTS {
         let Some((found, cut, behind)) = first_cut(rest) else {
-            assert!(rt; false, "a subfield is left");
-            return;
+            panic!(rt; "no subfield is left")
         };
         assert_eq!(rt; found, *code);
         assert_eq!(rt; cut, *text);

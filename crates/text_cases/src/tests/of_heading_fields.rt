@@ -1,12 +1,14 @@
 ghost use Rattle.std.specs.Prelude.{◌≤◌, length, IfOk};
 ghost use Rattle.marc_types.specs.Valid.{field_size};
 
+use super::steps::expect_at;
 use heading_fields::{
     authority_kind, controlled, full, has_subdivision, heading_kind, heading_len,
     is_controlled_code, names, rewrite, takes_subdivisions, unlink,
 };
 use marc_types::{Class, Field, Key, Kind, NoMemory, Subfield, Subfields, Tag, Text};
 use std::alloc::Global;
+use std::process::Abort;
 use std::test::Fail;
 
 /// A kind, its tags in authority and in bibliographic records, and its controlled codes.
@@ -108,59 +110,66 @@ fn digits(number: u32) -> Tag {
     }
 }
 
-/// The kind of a bare field.
+// Each behind a function without a clause, since the clauses of what it calls would be unfolded at each later goal.
 fn bare_kind(tag: Tag, ind2: u8, class: Class, alloc: Global) -> Option<Kind> {
     heading_kind(&bare_field(tag, ind2, alloc), class)
 }
 
-#[test]
-fn the_table_of_authority_tags(rt: HostRuntime) {
-    for number in 0..1000u32 {
-        let tag = digits(number);
-        let listed = listed_kind(tag, Class::Authority);
-        let first = if tag.a == b'5' { None } else { listed };
-        let linked = if tag.a == b'5' { listed } else { None };
-        assert!(rt; authority_kind(&tag) == first, "{number}");
-        for ind2 in [b'0', b'1'] {
-            let kind = bare_kind(tag, ind2, Class::Authority, rt.alloc());
-            assert!(rt; kind == linked, "{number}");
-        }
-    }
+fn first_kind(tag: Tag) -> Option<Kind> {
+    authority_kind(&tag)
+}
+
+fn divides(tag: Tag, class: Class) -> bool {
+    takes_subdivisions(&tag, class)
+}
+
+fn is_controlled(code: u8, kind: Kind) -> bool {
+    is_controlled_code(code, kind)
+}
+
+/// Whether a tag has the kinds that the table has for authorities: a 1XX or 4XX its own, and a 5XX that of its link.
+fn is_as_in_authorities(tag: Tag, alloc: Global) -> bool {
+    let listed = listed_kind(tag, Class::Authority);
+    let first = if tag.a == b'5' { None } else { listed };
+    let linked = if tag.a == b'5' { listed } else { None };
+    first_kind(tag) == first
+        && bare_kind(tag, b'0', Class::Authority, alloc) == linked
+        && bare_kind(tag, b'1', Class::Authority, alloc) == linked
+}
+
+/// Whether a tag has the kind that the table has for bibliographic records; a 6XX by its second indicator.
+fn is_as_in_books(tag: Tag, alloc: Global) -> bool {
+    let listed = listed_kind(tag, Class::Bibliographic);
+    let other = if tag.a == b'6' { None } else { listed };
+    bare_kind(tag, b'0', Class::Bibliographic, alloc) == listed
+        && bare_kind(tag, b'1', Class::Bibliographic, alloc) == other
+}
+
+fn is_divided_as_wanted(tag: Tag) -> bool {
+    divides(tag, Class::Authority) == matches!(tag.a, b'1' | b'4' | b'5')
+        && divides(tag, Class::Bibliographic) == (tag.a == b'6')
 }
 
 #[test]
-fn the_table_of_bibliographic_tags(rt: HostRuntime) {
-    for number in 0..1000u32 {
+fn the_tables_of_tags(rt: HostRuntime) {
+    for number in 0..1000 {
         let tag = digits(number);
-        let listed = listed_kind(tag, Class::Bibliographic);
-        let other = if tag.a == b'6' { None } else { listed };
-        for (ind2, wanted) in [(b'0', listed), (b'1', other)] {
-            let kind = bare_kind(tag, ind2, Class::Bibliographic, rt.alloc());
-            assert!(rt; kind == wanted, "{number}");
-        }
+        expect_at(&rt, is_as_in_authorities(tag, rt.alloc()), number);
+        expect_at(&rt, is_as_in_books(tag, rt.alloc()), number);
+        expect_at(&rt, is_divided_as_wanted(tag), number);
     }
 }
 
-#[test]
-fn tags_that_take_subdivisions(rt: HostRuntime) {
-    for number in 0..1000u32 {
-        let tag = digits(number);
-        let divisible = matches!(tag.a, b'1' | b'4' | b'5');
-        for (class, wanted) in [
-            (Class::Authority, divisible),
-            (Class::Bibliographic, tag.a == b'6'),
-        ] {
-            assert!(rt; takes_subdivisions(&tag, class) == wanted, "{number}");
-        }
-    }
+fn is_listed_code(code: u8, row: &Row) -> bool {
+    code != b' ' && row.codes.as_bytes().contains(&code)
 }
 
 #[test]
 fn the_table_of_codes(rt: HostRuntime) {
     for row in &TABLE {
-        for code in 0..=127u8 {
-            let listed = code != b' ' && row.codes.as_bytes().contains(&code);
-            assert!(rt; is_controlled_code(code, row.kind) == listed, "{code}");
+        for code in 0..128u8 {
+            let is_as_listed = is_controlled(code, row.kind) == is_listed_code(code, row);
+            expect_at(&rt, is_as_listed, u32::from(code));
         }
     }
 }
@@ -318,14 +327,6 @@ const NAMES: [Rewriting; 3] = [
     },
 ];
 
-#[test]
-fn a_name_is_rewritten(rt: HostRuntime) -> Result<(), Fail> {
-    for row in &NAMES {
-        assert!(rt; comes_to(rt.alloc(), row)?);
-    }
-    Ok(())
-}
-
 const WOMEN: Line = (b"150", b"  ", &[(b'a', "Women")]);
 
 const LINKED: Line = (
@@ -404,11 +405,17 @@ const SUBJECTS: [Rewriting; 4] = [
     },
 ];
 
-#[test]
-fn subjects_are_rewritten(rt: HostRuntime) -> Result<(), Fail> {
-    for row in &SUBJECTS {
-        assert!(rt; comes_to(rt.alloc(), row)?);
+fn come_to(rt: &impl Abort, alloc: Global, rows: &[Rewriting]) -> Result<(), NoMemory> {
+    for row in rows {
+        assert!(rt; comes_to(alloc, row)?);
     }
+    Ok(())
+}
+
+#[test]
+fn headings_are_rewritten(rt: HostRuntime) -> Result<(), Fail> {
+    come_to(&rt, rt.alloc(), &NAMES)?;
+    come_to(&rt, rt.alloc(), &SUBJECTS)?;
     Ok(())
 }
 

@@ -1,34 +1,18 @@
-ghost use Rattle.std.specs.Prelude.{Some};
-
+use super::steps::Short;
 use iso2709_record::{encode, encode_into, encode_vec, encoded_len, fits, spelled_once};
 use marc_types::{
     Field, Fields, Leader, NoMemory, Record, Subfield, Subfields, Tag, Text, makes_record,
 };
-use outside::{Failed, Sink};
 use std::alloc::Global;
 use std::process::Abort;
 use std::test::Fail;
 
 /// A field: its tag, a control field's text or the indicators, and the subfields.
-#[derive(Drop)]
-struct Line {
-    tag: Tag,
-    text: &'static str,
-    subfields: &'static [(u8, &'static str)],
-}
-
-const fn field_line(
-    tag: &[u8; 3],
-    text: &'static str,
-    subfields: &'static [(u8, &'static str)],
-) -> Line {
-    let [a, b, c] = *tag;
-    Line {
-        tag: Tag { a, b, c },
-        text,
-        subfields,
-    }
-}
+type Line = (
+    &'static [u8; 3],
+    &'static str,
+    &'static [(u8, &'static str)],
+);
 
 fn subfields_of(alloc: Global, list: &[(u8, &str)]) -> Result<Subfields, NoMemory> {
     let mut subfields = Vec::with_capacity(alloc, list.len())?;
@@ -40,17 +24,18 @@ fn subfields_of(alloc: Global, list: &[(u8, &str)]) -> Result<Subfields, NoMemor
 }
 
 fn field_of(alloc: Global, line: &Line) -> Result<Field, NoMemory> {
-    let tag = line.tag;
-    match line.text.as_bytes() {
-        [ind1, ind2] if !tag.is_control() => Ok(Field::Variable {
+    let (&[a, b, c], text, subfields) = *line;
+    let tag = Tag { a, b, c };
+    match text.as_bytes() {
+        [ind1, ind2] if !subfields.is_empty() => Ok(Field::Variable {
             tag,
             ind1: *ind1,
             ind2: *ind2,
-            subs: subfields_of(alloc, line.subfields)?,
+            subs: subfields_of(alloc, subfields)?,
         }),
         _ => Ok(Field::Control {
             tag,
-            text: Text::from_str(alloc, line.text)?,
+            text: Text::from_str(alloc, text)?,
         }),
     }
 }
@@ -90,40 +75,36 @@ const BOOK: Leader = Leader {
     linked: b' ',
 };
 
-fn authority(rt: &impl Abort, alloc: Global) -> Result<Record, NoMemory> {
-    let twain = &[(b'a', "Twain, Mark,"), (b'd', "1835-1910")];
-    let clemens = &[(b'a', "Clemens, Samuel Langhorne,"), (b'd', "1835-1910")];
-    let lines = [
-        field_line(b"001", "n79021164", &[]),
-        field_line(b"003", "DLC", &[]),
-        field_line(b"100", "1 ", twain),
-        field_line(b"400", "1 ", clemens),
-    ];
-    record_of(rt, alloc, AUTHORITY, &lines)
-}
+const AUTHORITY_LINES: [Line; 4] = [
+    (b"001", "n79021164", &[]),
+    (b"003", "DLC", &[]),
+    (b"100", "1 ", &[(b'a', "Twain, Mark,"), (b'd', "1835-1910")]),
+    (
+        b"400",
+        "1 ",
+        &[(b'a', "Clemens, Samuel Langhorne,"), (b'd', "1835-1910")],
+    ),
+];
 
-fn book(rt: &impl Abort, alloc: Global) -> Result<Record, NoMemory> {
-    let twain = &[
-        (b'a', "Twain, Mark,"),
-        (b'd', "1835-1910"),
-        (b'0', "(DLC)n79021164"),
-        (b'e', "author."),
-    ];
-    let lines = [
-        field_line(b"001", "b1", &[]),
-        field_line(b"100", "1 ", twain),
-        field_line(b"245", "10", &[(b'a', "Roughing it.")]),
-    ];
-    record_of(rt, alloc, BOOK, &lines)
-}
+const BOOK_LINES: [Line; 3] = [
+    (b"001", "b1", &[]),
+    (
+        b"100",
+        "1 ",
+        &[
+            (b'a', "Twain, Mark,"),
+            (b'd', "1835-1910"),
+            (b'0', "(DLC)n79021164"),
+            (b'e', "author."),
+        ],
+    ),
+    (b"245", "10", &[(b'a', "Roughing it.")]),
+];
 
-fn accented(rt: &impl Abort, alloc: Global) -> Result<Record, NoMemory> {
-    let lines = [
-        field_line(b"001", "m1", &[]),
-        field_line(b"245", "00", &[(b'a', "Cafe\u{301}")]),
-    ];
-    record_of(rt, alloc, BOOK, &lines)
-}
+const ACCENTED_LINES: [Line; 2] = [
+    (b"001", "m1", &[]),
+    (b"245", "00", &[(b'a', "Cafe\u{301}")]),
+];
 
 const AUTHORITY_BYTES: &[u8] = b"00158nz  a2200073n  4500\
 001001000000003000400010100002800014400004200042\x1e\
@@ -138,6 +119,17 @@ b1\x1e1 \x1faTwain, Mark,\x1fd1835-1910\x1f0(DLC)n79021164\x1feauthor.\x1e\
 const ACCENTED_BYTES: &[u8] = b"00064nam a2200049 a 4500\
 001000300000245001100003\x1e\
 m1\x1e00\x1faCafe\xcc\x81\x1e\x1d";
+
+/// A leader, the fields, and the written record.
+const RECORDS: [(Leader, &[Line], &[u8]); 3] = [
+    (AUTHORITY, &AUTHORITY_LINES, AUTHORITY_BYTES),
+    (BOOK, &BOOK_LINES, BOOK_BYTES),
+    (BOOK, &ACCENTED_LINES, ACCENTED_BYTES),
+];
+
+fn len_of(rec: &Record) -> u64 {
+    encoded_len(rec)
+}
 
 /// The record's bytes behind some that are there.
 fn encoded_behind(
@@ -157,27 +149,26 @@ fn encoded(rt: &impl Abort, alloc: Global, rec: &Record) -> Result<Vec<u8>, NoMe
     Ok(encode_vec(alloc, rec)?.into_vec())
 }
 
-fn expect_written(
+/// Whether a record is written so, also behind what is there.
+fn is_written_as(
     rt: &impl Abort,
     alloc: Global,
-    rec: Record,
+    rec: &Record,
     bytes: &[u8],
-) -> Result<(), NoMemory> {
-    assert_eq!(rt; encoded_len(&rec), bytes.len() as u64);
-    let out = encoded(rt, alloc, &rec)?;
-    assert_eq!(rt; out.as_slice(), bytes);
-    let twice = encoded_behind(rt, alloc, &rec, out)?;
-    assert!(rt; twice.len() >= bytes.len());
-    assert_eq!(rt; &twice[bytes.len()..], bytes);
-    Ok(())
+) -> Result<bool, NoMemory> {
+    let out = encoded(rt, alloc, rec)?;
+    let is_as = len_of(rec) == bytes.len() as u64 && out.as_slice() == bytes;
+    let twice = encoded_behind(rt, alloc, rec, out)?;
+    Ok(is_as && twice.as_slice().strip_prefix(bytes) == Some(bytes))
 }
 
 #[test]
 fn records_are_written_byte_for_byte(rt: HostRuntime) -> Result<(), Fail> {
     let alloc = rt.alloc();
-    expect_written(&rt, alloc, authority(&rt, alloc)?, AUTHORITY_BYTES)?;
-    expect_written(&rt, alloc, book(&rt, alloc)?, BOOK_BYTES)?;
-    expect_written(&rt, alloc, accented(&rt, alloc)?, ACCENTED_BYTES)?;
+    for (leader, lines, bytes) in &RECORDS {
+        let rec = record_of(&rt, alloc, *leader, lines)?;
+        assert!(rt; is_written_as(&rt, alloc, &rec, bytes)?);
+    }
     Ok(())
 }
 
@@ -211,37 +202,10 @@ fn a_field_of_ten_thousand_bytes_does_not_fit(rt: HostRuntime) -> Result<(), Fai
     Ok(())
 }
 
-/// Takes so many pieces, and then fails.
-#[derive(Drop)]
-struct Short {
-    bytes: Vec<u8>,
-    pieces: u64,
-    faults: u64,
-}
-
-impl Sink for Short {
-    ghost written = { λ s. Some s.bytes.items };
-
-    ghost faults = { λ s. s.faults };
-
-    fn write_all(&mut self, piece: &[u8]) -> Result<(), Failed> {
-        if self.pieces > 0 && self.bytes.extend_from_slice(piece).is_ok() {
-            self.pieces -= 1;
-            return Ok(());
-        }
-        self.faults = self.faults.saturating_add(1);
-        Err(Failed)
-    }
-}
-
 /// Whether a record was written, and the bytes that were, where so many pieces are taken.
 fn written_in_pieces(rt: &impl Abort, alloc: Global, rec: &Record, pieces: u64) -> (bool, Vec<u8>) {
     assert!(rt; fits(rec));
-    let mut out = Short {
-        bytes: Vec::new(alloc),
-        pieces,
-        faults: 0,
-    };
+    let mut out = Short::new(alloc, pieces);
     let is_written = encode(rec, &mut out).is_ok();
     (is_written, out.bytes)
 }
@@ -251,7 +215,7 @@ const FRONTS: [(u64, usize); 5] = [(0, 0), (1, 24), (4, 60), (6, 63), (100, 135)
 #[test]
 fn a_front_is_written_before_a_fault(rt: HostRuntime) -> Result<(), Fail> {
     let alloc = rt.alloc();
-    let rec = book(&rt, alloc)?;
+    let rec = record_of(&rt, alloc, BOOK, &BOOK_LINES)?;
     for (pieces, len) in &FRONTS {
         let (is_written, bytes) = written_in_pieces(&rt, alloc, &rec, *pieces);
         assert_eq!(rt; is_written, *len == 135);

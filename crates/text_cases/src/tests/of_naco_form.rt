@@ -1,3 +1,4 @@
+use super::steps::expect;
 use marc_types::{Form, Item, Kind, NoMemory, Subfield, Subfields, Text};
 use naco_form::{comparison, form};
 use std::alloc::Global;
@@ -70,7 +71,7 @@ fn expect_compared(
     rows: &[(u8, &str, &str)],
 ) -> Result<(), NoMemory> {
     for (code, text, want) in rows {
-        assert!(rt; is_compared_as(alloc, *code, text, want)?, "at {text}");
+        expect(rt, is_compared_as(alloc, *code, text, want)?, text);
     }
     Ok(())
 }

@@ -1,43 +1,17 @@
-ghost use Rattle.std.specs.Prelude.{Some, ◌≤◌};
+ghost use Rattle.std.specs.Prelude.{◌≤◌};
 ghost use Rattle.marc_types.specs.Limits.{most_entries};
 
-use outside::{Failed, Sink};
+use super::steps::Short;
 use std::alloc::Global;
 use std::test::Fail;
 use workload::make;
 
-/// A page that is written to in memory.
-#[derive(Drop)]
-struct Page {
-    bytes: Vec<u8>,
-    faults: u64,
-}
-
-impl Sink for Page {
-    ghost written = { λ page. Some page.bytes.items };
-
-    ghost faults = { λ page. page.faults };
-
-    fn write_all(&mut self, piece: &[u8]) -> Result<(), Failed> {
-        match self.bytes.extend_from_slice(piece) {
-            Ok(()) => Ok(()),
-            Err(_) => {
-                self.faults = self.faults.saturating_add(1);
-                Err(Failed)
-            }
-        }
-    }
-}
-
-fn made(alloc: Global, seed: u64, count: u64) -> Result<Page, Fail>
+fn made(alloc: Global, seed: u64, count: u64) -> Result<Vec<u8>, Fail>
     requires { count ≤ most_entries }
 {
-    let mut page = Page {
-        bytes: Vec::new(alloc),
-        faults: 0,
-    };
+    let mut page = Short::new(alloc, u64::MAX);
     make(alloc, seed, count, &mut page)?;
-    Ok(page)
+    Ok(page.bytes)
 }
 
 /// The first record of seed 0.
@@ -49,7 +23,7 @@ fn makes(alloc: Global, count: u64, bytes: &[u8]) -> Result<bool, Fail>
     requires { count ≤ most_entries }
 {
     let page = made(alloc, 0, count)?;
-    Ok(page.bytes.as_slice() == bytes)
+    Ok(page.as_slice() == bytes)
 }
 
 #[test]
@@ -71,7 +45,7 @@ fn sample(alloc: Global, seed: u64, count: u64) -> Result<(usize, u32), Fail>
     requires { count ≤ most_entries }
 {
     let page = made(alloc, seed, count)?;
-    Ok((page.bytes.len(), checksum(page.bytes.as_slice())))
+    Ok((page.len(), checksum(page.as_slice())))
 }
 
 /// Lengths and checksums of workloads that a second program made by the same rules.

@@ -90,48 +90,55 @@ fn committed(
     Ok(disk)
 }
 
-/// Three entries are within the limits, one by one and as the front of a batch; a log of them opens within these limits alone.
-#[test]
-fn a_full_catalogue(rt: HostRuntime) -> Result<(), Fail> {
-    let alloc = rt.alloc();
-    let full = Some(CommitFault::Full);
-    let table: [&[Commit]; 2] = [
-        &[(1, 1, None), (1, 1, None), (1, 1, None), (1, 0, full)],
-        &[(5, 3, full), (1, 0, full)],
-    ];
+const FULL: Option<CommitFault> = Some(CommitFault::Full);
+
+/// Whether commits leave three entries, in a log that doesn't open within limits of two, and does within these.
+fn assert_filled(rt: &impl Abort, alloc: Global, commits: &[Commit]) -> Result<(), Fail> {
     let two = Limits {
         entries: 2,
         bytes: 4096,
     };
-    for commits in table {
-        let disk = MemDisk::new(alloc, Vec::new(alloc), Vec::new(alloc));
-        let disk = committed(&rt, alloc, disk, commits, 3)?;
-        let (disk, fault) = refused(&rt, alloc, disk, two);
-        assert_eq!(rt; fault, OpenFault::Full);
-        committed(&rt, alloc, disk, &[], 3)?;
-    }
+    let disk = disk_of(alloc, b"", &[])?;
+    let disk = committed(rt, alloc, disk, commits, 3)?;
+    let (disk, fault) = refused(rt, alloc, disk, two);
+    assert!(rt; fault == OpenFault::Full);
+    committed(rt, alloc, disk, &[], 3)?;
     Ok(())
 }
 
-/// A call of the first commit fails, and so would the call behind it: the second commit makes none.
+/// Three entries are within the limits, one by one and as the front of a batch; a log of them opens within these limits alone.
+#[test]
+fn a_full_catalogue(rt: HostRuntime) -> Result<(), Fail> {
+    let one_by_one = [(1, 1, None), (1, 1, None), (1, 1, None), (1, 0, FULL)];
+    assert_filled(&rt, rt.alloc(), &one_by_one)?;
+    assert_filled(&rt, rt.alloc(), &[(5, 3, FULL), (1, 0, FULL)])
+}
+
+const BROKEN: [Commit; 2] = [
+    (1, 0, Some(CommitFault::DeviceFault)),
+    (1, 0, Some(CommitFault::Broken)),
+];
+
+/// A disk with these bytes, whose listed calls fail.
+fn disk_of(alloc: Global, bytes: &[u8], fails: &[u64]) -> Result<MemDisk, Fail> {
+    let bytes = Vec::from_slice(alloc, &bytes[..bytes.len().min(4096)])?;
+    Ok(MemDisk::new(alloc, bytes, Vec::from_slice(alloc, fails)?))
+}
+
+/// A disk with the log of which a call of the first commit fails, and so would the call behind it: the second commit makes none.
+fn broken(rt: &impl Abort, alloc: Global, call: u64) -> Result<MemDisk, Fail> {
+    let disk = disk_of(alloc, b"", &[call, call.saturating_add(1)])?;
+    let disk = committed(rt, alloc, disk, &BROKEN, 0)?;
+    assert!(rt; disk.faults() == 1);
+    disk_of(alloc, disk.bytes(), &[])
+}
+
+/// The entry is read again where its gate was written: then only the sync behind it failed.
 #[test]
 fn a_broken_catalogue(rt: HostRuntime) -> Result<(), Fail> {
-    let alloc = rt.alloc();
-    let commits = [
-        (1, 0, Some(CommitFault::DeviceFault)),
-        (1, 0, Some(CommitFault::Broken)),
-    ];
     for call in 4..8 {
-        let fails = Vec::from_slice(alloc, &[call, call + 1])?;
-        let disk = MemDisk::new(alloc, Vec::new(alloc), fails);
-        let disk = committed(&rt, alloc, disk, &commits, 0)?;
-        assert_eq!(rt; disk.faults(), 1);
-
-        // The entry is read again where its gate was written: then only the sync behind it failed.
-        let bytes = disk.bytes();
-        let bytes = Vec::from_slice(alloc, &bytes[..bytes.len().min(4096)])?;
-        let disk = MemDisk::new(alloc, bytes, Vec::new(alloc));
-        committed(&rt, alloc, disk, &[], if call == 7 { 1 } else { 0 })?;
+        let disk = broken(&rt, rt.alloc(), call)?;
+        committed(&rt, rt.alloc(), disk, &[], if call == 7 { 1 } else { 0 })?;
     }
     Ok(())
 }

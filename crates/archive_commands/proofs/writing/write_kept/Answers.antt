@@ -1,6 +1,6 @@
 use Rattle.std.proofs.Common.{rules}
 use Rattle.std.specs.Option.{option_copied}
-use Rattle.archive_commands.specs.Archives.{kept_keys}
+use Rattle.output_files.specs.Kept.{kept_keys}
 use Rattle.archive_commands.proofs.writing.write_kept.Goals as goal
 
 pub returns-clause-bytes : goal.returns-clause-bytes

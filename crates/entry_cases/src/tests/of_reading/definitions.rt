@@ -1,127 +1,187 @@
 //! What the definitions give for some records, to be read by eye.
 
-use super::{TWAIN, prepared};
+use crate::tests::pieces::{TWAIN, prepared};
 use entry_record::Prepared;
-use marc_types::{Class, Form, Key, Kind, NoMemory};
+use marc_types::{Class, Form, Item, Key, Kind, RecordFault};
 use std::alloc::Global;
+use std::process::Abort;
 use std::test::Fail;
 
-fn name_of(kind: Kind) -> &'static str {
-    match kind {
-        Kind::Personal => "personal",
-        Kind::Corporate => "corporate",
-        Kind::Meeting => "meeting",
-        Kind::Title => "title",
-        Kind::Chronological => "chronological",
-        Kind::Topical => "topical",
-        Kind::Geographic => "geographic",
-        Kind::Genre => "genre",
+/// A form: its kind, and its items' codes and texts.
+type Formed = (Kind, &'static [(u8, &'static str)]);
+
+/// What a record comes to. A field but the second has no form.
+struct Meaning {
+    class: Class,
+    key: (&'static str, &'static str),
+    payload: usize,
+    deletes: bool,
+    established: &'static [Formed],
+    see_from: &'static [Formed],
+    successor: Option<(&'static str, &'static str)>,
+    base: &'static [Formed],
+    full: &'static [Formed],
+}
+
+const CLEMENS: Formed = (
+    Kind::Personal,
+    &[(b'a', "clemens, samuel langhorne"), (b'd', "1835 1910")],
+);
+
+const HISTORY: Formed = (Kind::Topical, &[(b'a', "women"), (b'x', "history")]);
+
+const ROUGHING_IT: &[u8] =
+    b"00134nam a2200061 a 4500001000300000100005200003245001700055\x1eb1\x1e1 \x1faClemens, Samuel Langhorne,\x1fd1835-1910,\x1feauthor.\x1e10\x1faRoughing it.\x1e\x1d";
+
+const WOMEN: &[u8] =
+    b"00089nz  a2200061n  4500001000400000003000400004150001900008\x1esh3\x1eDLC\x1e  \x1faWomen\x1fxHistory\x1e\x1d";
+
+const OF_WOMEN: &[u8] =
+    b"00073nam a2200049 a 4500001000400000650001900004\x1eb10\x1e 0\x1faWomen\x1fxHistory\x1e\x1d";
+
+const REPLACED: &[u8] =
+    b"00094xz  a2200061n  4500001000300000003000400003682002500007\x1en5\x1eDLC\x1e  \x1fiReplaced by\x1f0(DLC)n7\x1e\x1d";
+
+const RECORDS: [(&[u8], Meaning); 5] = [
+    (
+        TWAIN,
+        Meaning {
+            class: Class::Authority,
+            key: ("DLC", "n79021164"),
+            payload: 188,
+            deletes: false,
+            established: &[(
+                Kind::Personal,
+                &[(b'a', "twain, mark"), (b'd', "1835 1910")],
+            )],
+            see_from: &[CLEMENS],
+            successor: None,
+            base: &[],
+            full: &[],
+        },
+    ),
+    (
+        ROUGHING_IT,
+        Meaning {
+            class: Class::Bibliographic,
+            key: ("ULIB", "b1"),
+            payload: 164,
+            deletes: false,
+            established: &[],
+            see_from: &[],
+            successor: None,
+            base: &[CLEMENS],
+            full: &[CLEMENS],
+        },
+    ),
+    (
+        WOMEN,
+        Meaning {
+            class: Class::Authority,
+            key: ("DLC", "sh3"),
+            payload: 119,
+            deletes: false,
+            established: &[HISTORY],
+            see_from: &[],
+            successor: None,
+            base: &[],
+            full: &[],
+        },
+    ),
+    (
+        OF_WOMEN,
+        Meaning {
+            class: Class::Bibliographic,
+            key: ("ULIB", "b10"),
+            payload: 103,
+            deletes: false,
+            established: &[],
+            see_from: &[],
+            successor: None,
+            base: &[(Kind::Topical, &[(b'a', "women")])],
+            full: &[HISTORY],
+        },
+    ),
+    (
+        REPLACED,
+        Meaning {
+            class: Class::Authority,
+            key: ("DLC", "n5"),
+            payload: 124,
+            deletes: true,
+            established: &[],
+            see_from: &[],
+            successor: Some(("DLC", "n7")),
+            base: &[],
+            full: &[],
+        },
+    ),
+];
+
+fn is_item((item, (code, text)): (&Item, &(u8, &str))) -> bool {
+    item.code == *code && item.text.as_str() == *text
+}
+
+fn is_form((form, (kind, wanted)): (&Form, &Formed)) -> bool {
+    let items = form.items.as_slice();
+    form.kind == *kind && items.len() == wanted.len() && items.iter().zip(*wanted).all(is_item)
+}
+
+fn are_forms(forms: &[Form], wanted: &[Formed]) -> bool {
+    forms.len() == wanted.len() && forms.iter().zip(wanted).all(is_form)
+}
+
+fn is_at_most(form: Option<&Form>, wanted: &[Formed]) -> bool {
+    match (form, wanted) {
+        (Some(form), [wanted]) => is_form((form, wanted)),
+        (None, []) => true,
+        _ => false,
     }
 }
 
-fn add_key(text: &mut String, key: &Key) -> Result<(), NoMemory> {
-    text.push('(')?;
-    text.push_str(key.code.as_str())?;
-    text.push(')')?;
-    text.push_str(key.number.as_str())?;
-    Ok(())
+fn parts_of(key: &Key) -> (&str, &str) {
+    (key.code.as_str(), key.number.as_str())
 }
 
-fn add_form(text: &mut String, name: &str, form: &Form) -> Result<(), NoMemory> {
-    text.push_str(name)?;
-    text.push_str(name_of(form.kind))?;
-    text.push(' ')?;
-    for item in form.items.as_slice() {
-        text.push('$')?;
-        text.push(item.code as char)?;
-        text.push_str(item.text.as_str())?;
-    }
-    text.push('\n')?;
-    Ok(())
+fn is_entry(made: &Prepared, meaning: &Meaning) -> bool {
+    let entry = made.entry();
+    entry.class == meaning.class
+        && parts_of(&entry.key) == meaning.key
+        && made.payload().len() == meaning.payload
+        && made.is_deletion() == meaning.deletes
 }
 
-fn add_entry(alloc: Global, text: &mut String, made: &Prepared) -> Result<(), NoMemory> {
-    match made.entry().class {
-        Class::Authority => text.push_str("authority ")?,
-        Class::Bibliographic => text.push_str("bibliographic ")?,
-    }
-    add_key(text, &made.entry().key)?;
-    let len = made.payload().len();
-    let line = format!(in alloc; ", payload {len}\n")?;
-    text.push_str(line.as_str())?;
-    if made.is_deletion() {
-        text.push_str("deletion\n")?;
-    }
-    Ok(())
+fn is_authority(made: &Prepared, meaning: &Meaning) -> bool {
+    is_at_most(made.established(), meaning.established)
+        && are_forms(made.see_from().as_slice(), meaning.see_from)
+        && made.successor().map(parts_of) == meaning.successor
 }
 
-fn add_authority(text: &mut String, made: &Prepared) -> Result<(), NoMemory> {
-    if let Some(form) = made.established() {
-        add_form(text, "established ", form)?;
-    }
-    for form in made.see_from().as_slice() {
-        add_form(text, "see from ", form)?;
-    }
-    if let Some(key) = made.successor() {
-        text.push_str("successor ")?;
-        add_key(text, key)?;
-        text.push('\n')?;
-    }
-    Ok(())
+fn has_forms(made: &Prepared, field: u32, base: &[Formed], full: &[Formed]) -> bool {
+    is_at_most(made.field_form(field), base) && is_at_most(made.full_form(field), full)
 }
 
-/// The forms of the first fields.
-fn add_headings(alloc: Global, text: &mut String, made: &Prepared) -> Result<(), NoMemory> {
-    for field in 0..4 {
-        if let Some(form) = made.field_form(field) {
-            let name = format!(in alloc; "field {field} base ")?;
-            add_form(text, name.as_str(), form)?;
-        }
-        if let Some(form) = made.full_form(field) {
-            let name = format!(in alloc; "field {field} full ")?;
-            add_form(text, name.as_str(), form)?;
-        }
-    }
-    Ok(())
+fn has_headings(made: &Prepared, meaning: &Meaning) -> bool {
+    has_forms(made, 0, &[], &[])
+        && has_forms(made, 1, meaning.base, meaning.full)
+        && has_forms(made, 2, &[], &[])
+        && has_forms(made, 3, &[], &[])
 }
 
-fn shown(alloc: Global, made: &Prepared) -> Result<String, NoMemory> {
-    let mut text = String::new(alloc);
-    add_entry(alloc, &mut text, made)?;
-    add_authority(&mut text, made)?;
-    add_headings(alloc, &mut text, made)?;
-    Ok(text)
+fn means(
+    rt: &impl Abort,
+    alloc: Global,
+    piece: &[u8],
+    meaning: &Meaning,
+) -> Result<bool, RecordFault> {
+    let made = prepared(rt, alloc, "ULIB", piece)?;
+    Ok(is_entry(&made, meaning) && is_authority(&made, meaning) && has_headings(&made, meaning))
 }
 
 #[test]
 fn what_records_come_to(rt: HostRuntime) -> Result<(), Fail> {
-    let alloc = rt.alloc();
-    let table = [
-        (
-            TWAIN,
-            "authority (DLC)n79021164, payload 188\nestablished personal $atwain, mark$d1835 1910\nsee from personal $aclemens, samuel langhorne$d1835 1910\n",
-        ),
-        (
-            b"00134nam a2200061 a 4500001000300000100005200003245001700055\x1eb1\x1e1 \x1faClemens, Samuel Langhorne,\x1fd1835-1910,\x1feauthor.\x1e10\x1faRoughing it.\x1e\x1d".as_slice(),
-            "bibliographic (ULIB)b1, payload 164\nfield 1 base personal $aclemens, samuel langhorne$d1835 1910\nfield 1 full personal $aclemens, samuel langhorne$d1835 1910\n",
-        ),
-        (
-            b"00089nz  a2200061n  4500001000400000003000400004150001900008\x1esh3\x1eDLC\x1e  \x1faWomen\x1fxHistory\x1e\x1d".as_slice(),
-            "authority (DLC)sh3, payload 119\nestablished topical $awomen$xhistory\n",
-        ),
-        (
-            b"00073nam a2200049 a 4500001000400000650001900004\x1eb10\x1e 0\x1faWomen\x1fxHistory\x1e\x1d".as_slice(),
-            "bibliographic (ULIB)b10, payload 103\nfield 1 base topical $awomen\nfield 1 full topical $awomen$xhistory\n",
-        ),
-        (
-            b"00094xz  a2200061n  4500001000300000003000400003682002500007\x1en5\x1eDLC\x1e  \x1fiReplaced by\x1f0(DLC)n7\x1e\x1d".as_slice(),
-            "authority (DLC)n5, payload 124\ndeletion\nsuccessor (DLC)n7\n",
-        ),
-    ];
-    for (piece, wanted) in table {
-        let made = prepared(&rt, alloc, piece)?;
-        let text = shown(alloc, &made)?;
-        assert_eq!(rt; text.as_str(), wanted);
+    for (piece, meaning) in &RECORDS {
+        assert!(rt; means(&rt, rt.alloc(), piece, meaning)?);
     }
     Ok(())
 }

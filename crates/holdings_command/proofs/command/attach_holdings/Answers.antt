@@ -1,8 +1,8 @@
-use Rattle.std.proofs.Common.{◌≡◌, ◌∙◌, [], ◌∷◌, OnOk, sym, ap, subst, arith}
+use Rattle.std.proofs.Common.{◌∙◌, [], ◌∷◌, OnOk, sym, ap, subst, arith}
 use Rattle.std.specs.Option.{option_copied}
 use Rattle.std.proofs.lemmas.Result.{IfErr-weaker, on_ok_weaker}
 use Rattle.outside.proofs.Rooms.{same_but_first, same_but_then}
-use Rattle.console_lines.specs.Ends.{outcome}
+use Rattle.console_lines.specs.Ends.{outcome, IsResultTold}
 use Rattle.console_lines.specs.Faults.{IsFaultTold, fault_line}
 use Rattle.console_lines.specs.declared.end.End.TheVariants.{Told}
 use Rattle.catalogue_core.specs.Catalogues.{Catalogued}
@@ -10,7 +10,6 @@ use Rattle.catalogue_rules.specs.Settle.{state_of}
 use Rattle.durable_catalogue.specs.Logs.{HasHistory}
 use Rattle.entry_record.specs.History.{IsWithin}
 use Rattle.room_files.specs.Journals.{journal_limits, log_bytes}
-use Rattle.holdings_command.specs.Attaching.{IsTextTold}
 use Rattle.holdings_command.specs.Ready.{IsReady}
 use Rattle.holdings_command.proofs.Rooms.{closed_three, closed_one, opened_alone, all_apart, closed_behind, all_written, all_stopped, read_there}
 use Rattle.holdings_command.proofs.Endings.{attaches_unopened, was_opened, attaches_unread, attaches_ended}
@@ -116,5 +115,5 @@ returns-clause-ends g c =
     all_stopped _ _ _ _ _ journal out rest opened stays w.apart closing.apart names.1.0 names.1.1.0 _ _ which (stopped which is)) w.stopped)
     (IfErr-weaker written _ _ (λ why unbegun is.
     opened_alone _ _ _ _ journal opened (same_but_then _ _ _ [] stays (unbegun is)) closing.apart) w.memory)
-    (subst (λ text. OnOk written (IsTextTold o.told o.now o.faults o.faults_now text c.in-Ok-prepare.ready.refused o.end)) c.as_str.ensures.value e.whole)
+    (subst (λ text. OnOk written (IsResultTold o.told o.now o.faults o.faults_now text c.in-Ok-prepare.ready.refused o.end)) c.as_str.ensures.value e.whole)
     e.unwritten e.silent e.memory e.told

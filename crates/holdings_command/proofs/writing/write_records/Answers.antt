@@ -1,7 +1,7 @@
 use Rattle.std.proofs.Common.{subst, ℕ, List}
 use Rattle.std.specs.Option.{option_copied}
 use Rattle.output_files.specs.Outputs.{IsPartWritten}
-use Rattle.archive_commands.specs.Archives.{kept_keys}
+use Rattle.output_files.specs.Kept.{kept_keys}
 use Rattle.holdings_export.specs.Output.{holdings_export}
 use Rattle.holdings_command.proofs.writing.write_records.Goals as goal
 

@@ -5,10 +5,11 @@ use Rattle.outside.proofs.Rooms.{same_but_then, same_but_none}
 use Rattle.durable_catalogue.specs.Durables.{mark_of}
 use Rattle.durable_catalogue.specs.Views.{durable_view}
 use Rattle.console_lines.specs.declared.fault.Fault.TheVariants as fault
+use Rattle.room_files.proofs.Faults.{opening_device, opening_input}
 use Rattle.journal_loading.specs.Inputs.{IsInputFault, AreInputs, IsFresh, lefts_of_inputs}
 use Rattle.journal_loading.specs.Outcomes.{Unopened}
 use Rattle.journal_loading.proofs.Opened.{inputs_after, take_all, fault_between, unread}
-use Rattle.journal_loading.proofs.Begun.{unbegun, opening_usage, opening_other_history, opening_input, opening_device, no_other}
+use Rattle.journal_loading.proofs.Begun.{unbegun, opening_usage, opening_other_history, no_other}
 use Rattle.journal_loading.proofs.loading.begin.Goals as goal
 
 pub returns-in-Err-clause-failed : goal.returns-in-Err-clause-failed

@@ -35,20 +35,15 @@ pub returns-in-Ok-text-clause-ends : goal.returns-in-Ok-text-clause-ends
 returns-in-Ok-text-clause-ends g c =
     let seen = g.R.Room.seen in
     let l = c.in-Ok.ensures.loaded in
-    let t = c.tell_lines.ensures in
     loads_told _ _ _ c.in-Ok.loaded.durable.core.history c.in-Ok.loaded.results (record {
       text = c.as_str.result.now;
       refused = c.has_refused.result;
-      untold = t.untold;
-      no_output = t.no_output;
-      done = t.done;
-      whole = t.whole;
-      front = t.front;
+      told = c.tell_result.ensures;
       refused_is = c.has_refused.ensures ∙ ap has_refused c.as_slice-in-Ok-text.ensures;
       text_is = c.as_str.ensures.value ∙ (c.in-Ok-text.ensures ∙ ap (files_text c.args.libraries.now) c.as_slice.ensures);
     }) (λ tells.
     merged_by (seen c.args.room.now) (seen c.close_journal.new.room) c.args.journal.now c.args.libraries.now (durable_view c.in-Ok.loaded.durable) c.in-Ok.loaded.results
-    c.is_within_limits.ensures (l.whole tells) (λ told. c.close_journal.ensures.log (c.load_journal.ensures.apart.tells ∙ tells) told) tells) t.cause
+    c.is_within_limits.ensures (l.whole tells) (λ told. c.close_journal.ensures.log (c.load_journal.ensures.apart.tells ∙ tells) told) tells)
 
 pub returns-clause-apart : goal.returns-clause-apart
 returns-clause-apart g c = same_but_then _ _ _ _ c.load_journal.ensures.apart c.close_journal.ensures.apart

@@ -2,7 +2,8 @@ use Rattle.std.proofs.Common.{◌≤◌, length}
 use Rattle.plain_catalogue.specs.Views.{linkables}
 use Rattle.catalogue_rules.specs.State.{kept_field, tied}
 use Rattle.plain_catalogue.specs.KeptRecords.{kept_record}
-use Rattle.plain_catalogue.proofs.Ties.{tied_at, length_tied}
+use Rattle.record_store.proofs.Joined.{joined_length}
+use Rattle.plain_catalogue.proofs.Ties.{tied_at}
 use Rattle.plain_catalogue.proofs.Making.{through_more, through_drafted, through_standing}
 use Rattle.plain_catalogue.proofs.records.fields_after.Goals as goal
 
@@ -24,7 +25,7 @@ returns-clause-draft c =
     let fields = c.args.kept.now.rec.fields in
     let ties = c.args.kept.now.links in
     let past : length (tied fields ties) ≤ c.loop-place.place =
-    rw (length_tied fields ties c.args.kept.now.tied) (rw c.as_slice-fields.ensures at c.loop-place-test.false) in
+    rw (joined_length fields ties c.args.kept.now.tied) (rw c.as_slice-fields.ensures at c.loop-place-test.false) in
     through_drafted (linkables c.args.authorities.now) c.args.loosening c.args.class (tied fields ties) c.loop-place.place c.loop-place.draft
     c.loop-place.standings.items past c.loop-place.invariant
 
@@ -33,6 +34,6 @@ returns-clause-standings c =
     let fields = c.args.kept.now.rec.fields in
     let ties = c.args.kept.now.links in
     let past : length (tied fields ties) ≤ c.loop-place.place =
-    rw (length_tied fields ties c.args.kept.now.tied) (rw c.as_slice-fields.ensures at c.loop-place-test.false) in
+    rw (joined_length fields ties c.args.kept.now.tied) (rw c.as_slice-fields.ensures at c.loop-place-test.false) in
     through_standing (linkables c.args.authorities.now) c.args.loosening c.args.class (kept_record c.args.kept.now) c.loop-place.place c.loop-place.draft
     c.loop-place.standings.items past c.loop-place.invariant

@@ -1,21 +1,24 @@
-use Rattle.std.proofs.Common.{◌∙◌, sym}
-use Rattle.plain_commands.proofs.Passes.{ended_whole, ended_in_part, ended_untold, end_of_none, end_of_some}
+use Rattle.std.proofs.Common.{refl}
+use Rattle.console_lines.proofs.Ends.{result_untold}
+use Rattle.plain_commands.proofs.Passes.{delivered_nothing, delivered_in_part, delivered_told, ended_whole, ended_in_part, ended_untold, ends_told, no_fault_told}
 use Rattle.plain_commands.proofs.passing.deliver.Goals as goal
 
-pub returns-in-Err-OutputFault-clause-part : goal.returns-in-Err-OutputFault-clause-part
-returns-in-Err-OutputFault-clause-part g c library bytes tells is failed =
-    ended_in_part _ _ _ c.args.ready.now _ is c.core.ensures _ (c.write_all_records.ensures.part tells)
+pub returns-in-Ok-clause-fault : goal.returns-in-Ok-clause-fault
+returns-in-Ok-clause-fault g c why is = absurd (no_fault_told _ why (result_untold c.tell_result.ensures) is)
 
-pub returns-in-Err-clause-told : goal.returns-in-Err-clause-told
-returns-in-Err-clause-told g c library bytes tells is failed =
-    ended_untold _ _ _ c.args.ready.now _ is c.core.ensures _ _ (c.in-Ok.ensures.bytes tells) (rw (← c.as_bytes.ensures.value) c.write_all.ensures.front)
+pub returns-in-Ok-clause-unwritten : goal.returns-in-Ok-clause-unwritten
+returns-in-Ok-clause-unwritten g c = ends_told _ _ c.tell_result.ensures
 
-pub returns-then-is_empty-clause-whole : goal.returns-then-is_empty-clause-whole
-returns-then-is_empty-clause-whole g c library bytes tells is all =
-    ended_whole _ _ _ c.args.ready.now _ is c.core.ensures _ _ _ (c.in-Ok.ensures.bytes tells) (rw (← c.as_bytes.ensures.value) c.in-Ok-write_all.ensures.bytes)
-    (end_of_none _ _ c.refused.ensures (sym c.is_empty.ensures ∙ c.if-is_empty.true))
+pub returns-in-Ok-clause-delivered : goal.returns-in-Ok-clause-delivered
+returns-in-Ok-clause-delivered g c library bytes tells is =
+    delivered_told _ _ _ _ c.tell_result.ensures
+    (λ ended wrote. ended_whole _ _ _ c.args.ready.now _ is c.core.ensures _ _ _ (c.in-Ok.ensures.bytes tells)
+    (rw (← c.as_str.ensures.value) wrote) (rw (← c.has_refused.ensures) ended))
+    (λ wrote. ended_untold _ _ _ c.args.ready.now _ is c.core.ensures _ _ (c.in-Ok.ensures.bytes tells) (rw (← c.as_str.ensures.value) wrote))
 
-pub returns-else-is_empty-clause-whole : goal.returns-else-is_empty-clause-whole
-returns-else-is_empty-clause-whole g c library bytes tells is all =
-    ended_whole _ _ _ c.args.ready.now _ is c.core.ensures _ _ _ (c.in-Ok.ensures.bytes tells) (rw (← c.as_bytes.ensures.value) c.in-Ok-write_all.ensures.bytes)
-    (end_of_some _ _ c.refused.ensures (sym c.is_empty.ensures ∙ c.if-is_empty.false))
+pub returns-in-Err-OutputFault-clause-delivered : goal.returns-in-Err-OutputFault-clause-delivered
+returns-in-Err-OutputFault-clause-delivered g c library bytes tells is =
+    delivered_in_part _ _ _ _ refl (ended_in_part _ _ _ c.args.ready.now _ is c.core.ensures _ (c.write_all_records.ensures.part tells))
+
+pub returns-in-Err-NoMemory-clause-delivered : goal.returns-in-Err-NoMemory-clause-delivered
+returns-in-Err-NoMemory-clause-delivered g c library bytes tells is = delivered_nothing _ _ _ _ _ c.tell.ensures.end

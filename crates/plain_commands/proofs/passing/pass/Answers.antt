@@ -16,9 +16,7 @@ pub returns-in-Ok-clause-ends : goal.returns-in-Ok-clause-ends
 returns-in-Ok-clause-ends g c =
     let mid = g.R.Room.seen c.prepare.new.room in
     let d = c.deliver-end.ensures in
-    let e = d.unwritten in
-    passes_delivered _ _ _ mid c.in-Ok.ready c.prepare.ensures.stays d.fault e.no_report e.out_cause e.console_cause e.silent c.in-Ok.ensures.ready
-    d.whole d.part d.told
+    passes_delivered _ _ _ mid c.in-Ok.ready c.prepare.ensures.stays d.fault d.unwritten c.in-Ok.ensures.ready d.delivered
 
 pub returns-in-Err-clause-ends : goal.returns-in-Err-clause-ends
 returns-in-Err-clause-ends g c =

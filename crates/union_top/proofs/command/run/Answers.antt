@@ -1,4 +1,6 @@
 use Rattle.std.proofs.Common.{◌≡◌, ◌≤◌, ◌⊎◌, sym, subst, ◌∙◌}
+use Rattle.outside.specs.Room.{SameBut}
+use Rattle.command_words.specs.Command.{names_of}
 use Rattle.console_lines.specs.Ends.{Outcome, outcome}
 use Rattle.union_top.specs.Commands.{Ends}
 use Rattle.union_top.proofs.Complete.{complete, two_is_usage, same_command}
@@ -7,15 +9,23 @@ use Rattle.union_top.proofs.command.run.Goals as goal
 
 pub returns-in-Some-clause-usage : goal.returns-in-Some-clause-usage
 returns-in-Some-clause-usage g c = (
-  (λ two. absurd (c.carry_out.ensures.command (two_is_usage _ (sym c.status-in-Some.ensures ∙ two)))),
+  (λ two. absurd (c.carry_out.ensures.no_usage (two_is_usage _ (sym c.status-in-Some.ensures ∙ two)))),
   λ none. let no = sym none ∙ c.in-Some.ensures in cc,
 )
 
 pub returns-in-Some-clause-unchanged : goal.returns-in-Some-clause-unchanged
-returns-in-Some-clause-unchanged g c two = absurd (c.carry_out.ensures.command (two_is_usage _ (sym c.status-in-Some.ensures ∙ two)))
+returns-in-Some-clause-unchanged g c two = absurd (c.carry_out.ensures.no_usage (two_is_usage _ (sym c.status-in-Some.ensures ∙ two)))
 
 pub returns-in-Some-clause-usage_told : goal.returns-in-Some-clause-usage_told
-returns-in-Some-clause-usage_told g c two = absurd (c.carry_out.ensures.command (two_is_usage _ (sym c.status-in-Some.ensures ∙ two)))
+returns-in-Some-clause-usage_told g c two = absurd (c.carry_out.ensures.no_usage (two_is_usage _ (sym c.status-in-Some.ensures ∙ two)))
+
+pub returns-in-Some-clause-closed : goal.returns-in-Some-clause-closed
+returns-in-Some-clause-closed g c = c.carry_out.ensures.closed
+
+pub returns-in-Some-clause-apart : goal.returns-in-Some-clause-apart
+returns-in-Some-clause-apart g c command is =
+    subst (λ asked. SameBut (g.R.Room.seen c.args.room.now) (g.R.Room.seen c.carry_out.new.room) (names_of asked))
+    (same_command _ command (sym c.in-Some.ensures ∙ is)) c.carry_out.ensures.apart
 
 pub returns-in-Some-clause-ends : goal.returns-in-Some-clause-ends
 returns-in-Some-clause-ends g c command is =

@@ -1,4 +1,0 @@
-use Rattle.catalogue_cases.proofs.tests.of_ambiguity_report.cross_and_awaits.Given as goal
-
-abbrev pub ghosts-reported : goal.ghosts-reported
-ghosts-reported g a = record { name = a.blank.name; parts = a.blank.parts }

@@ -1,0 +1,60 @@
+//! How a command ends that wrote its output, or tells its results.
+ghost use Rattle.std.specs.Prelude.{◌≡◌, OnOk, IsErrOf};
+ghost use Rattle.console_lines.specs.Ends.{IsResultTold, out_unwritten};
+ghost use Rattle.console_lines.specs.Faults.{IsFaultTold, fault_line};
+ghost use Rattle.console_lines.specs.declared.end.Unwritten.{Unwritten};
+
+use crate::end::{End, Hindrance, Unwritten};
+use crate::fault::{Fault, tell};
+use outside::{Sink, WriteFault};
+
+/// Tells the console the text of what was done, and ends by whether something was refused.
+pub fn tell_result<K: Sink>(console: &mut K, text: &str, refused: bool) -> End
+    ensures { IsResultTold (K.written console.old) (K.written console.new) (K.faults console.old) (K.faults console.new) text.now refused result }
+{
+    match console.write_all(text.as_bytes()) {
+        Ok(()) => End::of(refused),
+        Err(_) => End::Unwritten(Unwritten::Console),
+    }
+}
+
+/// The end of a command whose output was written so. Only want of memory is told.
+pub fn end_of_output<K: Sink>(console: &mut K, written: Result<(), WriteFault>) -> End
+    ensures done { OnOk written (result ≡ End.Done) }
+    ensures failed { IsErrOf written WriteFault.OutputFault → result ≡ out_unwritten }
+    ensures memory { IsErrOf written WriteFault.NoMemory → result ≡ End.Told Fault.Memory }
+    ensures told { IsErrOf written WriteFault.NoMemory →
+        IsFaultTold (K.written console.old) (K.written console.new) (K.faults console.old) (K.faults console.new) (fault_line Fault.Memory) }
+    ensures silent { (IsErrOf written WriteFault.NoMemory → ⊥) →
+        (K.written console.new ≡ K.written console.old) × (K.faults console.new ≡ K.faults console.old) }
+{
+    match written {
+        Ok(()) => End::Done,
+        Err(WriteFault::OutputFault) => End::Unwritten(Unwritten::Out),
+        Err(WriteFault::NoMemory) => tell(console, Fault::Memory),
+    }
+}
+
+/// The end of a command whose outputs were written so: the console is told the text, or want of memory; nothing where an output could
+/// not be written.
+pub fn end_of_outputs<K: Sink>(
+    console: &mut K,
+    written: Result<(), Hindrance>,
+    text: &str,
+    refused: bool,
+) -> End
+    ensures whole { OnOk written
+        (IsResultTold (K.written console.old) (K.written console.new) (K.faults console.old) (K.faults console.new) text.now refused result) }
+    ensures unwritten { (which : Unwritten) → IsErrOf written (Hindrance.Unwritten which) → result ≡ End.Unwritten which }
+    ensures silent { (which : Unwritten) → IsErrOf written (Hindrance.Unwritten which) →
+        (K.written console.new ≡ K.written console.old) × (K.faults console.new ≡ K.faults console.old) }
+    ensures memory { IsErrOf written Hindrance.NoMemory → result ≡ End.Told Fault.Memory }
+    ensures told { IsErrOf written Hindrance.NoMemory →
+        IsFaultTold (K.written console.old) (K.written console.new) (K.faults console.old) (K.faults console.new) (fault_line Fault.Memory) }
+{
+    match written {
+        Ok(()) => tell_result(console, text, refused),
+        Err(Hindrance::Unwritten(which)) => End::Unwritten(which),
+        Err(Hindrance::NoMemory) => tell(console, Fault::Memory),
+    }
+}
