@@ -19,7 +19,7 @@ use Rattle.console_lines.proofs.Ends.{told_once, told_not_unwritten, told_not_al
 use Rattle.plain_commands.specs.Totals.{holding}
 use Rattle.output_files.specs.Outputs.{IsPartWritten}
 use Rattle.plain_commands.specs.Loading.{EndsLoading, IsFullAt}
-use Rattle.plain_commands.specs.Passing.{exported, IsReady, IsPassed, IsPassedInPart, IsPassedUntold, IsDelivered, EndsDelivering, Passes}
+use Rattle.plain_commands.specs.Passing.{exported, IsReady, IsPassed, IsPassedInPart, IsPassedUntold, IsPassDelivered, EndsDelivering, Passes}
 use Rattle.plain_commands.proofs.There.{there_more}
 use Rattle.plain_commands.specs.declared.ready.Ready.{Ready}
 
@@ -71,14 +71,14 @@ since mid o = record {
 
 module _ (library : Library) (bytes out : List ℕ) (o : Outcome) where
   -- a fault was told, and nothing is said of what was delivered
-  pub delivered_nothing : (why : Fault) → o.end ≡ Told why → IsDelivered library bytes out o
+  pub delivered_nothing : (why : Fault) → o.end ≡ Told why → IsPassDelivered library bytes out o
   delivered_nothing why is = record {
     whole = λ all. absurd (told_not_all o.end why is all);
     part = λ also. absurd (told_not_unwritten o.end why Out is also);
     untold = λ also. absurd (told_not_unwritten o.end why Console is also);
   }
 
-  pub delivered_in_part : o.end ≡ out_unwritten → IsPassedInPart library bytes (o.old.file out) (o.new.file out) → IsDelivered library bytes out o
+  pub delivered_in_part : o.end ≡ out_unwritten → IsPassedInPart library bytes (o.old.file out) (o.new.file out) → IsPassDelivered library bytes out o
   delivered_in_part ends is = record {
     whole = λ all. absurd (all_not_unwritten o.end Out all ends);
     part = λ also. is;
@@ -88,7 +88,7 @@ module _ (library : Library) (bytes out : List ℕ) (o : Outcome) where
   -- OUT was written, and the result was told as far as the console could be written
   pub delivered_told : {text : List ℕ} {refused : Bool} → IsResultTold o.told o.now o.faults o.faults_now text refused o.end
       → (o.end ≡ end_of refused → Appends o.told o.now text → IsPassed library bytes (o.new.file out) o.told o.now o.end)
-      → (WritesFront o.told o.now text → IsPassedUntold library bytes (o.new.file out) o.told o.now) → IsDelivered library bytes out o
+      → (WritesFront o.told o.now text → IsPassedUntold library bytes (o.new.file out) o.told o.now) → IsPassDelivered library bytes out o
   delivered_told told whole untold = record {
     whole = λ all. whole (result_done told all) (result_line told all);
     part = λ also. absurd ((result_no_output told).0 also);
@@ -131,7 +131,7 @@ module _ (library : Library) (out : List ℕ) (o : Outcome) where
   pub passes_delivered : (mid : RoomView) (ready : Ready) → SameBut o.old mid []
       → ((why : Fault) → o.end ≡ Told why → (why ≡ Memory) × SameBut mid o.new [] × IsTold why o) → EndsDelivering out (since mid o)
       → (o.old.tells ≡ true → IsSomeAnd (o.old.file library.file) (λ bytes. IsReady library bytes ready))
-      → ((l : Library) (bytes : List ℕ) → mid.tells ≡ true → IsReady l bytes ready → IsDelivered l bytes out (since mid o))
+      → ((l : Library) (bytes : List ℕ) → mid.tells ≡ true → IsReady l bytes ready → IsPassDelivered l bytes out (since mid o))
       → Passes library out o
   passes_delivered mid ready stays fault ends is delivered = record {
     told = λ why also.

@@ -95,7 +95,7 @@ abbrev pub known_items : Stream → Option (List Item)
 known_items stream = cond stream.tells (Some stream.coming) None
 
 -- How the loading of items ends, where these are told, with the count of their source's faults before and now.
-pub record Loads (library : List ℕ) (told : Option (List Item)) (before now : ℕ) (result : Result LoadedView Fault) : Type 0 where
+pub record LoadsItems (library : List ℕ) (told : Option (List Item)) (before now : ℕ) (result : Result LoadedView Fault) : Type 0 where
   pub loaded : IfOk result (λ loaded. (items : List Item) → told ≡ Some items → IsLoaded library items loaded)
   pub full : IfErr result (λ fault. fault ≡ Full → (items : List Item) → told ≡ Some items → IsFullAt library items)
   pub faults : before ≤ now

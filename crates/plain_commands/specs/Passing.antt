@@ -64,7 +64,7 @@ pub record IsPassedUntold (library : Library) (bytes : List ℕ) (written told n
   pub console : WritesFront told now (results library.file accepted refused)
 
 -- what there is after the delivery of a file with these bytes, by how it ends
-pub record IsDelivered (library : Library) (bytes out : List ℕ) (o : Outcome) : Type 0 where
+pub record IsPassDelivered (library : Library) (bytes out : List ℕ) (o : Outcome) : Type 0 where
   pub whole : IsAllDone o.end → IsPassed library bytes (o.new.file out) o.told o.now o.end
   pub part : o.end ≡ out_unwritten → IsPassedInPart library bytes (o.old.file out) (o.new.file out)
   pub untold : o.end ≡ console_unwritten → IsPassedUntold library bytes (o.new.file out) o.told o.now

@@ -5,7 +5,7 @@ ghost use Rattle.outside.specs.Fault.{Rose};
 ghost use Rattle.outside.specs.Room.{SameBut};
 ghost use Rattle.marc_stream.specs.Pieces.{items};
 ghost use Rattle.file_entries.specs.Entries.{IsSameFile};
-ghost use Rattle.plain_commands.specs.Loading.{EndsLoading, IsLoaded, IsFullAt, Loads, TakesNext, known_items};
+ghost use Rattle.plain_commands.specs.Loading.{EndsLoading, IsLoaded, IsFullAt, LoadsItems, TakesNext, known_items};
 
 use crate::loaded::Loaded;
 use catalogue_core::CoreFault;
@@ -56,7 +56,7 @@ fn load_entries<S: Source, L: Ledger>(
 ) -> Result<Loaded, Fault>
     requires going { entries.old.over ≡ false }
     requires loader { entries.old.loader ≡ 0 }
-    ensures { Loads entries.old.library (known_items entries.old.stream) entries.old.stream.faults entries.new.stream.faults result }
+    ensures { LoadsItems entries.old.library (known_items entries.old.stream) entries.old.stream.faults entries.new.stream.faults result }
 {
     let mut loaded = Loaded::new(alloc);
     'items: while take_next(alloc, entries, &mut loaded, steps)? {}
@@ -75,7 +75,7 @@ fn load_counted<S: Source, L: Ledger>(
     requires name { blank.name ≡ L.name }
     requires parts { blank.parts ≡ L.parts }
     requires shared { 0 < blank.parts }
-    ensures { Loads library (option_map items (S.left source)) (S.faults source) (S.faults result.1) result.0 }
+    ensures { LoadsItems library (option_map items (S.left source)) (S.faults source) (S.faults result.1) result.0 }
 {
     let mut steps = Steps::<L>::new(blank);
     match FileEntries::new(alloc, source, library, LOADER) {
@@ -89,7 +89,7 @@ fn load_counted<S: Source, L: Ledger>(
 
 fn load_source<S: Source>(alloc: Global, source: S, library: Text) -> (Result<Loaded, Fault>, S)
     requires library { IsTrue (is_code library) }
-    ensures { Loads library (option_map items (S.left source)) (S.faults source) (S.faults result.1) result.0 }
+    ensures { LoadsItems library (option_map items (S.left source)) (S.faults source) (S.faults result.1) result.0 }
 {
     load_counted::<S, Brand>(alloc, source, library, Blank::new(1))
 }

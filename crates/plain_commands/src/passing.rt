@@ -3,7 +3,7 @@ ghost use Rattle.marc_types.specs.Valid.{is_code};
 ghost use Rattle.outside.specs.Room.{SameBut};
 ghost use Rattle.command_words.specs.declared.library.Library.{Library};
 ghost use Rattle.console_lines.specs.Ends.{outcome, IsTold};
-ghost use Rattle.plain_commands.specs.Passing.{IsReady, IsDelivered, EndsDelivering, Passes};
+ghost use Rattle.plain_commands.specs.Passing.{IsReady, IsPassDelivered, EndsDelivering, Passes};
 
 use crate::ready::{Ready, prepare};
 use command_words::Library;
@@ -35,7 +35,7 @@ fn deliver<R: Room>(
 
     // What is there then, of a file with these bytes.
     ensures delivered { (library : Library) (bytes : List ℕ) → (R.seen room.old).tells ≡ true → IsReady library bytes ready.now →
-        IsDelivered library bytes out.now
+        IsPassDelivered library bytes out.now
         (outcome R.seen R.Out.written R.Out.faults room.old room.new console.old console.new result) }
 {
     match write_all_records(alloc, room, out, ready.loaded.core()) {
