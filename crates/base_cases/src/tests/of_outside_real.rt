@@ -1,4 +1,4 @@
-ghost use Rattle.std.specs.Prelude.{◌≡◌, None};
+ghost use Rattle.std.specs.Prelude.{◌≡◌, ◌<◌, None};
 
 use super::steps::{
     assert_read, cut, len, opens_input, opens_log, read, read_twice, sync, write, write_all,
@@ -122,6 +122,51 @@ fn a_sink_gathers_and_writes(rt: HostRuntime) -> Result<(), Fail> {
     let path = path_of(&rt, "sink")?;
     assert!(rt; writes_to(&rt, path.as_str(), b"one", b" two")?);
     assert!(rt; has(&rt, path.as_str(), b"one two")?);
+    remove(&rt, path.as_str())
+}
+
+// More bytes than a sink or a source has in memory, of which no two neighbours are alike.
+fn many_bytes(alloc: Global) -> Result<Vec<u8>, Fail> {
+    let mut bytes = Vec::new(alloc);
+    for number in 0..300_000u32 {
+        bytes.push((number % 251) as u8)?;
+    }
+    Ok(bytes)
+}
+
+// Whether the bytes are gathered in pieces of that length, and written.
+fn writes_pieces(rt: &HostRuntime, path: &str, bytes: &[u8], len: usize) -> Result<bool, Fail>
+    requires { 0 < len }
+{
+    let mut sink = gathering(rt.alloc(), File::create(rt, path)?);
+    for piece in bytes.chunks(len) {
+        if write_all(&mut sink, piece).is_err() {
+            return Ok(false);
+        }
+    }
+    Ok(flush(&mut sink).is_ok())
+}
+
+// The bytes that a source gives in at most so many calls.
+fn read_all(rt: &HostRuntime, path: &str, calls: u32) -> Result<Vec<u8>, Fail> {
+    let mut source = source_of(rt, path)?;
+    let mut all = Vec::new(rt.alloc());
+    let mut buffer = [0; 4096];
+    for _ in 0..calls {
+        let len = read(&mut source, &mut buffer).unwrap_or(0);
+        all.extend_from_slice(&buffer[..len.min(4096)])?;
+    }
+    Ok(all)
+}
+
+#[test]
+fn a_file_has_all_that_was_gathered(rt: HostRuntime) -> Result<(), Fail> {
+    let path = path_of(&rt, "pieces")?;
+    let bytes = many_bytes(rt.alloc())?;
+    assert!(rt; writes_pieces(&rt, path.as_str(), bytes.as_slice(), 1_000)?);
+    assert!(rt; has(&rt, path.as_str(), bytes.as_slice())?);
+    assert!(rt; writes_pieces(&rt, path.as_str(), bytes.as_slice(), 150_000)?);
+    assert!(rt; read_all(&rt, path.as_str(), 100)? == bytes);
     remove(&rt, path.as_str())
 }
 
