@@ -29,8 +29,8 @@ def processes():
             folder = os.readlink(f"/proc/{number}/cwd")
             with open(f"/proc/{number}/stat") as file:
                 fields = file.read().rsplit(")", 1)[1].split()
-            # its own time, and that of the processes which it started and that have ended
-            used = sum(map(int, fields[11:15]))
+            # its own time alone: the jobs that it forks are processes of the prover too
+            used = sum(map(int, fields[11:13]))
             yield number, fields[19], words, folder, used / TICKS
         except (OSError, IndexError):
             continue
