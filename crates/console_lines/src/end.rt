@@ -16,7 +16,7 @@ pub enum Unwritten {
 
 /// What kept a command's outputs from being written.
 #[derive(Clone, Copy, Debug, PartialEq, Eq)]
-pub enum Hindrance {
+pub enum OutputsFault {
     /// Memory ran out.
     NoMemory,
     /// One of them could not be written.

@@ -4,7 +4,7 @@ ghost use Rattle.console_lines.specs.Ends.{IsResultTold, out_unwritten};
 ghost use Rattle.console_lines.specs.Faults.{IsFaultTold, fault_line};
 ghost use Rattle.console_lines.specs.declared.end.Unwritten.{Unwritten};
 
-use crate::end::{End, Hindrance, Unwritten};
+use crate::end::{End, OutputsFault, Unwritten};
 use crate::fault::{Fault, tell};
 use outside::{Sink, WriteFault};
 
@@ -39,22 +39,22 @@ pub fn end_of_output<K: Sink>(console: &mut K, written: Result<(), WriteFault>) 
 /// not be written.
 pub fn end_of_outputs<K: Sink>(
     console: &mut K,
-    written: Result<(), Hindrance>,
+    written: Result<(), OutputsFault>,
     text: &str,
     refused: bool,
 ) -> End
     ensures whole { OnOk written
         (IsResultTold (K.written console.old) (K.written console.new) (K.faults console.old) (K.faults console.new) text.now refused result) }
-    ensures unwritten { (which : Unwritten) → IsErrOf written (Hindrance.Unwritten which) → result ≡ End.Unwritten which }
-    ensures silent { (which : Unwritten) → IsErrOf written (Hindrance.Unwritten which) →
+    ensures unwritten { (which : Unwritten) → IsErrOf written (OutputsFault.Unwritten which) → result ≡ End.Unwritten which }
+    ensures silent { (which : Unwritten) → IsErrOf written (OutputsFault.Unwritten which) →
         (K.written console.new ≡ K.written console.old) × (K.faults console.new ≡ K.faults console.old) }
-    ensures memory { IsErrOf written Hindrance.NoMemory → result ≡ End.Told Fault.Memory }
-    ensures told { IsErrOf written Hindrance.NoMemory →
+    ensures memory { IsErrOf written OutputsFault.NoMemory → result ≡ End.Told Fault.Memory }
+    ensures told { IsErrOf written OutputsFault.NoMemory →
         IsFaultTold (K.written console.old) (K.written console.new) (K.faults console.old) (K.faults console.new) (fault_line Fault.Memory) }
 {
     match written {
         Ok(()) => tell_result(console, text, refused),
-        Err(Hindrance::Unwritten(which)) => End::Unwritten(which),
-        Err(Hindrance::NoMemory) => tell(console, Fault::Memory),
+        Err(OutputsFault::Unwritten(which)) => End::Unwritten(which),
+        Err(OutputsFault::NoMemory) => tell(console, Fault::Memory),
     }
 }

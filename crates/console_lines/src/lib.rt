@@ -1,7 +1,7 @@
 //! What the console is told: the lines of results, and of faults.
 #![tactic(auto)]
 
-pub use end::{End, Hindrance, Unwritten};
+pub use end::{End, OutputsFault, Unwritten};
 pub use ending::{end_of_output, end_of_outputs, tell_result};
 pub use fault::{Fault, tell};
 pub use numbered::write_numbered;

@@ -18,8 +18,8 @@ use Rattle.console_lines.specs.declared.end.End.{End}
 use Rattle.console_lines.specs.declared.end.End.TheVariants.{Done, Refused, Unwritten as NotWritten, Told}
 use Rattle.console_lines.specs.declared.end.Unwritten.{Unwritten}
 use Rattle.console_lines.specs.declared.end.Unwritten.TheVariants.{Out, Report, Console}
-use Rattle.console_lines.specs.declared.end.Hindrance.{Hindrance}
-use Rattle.console_lines.specs.declared.end.Hindrance.TheVariants.{NoMemory as RanOut, Unwritten as NotBoth}
+use Rattle.console_lines.specs.declared.end.OutputsFault.{OutputsFault}
+use Rattle.console_lines.specs.declared.end.OutputsFault.TheVariants.{NoMemory as RanOut, Unwritten as NotBoth}
 use Rattle.console_lines.specs.declared.fault.Fault.{Fault}
 use Rattle.console_lines.specs.declared.fault.Fault.TheVariants.{Usage, Input, Device, NotAJournal, Full, Memory, OldVersion, OtherHistory}
 use Rattle.console_lines.proofs.Ends.{told_once, told_not_unwritten, never_told, unwritten_once, result_untold, result_no_output, result_cause}
@@ -271,7 +271,7 @@ module _ (journal out rest : List ℕ) (library : Library) (code : Option (List 
           delivered bytes are (ResultUntold end up front) = ConsoleFailed end are.whole are.rest_whole front
 
       -- the outputs were written or not, and the console told
-      pub attaches_ended : {T : Type 0} → (written : Result T Hindrance) → journal ≢ rest → out ≢ rest
+      pub attaches_ended : {T : Type 0} → (written : Result T OutputsFault) → journal ≢ rest → out ≢ rest
           → OnOk written (o.old.tells ≡ true
           → AreWritten out rest (holdings_export (kept_keys code) (state_of history) ready.shelf) (holdings_rest (state_of history) ready.shelf) o.new)
           → IfErr written (λ why. (which : Unwritten) → why ≡ NotBoth which

@@ -12,7 +12,7 @@ ghost use Rattle.holdings_export.specs.Output.{holdings_export, holdings_rest};
 ghost use Rattle.holdings_command.specs.Outputs.{AreWritten, AreStopped};
 
 use catalogue_core::Catalogue;
-use console_lines::{Hindrance, Unwritten};
+use console_lines::{OutputsFault, Unwritten};
 use holdings::{HoldingGroups, HoldingShelf};
 use holdings_export::{Listing, WaitingHoldings, write_holdings};
 use marc_types::Key;
@@ -135,7 +135,7 @@ fn write_in_turn<R: Room>(
     shelf: &HoldingShelf,
     waiting: &WaitingHoldings<'_>,
     code: Option<&str>,
-) -> Result<(), Hindrance>
+) -> Result<(), OutputsFault>
     requires free { (R.seen room.old).open_as out.now ≡ None }
     requires rest_free { (R.seen room.old).open_as rest.now ≡ None }
     requires differ { out.now ≢ rest.now }
@@ -145,19 +145,19 @@ fn write_in_turn<R: Room>(
     ensures rest_closed { (R.seen room.new).open_as rest.now ≡ None }
     ensures written { OnOk result ((R.seen room.old).tells ≡ true → AreWritten out.now rest.now
         (holdings_export (kept_keys (option_copied code.entry)) (state_of core.now.history) shelf.now) waiting.now (R.seen room.new)) }
-    ensures memory { IfErr result (λ why. why ≡ Hindrance.NoMemory → SameBut (R.seen room.old) (R.seen room.new) []) }
-    ensures stopped { IfErr result (λ why. (which : Unwritten) → why ≡ Hindrance.Unwritten which → AreStopped (out.now ∷ []) out.now rest.now
+    ensures memory { IfErr result (λ why. why ≡ OutputsFault.NoMemory → SameBut (R.seen room.old) (R.seen room.new) []) }
+    ensures stopped { IfErr result (λ why. (which : Unwritten) → why ≡ OutputsFault.Unwritten which → AreStopped (out.now ∷ []) out.now rest.now
         (holdings_export (kept_keys (option_copied code.entry)) (state_of core.now.history) shelf.now) waiting.now
         (R.seen room.old) (R.seen room.new) which) }
 {
     match write_records(alloc, room, out, core, shelf, code) {
         Ok(()) => {}
-        Err(WriteFault::OutputFault) => return Err(Hindrance::Unwritten(Unwritten::Out)),
-        Err(WriteFault::NoMemory) => return Err(Hindrance::NoMemory),
+        Err(WriteFault::OutputFault) => return Err(OutputsFault::Unwritten(Unwritten::Out)),
+        Err(WriteFault::NoMemory) => return Err(OutputsFault::NoMemory),
     }
     match write_rest_file(room, rest, waiting) {
         Ok(()) => Ok(()),
-        Err(_) => Err(Hindrance::Unwritten(Unwritten::Report)),
+        Err(_) => Err(OutputsFault::Unwritten(Unwritten::Report)),
     }
 }
 
@@ -171,7 +171,7 @@ pub fn write_both<R: Room>(
     core: &Catalogue,
     shelf: &HoldingShelf,
     code: Option<&str>,
-) -> Result<(), Hindrance>
+) -> Result<(), OutputsFault>
     requires free { (R.seen room.old).open_as out.now ≡ None }
     requires rest_free { (R.seen room.old).open_as rest.now ≡ None }
     requires differ { out.now ≢ rest.now }
@@ -182,13 +182,13 @@ pub fn write_both<R: Room>(
     ensures written { OnOk result ((R.seen room.old).tells ≡ true → AreWritten out.now rest.now
         (holdings_export (kept_keys (option_copied code.entry)) (state_of core.now.history) shelf.now)
         (holdings_rest (state_of core.now.history) shelf.now) (R.seen room.new)) }
-    ensures memory { IfErr result (λ why. why ≡ Hindrance.NoMemory → SameBut (R.seen room.old) (R.seen room.new) []) }
-    ensures stopped { IfErr result (λ why. (which : Unwritten) → why ≡ Hindrance.Unwritten which → AreStopped (out.now ∷ []) out.now rest.now
+    ensures memory { IfErr result (λ why. why ≡ OutputsFault.NoMemory → SameBut (R.seen room.old) (R.seen room.new) []) }
+    ensures stopped { IfErr result (λ why. (which : Unwritten) → why ≡ OutputsFault.Unwritten which → AreStopped (out.now ∷ []) out.now rest.now
         (holdings_export (kept_keys (option_copied code.entry)) (state_of core.now.history) shelf.now)
         (holdings_rest (state_of core.now.history) shelf.now) (R.seen room.old) (R.seen room.new) which) }
 {
     let Ok(waiting) = WaitingHoldings::of(alloc, core, shelf) else {
-        return Err(Hindrance::NoMemory);
+        return Err(OutputsFault::NoMemory);
     };
     write_in_turn(alloc, room, out, rest, core, shelf, &waiting, code)
 }

@@ -5,8 +5,8 @@ use Rattle.command_words.specs.declared.library.Library.{Library}
 use Rattle.command_words.specs.Command.{AreNames}
 use Rattle.console_lines.specs.Ends.{Outcome, IsTold, IsSilent, IsResultTold, out_unwritten, report_unwritten}
 use Rattle.console_lines.specs.declared.end.End.TheVariants.{Unwritten as NotWritten, Told}
-use Rattle.console_lines.specs.declared.end.Hindrance.{Hindrance}
-use Rattle.console_lines.specs.declared.end.Hindrance.TheVariants.{NoMemory, Unwritten}
+use Rattle.console_lines.specs.declared.end.OutputsFault.{OutputsFault}
+use Rattle.console_lines.specs.declared.end.OutputsFault.TheVariants.{NoMemory, Unwritten}
 use Rattle.console_lines.specs.declared.end.Unwritten.{Unwritten as Which}
 use Rattle.console_lines.specs.declared.end.Unwritten.TheVariants.{Out, Report, Console}
 use Rattle.console_lines.specs.declared.fault.Fault.TheVariants as fault
@@ -63,7 +63,7 @@ module _ (libraries : List Library) (journal out report : List ℕ) (o : Outcome
       (ran_out o.old mid wrote o.new journal out report d.entries names opened closing NoMemory are refl)))
 
   -- they were written or not, and the console was told the lines, or want of memory
-  pub ran_ended : {T : Type 0} → (written : Result T Hindrance) (text : List ℕ) (refused : Bool) → text ≡ files_text libraries results
+  pub ran_ended : {T : Type 0} → (written : Result T OutputsFault) (text : List ℕ) (refused : Bool) → text ≡ files_text libraries results
       → refused ≡ has_refused results → OnOk written (mid.tells ≡ true → AreOutputs wrote out report d.entries)
       → IfErr written (AreUnwritten mid wrote out report d.entries)
       → OnOk written (IsResultTold o.told o.now o.faults o.faults_now text refused o.end)

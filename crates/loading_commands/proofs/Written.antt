@@ -7,8 +7,8 @@ use Rattle.outside.proofs.Rooms.{same_but_then, same_but_more, same_but_none}
 use Rattle.catalogue_rules.specs.Settle.{state_of}
 use Rattle.catalogue_rules.specs.Output.{export_of, all_keys, report_of}
 use Rattle.command_words.specs.Command.{AreNames}
-use Rattle.console_lines.specs.declared.end.Hindrance.{Hindrance}
-use Rattle.console_lines.specs.declared.end.Hindrance.TheVariants.{NoMemory, Unwritten}
+use Rattle.console_lines.specs.declared.end.OutputsFault.{OutputsFault}
+use Rattle.console_lines.specs.declared.end.OutputsFault.TheVariants.{NoMemory, Unwritten}
 use Rattle.console_lines.specs.declared.end.Unwritten.TheVariants.{Out, Report}
 use Rattle.output_files.specs.Outputs.{IsPartWritten}
 use Rattle.loading_commands.specs.Outputs.{AreUnwritten}
@@ -92,7 +92,7 @@ module _ (old mid wrote new : RoomView) (journal out report : List ℕ) (entries
   rose_between : (name : List ℕ) → Rose (mid.out_faults name) (wrote.out_faults name) → Rose (old.out_faults name) (new.out_faults name)
   rose_between name rose = let first = opened.outs name in let last = closing.outs name in omega (arith, first, rose, last)
 
-  module _ (why : Hindrance) (are : AreUnwritten mid wrote out report entries why) where
+  module _ (why : OutputsFault) (are : AreUnwritten mid wrote out report entries why) where
     pub out_rose : why ≡ Unwritten Out → Rose (old.out_faults out) (new.out_faults out)
     out_rose is = rose_between out (are.out_cause is)
 

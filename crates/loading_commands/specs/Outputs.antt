@@ -5,14 +5,14 @@ use Rattle.outside.specs.Fault.{Rose}
 use Rattle.outside.specs.Room.{RoomView, SameBut}
 use Rattle.catalogue_rules.specs.Settle.{state_of}
 use Rattle.catalogue_rules.specs.Output.{export_of, all_keys}
-use Rattle.console_lines.specs.declared.end.Hindrance.{Hindrance}
-use Rattle.console_lines.specs.declared.end.Hindrance.TheVariants.{NoMemory, Unwritten}
+use Rattle.console_lines.specs.declared.end.OutputsFault.{OutputsFault}
+use Rattle.console_lines.specs.declared.end.OutputsFault.TheVariants.{NoMemory, Unwritten}
 use Rattle.console_lines.specs.declared.end.Unwritten.TheVariants.{Out, Report, Console}
 use Rattle.output_files.specs.Outputs.{IsPartWritten}
 use Rattle.loading_commands.specs.Runs.{AreOutAndPart}
 
 -- what hinders the outputs, and what is there then
-pub record AreUnwritten (old new : RoomView) (out report : List ℕ) (entries : List Entry) (why : Hindrance) : Type 0 where
+pub record AreUnwritten (old new : RoomView) (out report : List ℕ) (entries : List Entry) (why : OutputsFault) : Type 0 where
   pub no_console : why ≢ Unwritten Console
   pub out_cause : why ≡ Unwritten Out → Rose (old.out_faults out) (new.out_faults out)
   pub report_cause : why ≡ Unwritten Report → Rose (old.out_faults report) (new.out_faults report)

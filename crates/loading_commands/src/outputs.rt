@@ -5,7 +5,7 @@ ghost use Rattle.loading_commands.specs.Outputs.{AreUnwritten};
 ghost use Rattle.loading_commands.specs.Runs.{AreOutputs};
 
 use catalogue_core::Catalogue;
-use console_lines::{Hindrance, Unwritten};
+use console_lines::{OutputsFault, Unwritten};
 use output_files::{write_all_records, write_report_file};
 use outside::{Room, WriteFault};
 use std::alloc::Global;
@@ -18,7 +18,7 @@ pub fn write_outputs<R: Room>(
     out: &str,
     report: &str,
     core: &Catalogue,
-) -> Result<(), Hindrance>
+) -> Result<(), OutputsFault>
     requires free { (R.seen room.old).open_as out.now ≡ None }
     requires report_free { (R.seen room.old).open_as report.now ≡ None }
     requires differ { report.now ≢ out.now }
@@ -31,12 +31,12 @@ pub fn write_outputs<R: Room>(
 {
     match write_all_records(alloc, room, out, core) {
         Ok(()) => {}
-        Err(WriteFault::OutputFault) => return Err(Hindrance::Unwritten(Unwritten::Out)),
-        Err(WriteFault::NoMemory) => return Err(Hindrance::NoMemory),
+        Err(WriteFault::OutputFault) => return Err(OutputsFault::Unwritten(Unwritten::Out)),
+        Err(WriteFault::NoMemory) => return Err(OutputsFault::NoMemory),
     }
     match write_report_file(alloc, room, report, core) {
         Ok(()) => Ok(()),
-        Err(WriteFault::OutputFault) => Err(Hindrance::Unwritten(Unwritten::Report)),
-        Err(WriteFault::NoMemory) => Err(Hindrance::NoMemory),
+        Err(WriteFault::OutputFault) => Err(OutputsFault::Unwritten(Unwritten::Report)),
+        Err(WriteFault::NoMemory) => Err(OutputsFault::NoMemory),
     }
 }

@@ -11,7 +11,7 @@ use Rattle.file_entries.proofs.Judged.{answered_all, answered_entry, answered_re
 use Rattle.console_lines.specs.declared.fault.Fault.{Fault}
 use Rattle.console_lines.specs.declared.fault.Fault.TheVariants.{Usage, Input, Device, NotAJournal, Full, Memory, OldVersion, OtherHistory}
 use Rattle.plain_commands.specs.Totals.{IsWithinLimits}
-use Rattle.plain_commands.specs.Loading.{LoadedView, lacks_room, IsLoaded, IsFullAt, IsTakenUp, TakenAsEntry, TakenAsRefused, IsOverfull, TakesNext, LoadsItems, known_items}
+use Rattle.plain_commands.specs.Loading.{LoadedView, lacks_room, IsLoaded, IsFullAt, IsTakenUp, TakenAsEntry, TakenAsRefused, IsOverfull, TakesNext, LoadsItems, told_items}
 
 -- no item is left
 pub loaded_all : (start now end : FileView) (loaded : LoadedView) → start.loader ≡ 0 → IsAnswered start now loaded.accepted loaded.refused
@@ -59,14 +59,14 @@ known_is : (tells : Bool) (coming items : List Item) → cond tells (Some coming
 known_is true coming items is = (refl, cc)
 known_is false coming items is = cc
 
-pub known_opened : (left : Option (List ℕ)) (bound faults : ℕ) → known_items (opened left bound faults) ≡ option_map items left
+pub known_opened : (left : Option (List ℕ)) (bound faults : ℕ) → told_items (opened left bound faults) ≡ option_map items left
 known_opened None bound faults = refl
 known_opened (Some bytes) bound faults = refl
 
 -- all items were taken up
 pub loads_all : (start now end : FileView) (before loaded : LoadedView) → start.loader ≡ 0 → IsAnswered start now before.accepted before.refused
     → TakesNext now before (Ok false) end loaded → IsWithinLimits loaded.accepted
-    → LoadsItems start.library (known_items start.stream) start.stream.faults end.stream.faults (Ok loaded)
+    → LoadsItems start.library (told_items start.stream) start.stream.faults end.stream.faults (Ok loaded)
 loads_all start now end before loaded loader so_far (ended, same) within =
     let so : IsAnswered start now loaded.accepted loaded.refused =
     subst (λ (l : LoadedView). IsAnswered start now l.accepted l.refused) (sym same) so_far in
@@ -82,7 +82,7 @@ loads_all start now end before loaded loader so_far (ended, same) within =
 module _ (start now next : FileView) (before : LoadedView) (so_far : IsAnswered start now before.accepted before.refused) where
   -- the next entry didn't fit
   loads_to_full : start.loader ≡ 0 → now.stream.faults ≤ next.stream.faults → IsOverfull now before next
-      → LoadsItems start.library (known_items start.stream) start.stream.faults next.stream.faults (Err Full)
+      → LoadsItems start.library (told_items start.stream) start.stream.faults next.stream.faults (Err Full)
   loads_to_full loader faults over = record {
     loaded = tt;
     full = λ is all told. let known = known_is start.stream.tells start.stream.coming all told in
@@ -94,7 +94,7 @@ module _ (start now next : FileView) (before : LoadedView) (so_far : IsAnswered 
   }
 
   -- the source failed
-  loads_to_fault : IsFault now next → LoadsItems start.library (known_items start.stream) start.stream.faults next.stream.faults (Err Input)
+  loads_to_fault : IsFault now next → LoadsItems start.library (told_items start.stream) start.stream.faults next.stream.faults (Err Input)
   loads_to_fault failed = record {
     loaded = tt;
     full = λ is. cc;
@@ -105,7 +105,7 @@ module _ (start now next : FileView) (before : LoadedView) (so_far : IsAnswered 
 
   -- memory ran out
   loads_to_memory : now.stream.faults ≤ next.stream.faults
-      → LoadsItems start.library (known_items start.stream) start.stream.faults next.stream.faults (Err Memory)
+      → LoadsItems start.library (told_items start.stream) start.stream.faults next.stream.faults (Err Memory)
   loads_to_memory faults = record {
     loaded = tt;
     full = λ is. cc;
@@ -117,7 +117,7 @@ module _ (start now next : FileView) (before : LoadedView) (so_far : IsAnswered 
 -- a fault came before
 pub loads_in_part : (start now next : FileView) (before after : LoadedView) (fault : Fault) → start.loader ≡ 0
     → IsAnswered start now before.accepted before.refused → now.stream.faults ≤ next.stream.faults → TakesNext now before (Err fault) next after
-    → LoadsItems start.library (known_items start.stream) start.stream.faults next.stream.faults (Err fault)
+    → LoadsItems start.library (told_items start.stream) start.stream.faults next.stream.faults (Err fault)
 loads_in_part start now next before after Full loader so_far faults takes = loads_to_full start now next before so_far loader faults takes
 loads_in_part start now next before after Input loader so_far faults takes = loads_to_fault start now next before so_far takes
 loads_in_part start now next before after Memory loader so_far faults takes = loads_to_memory start now next before so_far faults

@@ -91,8 +91,8 @@ TakesNext old before (Err OldVersion) new after = ⊥
 TakesNext old before (Err OtherHistory) new after = ⊥
 
 -- the items that are to come, where the source tells its bytes
-abbrev pub known_items : Stream → Option (List Item)
-known_items stream = cond stream.tells (Some stream.coming) None
+abbrev pub told_items : Stream → Option (List Item)
+told_items stream = cond stream.tells (Some stream.coming) None
 
 -- How the loading of items ends, where these are told, with the count of their source's faults before and now.
 pub record LoadsItems (library : List ℕ) (told : Option (List Item)) (before now : ℕ) (result : Result LoadedView Fault) : Type 0 where

@@ -5,7 +5,7 @@ ghost use Rattle.outside.specs.Fault.{Rose};
 ghost use Rattle.outside.specs.Room.{SameBut};
 ghost use Rattle.marc_stream.specs.Pieces.{items};
 ghost use Rattle.file_entries.specs.Entries.{IsSameFile};
-ghost use Rattle.plain_commands.specs.Loading.{EndsLoading, IsLoaded, IsFullAt, LoadsItems, TakesNext, known_items};
+ghost use Rattle.plain_commands.specs.Loading.{EndsLoading, IsLoaded, IsFullAt, LoadsItems, TakesNext, told_items};
 
 use crate::loaded::Loaded;
 use catalogue_core::CoreFault;
@@ -56,7 +56,7 @@ fn load_entries<S: Source, L: Ledger>(
 ) -> Result<Loaded, Fault>
     requires going { entries.old.over ≡ false }
     requires loader { entries.old.loader ≡ 0 }
-    ensures { LoadsItems entries.old.library (known_items entries.old.stream) entries.old.stream.faults entries.new.stream.faults result }
+    ensures { LoadsItems entries.old.library (told_items entries.old.stream) entries.old.stream.faults entries.new.stream.faults result }
 {
     let mut loaded = Loaded::new(alloc);
     'items: while take_next(alloc, entries, &mut loaded, steps)? {}
