@@ -6,7 +6,7 @@ here=$(cd "$(dirname "$0")" && pwd)
 top=$here/../..
 work=${1:-$(mktemp -d)}
 count=${2:-1000000}
-crates='marc_types outside outside_mem naco_form heading_fields iso2709_record marc8_latin marc_stream entry_record catalogue_rules reading kept_fields file_entries match_report'
+crates='marc_types packed_keys outside outside_mem naco_form heading_fields iso2709_record marc8_latin marc_stream entry_record catalogue_rules reading kept_fields file_entries match_report'
 mkdir -p "$work/crates/match_bench/src"
 : >"$work/crates.txt"
 for crate in $crates; do

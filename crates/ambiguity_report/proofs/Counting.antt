@@ -13,42 +13,18 @@ use Rattle.catalogue_rules.specs.Receipt as definition
 use Rattle.catalogue_rules.specs.Receipt.{is_linked, is_ambiguous, is_unlinked, standing_of, count_standing}
 use Rattle.catalogue_tables.specs.Stands.{stands_as, field_standing}
 use Rattle.catalogue_tables.specs.declared.standing.Standing.{Standing}
-use Rattle.ambiguity_report.specs.Totals.{AddsRecord, AreAllTotals, AreTotals, HaveRoom, is_linked_here, is_ambiguous_here, is_unlinked_here, no_totals, totals_text}
+use Rattle.catalogue_core.specs.Standings.{is_linked_here, is_ambiguous_here, is_unlinked_here}
+use Rattle.catalogue_core.proofs.Standings.{linked_alike, ambiguous_alike, unlinked_alike, count_alike}
+use Rattle.ambiguity_report.specs.Totals.{AddsRecord, AreAllTotals, AreTotals, HaveRoom, no_totals, totals_text}
 use Rattle.ambiguity_report.specs.declared.totals.Totals.{Totals}
 
 -- ---- how fields stand, by the rules
 
-linked_alike : (s : definition.Standing) → is_linked_here (stands_as s) ≡ is_linked s
-linked_alike (definition.LinkedTo key) = refl
-linked_alike (definition.AmbiguousAmong keys) = refl
-linked_alike definition.WithoutLink = refl
-linked_alike definition.WithoutHeading = refl
-
-ambiguous_alike : (s : definition.Standing) → is_ambiguous_here (stands_as s) ≡ is_ambiguous s
-ambiguous_alike (definition.LinkedTo key) = refl
-ambiguous_alike (definition.AmbiguousAmong keys) = refl
-ambiguous_alike definition.WithoutLink = refl
-ambiguous_alike definition.WithoutHeading = refl
-
-unlinked_alike : (s : definition.Standing) → is_unlinked_here (stands_as s) ≡ is_unlinked s
-unlinked_alike (definition.LinkedTo key) = refl
-unlinked_alike (definition.AmbiguousAmong keys) = refl
-unlinked_alike definition.WithoutLink = refl
-unlinked_alike definition.WithoutHeading = refl
-
 module _ (here : Standing → Bool) (test : definition.Standing → Bool) (same : (s : definition.Standing) → here (stands_as s) ≡ test s) (all : List Linkable) (class : Class) where
-  count_alike : (hs : List KeptField) → count_by here (map (field_standing all class) hs) ≡ count_by (λ h. test (standing_of all class h)) hs
-  count_alike [] = refl
-  count_alike (h ∷ hs) =
-      sum_by-cons (λ s. cond (here s) 1 0) (field_standing all class h) (map (field_standing all class) hs)
-      ∙ ap (λ b. cond b 1 0 + count_by here (map (field_standing all class) hs)) (same (standing_of all class h))
-      ∙ ap (λ n. cond (test (standing_of all class h)) 1 0 + n) (count_alike hs)
-      ∙ sym (sum_by-cons (λ g. cond (test (standing_of all class g)) 1 0) h hs)
-
   count_kept : (kept : Kept) (xs : List Standing) → xs ≡ map (field_standing all class) (tied kept.rec.fields kept.links)
       → count_by here xs ≡ count_standing test all class (kept_record kept)
   unfolding kept_record
-  count_kept kept xs are = ap (count_by here) are ∙ count_alike (tied kept.rec.fields kept.links)
+  count_kept kept xs are = ap (count_by here) are ∙ count_alike here test same all class (tied kept.rec.fields kept.links)
 
 -- ---- one count
 

@@ -1,5 +1,5 @@
 -- How many fields stand so. The rules are this project's own.
-use Rattle.std.specs.Prelude.{◌≡◌, ℕ, ◌+◌, ◌^◌, ◌<◌, Bool, true, false, List, ◌++◌, length, codes}
+use Rattle.std.specs.Prelude.{◌≡◌, ℕ, ◌+◌, ◌^◌, ◌<◌, Bool, List, ◌++◌, length, codes}
 use Rattle.std.specs.List.{sum_by, count_by}
 use Rattle.std.specs.Fmt.{decimal}
 use Rattle.marc_types.specs.declared.key.Class.{Class}
@@ -9,26 +9,8 @@ use Rattle.catalogue_rules.specs.Output.{count_all}
 use Rattle.catalogue_rules.specs.Receipt as definition
 use Rattle.catalogue_rules.specs.Receipt.{is_linked, is_ambiguous, is_unlinked, count_standing}
 use Rattle.catalogue_tables.specs.declared.standing.Standing.{Standing}
-use Rattle.catalogue_tables.specs.declared.standing.Standing.TheVariants.{Linked, Ambiguous, Unlinked, NoHeading}
+use Rattle.catalogue_core.specs.Standings.{is_linked_here, is_ambiguous_here, is_unlinked_here}
 use Rattle.ambiguity_report.specs.declared.totals.Totals.{Totals}
-
-abbrev pub is_linked_here : Standing → Bool
-is_linked_here Linked = true
-is_linked_here (Ambiguous keys) = false
-is_linked_here Unlinked = false
-is_linked_here NoHeading = false
-
-abbrev pub is_ambiguous_here : Standing → Bool
-is_ambiguous_here Linked = false
-is_ambiguous_here (Ambiguous keys) = true
-is_ambiguous_here Unlinked = false
-is_ambiguous_here NoHeading = false
-
-abbrev pub is_unlinked_here : Standing → Bool
-is_unlinked_here Linked = false
-is_unlinked_here (Ambiguous keys) = false
-is_unlinked_here Unlinked = true
-is_unlinked_here NoHeading = false
 
 abbrev pub no_totals : Totals
 no_totals = record { linked = 0; ambiguous = 0; unlinked = 0 }

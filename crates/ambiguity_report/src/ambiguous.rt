@@ -1,13 +1,11 @@
 //! The lines of ambiguous fields.
-ghost use Rattle.std.specs.Prelude.{◌≡◌, ◌++◌, map, codes, is_some, IfOk, OnOk};
+ghost use Rattle.std.specs.Prelude.{◌≡◌, map, is_some, IfOk, OnOk};
 ghost use Rattle.std.specs.Io.KnownBytes.{Appends};
 ghost use Rattle.outside.specs.Fault.{HasWriteCause};
 ghost use Rattle.outside.specs.Sink.{WritesFront};
-ghost use Rattle.heading_fields.specs.Numbers.{key_text};
 ghost use Rattle.record_store.specs.Store.{shown_row};
-ghost use Rattle.catalogue_rules.specs.State.{linkable_authorities, new_field, rows_of};
-ghost use Rattle.catalogue_rules.specs.Lines.{line, then_words};
-ghost use Rattle.catalogue_rules.specs.Output.{ambiguous_line, place_words};
+ghost use Rattle.catalogue_rules.specs.State.{linkable_authorities, rows_of};
+ghost use Rattle.catalogue_rules.specs.Output.{ambiguous_line};
 ghost use Rattle.ambiguity_report.specs.Beside.{rows_lines};
 ghost use Rattle.ambiguity_report.specs.Totals.{AreTotals, HaveRoom};
 
@@ -21,43 +19,26 @@ use numbered_store::RowMap;
 use outside::{Sink, WriteFault};
 use std::alloc::{AllocError, Global};
 
-fn make_line(
-    text: &mut Vec<u8>,
-    class: Class,
-    key: &Key,
-    place: usize,
-    field: &Field,
-    candidates: &[Key],
-) -> Result<(), AllocError>
-    ensures { OnOk result (text.new.items
-        ≡ line (codes "AMBIGUOUS" ++ place_words class key.now place (new_field field.now) ++ then_words (map key_text candidates.now))) }
-{
-    begin_with_place(text, "AMBIGUOUS", class, key, place, field)?;
-    add_key_words(text, candidates)?;
-    text.push(LINE_FEED)?;
-    Ok(())
-}
-
 impl Beside for Standing {
     ghost use Rattle.ambiguity_report.specs.Beside.{ambiguous_text};
 
     ghost field_line = { ambiguous_text };
 
-    #[tactic(auto, using(outside::proofs::Fronts::front_none))]
-    fn write_field<K: Sink>(
+    fn make_line(
         &self,
         class: Class,
         key: &Key,
         place: usize,
         field: &Field,
         text: &mut Vec<u8>,
-        out: &mut K,
-    ) -> Result<(), WriteFault> {
+    ) -> Result<(), AllocError> {
         let Standing::Ambiguous(candidates) = self else {
+            text.clear();
             return Ok(());
         };
-        make_line(text, class, key, place, field, candidates.as_slice())?;
-        out.write_all(text)?;
+        begin_with_place(text, "AMBIGUOUS", class, key, place, field)?;
+        add_key_words(text, candidates.as_slice())?;
+        text.push(LINE_FEED)?;
         Ok(())
     }
 }

@@ -1,13 +1,10 @@
 //! The lines of fields that await a key.
-ghost use Rattle.std.specs.Prelude.{◌≡◌, ◌++◌, map, codes, is_some, OnOk};
+ghost use Rattle.std.specs.Prelude.{◌≡◌, map, is_some, OnOk};
 ghost use Rattle.std.specs.Io.KnownBytes.{Appends};
 ghost use Rattle.outside.specs.Fault.{HasWriteCause};
 ghost use Rattle.outside.specs.Sink.{WritesFront};
-ghost use Rattle.heading_fields.specs.Numbers.{key_text};
 ghost use Rattle.record_store.specs.Store.{shown_row};
-ghost use Rattle.catalogue_rules.specs.State.{new_field};
-ghost use Rattle.catalogue_rules.specs.Lines.{line, then_word};
-ghost use Rattle.catalogue_rules.specs.Output.{awaits_line, place_words};
+ghost use Rattle.catalogue_rules.specs.Output.{awaits_line};
 ghost use Rattle.ambiguity_report.specs.Beside.{rows_lines};
 
 use crate::beside::{Beside, write_record};
@@ -17,43 +14,26 @@ use numbered_store::RowMap;
 use outside::{Sink, WriteFault};
 use std::alloc::AllocError;
 
-fn make_line(
-    text: &mut Vec<u8>,
-    class: Class,
-    key: &Key,
-    place: usize,
-    field: &Field,
-    awaited: &Key,
-) -> Result<(), AllocError>
-    ensures { OnOk result (text.new.items
-        ≡ line (codes "AWAITS" ++ place_words class key.now place (new_field field.now) ++ then_word (key_text awaited.now))) }
-{
-    begin_with_place(text, "AWAITS", class, key, place, field)?;
-    add_key_word(text, awaited)?;
-    text.push(LINE_FEED)?;
-    Ok(())
-}
-
 impl Beside for Tie {
     ghost use Rattle.ambiguity_report.specs.Beside.{awaits_text};
 
     ghost field_line = { awaits_text };
 
-    #[tactic(auto, using(outside::proofs::Fronts::front_none))]
-    fn write_field<K: Sink>(
+    fn make_line(
         &self,
         class: Class,
         key: &Key,
         place: usize,
         field: &Field,
         text: &mut Vec<u8>,
-        out: &mut K,
-    ) -> Result<(), WriteFault> {
+    ) -> Result<(), AllocError> {
         let Some(awaited) = &self.awaits else {
+            text.clear();
             return Ok(());
         };
-        make_line(text, class, key, place, field, awaited.key())?;
-        out.write_all(text)?;
+        begin_with_place(text, "AWAITS", class, key, place, field)?;
+        add_key_word(text, awaited.key())?;
+        text.push(LINE_FEED)?;
         Ok(())
     }
 }

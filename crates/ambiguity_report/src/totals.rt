@@ -6,7 +6,8 @@ ghost use Rattle.std.specs.Io.KnownBytes.{Appends};
 ghost use Rattle.outside.specs.Fault.{HasWriteCause};
 ghost use Rattle.outside.specs.Sink.{WritesFront};
 ghost use Rattle.catalogue_rules.specs.Output.{total_line};
-ghost use Rattle.ambiguity_report.specs.Totals.{AddsRecord, AreAllTotals, HaveRoom, is_linked_here, is_ambiguous_here, is_unlinked_here, no_totals, totals_text};
+ghost use Rattle.catalogue_core.specs.Standings.{is_linked_here, is_ambiguous_here, is_unlinked_here};
+ghost use Rattle.ambiguity_report.specs.Totals.{AddsRecord, AreAllTotals, HaveRoom, no_totals, totals_text};
 
 use crate::words::{LINE_FEED, add_number};
 use catalogue_core::{Engine, Standing};

@@ -6,7 +6,7 @@ use Rattle.outside.specs.Fault.{Rose}
 use Rattle.catalogue_rules.specs.Settle.{state_of}
 use Rattle.catalogue_rules.specs.Output.{export_of, report_of}
 use Rattle.durable_catalogue.specs.Logs.{HasHistory}
-use Rattle.console_lines.specs.Ends.{Outcome, IsTold, IsUntold, IsSilent, out_unwritten}
+use Rattle.console_lines.specs.Ends.{Outcome, IsTold, TellsNoFault, IsSilent, out_unwritten}
 use Rattle.console_lines.specs.declared.end.End.{End}
 use Rattle.console_lines.specs.declared.end.End.TheVariants.{Done, Refused, Unwritten, Told}
 use Rattle.console_lines.specs.declared.end.Unwritten.TheVariants as unwritten
@@ -57,13 +57,13 @@ pub record ReadsJournal (journal out : List ℕ) (due : List Entry → List ℕ)
   pub told : (why : Fault) → o.end ≡ Told why → IsTold why o × WhyUnopened o.old journal why
   pub untouched : (why : Fault) → o.end ≡ Told why → SameBut o.old o.new (journal ∷ [])
   -- without one the console is as it was
-  pub silent : IsUntold o.end → IsSilent o
+  pub silent : TellsNoFault o.end → IsSilent o
   -- the outside's faults have their cause
   pub device : o.end ≡ Told Device → Rose (o.old.log_faults journal) (o.new.log_faults journal)
   pub out_cause : o.end ≡ out_unwritten → Rose (o.old.out_faults out) (o.new.out_faults out)
   -- the log has a history within the limits, which is durable, and the output is what is due of it, or a front of that
-  pub history : IsUntold o.end → o.old.tells ≡ true → HasFittingHistory (log_bytes o.old journal)
-  pub durable : IsUntold o.end → o.old.tells ≡ true → IsDurable o.new journal
+  pub history : TellsNoFault o.end → o.old.tells ≡ true → HasFittingHistory (log_bytes o.old journal)
+  pub durable : TellsNoFault o.end → o.old.tells ≡ true → IsDurable o.new journal
   pub whole : (entries : List Entry) → o.end ≡ Done → o.old.tells ≡ true → HasHistory entries (log_bytes o.old journal)
       → o.new.file out ≡ Some (due entries)
   pub part : (entries : List Entry) → o.end ≡ out_unwritten → o.old.tells ≡ true → HasHistory entries (log_bytes o.old journal)

@@ -1,5 +1,6 @@
 //! Whether two catalogues keep the same records, and whether their fields stand alike.
 
+use catalogue_core::Standing;
 use marc_types::{Class, Field, Kept, NoMemory, Tie};
 use std::alloc::Global;
 
@@ -75,7 +76,7 @@ fn stand_in_record(
     touching: &catalogue_core::Engine,
     class: Class,
     kept: &Kept,
-    standings: &[plain_catalogue::Standing],
+    standings: &[Standing],
 ) -> Result<bool, NoMemory> {
     let ties = kept.links.as_slice();
     for (place, field) in kept.rec.fields.iter().enumerate() {
@@ -95,17 +96,16 @@ fn stands_so(
     class: Class,
     field: &Field,
     tie: &Tie,
-    standing: &plain_catalogue::Standing,
+    standing: &Standing,
 ) -> Result<bool, NoMemory> {
-    use catalogue_core::Standing;
     Ok(
         match (touching.standing(alloc, class, field, tie)?, standing) {
-            (Standing::Linked, plain_catalogue::Standing::Linked) => true,
-            (Standing::Ambiguous(keys), plain_catalogue::Standing::Ambiguous(others)) => {
+            (Standing::Linked, Standing::Linked) => true,
+            (Standing::Ambiguous(keys), Standing::Ambiguous(others)) => {
                 keys.as_slice() == others.as_slice()
             }
-            (Standing::Unlinked, plain_catalogue::Standing::Unlinked) => true,
-            (Standing::NoHeading, plain_catalogue::Standing::NoHeading) => true,
+            (Standing::Unlinked, Standing::Unlinked) => true,
+            (Standing::NoHeading, Standing::NoHeading) => true,
             _ => false,
         },
     )

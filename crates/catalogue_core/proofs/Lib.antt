@@ -1,3 +1,4 @@
 mod Catalogues
 mod Engines
 pub mod Entries
+pub mod Standings

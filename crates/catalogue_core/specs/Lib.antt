@@ -1,2 +1,4 @@
 pub mod Catalogues
 pub mod Engines
+pub mod Standings
+pub mod Told

@@ -1,7 +1,7 @@
 //! A catalogue's state, without its history.
 ghost use Rattle.std.specs.Prelude.{◌≡◌, ℕ, ◌+◌, ◌<◌, ◌≤◌, ◌^◌, length, map, IfOk, OnOk, OnErr, slice_get};
 ghost use Rattle.std.specs.Option.{option_map};
-ghost use Rattle.record_store.specs.Store.{shown_row};
+ghost use Rattle.record_store.specs.Store.{field_under, shown_row};
 ghost use Rattle.catalogue_rules.specs.State.{kept_field, kept_record, linkable_authorities, rows_of};
 ghost use Rattle.catalogue_tables.specs.Sharing.{keys_crossing, keys_sharing, shown_keys};
 ghost use Rattle.catalogue_tables.specs.Stands.{field_standing};
@@ -9,14 +9,15 @@ ghost use Rattle.catalogue_rules.specs.Settle.{arrival_of, step};
 ghost use Rattle.catalogue_rules.specs.Receipt.{kept_under, receipt_of};
 ghost use Rattle.catalogue_rules.specs.Valid.{IsValid};
 ghost use Rattle.linking_laws.specs.Visits.{touched};
-ghost use Rattle.commit_stages.specs.Receipts.{AreNumbersOf};
+ghost use Rattle.commit_stages.specs.Fields.{field_as};
+ghost use Rattle.commit_stages.specs.Receipts.{AreReceiptCounts};
 ghost use Rattle.catalogue_core.specs.Engines.{empty_engine};
 
 use catalogue_tables::Standing;
-use commit_stages::{Changes, commit_entry};
+use commit_stages::{Changes, FieldAt, commit_entry, field_in};
 use entry_record::Prepared;
 use linked_store::LinkedStore;
-use marc_types::{Class, Field, Kept, Key, NoMemory, Tie};
+use marc_types::{Class, Field, Kept, Key, NoMemory, Place, Tie};
 use numbered_store::RowMap;
 use record_store::Steps;
 use std::alloc::Global;
@@ -60,7 +61,7 @@ impl Engine {
     ) -> Result<Changes, NoMemory>
         ensures state { OnOk result (self.new.state ≡ step self.old.state (arrival_of item)) }
         ensures changes { IfOk result (λ changes. (at : ℕ)
-            → AreNumbersOf (receipt_of at self.old.state (arrival_of item) (step self.old.state (arrival_of item))) changes) }
+            → AreReceiptCounts (receipt_of at self.old.state (arrival_of item) (step self.old.state (arrival_of item))) changes) }
         ensures before { self.new.before ≡ self.old.before }
         ensures err { OnErr result (self.new ≡ self.old) }
         ensures visits { steps.new ≤ steps.old + touched self.old.state item }
@@ -107,6 +108,16 @@ impl Engine {
         self.store.each_record_has_a_number();
         match self.store.number_of(class, key) {
             Some(number) => self.store.look(class, number),
+            None => None,
+        }
+    }
+
+    /// The field at a place, and its tie.
+    pub fn field_under(&self, place: &Place) -> Option<FieldAt<'_>>
+        ensures { option_map field_as result ≡ field_under place.now self.now.state }
+    {
+        match self.look(place.class, &place.key) {
+            Some(kept) => field_in(kept, place.field),
             None => None,
         }
     }

@@ -4,7 +4,7 @@
 
 pub use catalogue::{Catalogue, CoreFault};
 pub use catalogue_tables::Standing;
-pub use commit_stages::Changes;
+pub use commit_stages::{Changes, FieldAt};
 pub use engine::Engine;
 
 mod catalogue;

@@ -16,7 +16,7 @@ use Rattle.command_words.specs.declared.library.Library.{Library}
 use Rattle.command_words.specs.declared.topic.Topic.{Topic}
 use Rattle.command_words.specs.declared.topic.Topic.TheVariants as topic
 use Rattle.command_words.specs.Topics.{topic_of}
-use Rattle.command_words.specs.Command.{Command, Pass, Run, Load, Export, Report, Make, Verify, Migrate, Matches, Holdings, Help, Version, is_name, differ, split_at_equals, library_of, are_libraries, is_free, number_upto, greatest_seed, are_two_names, are_three_names, pass_of, run_of, load_of, export_of, report_of, make_of, verify_of, migrate_of, matches_of, holdings_of, help_of, alone, told_of, over_journal, command_of, words_of_files, libraries_of, file_count, names_of, AreNames, IsBounded}
+use Rattle.command_words.specs.Command.{Command, Pass, Run, Load, Export, Report, Make, Verify, Migrate, Matches, Holdings, Help, Version, is_name, differ, split_at_equals, library_of, are_libraries, is_free, number_upto, greatest_seed, are_two_names, are_three_names, as_pass, as_run, as_load, as_export, as_report, as_make, as_verify, as_migrate, as_matches, as_holdings, as_help, alone, only_telling, over_journal, command_of, words_of_files, libraries_of, file_count, names_of, AreNames, IsBounded}
 
 -- a test and what it lets through
 if_some : {A : Type 0} (good : Bool) (a b : A) → (if good then Some a else None) ≡ Some b → (good ≡ true) × (a ≡ b)
@@ -92,7 +92,7 @@ record IsCommand (words : List (List ℕ)) (command : Command) : Type 0 where
   files : All (λ (l : Library). IsNoneOf l.file (names_of command)) (map split_at_equals (words_of_files words (Some command)))
   bounded : IsBounded command
 
-pass_is : (verb : List ℕ) (words : List (List ℕ)) (c : Command) → pass_of words ≡ Some c → IsCommand (verb ∷ words) c
+pass_is : (verb : List ℕ) (words : List (List ℕ)) (c : Command) → as_pass words ≡ Some c → IsCommand (verb ∷ words) c
 pass_is verb [] c is = cc
 pass_is verb (out ∷ []) c is = cc
 pass_is verb (out ∷ file ∷ []) c is =
@@ -124,7 +124,7 @@ three_names files journal out other good =
     ) in
     (one.0, names, λ k d less. (free_apart files journal one.1 k d less, (free_apart files out two.1 k d less, (free_apart files other three.1 k d less, tt))))
 
-run_is : (verb : List ℕ) (words : List (List ℕ)) (c : Command) → run_of words ≡ Some c → IsCommand (verb ∷ words) c
+run_is : (verb : List ℕ) (words : List (List ℕ)) (c : Command) → as_run words ≡ Some c → IsCommand (verb ∷ words) c
 run_is verb [] c is = cc
 run_is verb (journal ∷ []) c is = cc
 run_is verb (journal ∷ out ∷ []) c is = cc
@@ -139,7 +139,7 @@ run_is verb (journal ∷ out ∷ report ∷ words) c is =
       bounded = few words names.0;
     })
 
-load_is : (verb : List ℕ) (words : List (List ℕ)) (c : Command) → load_of words ≡ Some c → IsCommand (verb ∷ words) c
+load_is : (verb : List ℕ) (words : List (List ℕ)) (c : Command) → as_load words ≡ Some c → IsCommand (verb ∷ words) c
 load_is verb [] c is = cc
 load_is verb (journal ∷ words) c is =
     let parts = if_some _ (Load journal (length words)) c is in
@@ -169,7 +169,7 @@ two_names journal out good =
     let each = and_parts (is_name journal) (is_name out) both.0 in
     (named journal each.0, (apart journal out both.1, tt), (named out each.1, tt, tt))
 
-export_is : (verb : List ℕ) (words : List (List ℕ)) (c : Command) → export_of words ≡ Some c → IsCommand (verb ∷ words) c
+export_is : (verb : List ℕ) (words : List (List ℕ)) (c : Command) → as_export words ≡ Some c → IsCommand (verb ∷ words) c
 export_is verb [] c is = cc
 export_is verb (journal ∷ []) c is = cc
 export_is verb (journal ∷ out ∷ []) c is =
@@ -180,7 +180,7 @@ export_is verb (journal ∷ out ∷ code ∷ []) c is =
     subst (IsCommand (verb ∷ journal ∷ out ∷ code ∷ [])) parts.1 (without_files (verb ∷ journal ∷ out ∷ code ∷ []) _ refl refl (two_names journal out (and_parts (are_two_names journal out) _ parts.0).0) tt)
 export_is verb (journal ∷ out ∷ code ∷ other ∷ rest) c is = cc
 
-report_is : (verb : List ℕ) (words : List (List ℕ)) (c : Command) → report_of words ≡ Some c → IsCommand (verb ∷ words) c
+report_is : (verb : List ℕ) (words : List (List ℕ)) (c : Command) → as_report words ≡ Some c → IsCommand (verb ∷ words) c
 report_is verb [] c is = cc
 report_is verb (journal ∷ []) c is = cc
 report_is verb (journal ∷ out ∷ []) c is =
@@ -188,7 +188,7 @@ report_is verb (journal ∷ out ∷ []) c is =
     subst (IsCommand (verb ∷ journal ∷ out ∷ [])) parts.1 (without_files (verb ∷ journal ∷ out ∷ []) _ refl refl (two_names journal out parts.0) tt)
 report_is verb (journal ∷ out ∷ other ∷ rest) c is = cc
 
-make_is : (verb : List ℕ) (words : List (List ℕ)) (c : Command) → make_of words ≡ Some c → IsCommand (verb ∷ words) c
+make_is : (verb : List ℕ) (words : List (List ℕ)) (c : Command) → as_make words ≡ Some c → IsCommand (verb ∷ words) c
 make_is verb [] c is = cc
 make_is verb (seed ∷ []) c is = cc
 make_is verb (seed ∷ count ∷ []) c is = cc
@@ -199,14 +199,14 @@ make_is verb (seed ∷ count ∷ out ∷ []) c is =
     subst (IsCommand (verb ∷ seed ∷ count ∷ out ∷ [])) parts.1 (without_files (verb ∷ seed ∷ count ∷ out ∷ []) _ refl refl (named out parts.0, tt, tt) (number_within most_entries count second.0 second.1))
 make_is verb (seed ∷ count ∷ out ∷ other ∷ rest) c is = cc
 
-verify_is : (verb : List ℕ) (words : List (List ℕ)) (c : Command) → verify_of words ≡ Some c → IsCommand (verb ∷ words) c
+verify_is : (verb : List ℕ) (words : List (List ℕ)) (c : Command) → as_verify words ≡ Some c → IsCommand (verb ∷ words) c
 verify_is verb [] c is = cc
 verify_is verb (journal ∷ []) c is =
     let parts = if_some (is_name journal) (Verify journal) c is in
     subst (IsCommand (verb ∷ journal ∷ [])) parts.1 (without_files (verb ∷ journal ∷ []) _ refl refl tt tt)
 verify_is verb (journal ∷ other ∷ rest) c is = cc
 
-matches_is : (verb : List ℕ) (words : List (List ℕ)) (c : Command) → matches_of words ≡ Some c → IsCommand (verb ∷ words) c
+matches_is : (verb : List ℕ) (words : List (List ℕ)) (c : Command) → as_matches words ≡ Some c → IsCommand (verb ∷ words) c
 matches_is verb [] c is = cc
 matches_is verb (journal ∷ []) c is = cc
 matches_is verb (journal ∷ out ∷ []) c is =
@@ -226,7 +226,7 @@ one_file verb journal out rest file code words good =
       bounded = tt;
     }
 
-holdings_is : (verb : List ℕ) (words : List (List ℕ)) (c : Command) → holdings_of words ≡ Some c → IsCommand (verb ∷ words) c
+holdings_is : (verb : List ℕ) (words : List (List ℕ)) (c : Command) → as_holdings words ≡ Some c → IsCommand (verb ∷ words) c
 holdings_is verb [] c is = cc
 holdings_is verb (journal ∷ []) c is = cc
 holdings_is verb (journal ∷ out ∷ []) c is = cc
@@ -240,7 +240,7 @@ holdings_is verb (journal ∷ out ∷ rest ∷ file ∷ code ∷ []) c is =
     (one_file verb journal out rest file (Some code) (code ∷ []) (and_parts (are_three_names (file ∷ []) journal out rest) _ parts.0).0)
 holdings_is verb (journal ∷ out ∷ rest ∷ file ∷ code ∷ other ∷ words) c is = cc
 
-migrate_is : (verb : List ℕ) (words : List (List ℕ)) (c : Command) → migrate_of words ≡ Some c → IsCommand (verb ∷ words) c
+migrate_is : (verb : List ℕ) (words : List (List ℕ)) (c : Command) → as_migrate words ≡ Some c → IsCommand (verb ∷ words) c
 migrate_is verb [] c is = cc
 migrate_is verb (old ∷ []) c is = cc
 migrate_is verb (old ∷ new ∷ []) c is =
@@ -260,7 +260,7 @@ mapped_help : (words : List (List ℕ)) (o : Option Topic) (c : Command) → opt
 mapped_help words None c is = cc
 mapped_help words (Some topic) c is = let same : Help topic ≡ c = cc in subst (IsCommand words) same (a_help words topic)
 
-help_is : (verb : List ℕ) (words : List (List ℕ)) (c : Command) → help_of words ≡ Some c → IsCommand (verb ∷ words) c
+help_is : (verb : List ℕ) (words : List (List ℕ)) (c : Command) → as_help words ≡ Some c → IsCommand (verb ∷ words) c
 help_is verb [] c is = let same : Help topic.All ≡ c = cc in subst (IsCommand (verb ∷ [])) same (a_help (verb ∷ []) topic.All)
 help_is verb (word ∷ []) c is = mapped_help (verb ∷ word ∷ []) (topic_of word) c is
 help_is verb (word ∷ other ∷ rest) c is = cc
@@ -271,20 +271,20 @@ chosen true x y c f g is = f is
 chosen false x y c f g is = g is
 
 command_is : (words : List (List ℕ)) (c : Command) → command_of words ≡ Some c → IsCommand words c
-unfolding command_of over_journal told_of
+unfolding command_of over_journal only_telling
 command_is [] c is = cc
 command_is (verb ∷ words) c is =
-    chosen (bytes_eq verb (codes "pass")) (pass_of words) _ c (pass_is verb words c) (
-    chosen (bytes_eq verb (codes "run")) (run_of words) _ c (run_is verb words c) (
-    chosen (bytes_eq verb (codes "load")) (load_of words) _ c (load_is verb words c) (
-    chosen (bytes_eq verb (codes "make")) (make_of words) _ c (make_is verb words c) (
-    chosen (bytes_eq verb (codes "export")) (export_of words) _ c (export_is verb words c) (
-    chosen (bytes_eq verb (codes "report")) (report_of words) _ c (report_is verb words c) (
-    chosen (bytes_eq verb (codes "verify")) (verify_of words) _ c (verify_is verb words c) (
-    chosen (bytes_eq verb (codes "matches")) (matches_of words) _ c (matches_is verb words c) (
-    chosen (bytes_eq verb (codes "holdings")) (holdings_of words) _ c (holdings_is verb words c) (
-    chosen (bytes_eq verb (codes "migrate")) (migrate_of words) _ c (migrate_is verb words c) (
-    chosen (bytes_eq verb (codes "help")) (help_of words) _ c (help_is verb words c) (
+    chosen (bytes_eq verb (codes "pass")) (as_pass words) _ c (pass_is verb words c) (
+    chosen (bytes_eq verb (codes "run")) (as_run words) _ c (run_is verb words c) (
+    chosen (bytes_eq verb (codes "load")) (as_load words) _ c (load_is verb words c) (
+    chosen (bytes_eq verb (codes "make")) (as_make words) _ c (make_is verb words c) (
+    chosen (bytes_eq verb (codes "export")) (as_export words) _ c (export_is verb words c) (
+    chosen (bytes_eq verb (codes "report")) (as_report words) _ c (report_is verb words c) (
+    chosen (bytes_eq verb (codes "verify")) (as_verify words) _ c (verify_is verb words c) (
+    chosen (bytes_eq verb (codes "matches")) (as_matches words) _ c (matches_is verb words c) (
+    chosen (bytes_eq verb (codes "holdings")) (as_holdings words) _ c (holdings_is verb words c) (
+    chosen (bytes_eq verb (codes "migrate")) (as_migrate words) _ c (migrate_is verb words c) (
+    chosen (bytes_eq verb (codes "help")) (as_help words) _ c (help_is verb words c) (
     chosen (bytes_eq verb (codes "--help")) (alone (Help topic.All) words) _ c (alone_is verb words (Help topic.All) c helped) (
     chosen (bytes_eq verb (codes "-h")) (alone (Help topic.All) words) _ c (alone_is verb words (Help topic.All) c helped) (
     chosen (bytes_eq verb (codes "version")) (alone Version words) _ c (alone_is verb words Version c versioned) (

@@ -84,53 +84,53 @@ greatest_seed = 2 ^ 64 - 1
 abbrev pub command_if : Bool → Command → Option Command
 command_if good command = if good then Some command else None
 
-abbrev pub pass_of : List (List ℕ) → Option Command
-pass_of (out ∷ file ∷ []) =
+abbrev pub as_pass : List (List ℕ) → Option Command
+as_pass (out ∷ file ∷ []) =
     command_if (are_libraries (file ∷ []) && is_free (file ∷ []) out) (Pass out)
-pass_of words = None
+as_pass words = None
 
-abbrev pub run_of : List (List ℕ) → Option Command
-run_of (journal ∷ out ∷ report ∷ files) =
+abbrev pub as_run : List (List ℕ) → Option Command
+as_run (journal ∷ out ∷ report ∷ files) =
     command_if (are_libraries files && is_free files journal && is_free files out && is_free files report
     && differ journal out && differ journal report && differ out report)
     (Run journal out report (length files))
-run_of words = None
+as_run words = None
 
-abbrev pub load_of : List (List ℕ) → Option Command
-load_of (journal ∷ files) = command_if (are_libraries files && is_free files journal) (Load journal (length files))
-load_of words = None
+abbrev pub as_load : List (List ℕ) → Option Command
+as_load (journal ∷ files) = command_if (are_libraries files && is_free files journal) (Load journal (length files))
+as_load words = None
 
 -- the names of a log and an output that come without files
 abbrev pub are_two_names : List ℕ → List ℕ → Bool
 are_two_names journal out = is_name journal && is_name out && differ journal out
 
-abbrev pub export_of : List (List ℕ) → Option Command
-export_of (journal ∷ out ∷ []) = command_if (are_two_names journal out) (Export journal out None)
-export_of (journal ∷ out ∷ code ∷ []) = command_if (are_two_names journal out && is_code code) (Export journal out (Some code))
-export_of words = None
+abbrev pub as_export : List (List ℕ) → Option Command
+as_export (journal ∷ out ∷ []) = command_if (are_two_names journal out) (Export journal out None)
+as_export (journal ∷ out ∷ code ∷ []) = command_if (are_two_names journal out && is_code code) (Export journal out (Some code))
+as_export words = None
 
-abbrev pub report_of : List (List ℕ) → Option Command
-report_of (journal ∷ out ∷ []) = command_if (are_two_names journal out) (Report journal out)
-report_of words = None
+abbrev pub as_report : List (List ℕ) → Option Command
+as_report (journal ∷ out ∷ []) = command_if (are_two_names journal out) (Report journal out)
+as_report words = None
 
 infixl 10 ◌>>=◌
 abbrev ◌>>=◌ : {A B : Type 0} → Option A → (A → Option B) → Option B
 o >>= f = option_and_then f o
 
-abbrev pub make_of : List (List ℕ) → Option Command
-make_of (seed ∷ count ∷ out ∷ []) = do
+abbrev pub as_make : List (List ℕ) → Option Command
+as_make (seed ∷ count ∷ out ∷ []) = do
   s ← number_upto greatest_seed seed
   n ← number_upto most_entries count
   command_if (is_name out) (Make s n out)
-make_of words = None
+as_make words = None
 
-abbrev pub verify_of : List (List ℕ) → Option Command
-verify_of (journal ∷ []) = command_if (is_name journal) (Verify journal)
-verify_of words = None
+abbrev pub as_verify : List (List ℕ) → Option Command
+as_verify (journal ∷ []) = command_if (is_name journal) (Verify journal)
+as_verify words = None
 
-abbrev pub matches_of : List (List ℕ) → Option Command
-matches_of (journal ∷ out ∷ []) = command_if (are_two_names journal out) (Matches journal out)
-matches_of words = None
+abbrev pub as_matches : List (List ℕ) → Option Command
+as_matches (journal ∷ out ∷ []) = command_if (are_two_names journal out) (Matches journal out)
+as_matches words = None
 
 -- the names of a log and two outputs that come with files
 abbrev pub are_three_names : List (List ℕ) → List ℕ → List ℕ → List ℕ → Bool
@@ -138,20 +138,20 @@ are_three_names files journal out rest =
     are_libraries files && is_free files journal && is_free files out && is_free files rest
     && differ journal out && differ journal rest && differ out rest
 
-abbrev pub holdings_of : List (List ℕ) → Option Command
-holdings_of (journal ∷ out ∷ rest ∷ file ∷ []) = command_if (are_three_names (file ∷ []) journal out rest) (Holdings journal out rest None)
-holdings_of (journal ∷ out ∷ rest ∷ file ∷ code ∷ []) =
+abbrev pub as_holdings : List (List ℕ) → Option Command
+as_holdings (journal ∷ out ∷ rest ∷ file ∷ []) = command_if (are_three_names (file ∷ []) journal out rest) (Holdings journal out rest None)
+as_holdings (journal ∷ out ∷ rest ∷ file ∷ code ∷ []) =
     command_if (are_three_names (file ∷ []) journal out rest && is_code code) (Holdings journal out rest (Some code))
-holdings_of words = None
+as_holdings words = None
 
-abbrev pub migrate_of : List (List ℕ) → Option Command
-migrate_of (old ∷ new ∷ []) = command_if (are_two_names old new) (Migrate old new)
-migrate_of words = None
+abbrev pub as_migrate : List (List ℕ) → Option Command
+as_migrate (old ∷ new ∷ []) = command_if (are_two_names old new) (Migrate old new)
+as_migrate words = None
 
-abbrev pub help_of : List (List ℕ) → Option Command
-help_of [] = Some (Help All)
-help_of (word ∷ []) = option_map Help (topic_of word)
-help_of words = None
+abbrev pub as_help : List (List ℕ) → Option Command
+as_help [] = Some (Help All)
+as_help (word ∷ []) = option_map Help (topic_of word)
+as_help words = None
 
 -- a command without words
 abbrev pub alone : Command → List (List ℕ) → Option Command
@@ -159,9 +159,9 @@ alone command [] = Some command
 alone command words = None
 
 -- the commands that only tell something
-unfoldable pub told_of : List ℕ → List (List ℕ) → Option Command
-told_of verb words =
-    if bytes_eq verb (codes "help") then help_of words
+unfoldable pub only_telling : List ℕ → List (List ℕ) → Option Command
+only_telling verb words =
+    if bytes_eq verb (codes "help") then as_help words
     else if bytes_eq verb (codes "--help") then alone (Help All) words
     else if bytes_eq verb (codes "-h") then alone (Help All) words
     else if bytes_eq verb (codes "version") then alone Version words
@@ -171,22 +171,22 @@ told_of verb words =
 -- the commands over a journal that load nothing
 unfoldable pub over_journal : List ℕ → List (List ℕ) → Option Command
 over_journal verb words =
-    if bytes_eq verb (codes "export") then export_of words
-    else if bytes_eq verb (codes "report") then report_of words
-    else if bytes_eq verb (codes "verify") then verify_of words
-    else if bytes_eq verb (codes "matches") then matches_of words
-    else if bytes_eq verb (codes "holdings") then holdings_of words
-    else if bytes_eq verb (codes "migrate") then migrate_of words
-    else told_of verb words
+    if bytes_eq verb (codes "export") then as_export words
+    else if bytes_eq verb (codes "report") then as_report words
+    else if bytes_eq verb (codes "verify") then as_verify words
+    else if bytes_eq verb (codes "matches") then as_matches words
+    else if bytes_eq verb (codes "holdings") then as_holdings words
+    else if bytes_eq verb (codes "migrate") then as_migrate words
+    else only_telling verb words
 
 -- the command of some words, if they are one
 unfoldable pub command_of : List (List ℕ) → Option Command
 command_of [] = None
 command_of (verb ∷ words) =
-    if bytes_eq verb (codes "pass") then pass_of words
-    else if bytes_eq verb (codes "run") then run_of words
-    else if bytes_eq verb (codes "load") then load_of words
-    else if bytes_eq verb (codes "make") then make_of words
+    if bytes_eq verb (codes "pass") then as_pass words
+    else if bytes_eq verb (codes "run") then as_run words
+    else if bytes_eq verb (codes "load") then as_load words
+    else if bytes_eq verb (codes "make") then as_make words
     else over_journal verb words
 
 -- the words `CODE=FILE` of a command, which stand behind its names; none where there is no command

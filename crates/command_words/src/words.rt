@@ -1,7 +1,7 @@
 ghost use Rattle.std.specs.Prelude.{◌≡◌, ℕ, true, false, length, List, Option, Some, None, IfSome, IfOk, MatchOption, drop, take, is_some};
 ghost use Rattle.std.specs.List.{list_all};
 ghost use Rattle.marc_types.specs.Valid.{is_code, is_digit};
-ghost use Rattle.command_words.specs.Command.{library_of, are_libraries, is_free, differ, split_at_equals, number_upto, pass_of, run_of, load_of, export_of, report_of, make_of, verify_of, migrate_of, matches_of, holdings_of, help_of, alone, told_of, over_journal, are_two_names, are_three_names, command_of, words_of_files, libraries_of};
+ghost use Rattle.command_words.specs.Command.{library_of, are_libraries, is_free, differ, split_at_equals, number_upto, as_pass, as_run, as_load, as_export, as_report, as_make, as_verify, as_migrate, as_matches, as_holdings, as_help, alone, only_telling, over_journal, are_two_names, are_three_names, command_of, words_of_files, libraries_of};
 ghost use Rattle.command_words.specs.Asked.{command_asked, AsksFor};
 
 use crate::asked::Request;
@@ -104,7 +104,7 @@ fn number_upto(limit: u64, word: &str) -> Option<u64>
 }
 
 fn pass(words: &[Text]) -> Option<Request<'_>>
-    ensures { AsksFor result (pass_of words.now) }
+    ensures { AsksFor result (as_pass words.now) }
 {
     let [out, files @ ..] = words else {
         return None;
@@ -115,7 +115,7 @@ fn pass(words: &[Text]) -> Option<Request<'_>>
 }
 
 fn run(words: &[Text]) -> Option<Request<'_>>
-    ensures { AsksFor result (run_of words.now) }
+    ensures { AsksFor result (as_run words.now) }
 {
     let [journal, out, report, words @ ..] = words else {
         return None;
@@ -137,7 +137,7 @@ fn run(words: &[Text]) -> Option<Request<'_>>
 }
 
 fn load(words: &[Text]) -> Option<Request<'_>>
-    ensures { AsksFor result (load_of words.now) }
+    ensures { AsksFor result (as_load words.now) }
 {
     let [journal, words @ ..] = words else {
         return None;
@@ -155,7 +155,7 @@ fn are_two_names(journal: &str, out: &str) -> bool
 }
 
 fn export(words: &[Text]) -> Option<Request<'_>>
-    ensures { AsksFor result (export_of words.now) }
+    ensures { AsksFor result (as_export words.now) }
 {
     let (journal, out, code) = match words {
         [journal, out] => (journal, out, None),
@@ -167,7 +167,7 @@ fn export(words: &[Text]) -> Option<Request<'_>>
 }
 
 fn report(words: &[Text]) -> Option<Request<'_>>
-    ensures { AsksFor result (report_of words.now) }
+    ensures { AsksFor result (as_report words.now) }
 {
     match words {
         [journal, out] if are_two_names(journal.as_str(), out.as_str()) => Some(Request::Report {
@@ -179,7 +179,7 @@ fn report(words: &[Text]) -> Option<Request<'_>>
 }
 
 fn make(words: &[Text]) -> Option<Request<'_>>
-    ensures { AsksFor result (make_of words.now) }
+    ensures { AsksFor result (as_make words.now) }
 {
     let [seed, count, out] = words else {
         return None;
@@ -197,7 +197,7 @@ fn make(words: &[Text]) -> Option<Request<'_>>
 }
 
 fn verify(words: &[Text]) -> Option<Request<'_>>
-    ensures { AsksFor result (verify_of words.now) }
+    ensures { AsksFor result (as_verify words.now) }
 {
     match words {
         [journal] if !journal.as_str().is_empty() => Some(Request::Verify {
@@ -208,7 +208,7 @@ fn verify(words: &[Text]) -> Option<Request<'_>>
 }
 
 fn matches(words: &[Text]) -> Option<Request<'_>>
-    ensures { AsksFor result (matches_of words.now) }
+    ensures { AsksFor result (as_matches words.now) }
 {
     match words {
         [journal, out] if are_two_names(journal.as_str(), out.as_str()) => Some(Request::Matches {
@@ -233,7 +233,7 @@ fn are_three_names(files: &[Text], journal: &str, out: &str, rest: &str) -> bool
 }
 
 fn holdings(words: &[Text]) -> Option<Request<'_>>
-    ensures { AsksFor result (holdings_of words.now) }
+    ensures { AsksFor result (as_holdings words.now) }
 {
     let [journal, out, rest, words @ ..] = words else {
         return None;
@@ -254,7 +254,7 @@ fn holdings(words: &[Text]) -> Option<Request<'_>>
 }
 
 fn migrate(words: &[Text]) -> Option<Request<'_>>
-    ensures { AsksFor result (migrate_of words.now) }
+    ensures { AsksFor result (as_migrate words.now) }
 {
     match words {
         [old, new] if are_two_names(old.as_str(), new.as_str()) => Some(Request::Migrate {
@@ -266,7 +266,7 @@ fn migrate(words: &[Text]) -> Option<Request<'_>>
 }
 
 fn help(words: &[Text]) -> Option<Request<'_>>
-    ensures { AsksFor result (help_of words.now) }
+    ensures { AsksFor result (as_help words.now) }
 {
     match words {
         [] => Some(Request::Help { topic: Topic::All }),
@@ -285,9 +285,9 @@ fn alone<'a>(asked: Request<'a>, words: &[Text]) -> Option<Request<'a>>
 }
 
 /// What the words of a command that only tells something ask for.
-#[tactic(auto, unfolding(crate::specs::Command::told_of))]
+#[tactic(auto, unfolding(crate::specs::Command::only_telling))]
 fn told<'a>(verb: &str, rest: &'a [Text]) -> Option<Request<'a>>
-    ensures { AsksFor result (told_of verb.now rest.now) }
+    ensures { AsksFor result (only_telling verb.now rest.now) }
 {
     match verb {
         "help" => help(rest),

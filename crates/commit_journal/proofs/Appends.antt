@@ -9,7 +9,7 @@ use Rattle.outside.specs.Disk.{DiskView, OnlyContent, patch, Torn}
 use Rattle.commit_journal.specs.declared.frame.Frame.{Frame}
 use Rattle.commit_journal.specs.declared.format.TheConstants.{CLOSED_GATE, OPEN_GATE, FIRST_GATE, LARGEST_PAYLOAD, LENGTH_BYTES}
 use Rattle.commit_journal.specs.Log.{payload_length, payload_of, has_frame, version_of_header, walk, walk_of, closed_at, behind, frames_of}
-use Rattle.commit_journal.specs.Journal.{frame_text, and_frame, EndsAt, HasFrameOrNot, IsSettled, Steps, Keeps}
+use Rattle.commit_journal.specs.Journal.{frame_text, and_frame, EndsAt, HasFrameOrNot, IsDurableLog, Steps, Keeps}
 use Rattle.commit_journal.proofs.Steps.{keeps_only, keeps_then, told_map}
 use Rattle.commit_journal.proofs.Walks.{walk_none, never, walk_closed, walk_frame, walk_skip, frame_whole}
 use Rattle.commit_journal.proofs.Logs.{Parts, parts, short_or_long, frames_walked, frames_closed, frames_self, front_kept, version_two}
@@ -202,7 +202,7 @@ appended place log payload ends least most = subst (Appended place log payload) 
     is = ap (patch place (OPEN_GATE ∷ [])) written ∙ gate_patched place e.parts.front (frame_text payload) e.at
 
 -- the whole append, over a disk
-pub append_kept : (place : ℕ) (old mid new : DiskView) (log payload : List ℕ) → IsSettled place 2 old → old.content ≡ Some log → 1 ≤ length payload → length payload ≤ LARGEST_PAYLOAD
+pub append_kept : (place : ℕ) (old mid new : DiskView) (log payload : List ℕ) → IsDurableLog place 2 old → old.content ≡ Some log → 1 ≤ length payload → length payload ≤ LARGEST_PAYLOAD
     → Steps (Torn (place + 1) (LENGTH_BYTES + length payload + 1)) old mid → mid.content ≡ option_map (patch (place + 1) (frame_text payload)) old.content → OnlyContent mid
     → Steps (Torn place 1) mid new → Keeps (HasFrameOrNot log (record { gate = place; payload = payload })) old new
 append_kept place old mid new log payload settled told least most first content only second =
@@ -216,7 +216,7 @@ append_kept place old mid new log payload settled told least most first content 
     (keeps_only (Torn place 1) P mid new (patch (place + 1) (frame_text payload) log) only mid_told second (λ c torn. torn_gate place log payload c ends two least most torn))
 
 -- its first half
-pub append_begun : (place : ℕ) (old mid : DiskView) (log payload : List ℕ) → IsSettled place 2 old → old.content ≡ Some log
+pub append_begun : (place : ℕ) (old mid : DiskView) (log payload : List ℕ) → IsDurableLog place 2 old → old.content ≡ Some log
     → Steps (Torn (place + 1) (LENGTH_BYTES + length payload + 1)) old mid → Keeps (HasFrameOrNot log (record { gate = place; payload = payload })) old mid
 append_begun place old mid log payload settled told first =
     keeps_only (Torn (place + 1) (LENGTH_BYTES + length payload + 1)) (HasFrameOrNot log (record { gate = place; payload = payload })) old mid log settled.only told first
@@ -227,7 +227,7 @@ pub has_none : (log : List ℕ) (frame : Frame) → HasFrameOrNot log frame log
 has_none log frame = record { frames = inl refl; version = refl; no_longer = omega arith }
 
 -- what the append leaves
-pub append_done : (place : ℕ) (old mid new : DiskView) (payload : List ℕ) → IsSettled place 2 old → 1 ≤ length payload → length payload ≤ LARGEST_PAYLOAD
+pub append_done : (place : ℕ) (old mid new : DiskView) (payload : List ℕ) → IsDurableLog place 2 old → 1 ≤ length payload → length payload ≤ LARGEST_PAYLOAD
     → mid.content ≡ option_map (patch (place + 1) (frame_text payload)) old.content → new.content ≡ option_map (patch place (OPEN_GATE ∷ [])) mid.content
     → (b c : List ℕ) → old.content ≡ Some b → new.content ≡ Some c → Appended place b payload c
 append_done place old mid new payload settled least most first second b c told told_new =
@@ -237,9 +237,9 @@ append_done place old mid new payload settled least most first second b c told t
     let is : c ≡ patch place (OPEN_GATE ∷ []) (patch (place + 1) (frame_text payload) b) = from.2 ∙ ap (patch place (OPEN_GATE ∷ [])) (before.2 ∙ ap (patch (place + 1) (frame_text payload)) same) in
     subst (Appended place b payload) (sym is) (appended place b payload (settled.ends b told) least most)
 
-pub append_settled : (place next : ℕ) (old mid new : DiskView) (payload : List ℕ) → next ≡ place + 1 + LENGTH_BYTES + length payload → IsSettled place 2 old → 1 ≤ length payload → length payload ≤ LARGEST_PAYLOAD
+pub append_settled : (place next : ℕ) (old mid new : DiskView) (payload : List ℕ) → next ≡ place + 1 + LENGTH_BYTES + length payload → IsDurableLog place 2 old → 1 ≤ length payload → length payload ≤ LARGEST_PAYLOAD
     → mid.content ≡ option_map (patch (place + 1) (frame_text payload)) old.content → new.content ≡ option_map (patch place (OPEN_GATE ∷ [])) mid.content
-    → mid.len ≡ max old.len (place + 1 + (LENGTH_BYTES + length payload + 1)) → new.len ≡ max mid.len (place + 1) → OnlyContent new → IsSettled next 2 new
+    → mid.len ≡ max old.len (place + 1 + (LENGTH_BYTES + length payload + 1)) → new.len ≡ max mid.len (place + 1) → OnlyContent new → IsDurableLog next 2 new
 append_settled place next old mid new payload next_is settled least most first second mid_len new_len only = record {
   ends = λ c told. let b = before c told in rw next_is (append_done place old mid new payload settled least most first second b.0 c b.1 told).ends;
   header = λ c told. let b = before c told in (append_done place old mid new payload settled least most first second b.0 c b.1 told).says ∙ settled.header b.0 b.1;

@@ -26,7 +26,7 @@ pub record EndsAt (place : ℕ) (log : List ℕ) : Type 0 where
   pub end : length log ≡ place + 1
 
 -- the log ends with its closed gate at that place, and is all that a crash may leave
-pub record IsSettled (place version : ℕ) (disk : DiskView) : Type 0 where
+pub record IsDurableLog (place version : ℕ) (disk : DiskView) : Type 0 where
   pub ends : (log : List ℕ) → disk.content ≡ Some log → EndsAt place log
   pub header : (log : List ℕ) → disk.content ≡ Some log → version_of_header log ≡ version
   pub only : OnlyContent disk
@@ -87,7 +87,7 @@ pub record IsRecovered (frames : List Frame) (place version : ℕ) (old new : Di
   pub named : (log : List ℕ) → old.content ≡ Some log → version_of log ≡ version
   pub is : (log : List ℕ) → new.content ≡ Some log → frames_of log ≡ Ok frames
   pub ordered : (log : List ℕ) → old.content ≡ Some log → new.content ≡ Some (in_order log)
-  pub settled : IsSettled place version new
+  pub settled : IsDurableLog place version new
 
 -- an opening: each image since its first sync that succeeded is what it leaves of the log, and where none did the content is as it was
 pub record Opens (old new : DiskView) : Type 0 where

@@ -4,7 +4,7 @@ ghost use Rattle.outside.specs.Disk.{OnlyContent, LeavesOnly, patch, Torn};
 ghost use Rattle.outside.specs.Fault.{HasCause};
 ghost use Rattle.commit_journal.specs.declared.format.TheConstants.{FRAME_ROOM};
 ghost use Rattle.commit_journal.specs.Log.{frames_of};
-ghost use Rattle.commit_journal.specs.Journal.{frame_text, and_frame, IsSettled, HasFrameOrNot, Steps, Continues, IsRecovered, LeavesContent, Opens, HasOpenCause};
+ghost use Rattle.commit_journal.specs.Journal.{frame_text, and_frame, IsDurableLog, HasFrameOrNot, Steps, Continues, IsRecovered, LeavesContent, Opens, HasOpenCause};
 
 use crate::format::{CLOSED_GATE, FRAME_ROOM, LARGEST_PAYLOAD, LENGTH_BYTES, OPEN_GATE};
 use crate::frame::Frames;
@@ -77,7 +77,7 @@ pub struct Journal<D: Disk> {
     version: u8,
     broken: bool,
     ghost room: { vec_len buffer ≡ FRAME_ROOM },
-    ghost settled: { broken ≡ false → IsSettled place version (D.seen disk) },
+    ghost settled: { broken ≡ false → IsDurableLog place version (D.seen disk) },
 }
 
 impl<D: Disk> Journal<D> {
@@ -151,7 +151,7 @@ impl<D: Disk> Journal<D> {
         // After Ok the log has the frame at its end, and is all that a crash may leave.
         ensures appended { OnOk result ((b c : List ℕ) → (D.seen self.old.disk).content ≡ Some b → (D.seen self.new.disk).content ≡ Some c
             → frames_of c ≡ and_frame (frames_of b) (record { gate = self.old.place; payload = payload.now })) }
-        ensures settled { OnOk result (IsSettled self.new.place 2 (D.seen self.new.disk)) }
+        ensures settled { OnOk result (IsDurableLog self.new.place 2 (D.seen self.new.disk)) }
         ensures place { OnOk result (self.new.place ≡ self.old.place + 1 + LENGTH_BYTES + length payload.now) }
 
         // Each image at each moment of the call has the frames before, or these and the new one.

@@ -11,7 +11,7 @@ use Rattle.catalogue_rules.specs.Receipt.{kept_under}
 use Rattle.catalogue_rules.specs.Settle.{arrival_of, step}
 use Rattle.catalogue_rules.specs.State.{State, linkable_authorities}
 use Rattle.catalogue_tables.specs.Seam.{keys_in}
-use Rattle.linking_laws.specs.Commits.{IsCommit, placed_by}
+use Rattle.linking_laws.specs.Commits.{CanBeCommitted, placed_by}
 use Rattle.linking_laws.specs.Middle.{IsMiddle, IsMiddleWith}
 use Rattle.linking_laws.specs.Receipts.{AreChanged, place_in, receipt_by}
 use Rattle.linking_laws.specs.Stages.{settle_own}
@@ -24,14 +24,14 @@ use Rattle.linking_laws.proofs.Worked.{visits_touched}
 use Rattle.linked_store.specs.Linked.{IsAhead, IsNumber, Linked, key_of, record_at}
 use Rattle.commit_stages.specs.OwnFields.{IsOwnSettled, own_visits_of}
 use Rattle.commit_stages.specs.declared.counts.HeadingCounts.{HeadingCounts}
-use Rattle.commit_stages.specs.Receipts.{AreNumbersOf}
+use Rattle.commit_stages.specs.Receipts.{AreReceiptCounts}
 use Rattle.commit_stages.specs.Stages.{AreCountsBrought, IsBrought}
 use Rattle.commit_stages.proofs.Numbers.{key_numbered_so, own_numbers}
 use Rattle.commit_stages.proofs.Parts.{stands_placed}
 use Rattle.commit_stages.proofs.Staging.{key_ahead, number_ahead}
 use Rattle.numbered_store.proofs.Shelving.{low_number}
 
-module _ (x : Linked) (e : Entry) (c : IsCommit Bibliographic x.state e) where
+module _ (x : Linked) (e : Entry) (c : CanBeCommitted Bibliographic x.state e) where
   abbrev s : State
   s = x.state
 
@@ -97,7 +97,7 @@ module _ (x : Linked) (e : Entry) (c : IsCommit Bibliographic x.state e) where
     }
 
     pub alone_numbers : (counts : HeadingCounts) → AreCountsBrought (linkable_authorities y.state) e counts → (at : ℕ)
-        → AreNumbersOf (receipt_by at s e) (record { linked = counts.linked; ambiguous = counts.ambiguous; unlinked = counts.unlinked; changed_records = 0 })
+        → AreReceiptCounts (receipt_by at s e) (record { linked = counts.linked; ambiguous = counts.ambiguous; unlinked = counts.unlinked; changed_records = 0 })
     alone_numbers counts are at =
         own_numbers s e Bibliographic c counts 0
         (subst (λ (t : State). AreCountsBrought (linkable_authorities t) e counts) is are) at

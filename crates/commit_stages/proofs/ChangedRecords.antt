@@ -26,14 +26,14 @@ use Rattle.record_store.specs.Store.{field_at}
 use Rattle.catalogue_tables.specs.Seam.{AreDistinct, HasKey, keys_in, place_at}
 use Rattle.catalogue_tables.proofs.Seams.{key_numbered}
 use Rattle.linking_laws.specs.Changes.{carry_of_commit, choose_of_commit, differs_at, drop_of_commit, is_changed_by_stages, state_dropped, state_own_settled}
-use Rattle.linking_laws.specs.Commits.{IsCommit, placed_by}
+use Rattle.linking_laws.specs.Commits.{CanBeCommitted, placed_by}
 use Rattle.linking_laws.specs.Receipts.{AreChanged, IsExchanged, is_key_among, place_in, receipt_by}
 use Rattle.linking_laws.specs.Receipts as receipts
 use Rattle.linking_laws.proofs.Counts.{changed_number}
 use Rattle.linking_laws.proofs.Exchanged.{exchanged_by_stages, exchange_told, exchange_tells}
 use Rattle.linking_laws.proofs.Partial.{class_same}
 use Rattle.linked_store.specs.Linked.{IsAhead, IsNumber, Linked, key_of}
-use Rattle.commit_stages.specs.Noted.{AreNumbersOf, AreRecordsOf, NotesChanges, changes_at, is_record_of, is_seat_of}
+use Rattle.commit_stages.specs.Noted.{AreRecordNumbers, AreRecordsOf, NotesChanges, changes_at, is_record_of, is_seat_of}
 use Rattle.commit_stages.proofs.Turning.{ahead_then}
 use Rattle.commit_stages.proofs.Numbers.{key_of_known}
 
@@ -221,7 +221,7 @@ module _ (s : State) (e : Entry) (x0 x1 x2 x4 x5 : Linked) (n1 n2 n3 : List Seat
 
   -- ---- records
 
-  module _ (c : IsCommit Authority s e) (number count : ℕ) (distinct : AreDistinct x5.keys) (own : key_of Authority number x5.keys ≡ e.key) (low : IsNumber Authority number x5.keys)
+  module _ (c : CanBeCommitted Authority s e) (number count : ℕ) (distinct : AreDistinct x5.keys) (own : key_of Authority number x5.keys ≡ e.key) (low : IsNumber Authority number x5.keys)
       (numbered : (class : Class) (key : Key) → IsSome (kept_under class key x0.state) → is_known same_key (keys_in class x0.keys) key ≡ true) where
     once_in : (class : Class) → IsDistinct same_key (keys_in class x5.keys)
     once_in Authority = distinct.authorities
@@ -242,7 +242,7 @@ module _ (s : State) (e : Entry) (x0 x1 x2 x4 x5 : Linked) (n1 n2 n3 : List Seat
             let same : n ≡ m = same_number class n m first second ((key_Decides (key_of class n x5.keys) (key_of class m x5.keys)).0 e) in
             absurd (false≢true (sym apart ∙ (unsigned_Decides n m).1 same))
 
-    module _ (class : Class) (numbers : List ℕ) (are : AreNumbersOf n3 Authority number class numbers) where
+    module _ (class : Class) (numbers : List ℕ) (are : AreRecordNumbers n3 Authority number class numbers) where
       abbrev keys : List Key
       keys = map (λ n. key_of class n x5.keys) numbers
 

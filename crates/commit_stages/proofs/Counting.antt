@@ -13,7 +13,7 @@ use Rattle.numbering.specs.Numbers.{with_thing}
 use Rattle.numbering.specs.Seats.{same_seat}
 use Rattle.numbering.specs.declared.seat.Seat.{Seat}
 use Rattle.catalogue_rules.specs.Receipt.{same_class}
-use Rattle.commit_stages.specs.Noted.{AreFirstSeats, AreNumbersOf, AreRecordsOf, first_seat, is_record_of, is_seat_of}
+use Rattle.commit_stages.specs.Noted.{AreFirstSeats, AreRecordNumbers, AreRecordsOf, first_seat, is_record_of, is_seat_of}
 use Rattle.commit_stages.proofs.Notes.{any_thing, seat_laws}
 
 class_alike : (c d : Class) → (class_rank c == class_rank d) ≡ same_class c d
@@ -176,7 +176,7 @@ module _ (class : Class) (number : ℕ) (seats firsts : List Seat) (are : AreFir
       (unsigned_Decides s.field 0).0
       (and_parts (s.field == 0) (list_any (is_seat_of s.class s.number) seats && not (is_record_of class number s.class s.number)) (sym (are s) ∙ on)).0)
 
-  numbers_of : (other : Class) → IsDistinct same_seat firsts → AreNumbersOf seats class number other (numbers_in other firsts)
+  numbers_of : (other : Class) → IsDistinct same_seat firsts → AreRecordNumbers seats class number other (numbers_in other firsts)
   numbers_of other once = record {
     once = numbers_once other firsts all_first once;
     are = λ n. numbers_are other n firsts ∙ firsts_are other n firsts all_first ∙ are (record { class = other; number = n; field = 0 });

@@ -17,7 +17,7 @@ use Rattle.catalogue_tables.specs.Known.{IsKnownAs}
 use Rattle.catalogue_tables.specs.Lent.{shown_forms}
 use Rattle.catalogue_tables.specs.Seam.{keys_in}
 use Rattle.catalogue_tables.specs.declared.known.KnownAuthority.{KnownAuthority}
-use Rattle.linking_laws.specs.Commits.{IsCommit, dropping_of, forms_of_commit, placed_by}
+use Rattle.linking_laws.specs.Commits.{CanBeCommitted, dropping_of, forms_of_commit, placed_by}
 use Rattle.linking_laws.specs.Middle.{CanDrop}
 use Rattle.linking_laws.specs.Stages.{carry_by, choose_field, dropping_by}
 use Rattle.linking_laws.specs.Visits.{carry_visits, choose_visits, touched}
@@ -34,7 +34,7 @@ use Rattle.commit_stages.proofs.Whole.{IsCarried, IsDropped, IsPlaced, IsSettled
 pub record Begun : Type 0 where
   pub before : Linked
   pub item : Entry
-  pub commit : IsCommit Authority before.state item
+  pub commit : CanBeCommitted Authority before.state item
   pub number : ℕ
   pub numbered : IsNumberOf same_key (keys_in Authority before.keys) item.key number
   pub known : Option KnownAuthority
@@ -44,7 +44,7 @@ pub record Begun : Type 0 where
   pub store : Linked
   pub placed : IsPlaced before item commit number numbered store
 
-module _ (before : Linked) (item : Entry) (commit : IsCommit Authority before.state item) (number : ℕ) (numbered : IsNumberOf same_key (keys_in Authority before.keys) item.key number) where
+module _ (before : Linked) (item : Entry) (commit : CanBeCommitted Authority before.state item) (number : ℕ) (numbered : IsNumberOf same_key (keys_in Authority before.keys) item.key number) where
   abbrev pub begun : (known lent : Option KnownAuthority) → IsKnownAs (find (has_key (key_of Authority number before.keys)) (linkable_authorities before.state)) known → lent ≡ known
       → (ending : Ending) → ((was : Option Linkable) → IsKnownAs was lent → dropping_to ending ≡ dropping_by was (authority_brought (arrival_of item)))
       → (store : Linked) → IsAhead before store → store.state ≡ placed_by item.class before.state item → Begun

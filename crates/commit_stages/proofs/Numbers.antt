@@ -9,11 +9,11 @@ use Rattle.numbering.specs.Numbers.{IsNumberOf, is_known, number_of}
 use Rattle.numbering.proofs.Numberlaws.{number_below}
 use Rattle.form_index.specs.Order.{key_at, no_key}
 use Rattle.catalogue_rules.specs.State.{State, linkable_authorities}
-use Rattle.linking_laws.specs.Commits.{IsCommit, placed_by}
+use Rattle.linking_laws.specs.Commits.{CanBeCommitted, placed_by}
 use Rattle.linking_laws.specs.Receipts.{receipt_by}
 use Rattle.linking_laws.proofs.Counts.{own_counts}
 use Rattle.commit_stages.specs.declared.counts.HeadingCounts.{HeadingCounts}
-use Rattle.commit_stages.specs.Receipts.{AreNumbersOf}
+use Rattle.commit_stages.specs.Receipts.{AreReceiptCounts}
 use Rattle.commit_stages.specs.Stages.{AreCountsBrought}
 
 -- the key that a known key's number stands for is that key
@@ -26,9 +26,9 @@ pub key_numbered_so : (keys : List Key) (key : Key) (number : ℕ) → IsNumberO
 key_numbered_so keys key number numbered = ap (key_at keys) numbered.is ∙ key_of_known keys key numbered.known
 
 -- the receipt's numbers: those of the own fields, and how many other records changed
-pub own_numbers : (s : State) (e : Entry) (k : Class) → IsCommit k s e → (counts : HeadingCounts) (changed : ℕ) → AreCountsBrought (linkable_authorities (placed_by e.class s e)) e counts → (at : ℕ)
+pub own_numbers : (s : State) (e : Entry) (k : Class) → CanBeCommitted k s e → (counts : HeadingCounts) (changed : ℕ) → AreCountsBrought (linkable_authorities (placed_by e.class s e)) e counts → (at : ℕ)
     → changed ≡ (receipt_by at s e).changed_records
-    → AreNumbersOf (receipt_by at s e) (record { linked = counts.linked; ambiguous = counts.ambiguous; unlinked = counts.unlinked; changed_records = changed })
+    → AreReceiptCounts (receipt_by at s e) (record { linked = counts.linked; ambiguous = counts.ambiguous; unlinked = counts.unlinked; changed_records = changed })
 own_numbers s e k c counts changed are at is =
     let own = own_counts at s e k c in
     record { linked = are.linked ∙ sym own.linked; ambiguous = are.ambiguous ∙ sym own.ambiguous; unlinked = are.unlinked ∙ sym own.unlinked; changed_records = is }

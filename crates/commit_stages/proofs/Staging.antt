@@ -22,7 +22,7 @@ use Rattle.catalogue_tables.proofs.Comings.{placing_exchanges}
 use Rattle.std.proofs.lemmas.List.Folds.{list_any-append}
 use Rattle.std.proofs.lemmas.Map.Made.{lookup-map_values}
 use Rattle.linking_laws.specs.Changes.{carry_of_commit, choose_of_commit, drop_of_commit, state_carried, state_dropped, state_own_settled}
-use Rattle.linking_laws.specs.Commits.{IsCommit, authorities_behind, dropping_of, forms_of_commit, placed_by, state_staged}
+use Rattle.linking_laws.specs.Commits.{CanBeCommitted, authorities_behind, dropping_of, forms_of_commit, placed_by, state_staged}
 use Rattle.linking_laws.specs.Middle.{CanDrop, IsMiddleWith}
 use Rattle.linking_laws.specs.Stages.{Dropping, DropNone, DropBases, DropAll, by_stages, dropping_by, carry_by, carry_field, choose_field, drop_by, drop_field, settle_own, successor_in}
 use Rattle.linking_laws.specs.Visits.{carry_visits, choose_visits, commit_visits, drop_visits_by, own_row_visits, stage_visits, touched}
@@ -135,7 +135,7 @@ module _ (s : State) (e : Entry) where
   unfolding stage_visits
   costs_are = refl
 
-  module _ (c : IsCommit Authority s e) where
+  module _ (c : CanBeCommitted Authority s e) where
     pub costs : drop_cost + carry_cost + own_cost + choose_cost ≤ touched s e
     costs = subst (λ (n : ℕ). n ≤ touched s e) costs_are (visits_touched Authority s e c)
 

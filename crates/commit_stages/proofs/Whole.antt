@@ -22,7 +22,7 @@ use Rattle.catalogue_tables.specs.Lent.{shown_forms}
 use Rattle.catalogue_tables.specs.Seam.{AreDistinct, keys_in}
 use Rattle.catalogue_tables.specs.declared.known.KnownAuthority.{KnownAuthority}
 use Rattle.linking_laws.specs.Changes.{state_carried, state_dropped, state_own_settled}
-use Rattle.linking_laws.specs.Commits.{IsCommit, authorities_behind, dropping_of, forms_of_commit, placed_by}
+use Rattle.linking_laws.specs.Commits.{CanBeCommitted, authorities_behind, dropping_of, forms_of_commit, placed_by}
 use Rattle.linking_laws.specs.Middle.{CanDrop, IsMiddleWith}
 use Rattle.linking_laws.specs.Receipts.{receipt_by}
 use Rattle.linking_laws.specs.Stages.{carry_by, choose_field, dropping_by}
@@ -36,7 +36,7 @@ use Rattle.commit_stages.specs.Turns.{IsCarriedOut}
 use Rattle.commit_stages.proofs.Turning.{ahead_then}
 use Rattle.commit_stages.specs.OwnFields.{IsOwnSettled, own_visits_of}
 use Rattle.commit_stages.specs.declared.counts.HeadingCounts.{HeadingCounts}
-use Rattle.commit_stages.specs.Receipts.{AreNumbersOf}
+use Rattle.commit_stages.specs.Receipts.{AreReceiptCounts}
 use Rattle.commit_stages.specs.Stages.{AreCountsBrought, IsBrought, drop_of, drop_visits_of, dropping_to, forms_of_brought}
 use Rattle.commit_stages.specs.declared.brought.Ending.{Ending}
 use Rattle.commit_stages.proofs.ChangedRecords.{IsNoted, changed_count}
@@ -44,7 +44,7 @@ use Rattle.commit_stages.proofs.Numbers.{key_numbered_so, own_numbers}
 use Rattle.commit_stages.proofs.Parts.{key_valid}
 use Rattle.commit_stages.proofs.Staging.{brought_now, can_drop_now, carried_is, carried_on, carry_cost, carry_noted, carry_within, choose_cost, choose_within, chosen_is, chosen_noted, chosen_on, costs, drop_cost, drop_noted, drop_within, dropped_is, dropped_on, ending_right, key_ahead, number_ahead, own_cost, own_there, own_within, placed_is, same_forms, settled_is, settled_on}
 
-module _ (x0 : Linked) (e : Entry) (c : IsCommit Authority x0.state e) (number : ℕ) (numbered : IsNumberOf same_key (keys_in Authority x0.keys) e.key number) where
+module _ (x0 : Linked) (e : Entry) (c : CanBeCommitted Authority x0.state e) (number : ℕ) (numbered : IsNumberOf same_key (keys_in Authority x0.keys) e.key number) where
   abbrev s : State
   s = x0.state
 
@@ -195,7 +195,7 @@ module _ (x0 : Linked) (e : Entry) (c : IsCommit Authority x0.state e) (number :
       → AreRecordsOf n3 Authority number count → AreDistinct x5.keys
       → ((class : Class) (key : Key) → IsSome (kept_under class key s) → is_known same_key (keys_in class x0.keys) key ≡ true)
       → AreCountsBrought (linkable_authorities x3.state) e counts → (at : ℕ)
-      → AreNumbersOf (receipt_by at s e) (record { linked = counts.linked; ambiguous = counts.ambiguous; unlinked = counts.unlinked; changed_records = count })
+      → AreReceiptCounts (receipt_by at s e) (record { linked = counts.linked; ambiguous = counts.ambiguous; unlinked = counts.unlinked; changed_records = count })
   numbers_so x1 x2 x3 x4 x5 n1 n2 n3 forms ending counts count at1 at2 at3 at4 one two three four right same by_drop by_carry by_choice records distinct numbers are at =
       let from_zero : IsAhead x0 x5 = ahead_then x0 x4 x5 at4.ahead four in
       let noted : IsNoted s e x0 x1 x2 x4 x5 n1 n2 n3 = record {

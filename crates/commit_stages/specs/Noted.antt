@@ -59,7 +59,7 @@ AreFirstSeats class number seats firsts =
     ≡ ((seat.field == 0) && (list_any (is_seat_of seat.class seat.number) seats && not (is_record_of class number seat.class seat.number)))
 
 -- the numbers of the records of a class that have one of the seats, without a record's own, each once
-pub record AreNumbersOf (seats : List Seat) (class : Class) (number : ℕ) (other : Class) (numbers : List ℕ) : Type 0 where
+pub record AreRecordNumbers (seats : List Seat) (class : Class) (number : ℕ) (other : Class) (numbers : List ℕ) : Type 0 where
   pub once : IsDistinct nat_eq numbers
   pub are : (n : ℕ) → list_any (nat_eq n) numbers ≡ (list_any (is_seat_of other n) seats && not (is_record_of class number other n))
 
@@ -67,6 +67,6 @@ pub record AreNumbersOf (seats : List Seat) (class : Class) (number : ℕ) (othe
 pub record AreRecordsOf (seats : List Seat) (class : Class) (number count : ℕ) : Type 0 where
   pub authorities : List ℕ
   pub bibliographic : List ℕ
-  pub authorities_are : AreNumbersOf seats class number Authority authorities
-  pub bibliographic_are : AreNumbersOf seats class number Bibliographic bibliographic
+  pub authorities_are : AreRecordNumbers seats class number Authority authorities
+  pub bibliographic_are : AreRecordNumbers seats class number Bibliographic bibliographic
   pub count_is : count ≡ length authorities + length bibliographic

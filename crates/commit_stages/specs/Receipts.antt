@@ -4,7 +4,7 @@ use Rattle.marc_types.specs.declared.entry.Receipt.{Receipt}
 use Rattle.commit_stages.specs.declared.changes.Changes.{Changes}
 
 -- the numbers of a receipt
-pub record AreNumbersOf (r : Receipt) (changes : Changes) : Type 0 where
+pub record AreReceiptCounts (r : Receipt) (changes : Changes) : Type 0 where
   pub linked : changes.linked ≡ r.linked
   pub ambiguous : changes.ambiguous ≡ r.ambiguous
   pub unlinked : changes.unlinked ≡ r.unlinked

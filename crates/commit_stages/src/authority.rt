@@ -12,11 +12,11 @@ ghost use Rattle.marc_types.specs.declared.key.Class.TheVariants.{Authority as A
 ghost use Rattle.numbering.specs.Numbers.{IsNumberOf};
 ghost use Rattle.catalogue_tables.specs.Seam.{keys_in};
 ghost use Rattle.catalogue_rules.specs.Settle.{arrival_of, step};
-ghost use Rattle.linking_laws.specs.Commits.{IsCommit};
+ghost use Rattle.linking_laws.specs.Commits.{CanBeCommitted};
 ghost use Rattle.linking_laws.specs.Receipts.{receipt_by};
 ghost use Rattle.linking_laws.specs.Visits.{touched};
 ghost use Rattle.linked_store.specs.Linked.{IsAhead};
-ghost use Rattle.commit_stages.specs.Receipts.{AreNumbersOf};
+ghost use Rattle.commit_stages.specs.Receipts.{AreReceiptCounts};
 
 use crate::brought::links_that_end;
 use crate::changed::count_records;
@@ -43,10 +43,10 @@ pub(crate) fn commit_authority<L: Ledger>(
     steps: &mut Steps<L>,
 ) -> Result<Changes, NoMemory>
     requires own { rec ≡ item.now.rec }
-    requires commit { IsCommit AnAuthority store.old.state item.now }
+    requires commit { CanBeCommitted AnAuthority store.old.state item.now }
     requires number { IsNumberOf same_key (keys_in AnAuthority store.old.keys) item.now.key number }
     ensures state { OnOk result (store.new.state ≡ step store.old.state (arrival_of item.now)) }
-    ensures changes { IfOk result (λ changes. (at : ℕ) → AreNumbersOf (receipt_by at store.old.state item.now) changes) }
+    ensures changes { IfOk result (λ changes. (at : ℕ) → AreReceiptCounts (receipt_by at store.old.state item.now) changes) }
     ensures ahead { IsAhead store.old store.new }
     ensures visits { steps.new ≤ steps.old + touched store.old.state item.now }
 {

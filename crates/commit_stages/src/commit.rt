@@ -5,7 +5,7 @@ ghost use Rattle.catalogue_rules.specs.Settle.{arrival_of, step};
 ghost use Rattle.catalogue_rules.specs.Valid.{IsValid};
 ghost use Rattle.linking_laws.specs.Visits.{touched};
 ghost use Rattle.linked_store.specs.Linked.{IsAhead};
-ghost use Rattle.commit_stages.specs.Receipts.{AreNumbersOf};
+ghost use Rattle.commit_stages.specs.Receipts.{AreReceiptCounts};
 
 use crate::authority::commit_authority;
 use crate::bibliographic::commit_bibliographic;
@@ -28,7 +28,7 @@ pub fn commit_entry<L: Ledger>(
 ) -> Result<Changes, NoMemory>
     requires valid { IsValid store.old.state }
     ensures state { OnOk result (store.new.state ≡ step store.old.state (arrival_of item)) }
-    ensures changes { IfOk result (λ changes. (at : ℕ) → AreNumbersOf (receipt_of at store.old.state (arrival_of item) (step store.old.state (arrival_of item))) changes) }
+    ensures changes { IfOk result (λ changes. (at : ℕ) → AreReceiptCounts (receipt_of at store.old.state (arrival_of item) (step store.old.state (arrival_of item))) changes) }
     ensures err { OnErr result (store.new.state ≡ store.old.state) }
     ensures before { store.new.before ≡ store.old.before }
     ensures visits { steps.new ≤ steps.old + touched store.old.state item }
@@ -55,7 +55,7 @@ fn make<L: Ledger>(
     requires own { rec ≡ item.now.rec }
     requires valid { IsValid store.old.state }
     ensures state { OnOk result (store.new.state ≡ step store.old.state (arrival_of item.now)) }
-    ensures changes { IfOk result (λ changes. (at : ℕ) → AreNumbersOf (receipt_of at store.old.state (arrival_of item.now) (step store.old.state (arrival_of item.now))) changes) }
+    ensures changes { IfOk result (λ changes. (at : ℕ) → AreReceiptCounts (receipt_of at store.old.state (arrival_of item.now) (step store.old.state (arrival_of item.now))) changes) }
     ensures ahead { IsAhead store.old store.new }
     ensures visits { steps.new ≤ steps.old + touched store.old.state item.now }
 {

@@ -7,6 +7,7 @@
 
 pub use changes::Changes;
 pub use commit::commit_entry;
+pub use visiting::{FieldAt, field_in};
 
 mod authority;
 mod bibliographic;

@@ -15,9 +15,9 @@ use std::sync::ledger::Ledger;
 
 /// A field of a kept record, and its tie.
 #[derive(Clone, Copy, Debug)]
-pub(crate) struct FieldAt<'a> {
-    pub(crate) field: &'a Field,
-    pub(crate) tie: &'a Tie,
+pub struct FieldAt<'a> {
+    pub field: &'a Field,
+    pub tie: &'a Tie,
 }
 
 /// The field that stands at a seat. Its record is visited for it.
@@ -46,9 +46,9 @@ pub(crate) fn look_at_field(store: &LinkedStore, seat: Seat) -> Option<FieldAt<'
     field_in(kept, seat.field)
 }
 
-// The field at a place of a record.
+/// The field at a place of a record.
 #[tactic(auto, using(record_store::proofs::Joined::tied_read, record_store::proofs::Joined::tied_off))]
-fn field_in(kept: &Kept, place: u32) -> Option<FieldAt<'_>>
+pub fn field_in(kept: &Kept, place: u32) -> Option<FieldAt<'_>>
     ensures { option_map field_as result ≡ field_at place (kept_record kept.now) }
 {
     match at(kept.rec.fields.as_slice(), place) {

@@ -4,7 +4,7 @@ use Rattle.std.specs.Io.KnownBytes.{Appends}
 use Rattle.outside.specs.Fault.{Rose}
 use Rattle.outside.specs.Sink.{WritesFront}
 use Rattle.outside.proofs.Fronts.{front_all}
-use Rattle.console_lines.specs.Ends.{end_of, IsAllDone, IsUntold, IsResultTold, ResultTold, ResultUntold, out_unwritten, report_unwritten, console_unwritten}
+use Rattle.console_lines.specs.Ends.{end_of, IsAllDone, TellsNoFault, IsResultTold, ResultTold, ResultUntold, out_unwritten, report_unwritten, console_unwritten}
 use Rattle.console_lines.specs.declared.fault.Fault.{Fault}
 use Rattle.console_lines.specs.declared.end.End.{End}
 use Rattle.console_lines.specs.declared.end.End.TheVariants.{Done, Unwritten, Told}
@@ -40,8 +40,8 @@ out_not_report end is also = let no : Out ≡ Report = unwritten_once end Out Re
 pub report_not_console : (end : End) → end ≡ Unwritten Report → end ≡ Unwritten Console → ⊥
 report_not_console end is also = let no : Report ≡ Console = unwritten_once end Report Console is also in cc
 
-pub never_told : (end : End) (why : Fault) → IsUntold end → end ≡ Told why → ⊥
-never_told end why untold is = subst IsUntold is untold
+pub never_told : (end : End) (why : Fault) → TellsNoFault end → end ≡ Told why → ⊥
+never_told end why untold is = subst TellsNoFault is untold
 
 pub told_not_all : (end : End) (why : Fault) → end ≡ Told why → IsAllDone end → ⊥
 told_not_all end why is all = subst IsAllDone is all
@@ -50,15 +50,15 @@ pub all_of : (refused : Bool) → IsAllDone (end_of refused)
 all_of true = tt
 all_of false = tt
 
-pub untold_of : (refused : Bool) → IsUntold (end_of refused)
+pub untold_of : (refused : Bool) → TellsNoFault (end_of refused)
 untold_of true = tt
 untold_of false = tt
 
 -- what a result that was told, or of which the console got a front, says of the end and of the console
 module _ {old new : Option (List ℕ)} {before now : ℕ} {text : List ℕ} {refused : Bool} {end : End} where
-  pub result_untold : IsResultTold old new before now text refused end → IsUntold end
-  result_untold (ResultTold is line) = subst IsUntold (sym is) (untold_of refused)
-  result_untold (ResultUntold is rose front) = subst IsUntold (sym is) tt
+  pub result_untold : IsResultTold old new before now text refused end → TellsNoFault end
+  result_untold (ResultTold is line) = subst TellsNoFault (sym is) (untold_of refused)
+  result_untold (ResultUntold is rose front) = subst TellsNoFault (sym is) tt
 
   pub result_done : IsResultTold old new before now text refused end → IsAllDone end → end ≡ end_of refused
   result_done (ResultTold is line) all = is

@@ -38,11 +38,11 @@ IsAllDone (Unwritten which) = ⊥
 IsAllDone (Told fault) = ⊥
 
 -- no fault was told
-abbrev pub IsUntold : End → Type 0
-IsUntold Done = Unit {0}
-IsUntold Refused = Unit {0}
-IsUntold (Unwritten which) = Unit {0}
-IsUntold (Told fault) = ⊥
+abbrev pub TellsNoFault : End → Type 0
+TellsNoFault Done = Unit {0}
+TellsNoFault Refused = Unit {0}
+TellsNoFault (Unwritten which) = Unit {0}
+TellsNoFault (Told fault) = ⊥
 
 -- the console got the text, and the end is by whether something was refused; or it could not be written, and got a front of the text
 pub data IsResultTold (old new : Option (List ℕ)) (before now : ℕ) (text : List ℕ) (refused : Bool) (end : End) : Type 0 where

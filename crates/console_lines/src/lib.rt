@@ -5,7 +5,7 @@ pub use end::{End, OutputsFault, Unwritten};
 pub use ending::{end_of_output, end_of_outputs, tell_result};
 pub use fault::{Fault, tell};
 pub use numbered::write_numbered;
-pub use results::{made_text, refused_text, results_text, totals_text};
+pub use results::{made_line, refused_lines, results_text, totals_line};
 pub use totals::{Sums, Totals};
 
 mod end;

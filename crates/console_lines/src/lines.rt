@@ -81,7 +81,7 @@ fn reason(alloc: Global, refusal: Refusal) -> Result<String, NoMemory>
 
 /// The line of a refused piece of a file.
 #[tactic(auto, unfolding(crate::specs::Lines::refused_line))]
-pub fn line_of_refused(alloc: Global, file: &str, item: &RefusedItem) -> Result<String, NoMemory>
+pub fn refused_line(alloc: Global, file: &str, item: &RefusedItem) -> Result<String, NoMemory>
     ensures { IfOk result (λ text. string_bytes text ≡ refused_line file.now item.now) }
 {
     let ordinal = item.ordinal;

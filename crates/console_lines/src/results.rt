@@ -1,7 +1,7 @@
 ghost use Rattle.std.specs.Prelude.{◌≡◌, ◌++◌, IfOk, string_bytes};
 ghost use Rattle.console_lines.specs.Lines.{refused_lines, sums_text, totals_line, made_line};
 
-use crate::lines::line_of_refused;
+use crate::lines::refused_line;
 use crate::totals::{Sums, Totals};
 use file_entries::RefusedItem;
 use marc_types::NoMemory;
@@ -23,7 +23,7 @@ fn sums_text(alloc: Global, sums: &Sums) -> Result<String, NoMemory>
 
 /// The line of what was counted of a file.
 #[tactic(auto, unfolding(crate::specs::Lines::totals_line))]
-pub fn totals_text(alloc: Global, file: &str, totals: &Totals) -> Result<String, NoMemory>
+pub fn totals_line(alloc: Global, file: &str, totals: &Totals) -> Result<String, NoMemory>
     ensures { IfOk result (λ text. string_bytes text ≡ totals_line file.now totals.now) }
 {
     let accepted = totals.accepted;
@@ -34,7 +34,7 @@ pub fn totals_text(alloc: Global, file: &str, totals: &Totals) -> Result<String,
 
 /// The line of a workload that was made, with so many records.
 #[tactic(auto, unfolding(crate::specs::Lines::made_line))]
-pub fn made_text(alloc: Global, count: u64, sums: &Sums) -> Result<String, NoMemory>
+pub fn made_line(alloc: Global, count: u64, sums: &Sums) -> Result<String, NoMemory>
     ensures { IfOk result (λ text. string_bytes text ≡ made_line count sums.now) }
 {
     let text = sums_text(alloc, sums)?;
@@ -42,12 +42,12 @@ pub fn made_text(alloc: Global, count: u64, sums: &Sums) -> Result<String, NoMem
 }
 
 /// The lines of a file's refused pieces.
-pub fn refused_text(alloc: Global, file: &str, refused: &[RefusedItem]) -> Result<String, NoMemory>
+pub fn refused_lines(alloc: Global, file: &str, refused: &[RefusedItem]) -> Result<String, NoMemory>
     ensures { IfOk result (λ text. string_bytes text ≡ refused_lines file.now refused.now) }
 {
     let mut text = String::new(alloc);
     for item in refused {
-        let line = line_of_refused(alloc, file, item)?;
+        let line = refused_line(alloc, file, item)?;
         text.push_str(line.as_str())?;
     }
     Ok(text)
@@ -62,8 +62,8 @@ pub fn results_text(
 ) -> Result<String, NoMemory>
     ensures { IfOk result (λ text. string_bytes text ≡ refused_lines file.now refused.now ++ totals_line file.now totals.now) }
 {
-    let mut text = refused_text(alloc, file, refused)?;
-    let line = totals_text(alloc, file, totals)?;
+    let mut text = refused_lines(alloc, file, refused)?;
+    let line = totals_line(alloc, file, totals)?;
     text.push_str(line.as_str())?;
     Ok(text)
 }

@@ -6,12 +6,12 @@ use Rattle.marc_types.specs.declared.entry.Entry.{Entry}
 use Rattle.outside.specs.Disk.{DiskView, LeavesOnly}
 use Rattle.commit_journal.specs.declared.frame.Frame.{Frame}
 use Rattle.commit_journal.specs.Journal as journal
-use Rattle.commit_journal.specs.Journal.{IsSettled}
+use Rattle.commit_journal.specs.Journal.{IsDurableLog}
 use Rattle.catalogue_core.specs.Catalogues.{Catalogued, with_kept, without_staged}
 use Rattle.entry_history.specs.Batches.{IsBatch, batch_payload}
 use Rattle.entry_history.specs.Payloads.{IsEntry, CanFollow, Holds, Newer}
 use Rattle.durable_catalogue.specs.Durables.{mark_of, marked, IsKept}
-use Rattle.durable_catalogue.specs.Images.{HasFrameOrNot}
+use Rattle.durable_catalogue.specs.Images.{HasCommitOrNot}
 use Rattle.durable_catalogue.specs.Staged.{with_all_staged}
 use Rattle.durable_catalogue.proofs.Histories.{batch_held}
 use Rattle.durable_catalogue.proofs.Keeping.{IsDisk, frame_or_not}
@@ -51,26 +51,26 @@ undone_now core staged now items unstaged stages undoes = undoes ∙ ap without_
 pub record FindsFrame (opened : ℕ) (entries more : List Entry) (before first old : DiskView) (frame : Frame) : Type 0 where
   pub kept : IsKept opened entries [] before first old
   pub disk : IsDisk old
-  pub settled : IsSettled frame.gate 2 old
+  pub settled : IsDurableLog frame.gate 2 old
   pub payload_is : frame.payload ≡ batch_payload more
   pub held : Holds 2 entries more frame.payload
 
 pub finds_frame : (opened : ℕ) (entries more given : List Entry) (mark : Option (Snapshot (List Entry))) (run place version : ℕ) (payload : List ℕ)
     (before first old : DiskView) → is_some mark ≡ false → IsKept opened entries (marked (mark_of mark)) before first old
     → ((b : List ℕ) → old.content ≡ Some b → old.image b) → ((c : List ℕ) → old.left old.moment c → old.image c)
-    → IsSettled place version old → version ≡ 2 → CanFollow entries run → more ≢ [] → IsBatch more → given ≡ more → All IsEntry given
+    → IsDurableLog place version old → version ≡ 2 → CanFollow entries run → more ≢ [] → IsBatch more → given ≡ more → All IsEntry given
     → All (λ e. e.run ≡ run) more → payload ≡ batch_payload more
     → FindsFrame opened entries more before first old (record { gate = place; payload = payload })
 finds_frame opened entries more given mark run place version payload before first old whole kept image only settled newest follows some batch same each runs is = record {
   kept = subst (λ es. IsKept opened entries es before first old) (none_marked mark whole) kept;
   disk = record { content_is_image = image; only_now = only };
-  settled = subst (λ v. IsSettled place v old) newest settled;
+  settled = subst (λ v. IsDurableLog place v old) newest settled;
   payload_is = is;
   held = frame_held entries more payload run follows some batch (subst (All IsEntry) same each) runs is;
 }
 
 -- what the append leaves, in the words of entries
 pub frame_left : (opened : ℕ) (entries more : List Entry) (before first old new : DiskView) (frame : Frame) → FindsFrame opened entries more before first old frame
-    → (log : List ℕ) → old.content ≡ Some log → LeavesOnly old new (journal.HasFrameOrNot log frame) → LeavesOnly old new (HasFrameOrNot entries more log)
+    → (log : List ℕ) → old.content ≡ Some log → LeavesOnly old new (journal.HasFrameOrNot log frame) → LeavesOnly old new (HasCommitOrNot entries more log)
 frame_left opened entries more before first old new frame finds log told leaves =
     frame_or_not opened entries before first old finds.kept finds.disk frame.gate finds.settled frame more finds.held new log told finds.payload_is leaves

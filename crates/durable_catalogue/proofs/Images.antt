@@ -6,10 +6,10 @@ use Rattle.std.specs.Coded.{Coded-set, coded_ℕ}
 use Rattle.marc_types.specs.declared.entry.Entry.{Entry}
 use Rattle.commit_journal.specs.Log.{version_of}
 use Rattle.durable_catalogue.specs.Logs.{IsLogOf}
-use Rattle.durable_catalogue.specs.Images.{Reaches, Holds}
+use Rattle.durable_catalogue.specs.Images.{Reaches, HoldsEntries}
 
 -- whatever an image holds, it is of version 2
-pub holds_newest : (least : ℕ) (entries marked : List Entry) (image : List ℕ) → Holds least entries marked image → version_of image ≡ 2
+pub holds_newest : (least : ℕ) (entries marked : List Entry) (image : List ℕ) → HoldsEntries least entries marked image → version_of image ≡ 2
 holds_newest least entries marked image holds = ∥∥₁_elim holds (Coded-set coded_ℕ _ _) (λ (r : Reaches least entries marked image). r.newest)
 
 -- an image of version 2 of some of the entries, and of none of the marked ones

@@ -9,13 +9,13 @@ use Rattle.commit_journal.specs.declared.frame.Frame.{Frame}
 use Rattle.commit_journal.specs.declared.format.TheConstants.{LENGTH_BYTES}
 use Rattle.commit_journal.specs.Log.{frames_of, version_of}
 use Rattle.commit_journal.specs.Journal as journal
-use Rattle.commit_journal.specs.Journal.{and_frame, Continues, IsSettled}
+use Rattle.commit_journal.specs.Journal.{and_frame, Continues, IsDurableLog}
 use Rattle.commit_journal.proofs.Logs.{version_two}
 use Rattle.entry_record.specs.History.{IsWithin}
 use Rattle.entry_history.specs.Batches.{batch_payload}
 use Rattle.entry_history.specs.Payloads.{Holds}
 use Rattle.durable_catalogue.specs.Logs.{IsLogOf, HasHistory}
-use Rattle.durable_catalogue.specs.Images.{Reaches, HasFrameOrNot, framed_lengths}
+use Rattle.durable_catalogue.specs.Images.{Reaches, HasCommitOrNot, framed_lengths}
 use Rattle.durable_catalogue.specs.Durables.{IsKept, IsLeft, opening}
 use Rattle.durable_catalogue.proofs.Framed.{framed_append, held_together}
 use Rattle.durable_catalogue.proofs.Readings.{either_reading, longer_reading}
@@ -46,7 +46,7 @@ module _ (opened : ℕ) (entries : List Entry) (before first old : DiskView) (ke
   told_now : is_some before.content ≡ true → (log : List ℕ) × (old.content ≡ Some log)
   told_now told = some_of old.content (kept.tells ∙ told)
 
-  module _ (place : ℕ) (settled : IsSettled place 2 old) (frame : Frame) (more : List Entry) (held : Holds 2 entries more frame.payload) where
+  module _ (place : ℕ) (settled : IsDurableLog place 2 old) (frame : Frame) (more : List Entry) (held : Holds 2 entries more frame.payload) where
     held_in : (log : List ℕ) → old.content ≡ Some log → Holds (version_of log) entries more frame.payload
     held_in log told = subst (λ v. Holds v entries more frame.payload) (sym (version_two log (settled.header log told))) held
 
@@ -106,7 +106,7 @@ module _ (opened : ℕ) (entries : List Entry) (before first old : DiskView) (ke
           since_left c now earlier (inr is) = now is
 
       -- an append that succeeded commits them
-      pub kept_committed : (next : ℕ) → IsSettled next 2 new
+      pub kept_committed : (next : ℕ) → IsDurableLog next 2 new
           → ((b c : List ℕ) → old.content ≡ Some b → new.content ≡ Some c → frames_of c ≡ and_frame (frames_of b) frame)
           → IsKept opened (entries ++ more) [] before first new
       kept_committed next now_settled appended = record {
@@ -149,33 +149,33 @@ module _ (opened : ℕ) (entries : List Entry) (before first old : DiskView) (ke
 
     -- what an append leaves, in the words of entries
     pub frame_or_not : (new : DiskView) (log : List ℕ) → old.content ≡ Some log → frame.payload ≡ batch_payload more
-        → LeavesOnly old new (journal.HasFrameOrNot log frame) → LeavesOnly old new (HasFrameOrNot entries more log)
+        → LeavesOnly old new (journal.HasFrameOrNot log frame) → LeavesOnly old new (HasCommitOrNot entries more log)
     frame_or_not new log told payload leaves = record {
       now = λ c image. told_left c (leaves.now c image);
       each = λ c left. told_left c (leaves.each c left);
       since = λ t c before_now left. or_left c (leaves.since t c before_now left);
     }
       where
-        told_left : (c : List ℕ) → journal.HasFrameOrNot log frame c → HasFrameOrNot entries more log c
+        told_left : (c : List ℕ) → journal.HasFrameOrNot log frame c → HasCommitOrNot entries more log c
         told_left c left = record {
           history = left_either log c told left;
           newest = left_newest log c told left;
           no_longer = subst (λ p. length c ≤ length log + LENGTH_BYTES + length p + 1) payload left.no_longer;
         }
 
-        or_left : (c : List ℕ) {P : Type 0} → P ⊎ journal.HasFrameOrNot log frame c → P ⊎ HasFrameOrNot entries more log c
+        or_left : (c : List ℕ) {P : Type 0} → P ⊎ journal.HasFrameOrNot log frame c → P ⊎ HasCommitOrNot entries more log c
         or_left c (inl was) = inl was
         or_left c (inr is) = inr (told_left c is)
 
   -- a disk that nobody called
-  pub still_only : (log : List ℕ) (more : List Entry) → OnlyContent old → old.content ≡ Some log → LeavesOnly old old (HasFrameOrNot entries more log)
+  pub still_only : (log : List ℕ) (more : List Entry) → OnlyContent old → old.content ≡ Some log → LeavesOnly old old (HasCommitOrNot entries more log)
   still_only log more only told = record {
     now = λ c image. still c (only log c told image);
     each = λ c left. still c (only log c told (disk.only_now c left));
     since = λ t c before_now left. inl left;
   }
     where
-      still : (c : List ℕ) → c ≡ log → HasFrameOrNot entries more log c
+      still : (c : List ℕ) → c ≡ log → HasCommitOrNot entries more log c
       still c is = record {
         history = ∥∥₁_map (subst (HasHistory entries) (sym is) (told_history log told)) (λ reading. inl reading);
         newest = ap version_of is ∙ told_newest log told;

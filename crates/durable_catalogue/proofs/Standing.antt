@@ -12,7 +12,7 @@ use Rattle.catalogue_rules.specs.Receipt as definition
 use Rattle.catalogue_tables.specs.Stands.{field_standing, stands_as}
 use Rattle.catalogue_tables.specs.declared.standing.Standing.{Standing}
 use Rattle.catalogue_tables.specs.declared.standing.Standing.TheVariants.{Linked, Ambiguous, Unlinked, NoHeading}
-use Rattle.durable_catalogue.specs.Told.{Told, ToldLinked, ToldAmbiguous, ToldUnlinked, ToldNoHeading, told_by, field_told}
+use Rattle.catalogue_core.specs.Told.{Told, ToldLinked, ToldAmbiguous, ToldUnlinked, ToldNoHeading, told_by, field_told}
 
 -- a linked field is told by its key
 pub told_linked : (all : List Linkable) (class : Class) (h : KeptField) (key : Key) → h.tie.key ≡ Some key → field_told all class h ≡ ToldLinked key

@@ -13,7 +13,7 @@ use Rattle.entry_history.specs.Events.{committed}
 use Rattle.entry_history.specs.declared.event.Event.{Event}
 use Rattle.entry_history.specs.declared.reply.BatchReply.{BatchReply}
 use Rattle.entry_history.specs.declared.event.Event.TheVariants.{Broke}
-use Rattle.durable_catalogue.specs.Images.{Holds, framed_lengths}
+use Rattle.durable_catalogue.specs.Images.{HoldsEntries, framed_lengths}
 
 -- the frame that a device failed to take, as its entries
 abbrev pub mark_of : Option (Snapshot (List Entry)) → Option (List Entry)
@@ -73,8 +73,8 @@ opening limits run opened before first = record {
 -- those of the opening; none is longer than the log when it was open, with a frame for each entry since then and for each marked one.
 -- The opening's first sync stays the first. Before is that disk, first the one that the opening left.
 pub record IsKept (opened : ℕ) (entries more : List Entry) (before first now : DiskView) : Type 0 where
-  pub images : (c : List ℕ) → is_some before.content ≡ true → now.image c → Holds (length entries) entries more c
-  pub since : (s : ℕ) (c : List ℕ) → is_some before.content ≡ true → first.synced before.moment ≡ Some s → now.left s c → Holds opened entries more c
+  pub images : (c : List ℕ) → is_some before.content ≡ true → now.image c → HoldsEntries (length entries) entries more c
+  pub since : (s : ℕ) (c : List ℕ) → is_some before.content ≡ true → first.synced before.moment ≡ Some s → now.left s c → HoldsEntries opened entries more c
   pub longest : (c : List ℕ) → is_some before.content ≡ true → now.image c
       → length c + framed_lengths (take opened entries) ≤ first.len + framed_lengths (entries ++ more)
   pub syncs : (s : ℕ) → first.synced before.moment ≡ Some s → now.synced before.moment ≡ Some s
@@ -90,8 +90,8 @@ pub record IsKept (opened : ℕ) (entries more : List Entry) (before first now :
 -- the log when it was open, with a frame for each entry since then and for each of that frame. All of it is within the limits of the
 -- opening, that frame included.
 pub record IsLeft (o : Opening) (entries more : List Entry) (disk : DiskView) : Type 0 where
-  pub images : (c : List ℕ) → o.tells ≡ true → disk.image c → Holds (length entries) entries more c
-  pub since : (s : ℕ) (c : List ℕ) → o.tells ≡ true → o.synced ≡ Some s → disk.left s c → Holds o.opened entries more c
+  pub images : (c : List ℕ) → o.tells ≡ true → disk.image c → HoldsEntries (length entries) entries more c
+  pub since : (s : ℕ) (c : List ℕ) → o.tells ≡ true → o.synced ≡ Some s → disk.left s c → HoldsEntries o.opened entries more c
   pub longest : (c : List ℕ) → o.tells ≡ true → disk.image c → length c + framed_lengths (take o.opened entries) ≤ o.length + framed_lengths (entries ++ more)
   pub syncs : (s : ℕ) → o.synced ≡ Some s → disk.synced o.moment ≡ Some s
   pub tells : is_some disk.content ≡ o.tells

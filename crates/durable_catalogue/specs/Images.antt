@@ -16,12 +16,12 @@ pub record Reaches (least : ℕ) (entries marked : List Entry) (image : List ℕ
   pub within : count ≤ length (entries ++ marked)
   pub whole : length entries < count → count ≡ length (entries ++ marked)
 
-abbrev pub Holds : ℕ → List Entry → List Entry → List ℕ → Type 0
-Holds least entries marked image = ∥ Reaches least entries marked image ∥₁
+abbrev pub HoldsEntries : ℕ → List Entry → List Entry → List ℕ → Type 0
+HoldsEntries least entries marked image = ∥ Reaches least entries marked image ∥₁
 
 -- what the commit of a frame may leave: the history before, or that and all of the frame, of version 2 and in no more bytes than the
 -- log with the frame and one gate
-pub record HasFrameOrNot (before frame : List Entry) (log image : List ℕ) : Type 0 where
+pub record HasCommitOrNot (before frame : List Entry) (log image : List ℕ) : Type 0 where
   pub history : ∥ IsLogOf before image ⊎ IsLogOf (before ++ frame) image ∥₁
   pub newest : version_of image ≡ 2
   pub no_longer : length image ≤ length log + LENGTH_BYTES + length (batch_payload frame) + 1

@@ -5,12 +5,12 @@ use Rattle.outside.specs.Disk.{DiskView}
 use Rattle.durable_catalogue.specs.Logs.{IsLogOf}
 
 -- an image with these entries, and maybe others behind them
-pub record HasFront (entries : List Entry) (image : List ℕ) : Type 0 where
+pub record BeginsWithEntries (entries : List Entry) (image : List ℕ) : Type 0 where
   pub more : List Entry
   pub has : IsLogOf (entries ++ more) image
 
 abbrev pub StartsWith : List Entry → List ℕ → Type 0
-StartsWith entries image = ∥ HasFront entries image ∥₁
+StartsWith entries image = ∥ BeginsWithEntries entries image ∥₁
 
 -- A call adds to the entries and takes none away, whatever it answers. A crash at any moment of it leaves what it might have left
 -- before, or an image that starts with the entries that were committed before the call.

@@ -10,5 +10,4 @@ pub mod Openings
 pub mod Questions
 pub mod Refused
 pub mod Staged
-pub mod Told
 pub mod Views

@@ -1,23 +1,16 @@
 -- What is asked of a catalogue over a journal. The rules are this project's own.
 use Rattle.std.specs.Prelude.{◌≡◌, List, Option, Some, None, Result, IfOk}
-use Rattle.std.specs.Borrow.{Bor}
 use Rattle.std.specs.Option.{option_map}
-use Rattle.marc_types.specs.declared.field.Field.{Field}
-use Rattle.marc_types.specs.declared.entry.Tie.{Tie}
 use Rattle.marc_types.specs.declared.key.Place.{Place}
 use Rattle.marc_types.specs.declared.copying.NoMemory.{NoMemory}
 use Rattle.record_store.specs.Store.{field_under}
-use Rattle.catalogue_rules.specs.State.{KeptField, State, kept_field, linkable_authorities}
+use Rattle.catalogue_rules.specs.State.{State, linkable_authorities}
 use Rattle.catalogue_rules.specs.Settle.{state_of}
-use Rattle.durable_catalogue.specs.Told.{Told, ToldLinked, ToldAmbiguous, ToldUnlinked, ToldNoHeading, field_told}
+use Rattle.catalogue_core.specs.Told.{Told, ToldLinked, ToldAmbiguous, ToldUnlinked, ToldNoHeading, field_told}
 use Rattle.entry_history.specs.Events.{entries_of}
 use Rattle.entry_history.specs.declared.event.Event.{Event}
 use Rattle.durable_catalogue.specs.declared.seen.Seen.{Seen}
 use Rattle.durable_catalogue.specs.declared.seen.Seen.TheVariants.{Linked, Ambiguous, Unlinked, NoHeading, Absent}
-
--- a field and its tie, as they are lent
-abbrev pub field_as : Bor Field × Bor Tie → KeptField
-field_as found = kept_field found.0.now found.1.now
 
 -- what is told of a field, where there is one
 abbrev pub told : Seen → Option Told

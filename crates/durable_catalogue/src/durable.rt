@@ -4,7 +4,7 @@ ghost use Rattle.marc_types.specs.declared.entry.Entry.{Entry};
 ghost use Rattle.marc_types.specs.declared.entry.CommitFault.TheVariants.{DeviceFault};
 ghost use Rattle.outside.specs.Disk.{LeavesOnly};
 ghost use Rattle.outside.specs.Fault.{Rose};
-ghost use Rattle.commit_journal.specs.Journal.{IsSettled};
+ghost use Rattle.commit_journal.specs.Journal.{IsDurableLog};
 ghost use Rattle.commit_journal.specs.Log.{version_of};
 ghost use Rattle.entry_record.specs.History.{with_run, next_run, IsWithin};
 ghost use Rattle.catalogue_rules.specs.Receipts.{receipts_behind};
@@ -14,7 +14,7 @@ ghost use Rattle.entry_history.specs.declared.event.Event.{Event};
 ghost use Rattle.durable_catalogue.specs.Logs.{HasHistory};
 ghost use Rattle.durable_catalogue.specs.declared.fault.OpenFault.{OpenFault};
 ghost use Rattle.durable_catalogue.specs.Opened.{IsOpenedDisk, IsRefusedDisk};
-ghost use Rattle.durable_catalogue.specs.Images.{Holds, HasFrameOrNot};
+ghost use Rattle.durable_catalogue.specs.Images.{HoldsEntries, HasCommitOrNot};
 ghost use Rattle.durable_catalogue.specs.Lasting.{GoesOn};
 ghost use Rattle.durable_catalogue.specs.Durables.{mark_of, marked, events, is_taken, TookNothing, opening, IsKept, IsLeft, IsLostBy, IsSameOpening};
 
@@ -150,7 +150,7 @@ impl<D: Disk> Durable<D> {
         ensures few { length (marked (mark_of self.mark)) ≤ 32 }
 
         // Without a mark the log ends with its closed gate, and is all that a crash may leave; it has exactly the history.
-        ensures settled { self.mark ≡ None → IsSettled self.journal.place 2 (D.seen result) }
+        ensures settled { self.mark ≡ None → IsDurableLog self.journal.place 2 (D.seen result) }
         ensures whole { self.mark ≡ None → (log c : List ℕ) → (D.seen result).content ≡ Some log → (D.seen result).image c → HasHistory self.core.history c }
         ensures cause { is_some self.mark ≡ true → Rose (D.seen self.before.value).faults (D.seen result).faults }
     {
@@ -171,7 +171,7 @@ impl<D: Disk> Durable<D> {
         ensures nothing { OnErr result (self.new.core.history ≡ self.old.core.history) }
         ensures fault { IfErr result (λ fault. IsLostBy fault (mark_of self.new.mark) frame) }
         ensures crash { (log : List ℕ) → (D.seen self.old.journal.disk).content ≡ Some log → LeavesOnly (D.seen self.old.journal.disk) (D.seen self.new.journal.disk)
-            (HasFrameOrNot self.old.core.history frame log) }
+            (HasCommitOrNot self.old.core.history frame log) }
         ensures quiet { IfErr result (λ fault. fault ≢ DeviceFault → self.new.journal ≡ self.old.journal) }
         ensures later { (D.seen self.old.journal.disk).moment ≤ (D.seen self.new.journal.disk).moment }
         ensures cause { IfErr result (λ fault. fault ≡ DeviceFault → Rose (D.seen self.old.journal.disk).faults (D.seen self.new.journal.disk).faults) }
@@ -213,13 +213,13 @@ impl<D: Disk> Durable<D> {
         // Each image at each moment of the call, and the images at its end where the frame is committed.
         ensures crash { (log : List ℕ) → is_some self.old.mark ≡ false → (D.seen self.old.journal.disk).content ≡ Some log
             → LeavesOnly (D.seen self.old.journal.disk) (D.seen self.new.journal.disk)
-            (HasFrameOrNot self.old.core.history (fitting self.old.limits self.old.core.history (with_run self.old.run batch)) log) }
+            (HasCommitOrNot self.old.core.history (fitting self.old.limits self.old.core.history (with_run self.old.run batch)) log) }
         ensures all { (log c : List ℕ) → is_taken result.end ≡ true → (D.seen self.new.journal.disk).content ≡ Some log
             → (D.seen self.new.journal.disk).image c → HasHistory self.new.core.history c }
 
         // Each image at the end of the call has all that was committed by then, whatever this call and those before it answered.
         ensures held { (c : List ℕ) → is_some (D.seen self.new.before.value).content ≡ true → (D.seen self.new.journal.disk).image c
-            → Holds (length self.new.core.history) self.new.core.history (marked (mark_of self.new.mark)) c }
+            → HoldsEntries (length self.new.core.history) self.new.core.history (marked (mark_of self.new.mark)) c }
 
         // What was committed before stays at each moment of the call, whatever it answers; an end that is none or Full says that the
         // frame is committed too, and behind a device fault at most 32 entries are in doubt.

@@ -10,7 +10,7 @@ use crate::log::HistoryLog;
 use crate::taker::EntryTaker;
 use durable_catalogue::OpenFault;
 use outside::Room;
-use room_files::JOURNAL_LIMITS;
+use room_files::{JOURNAL_LIMITS, close_refused};
 use std::alloc::Global;
 
 /// Opens the file of that name, a log of either version, and hands its entries on. A fault closes it again; any front of the entries
@@ -40,11 +40,7 @@ pub fn open_history<R: Room, T: EntryTaker>(
     };
     match HistoryLog::open(alloc, log, JOURNAL_LIMITS, taker) {
         Ok(history) => Ok(history),
-        Err(failed) => {
-            let (log, fault) = failed;
-            room.close_log(name, log);
-            Err(fault)
-        }
+        Err(refused) => Err(close_refused(room, name, refused)),
     }
 }
 

@@ -10,10 +10,10 @@ ghost use Rattle.holdings.specs.Shelves.{written_holding, target_of_row, holding
 ghost use Rattle.holdings.specs.ByTarget.{target_cmp, is_below_key, is_upto_key, IsPlace};
 
 use crate::packed::PackedHolding;
-use crate::packed_key::PackedKey;
 use crate::shelf::HoldingShelf;
 use marc_types::{Key, NoMemory};
 use outside::{Failed, Sink};
+use packed_keys::PackedKey;
 use std::alloc::{AllocError, Global};
 use std::cmp::Ordering;
 use std::marker::Model;

@@ -5,7 +5,6 @@ pub use admission::admit_holding;
 pub use groups::HoldingGroups;
 pub use holding::{Holding, HoldingContent};
 pub use packed::PackedHolding;
-pub use packed_key::PackedKey;
 pub use refusal::{HoldingFault, HoldingRefusal};
 pub use shelf::HoldingShelf;
 
@@ -13,7 +12,6 @@ mod admission;
 mod groups;
 mod holding;
 mod packed;
-mod packed_key;
 mod refusal;
 mod shelf;
 mod texts;

@@ -3,10 +3,10 @@ ghost use Rattle.marc_types.specs.Valid.{is_number};
 ghost use Rattle.holdings.specs.Shelves.{shelved, target_of_row};
 
 use crate::holding::HoldingContent;
-use crate::packed_key::PackedKey;
-use crate::texts::{code_text, number_text};
+use crate::texts::number_text;
 use iso2709_record::{encode_into, encoded_len};
 use marc_types::{Key, NoMemory};
+use packed_keys::PackedKey;
 use std::alloc::Global;
 use std::marker::Model;
 
@@ -64,10 +64,9 @@ impl PackedHolding {
     pub fn target(&self, alloc: Global, key: &PackedKey) -> Result<Key, NoMemory>
         ensures { IfOk result (λ target. target ≡ target_of_row (key.now, self.now)) }
     {
-        let code = Vec::from_slice(alloc, key.code())?;
         let number = Vec::from_slice(alloc, self.target_number())?;
         Ok(Key {
-            code: code_text(code),
+            code: key.code_text(alloc)?,
             number: number_text(number),
         })
     }

@@ -3,7 +3,6 @@ ghost use Rattle.holdings.specs.Refusals.{number_of_refusal, fault_of_record};
 ghost use Rattle.holdings.specs.declared.refusal.HoldingFault.TheVariants.{NoMemory as memory};
 
 use marc_types::{NoMemory, RecordFault, Refusal};
-use std::alloc::AllocError;
 
 /// Why a record isn't taken as a holding.
 #[derive(Clone, Copy, Debug, PartialEq, Eq)]
@@ -49,14 +48,6 @@ impl From<NoMemory> for HoldingFault {
     ghost from_gives = { λ _ fault. fault ≡ memory };
 
     fn from(_error: NoMemory) -> HoldingFault {
-        HoldingFault::NoMemory
-    }
-}
-
-impl From<AllocError> for HoldingFault {
-    ghost from_gives = { λ _ fault. fault ≡ memory };
-
-    fn from(_error: AllocError) -> HoldingFault {
         HoldingFault::NoMemory
     }
 }

@@ -4,8 +4,8 @@ ghost use Rattle.holdings.specs.Shelves.{take_holding};
 
 use crate::holding::Holding;
 use crate::packed::PackedHolding;
-use crate::packed_key::PackedKey;
 use marc_types::NoMemory;
+use packed_keys::PackedKey;
 use std::alloc::Global;
 use std::collections::BTreeMap;
 use std::collections::btree_map::Iter;

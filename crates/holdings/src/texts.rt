@@ -1,5 +1,5 @@
 ghost use Rattle.std.specs.Prelude.{◌≡◌, IsTrue};
-ghost use Rattle.marc_types.specs.Valid.{is_code, is_number};
+ghost use Rattle.marc_types.specs.Valid.{is_number};
 
 use marc_types::Text;
 
@@ -10,18 +10,6 @@ pub(crate) fn number_text(number: Vec<u8>) -> Text
     ensures { result ≡ number.items }
 {
     match String::from_utf8(number) {
-        Ok(text) => Text::from_string(text),
-        Err(_) => unreachable!(),
-    }
-}
-
-/// A code of graphic characters as a text.
-#[tactic(auto, unfolding(marc_types::specs::Valid::is_code), using(entry_record::proofs::Graphic::text_of_graphic, entry_record::proofs::Graphic::code_is_graphic))]
-pub(crate) fn code_text(code: Vec<u8>) -> Text
-    requires { IsTrue (is_code code.items) }
-    ensures { result ≡ code.items }
-{
-    match String::from_utf8(code) {
         Ok(text) => Text::from_string(text),
         Err(_) => unreachable!(),
     }

@@ -13,7 +13,7 @@ use Rattle.entry_record.specs.History.{IsWithin}
 use Rattle.durable_catalogue.specs.Openings.{IsUnopened}
 use Rattle.durable_catalogue.specs.declared.fault.OpenFault.{OpenFault}
 use Rattle.durable_catalogue.specs.declared.fault.OpenFault.TheVariants as opening
-use Rattle.console_lines.specs.Ends.{Outcome, IsTold, IsUntold, IsSilent, IsResultTold, ResultTold, ResultUntold, out_unwritten, console_unwritten}
+use Rattle.console_lines.specs.Ends.{Outcome, IsTold, TellsNoFault, IsSilent, IsResultTold, ResultTold, ResultUntold, out_unwritten, console_unwritten}
 use Rattle.console_lines.specs.declared.end.End.{End}
 use Rattle.console_lines.specs.declared.end.End.TheVariants.{Done, Refused, Unwritten as NotWritten, Told}
 use Rattle.console_lines.specs.declared.end.Unwritten.{Unwritten}
@@ -35,7 +35,7 @@ use Rattle.holdings.specs.Shelves.{shelf_of}
 use Rattle.file_holdings.specs.declared.refused.RefusedHolding.{RefusedHolding}
 use Rattle.holdings_export.specs.Output.{holdings_export, holdings_rest}
 use Rattle.holdings_command.specs.Lines.{holdings_results}
-use Rattle.holdings_command.specs.Shelving.{EndsShelving}
+use Rattle.holdings_command.specs.Shelving.{IsFaultOfShelving}
 use Rattle.holdings_command.specs.Ready.{IsReady}
 use Rattle.holdings_command.specs.Outputs.{AreWritten, AreStopped, AtFirst, AtSecond}
 use Rattle.holdings_command.specs.Attaching.{rest_unwritten, EndsAttaching, Due, due_of, IsDelivered, OutFailed, RestFailed, ConsoleFailed, Whole, IsAttached, AttachesHoldings}
@@ -51,7 +51,7 @@ ends_unopened opening.Full current = tt
 ends_unopened opening.NoMemory current = tt
 
 -- a fault of reading the file is one of this command, and none of a device
-ends_unread : (why : Fault) → EndsShelving why → EndsAttaching (Told why)
+ends_unread : (why : Fault) → IsFaultOfShelving why → EndsAttaching (Told why)
 ends_unread Input is = tt
 ends_unread Memory is = tt
 ends_unread Usage is = absurd is
@@ -61,7 +61,7 @@ ends_unread Full is = absurd is
 ends_unread OldVersion is = absurd is
 ends_unread OtherHistory is = absurd is
 
-because_unread : (room : RoomView) (journal : List ℕ) (why : Fault) → EndsShelving why → why ≢ Input → WhyUnopened room journal why
+because_unread : (room : RoomView) (journal : List ℕ) (why : Fault) → IsFaultOfShelving why → why ≢ Input → WhyUnopened room journal why
 because_unread room journal Input is other = absurd (other refl)
 because_unread room journal Memory is other = record { reason = opening.NoMemory; is = refl; so = λ tells. tt }
 because_unread room journal Usage is other = absurd is
@@ -71,7 +71,7 @@ because_unread room journal Full is other = absurd is
 because_unread room journal OldVersion is other = absurd is
 because_unread room journal OtherHistory is other = absurd is
 
-ends_delivered : (end : End) → IsUntold end → EndsAttaching end
+ends_delivered : (end : End) → TellsNoFault end → EndsAttaching end
 ends_delivered Done untold = tt
 ends_delivered Refused untold = tt
 ends_delivered (NotWritten which) untold = tt
@@ -153,7 +153,7 @@ module _ (journal out rest : List ℕ) (library : Library) (code : Option (List 
       told_not_stopped why is (inl also) = told_not_unwritten o.end why Out is also
       told_not_stopped why is (inr also) = told_not_unwritten o.end why Report is also
 
-      not_behind : IsUntold o.end ⊎ (o.end ≡ Told Input) → ⊥
+      not_behind : TellsNoFault o.end ⊎ (o.end ≡ Told Input) → ⊥
       not_behind (inl untold) = never_told o.end (fault_of_opening reason) untold is
       not_behind (inr also) = opening_input reason (told_once o.end (fault_of_opening reason) Input is also)
 
@@ -177,7 +177,7 @@ module _ (journal out rest : List ℕ) (library : Library) (code : Option (List 
 
   module _ (history : List Entry) (r : WasOpened history) where
     -- the file was not read, or memory ran out over it
-    pub attaches_unread : (why : Fault) → EndsShelving why → o.end ≡ Told why → IsTold why o → SameBut o.old o.new (journal ∷ [])
+    pub attaches_unread : (why : Fault) → IsFaultOfShelving why → o.end ≡ Told why → IsTold why o → SameBut o.old o.new (journal ∷ [])
         → (why ≡ Input → Rose (o.old.in_faults library.file) (o.new.in_faults library.file)) → AttachesHoldings journal out rest library code o
     attaches_unread why kind is told apart cause = record {
       ends = subst EndsAttaching (sym is) (ends_unread why kind);
@@ -187,7 +187,7 @@ module _ (journal out rest : List ℕ) (library : Library) (code : Option (List 
           (because_unread o.old journal why kind (λ input. no (sym (told_once o.end why other is also) ∙ input)));
       no_rest = λ also. absurd (told_not_unwritten o.end why Out is also);
       silent = λ either. absurd (told_not_stopped either);
-      device = λ also. absurd (subst EndsShelving (told_once o.end why Device is also) kind);
+      device = λ also. absurd (subst IsFaultOfShelving (told_once o.end why Device is also) kind);
       input = λ also. cause (told_once o.end why Input is also);
       out_cause = λ also. absurd (told_not_unwritten o.end why Out is also);
       rest_cause = λ also. absurd (told_not_unwritten o.end why Report is also);
@@ -202,7 +202,7 @@ module _ (journal out rest : List ℕ) (library : Library) (code : Option (List 
         told_not_stopped (inr also) = told_not_unwritten o.end why Report is also
 
     -- what is due was delivered, as far as it could be
-    pub attaches : IsUntold o.end → (o.end ≡ out_unwritten → SameBut o.old o.new (journal ∷ out ∷ [])) → ((o.end ≡ out_unwritten) ⊎ (o.end ≡ rest_unwritten) → IsSilent o)
+    pub attaches : TellsNoFault o.end → (o.end ≡ out_unwritten → SameBut o.old o.new (journal ∷ out ∷ [])) → ((o.end ≡ out_unwritten) ⊎ (o.end ≡ rest_unwritten) → IsSilent o)
         → (o.end ≡ out_unwritten → Rose (o.old.out_faults out) (o.new.out_faults out))
         → (o.end ≡ rest_unwritten → Rose (o.old.out_faults rest) (o.new.out_faults rest))
         → (o.end ≡ console_unwritten → Rose o.faults o.faults_now) → (ready : Ready)
@@ -237,13 +237,13 @@ module _ (journal out rest : List ℕ) (library : Library) (code : Option (List 
       attaches_stopped which no_journal no_out end silent (AtFirst first up part alone) =
           let here : o.end ≡ out_unwritten = end ∙ ap NotWritten first in
           let untouched : o.new.file rest ≡ o.old.file rest = alone.files rest ((λ e. no_journal (sym e)), ((λ e. no_out (sym e)), tt)) in
-          attaches (subst IsUntold (sym end) tt) (λ also. alone) (λ either. silent) (λ also. up)
+          attaches (subst TellsNoFault (sym end) tt) (λ also. alone) (λ either. silent) (λ also. up)
           (λ also. let no : Out ≡ Report = unwritten_once o.end Out Report here also in cc)
           (λ also. let no : Out ≡ Console = unwritten_once o.end Out Console here also in cc) ready is
           (λ bytes tells. OutFailed here (part tells) untouched silent)
       attaches_stopped which no_journal no_out end silent (AtSecond second up whole part) =
           let here : o.end ≡ rest_unwritten = end ∙ ap NotWritten second in
-          attaches (subst IsUntold (sym end) tt) (λ also. let no : Report ≡ Out = unwritten_once o.end Report Out here also in cc) (λ either. silent)
+          attaches (subst TellsNoFault (sym end) tt) (λ also. let no : Report ≡ Out = unwritten_once o.end Report Out here also in cc) (λ either. silent)
           (λ also. let no : Report ≡ Out = unwritten_once o.end Report Out here also in cc) (λ also. up)
           (λ also. let no : Report ≡ Console = unwritten_once o.end Report Console here also in cc) ready is
           (λ bytes tells. RestFailed here (whole tells) (part tells) silent)

@@ -10,7 +10,7 @@ use Rattle.command_words.specs.declared.library.Library.{Library}
 use Rattle.catalogue_rules.specs.State.{State}
 use Rattle.catalogue_rules.specs.Settle.{state_of}
 use Rattle.durable_catalogue.specs.Logs.{HasHistory}
-use Rattle.console_lines.specs.Ends.{Outcome, IsTold, IsUntold, IsSilent, end_of, out_unwritten, report_unwritten, console_unwritten}
+use Rattle.console_lines.specs.Ends.{Outcome, IsTold, TellsNoFault, IsSilent, end_of, out_unwritten, report_unwritten, console_unwritten}
 use Rattle.console_lines.specs.declared.end.End.{End}
 use Rattle.console_lines.specs.declared.end.End.TheVariants.{Done, Refused, Unwritten, Told}
 use Rattle.console_lines.specs.declared.fault.Fault.{Fault}
@@ -46,7 +46,7 @@ EndsAttaching (Told OtherHistory) = ⊥
 
 -- the ends behind the opening of the journal: without a fault to tell, or with one of the file
 abbrev pub IsBehindOpening : End → Type 0
-IsBehindOpening end = IsUntold end ⊎ (end ≡ Told Input)
+IsBehindOpening end = TellsNoFault end ⊎ (end ≡ Told Input)
 
 -- what is due: in OUT, in REST and on the console, and whether something was refused
 pub record Due : Type 0 where
@@ -104,5 +104,5 @@ pub record AttachesHoldings (journal out rest : List ℕ) (library : Library) (c
   pub history : IsBehindOpening o.end → o.old.tells ≡ true → HasFittingHistory (log_bytes o.old journal)
   pub durable : IsBehindOpening o.end → o.old.tells ≡ true → IsDurable o.new journal
   -- and without a fault to tell the file was there, and what is due of both was delivered
-  pub delivers : (entries : List Entry) → IsUntold o.end → o.old.tells ≡ true → HasHistory entries (log_bytes o.old journal)
+  pub delivers : (entries : List Entry) → TellsNoFault o.end → o.old.tells ≡ true → HasHistory entries (log_bytes o.old journal)
       → IsSomeAnd (o.old.file library.file) (λ bytes. IsAttached library code bytes (state_of entries) out rest o)

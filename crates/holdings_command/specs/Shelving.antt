@@ -16,12 +16,12 @@ pub record IsShelved (library : List ℕ) (items : List Item) (s : Shelved) : Ty
   pub count_is : s.accepted ≡ length accepted
 
 -- the faults that end the reading of a file
-abbrev pub EndsShelving : Fault → Type 0
-EndsShelving Input = Unit {0}
-EndsShelving Memory = Unit {0}
-EndsShelving Usage = ⊥
-EndsShelving Device = ⊥
-EndsShelving (NotAJournal place) = ⊥
-EndsShelving Full = ⊥
-EndsShelving OldVersion = ⊥
-EndsShelving OtherHistory = ⊥
+abbrev pub IsFaultOfShelving : Fault → Type 0
+IsFaultOfShelving Input = Unit {0}
+IsFaultOfShelving Memory = Unit {0}
+IsFaultOfShelving Usage = ⊥
+IsFaultOfShelving Device = ⊥
+IsFaultOfShelving (NotAJournal place) = ⊥
+IsFaultOfShelving Full = ⊥
+IsFaultOfShelving OldVersion = ⊥
+IsFaultOfShelving OtherHistory = ⊥

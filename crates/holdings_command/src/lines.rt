@@ -3,7 +3,7 @@ ghost use Rattle.std.specs.Prelude.{◌≡◌, ◌++◌, ℕ, IfOk, string_bytes
 ghost use Rattle.holdings.specs.declared.refusal.HoldingRefusal.TheVariants.{NoTarget};
 ghost use Rattle.holdings_command.specs.Lines.{refused_holding_line, refused_holding_lines, holdings_line};
 
-use console_lines::refused_text;
+use console_lines::refused_lines;
 use file_entries::RefusedItem;
 use file_holdings::RefusedHolding;
 use holdings::HoldingRefusal;
@@ -26,7 +26,7 @@ fn of_record(
         offset: item.offset,
         refusal,
     };
-    refused_text(alloc, file, &[same])
+    refused_lines(alloc, file, &[same])
 }
 
 /// The line of a piece that names no record.

@@ -4,7 +4,7 @@ ghost use Rattle.outside.specs.Fault.{Rose};
 ghost use Rattle.outside.specs.Room.{SameBut};
 ghost use Rattle.marc_stream.specs.Pieces.{items};
 ghost use Rattle.catalogue_rules.specs.Settle.{state_of};
-ghost use Rattle.holdings_command.specs.Shelving.{EndsShelving, IsShelved};
+ghost use Rattle.holdings_command.specs.Shelving.{IsFaultOfShelving, IsShelved};
 ghost use Rattle.holdings_command.specs.Ready.{IsReady};
 
 use crate::lines::holdings_text;
@@ -67,7 +67,7 @@ pub fn prepare<R: Room>(
         (λ bytes. IsReady library.now bytes (state_of core.now.history) ready)) }
     ensures cause { IfErr result (λ fault. fault ≡ Fault.Input →
         Rose ((R.seen room.old).in_faults library.now.file) ((R.seen room.new).in_faults library.now.file)) }
-    ensures kind { IfErr result EndsShelving }
+    ensures kind { IfErr result IsFaultOfShelving }
 {
     let code = match library.code.copy(alloc) {
         Ok(code) => code,

@@ -3,7 +3,7 @@ ghost use Rattle.std.specs.Prelude.{◌≡◌, ◌≤◌, ℕ, List, true, false
 ghost use Rattle.outside.specs.Fault.{Rose};
 ghost use Rattle.outside.specs.Room.{SameBut};
 ghost use Rattle.marc_stream.specs.Pieces.{items};
-ghost use Rattle.holdings_command.specs.Shelving.{EndsShelving, IsShelved};
+ghost use Rattle.holdings_command.specs.Shelving.{IsFaultOfShelving, IsShelved};
 
 use console_lines::Fault;
 use file_holdings::{FileHoldings, NextHolding, RefusedHolding};
@@ -27,7 +27,7 @@ fn shelve_items<S: Source>(alloc: Global, items: &mut FileHoldings<S>) -> Result
         IsShelved items.old.library items.old.stream.coming shelved) }
     ensures faults { items.old.stream.faults ≤ items.new.stream.faults }
     ensures cause { IfErr result (λ fault. fault ≡ Fault.Input → Rose items.old.stream.faults items.new.stream.faults) }
-    ensures kind { IfErr result EndsShelving }
+    ensures kind { IfErr result IsFaultOfShelving }
 {
     let mut shelf = HoldingShelf::new(alloc);
     let mut refused = Vec::new(alloc);
@@ -60,7 +60,7 @@ fn shelve_source<S: Source>(alloc: Global, source: S, library: Text) -> (Result<
     ensures shelved { IfOk result.0 (λ shelved. (bytes : List ℕ) → S.left source ≡ Some bytes → IsShelved library (items bytes) shelved) }
     ensures later { S.faults source ≤ S.faults result.1 }
     ensures cause { IfErr result.0 (λ fault. fault ≡ Fault.Input → Rose (S.faults source) (S.faults result.1)) }
-    ensures kind { IfErr result.0 EndsShelving }
+    ensures kind { IfErr result.0 IsFaultOfShelving }
 {
     match FileHoldings::new(alloc, source, library) {
         Ok(mut items) => {
@@ -84,7 +84,7 @@ pub fn shelve_file<R: Room>(
         IsSomeAnd ((R.seen room.old).file name.now) (λ bytes. IsShelved library (items bytes) shelved)) }
     ensures cause { IfErr result (λ fault. fault ≡ Fault.Input →
         Rose ((R.seen room.old).in_faults name.now) ((R.seen room.new).in_faults name.now)) }
-    ensures kind { IfErr result EndsShelving }
+    ensures kind { IfErr result IsFaultOfShelving }
 {
     let source = match room.open_in(name) {
         Ok(source) => source,

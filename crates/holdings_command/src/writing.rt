@@ -45,8 +45,7 @@ fn write_selected<R: Room, F: Fn(&Key) -> bool>(
     let written = write_holdings(rows, groups, selection, &mut out);
     let closed = room.close_out(name, out);
     written?;
-    closed?;
-    Ok(())
+    closed
 }
 
 /// Writes the records of a listing with their holdings into the file of that name: all, or those under keys with that code.
@@ -88,8 +87,7 @@ fn write_rest_file<R: Room>(
     let written = waiting.write(&mut out);
     let closed = room.close_out(name, out);
     written?;
-    closed?;
-    Ok(())
+    closed
 }
 
 /// Writes the records of a catalogue with their holdings into the file of that name: all, or those under keys with that code. All

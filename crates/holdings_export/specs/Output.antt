@@ -15,8 +15,8 @@ abbrev pub AreFit : List Row → Type 0
 AreFit rows = All (λ row. fits (fields_of row.1) ≡ true) rows
 
 -- the rows of both classes as a state
-abbrev pub listed : List Row → List Row → State
-listed authorities bibliographic = record { authorities = authorities; bibliographic = bibliographic }
+abbrev pub state_of_rows : List Row → List Row → State
+state_of_rows authorities bibliographic = record { authorities = authorities; bibliographic = bibliographic }
 
 -- each record of a state fits its written form
 pub record IsListed (s : State) : Type 0 where

@@ -4,8 +4,9 @@ ghost use Rattle.catalogue_rules.specs.Settle.{state_of};
 ghost use Rattle.holdings_export.specs.Output.{is_attached, attached_holdings, waiting_holdings};
 
 use catalogue_core::Catalogue;
-use holdings::{HoldingShelf, PackedHolding, PackedKey};
+use holdings::{HoldingShelf, PackedHolding};
 use marc_types::{Class, NoMemory};
+use packed_keys::PackedKey;
 use std::alloc::Global;
 
 /// How many holdings of a shelf belong to a record that is kept, and how many wait for theirs.

@@ -19,13 +19,13 @@ impl<'a> Model for Listing<'a> {
     ghost use Rattle.std.specs.Prelude.{map};
     ghost use Rattle.catalogue_rules.specs.State.{State};
     ghost use Rattle.record_store.specs.Store.{shown_row};
-    ghost use Rattle.holdings_export.specs.Output.{listed, IsListed};
+    ghost use Rattle.holdings_export.specs.Output.{state_of_rows, IsListed};
 
     ghost Value = { State };
 
-    ghost view = { λ l. listed (map shown_row l.authorities.entries) (map shown_row l.bibliographic.entries) };
+    ghost view = { λ l. state_of_rows (map shown_row l.authorities.entries) (map shown_row l.bibliographic.entries) };
 
-    ghost invariant = { λ l. IsListed (listed (map shown_row l.authorities.entries) (map shown_row l.bibliographic.entries)) };
+    ghost invariant = { λ l. IsListed (state_of_rows (map shown_row l.authorities.entries) (map shown_row l.bibliographic.entries)) };
 }
 
 impl<'a> Listing<'a> {

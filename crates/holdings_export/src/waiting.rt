@@ -8,9 +8,10 @@ ghost use Rattle.holdings_export.specs.Output.{is_attached, holdings_rest};
 
 use crate::counts::is_attached;
 use catalogue_core::Catalogue;
-use holdings::{HoldingShelf, PackedHolding, PackedKey};
+use holdings::{HoldingShelf, PackedHolding};
 use marc_types::NoMemory;
 use outside::{Failed, Sink};
+use packed_keys::PackedKey;
 use std::alloc::Global;
 use std::marker::Model;
 

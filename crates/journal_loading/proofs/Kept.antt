@@ -5,7 +5,7 @@ use Rattle.marc_types.specs.declared.entry.Entry.{Entry}
 use Rattle.outside.specs.Room.{RoomView, bytes_or_none}
 use Rattle.command_words.specs.declared.library.Library.{Library}
 use Rattle.console_lines.specs.declared.fault.Fault.{Fault}
-use Rattle.durable_catalogue.specs.Images.{Holds}
+use Rattle.durable_catalogue.specs.Images.{HoldsEntries}
 use Rattle.durable_catalogue.specs.Logs.{IsLogOf, HasHistory}
 use Rattle.durable_catalogue.proofs.Images.{front_of, whole_is}
 use Rattle.loader_workers.specs.declared.result.FileResult.{FileResult}
@@ -18,7 +18,7 @@ some_same : {A : Type 0} {x y : A} → Some x ≡ Some y → x ≡ y
 some_same is = cc
 
 -- an image that has all entries has the history
-whole_history : (entries : List Entry) (image : List ℕ) → Holds (length entries) entries [] image → HasHistory entries image
+whole_history : (entries : List Entry) (image : List ℕ) → HoldsEntries (length entries) entries [] image → HasHistory entries image
 whole_history entries image holds = ∥∥₁_map holds (λ r. whole_is entries image (front_of (length entries) entries image r))
 
 -- a log has one history: another that has it too has each that the first has

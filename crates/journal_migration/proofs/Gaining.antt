@@ -10,7 +10,7 @@ use Rattle.commit_journal.specs.declared.format.TheConstants.{LENGTH_BYTES}
 use Rattle.commit_journal.specs.declared.frame.Frame.{Frame}
 use Rattle.commit_journal.specs.Log.{frames_of, version_of}
 use Rattle.commit_journal.specs.Journal as journal
-use Rattle.commit_journal.specs.Journal.{and_frame, Continues, IsSettled}
+use Rattle.commit_journal.specs.Journal.{and_frame, Continues, IsDurableLog}
 use Rattle.commit_journal.proofs.Logs.{version_two}
 use Rattle.commit_journal.proofs.Steps.{continues_then}
 use Rattle.entry_record.specs.Payload.{payload_of}
@@ -57,7 +57,7 @@ continues_self disk = record {
 abbrev pub IsNewest : DiskView → Type 0
 IsNewest disk = (log : List ℕ) → disk.content ≡ Some log → version_of log ≡ 2
 
-pub settled_newest : (place version : ℕ) (disk : DiskView) → IsSettled place version disk → version ≡ 2 → IsNewest disk
+pub settled_newest : (place version : ℕ) (disk : DiskView) → IsDurableLog place version disk → version ≡ 2 → IsNewest disk
 settled_newest place version disk settled two log told = version_two log (settled.header log told ∙ two)
 
 module _ (disk : DiskView) (only : OnlyContent disk) (last : (c : List ℕ) → disk.left disk.moment c → disk.image c) where
@@ -85,7 +85,7 @@ module _ (disk : DiskView) (only : OnlyContent disk) (last : (c : List ℕ) → 
   }
 
 -- an entry is appended in a frame
-module _ (e : Entry) (entry : IsEntry e) (place : ℕ) (old new : DiskView) (settled : IsSettled place 2 old) (frame : Frame) (is : frame.payload ≡ payload_of e) where
+module _ (e : Entry) (entry : IsEntry e) (place : ℕ) (old new : DiskView) (settled : IsDurableLog place 2 old) (frame : Frame) (is : frame.payload ≡ payload_of e) where
   held : (log : List ℕ) (before : List Entry) → old.content ≡ Some log → CanFollow before e.run → Holds (version_of log) before (e ∷ []) frame.payload
   held log before told follows =
       subst (λ v. Holds v before (e ∷ []) frame.payload) (sym (version_two log (settled.header log told)))
@@ -109,7 +109,7 @@ module _ (e : Entry) (entry : IsEntry e) (place : ℕ) (old new : DiskView) (set
       or_either c (inl was) = inl was
       or_either c (inr left) = inr (either c left)
 
-  pub adds_frame : (next : ℕ) → IsSettled next 2 new → next ≡ place + 1 + LENGTH_BYTES + length frame.payload
+  pub adds_frame : (next : ℕ) → IsDurableLog next 2 new → next ≡ place + 1 + LENGTH_BYTES + length frame.payload
       → ((b c : List ℕ) → old.content ≡ Some b → new.content ≡ Some c → frames_of c ≡ and_frame (frames_of b) frame) → AddsEntry e old new
   adds_frame next settled_now behind appended log now before told has follows is_now =
       let version : version_of now ≡ version_of log = version_two now (settled_now.header now is_now) ∙ sym (version_two log (settled.header log told)) in

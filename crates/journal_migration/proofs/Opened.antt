@@ -12,7 +12,7 @@ use Rattle.commit_journal.specs.declared.fault.JournalFault.{JournalFault}
 use Rattle.commit_journal.specs.declared.fault.JournalFault.TheVariants as journal
 use Rattle.commit_journal.specs.declared.format.TheConstants.{BLANK_LENGTH}
 use Rattle.commit_journal.specs.Log.{version_of}
-use Rattle.commit_journal.specs.Journal.{Continues, IsRecovered, IsSettled, EndsAt, SameLog, Opens, HasOpenCause, LeavesContent}
+use Rattle.commit_journal.specs.Journal.{Continues, IsRecovered, IsDurableLog, EndsAt, SameLog, Opens, HasOpenCause, LeavesContent}
 use Rattle.commit_journal.proofs.Logs.{version_two}
 use Rattle.entry_history.specs.Readers.{IsVersion}
 use Rattle.entry_history.specs.Payloads.{IsHistory}
@@ -39,7 +39,7 @@ same_before limits history entries log c same is =
     Before (same_log entries log c same is) (λ fits. same_newest log c same fits.version) same.no_longer
 
 -- a journal of the newest version to which a history was brought
-pub brought_settled : (history : List Entry) (place version : ℕ) (disk : DiskView) → IsSettled place version disk → version ≡ 2
+pub brought_settled : (history : List Entry) (place version : ℕ) (disk : DiskView) → IsDurableLog place version disk → version ≡ 2
     → (now : List ℕ) → disk.content ≡ Some now → HasHistory history now → IsBrought history now
 brought_settled history place version disk settled two now is_now has =
     let ends = settled.ends now is_now in
@@ -113,7 +113,7 @@ module _ (history : List Entry) (frames : List Frame) (place version : ℕ) (old
     -- after all was brought
     pub brought_all : (limits : Limits) → version ≡ 2 → (IsVersion version → (count : ℕ) × HoldsFront version frames limits history count)
         → ((entries : List Entry) → IsVersion version → IsHistory version [] (payloads_of frames) entries → HasBrought history entries history mid new)
-        → (at number : ℕ) → IsSettled at number new → number ≡ 2 → (now : List ℕ) → new.content ≡ Some now → IsBrought history now
+        → (at number : ℕ) → IsDurableLog at number new → number ≡ 2 → (now : List ℕ) → new.content ≡ Some now → IsBrought history now
     brought_all limits two holds brought at number settled newest now is_now =
         let log = some_of old.content (sym tells_now ∙ ap is_some is_now) in
         let front = fit limits two holds log.0 log.1 in
@@ -124,7 +124,7 @@ module _ (history : List Entry) (frames : List Frame) (place version : ℕ) (old
 
     pub images_all : (limits : Limits) → version ≡ 2 → (IsVersion version → (count : ℕ) × HoldsFront version frames limits history count)
         → ((entries : List Entry) → IsVersion version → IsHistory version [] (payloads_of frames) entries → HasBrought history entries history mid new)
-        → (at number : ℕ) → IsSettled at number new → number ≡ 2 → (c : List ℕ) → is_some old.content ≡ true → new.image c → IsBrought history c
+        → (at number : ℕ) → IsDurableLog at number new → number ≡ 2 → (c : List ℕ) → is_some old.content ≡ true → new.image c → IsBrought history c
     images_all limits two holds brought at number settled newest c told image =
         let now = some_of new.content (tells_now ∙ told) in
         subst (IsBrought history) (sym (settled.only now.0 c now.1 image)) (brought_all limits two holds brought at number settled newest now.0 now.1)

@@ -1,10 +1,8 @@
 ghost use Rattle.std.specs.Prelude.{◌≡◌};
 ghost use Rattle.journal_migration.specs.Faults.{migrate_fault};
-ghost use Rattle.journal_migration.specs.declared.fault.MigrateFault.TheVariants.{DeviceFault, NoMemory};
+ghost use Rattle.journal_migration.specs.declared.fault.MigrateFault.TheVariants.{DeviceFault};
 
 use commit_journal::JournalFault;
-use marc_types::NoMemory;
-use std::alloc::{AllocError, AllocFailed};
 use std::error::Error;
 use std::fmt;
 
@@ -45,30 +43,6 @@ impl From<commit_journal::DeviceFault> for MigrateFault {
 
     fn from(_failed: commit_journal::DeviceFault) -> MigrateFault {
         MigrateFault::DeviceFault
-    }
-}
-
-impl From<NoMemory> for MigrateFault {
-    ghost from_gives = { λ _ fault. fault ≡ NoMemory };
-
-    fn from(_error: NoMemory) -> MigrateFault {
-        MigrateFault::NoMemory
-    }
-}
-
-impl From<AllocError> for MigrateFault {
-    ghost from_gives = { λ _ fault. fault ≡ NoMemory };
-
-    fn from(_error: AllocError) -> MigrateFault {
-        MigrateFault::NoMemory
-    }
-}
-
-impl<T: Drop> From<AllocFailed<T>> for MigrateFault {
-    ghost from_gives = { λ _ fault. fault ≡ NoMemory };
-
-    fn from(_refused: AllocFailed<T>) -> MigrateFault {
-        MigrateFault::NoMemory
     }
 }
 

@@ -6,10 +6,10 @@ ghost use Rattle.journal_input.specs.Contents.{IsVerified, IsNoJournal};
 ghost use Rattle.journal_verification.specs.Verifying.{Verifies};
 
 use crate::text::verified_text;
-use console_lines::{End, Fault, Unwritten, tell};
+use console_lines::{End, Fault, tell, tell_result};
 use journal_input::{Verified, VerifyFault, verify_source};
 use marc_types::NoMemory;
-use outside::{Room, Sink};
+use outside::Room;
 use std::alloc::Global;
 
 /// What the file of that name has, which is read as an input and closed again.
@@ -44,10 +44,7 @@ pub fn verify<R: Room>(alloc: Global, room: &mut R, console: &mut R::Out, journa
         Err(VerifyFault::NoMemory) => return tell(console, Fault::Memory),
     };
     match verified_text(alloc, &verified) {
-        Ok(text) => match console.write_all(text.as_bytes()) {
-            Ok(()) => End::Done,
-            Err(_) => End::Unwritten(Unwritten::Console),
-        },
+        Ok(text) => tell_result(console, text.as_str(), false),
         Err(NoMemory) => tell(console, Fault::Memory),
     }
 }

@@ -32,7 +32,7 @@ use Rattle.catalogue_rules.proofs.Elements.{Each, each_weaker}
 use Rattle.record_store.proofs.Places.{IsBelow, lookup_below}
 use Rattle.record_store.specs.Store.{field_at, field_under}
 use Rattle.linking_laws.specs.Behind.{placed_in, placed, ended_by, loosened_by, record_behind, state_behind}
-use Rattle.linking_laws.specs.Commits.{IsCommit}
+use Rattle.linking_laws.specs.Commits.{CanBeCommitted}
 use Rattle.linking_laws.specs.Receipts.{is_key_among, AreDistinct, IsExchanged, place_in, AreChanged, AreChangedBy, AreOwnCounts, receipt_by, count_fields, StayKept, count_own}
 use Rattle.linking_laws.proofs.Commits.{step_behind, step_valid, step_linkables}
 use Rattle.linking_laws.proofs.Heart.{other_key}
@@ -316,7 +316,7 @@ count_behind all o c (Some r) =
     ap (λ (n : ℕ). Some n) (mapped_length (settle_field all c) (map (loosened_by all o c) r.fields) ∙ mapped_length (loosened_by all o c) r.fields)
 
 -- each other record keeps its number of fields
-pub stay_kept : (s : State) (e : Entry) (k class : Class) → IsCommit k s e → StayKept (arrival_of e) s (step s (arrival_of e)) class
+pub stay_kept : (s : State) (e : Entry) (k class : Class) → CanBeCommitted k s e → StayKept (arrival_of e) s (step s (arrival_of e)) class
 stay_kept s e k class c = λ q other.
     let a = arrival_of e in
     let all = linkable_authorities (placed a s) in
@@ -330,14 +330,14 @@ ascends Authority s v = v.authorities_ascend
 ascends Bibliographic s v = v.bibliographic_ascend
 
 -- the keys of a class are as many as the receipt counts
-pub changed_records_are : (s : State) (e : Entry) (k class : Class) (keys : List Key) → IsCommit k s e → AreChanged (arrival_of e) s (step s (arrival_of e)) class keys →
+pub changed_records_are : (s : State) (e : Entry) (k class : Class) (keys : List Key) → CanBeCommitted k s e → AreChanged (arrival_of e) s (step s (arrival_of e)) class keys →
     changed_in (arrival_of e) s (step s (arrival_of e)) class ≡ length keys
 changed_records_are s e k class keys c are =
     changed_are (arrival_of e) s (step s (arrival_of e)) class keys are (stay_kept s e k class c)
     (ascends class (step s (arrival_of e)) (step_valid s e c.valid c.admitted))
 
 -- the sum of both classes is the receipt's number
-pub changed_number : (at : ℕ) (s : State) (e : Entry) (k : Class) (authorities bibliographic : List Key) → IsCommit k s e → AreChangedBy s e Authority authorities →
+pub changed_number : (at : ℕ) (s : State) (e : Entry) (k : Class) (authorities bibliographic : List Key) → CanBeCommitted k s e → AreChangedBy s e Authority authorities →
     AreChangedBy s e Bibliographic bibliographic → (receipt_by at s e).changed_records ≡ length authorities + length bibliographic
 unfolding receipt_of
 changed_number at s e k authorities bibliographic c first second =
@@ -397,7 +397,7 @@ count_at test all o class l fs true = refl
 count_at test all o class l fs false =
     ap (λ (hs : List KeptField). count_by (λ h. test (standing_of all class h)) (map (settle_field all class) hs)) (fresh_fields all o class fs)
 
-counted_own : (test : Standing → Bool) (s : State) (e : Entry) → IsCommit e.class s e →
+counted_own : (test : Standing → Bool) (s : State) (e : Entry) → CanBeCommitted e.class s e →
     option_map_or (count_standing test (linkable_authorities (step s (arrival_of e))) e.class) (kept_under e.class e.key (step s (arrival_of e))) 0 ≡ count_own test s e
 counted_own test s e c =
     let a = arrival_of e in
@@ -408,11 +408,11 @@ counted_own test s e c =
     ∙ ap (λ (o : Option KeptRecord). option_map_or (count_standing test all e.class) (option_map (record_behind all (ended_by a) e.class) o) 0) (kept_own e.class a s c.valid)
     ∙ count_at test all (ended_by a) e.class e.rec.leader e.rec.fields (is_deletion e.rec.leader)
 
-own_class : (s : State) (e : Entry) (k : Class) → IsCommit k s e → IsCommit e.class s e
+own_class : (s : State) (e : Entry) (k : Class) → CanBeCommitted k s e → CanBeCommitted e.class s e
 own_class s e k c = record { valid = c.valid; admitted = c.admitted; class_is = refl }
 
 -- the other numbers of the receipt are counted over the committed record's settled fields
-pub own_counts : (at : ℕ) (s : State) (e : Entry) (k : Class) → IsCommit k s e → AreOwnCounts s e (receipt_by at s e)
+pub own_counts : (at : ℕ) (s : State) (e : Entry) (k : Class) → CanBeCommitted k s e → AreOwnCounts s e (receipt_by at s e)
 unfolding receipt_of
 own_counts at s e k c =
     let own = own_class s e k c in

@@ -34,7 +34,7 @@ use Rattle.marc_types.specs.declared.entry.Entry.{Entry}
 use Rattle.heading_fields.specs.Tables.{kind_of}
 use Rattle.catalogue_rules.specs.Choice.{has_key}
 use Rattle.catalogue_rules.specs.Settle.{arrival_of}
-use Rattle.linking_laws.specs.Commits.{IsCommit, authorities_behind, placed_by}
+use Rattle.linking_laws.specs.Commits.{CanBeCommitted, authorities_behind, placed_by}
 use Rattle.linking_laws.proofs.Commits.{valid_ready, placed_fit, loosened_one, new_loose}
 
 -- ---- one field
@@ -315,7 +315,7 @@ drop_rows_are d key all class rows a =
     }
 
 -- with the record of an admitted authority in its place a valid state can drop its links to the key
-pub can_drop : (s : State) (e : Entry) → IsCommit Authority s e → CanDrop (turned s e) e.key (placed_by Authority s e)
+pub can_drop : (s : State) (e : Entry) → CanBeCommitted Authority s e → CanDrop (turned s e) e.key (placed_by Authority s e)
 can_drop s e c =
     let a = arrival_of e in
     let fit = fit_entry e c.admitted in

@@ -16,7 +16,7 @@ use Rattle.catalogue_rules.proofs.Put.{tied_but}
 use Rattle.catalogue_rules.proofs.Rows.{other_place}
 use Rattle.record_store.specs.Store.{field_at, field_under}
 use Rattle.linking_laws.specs.Changes.{IsLeftByStages, are_exchanged, carry_of_commit, choose_of_commit, drop_of_commit, is_changed_by_stages, is_exchanged_at, state_carried, state_dropped, state_own_settled}
-use Rattle.linking_laws.specs.Commits.{IsCommit, IsSound, authorities_behind, dropping_of, field_behind, field_staged, forms_of_commit, placed_by, state_staged}
+use Rattle.linking_laws.specs.Commits.{CanBeCommitted, IsSound, authorities_behind, dropping_of, field_behind, field_staged, forms_of_commit, placed_by, state_staged}
 use Rattle.linking_laws.specs.Receipts.{IsExchanged}
 use Rattle.linking_laws.specs.Stages.{by_stages, field_by_stages, settle_own, successor_in}
 use Rattle.linking_laws.proofs.Counts.{kept_placed}
@@ -36,7 +36,7 @@ left_or_made g h made (inr is) e = is ∙ e
 
 -- A field that ends as it was is settled over the authorities behind the commit, so that carrying and choosing leave it. Dropping leaves
 -- it, or makes of it what it ends as.
-pub left_by_stages : (s : State) (e : Entry) (class : Class) (h : KeptField) → IsCommit Authority s e → IsSound (linkable_authorities s) class h → field_staged s e class h ≡ h →
+pub left_by_stages : (s : State) (e : Entry) (class : Class) (h : KeptField) → CanBeCommitted Authority s e → IsSound (linkable_authorities s) class h → field_staged s e class h ≡ h →
     IsLeftByStages s e class h
 left_by_stages s e class h c sound ends =
     let before = linkable_authorities s in
@@ -99,13 +99,13 @@ same_there : (o : Option KeptField) → are_exchanged o o ≡ false
 same_there None = refl
 same_there (Some h) = ap not ((kept_Decides h h).1 refl)
 
-apart_in : (k : Class) (s : State) (e : Entry) (p : Place) → IsCommit k s e → is_committed (arrival_of e) p.class p.key ≡ false → (same_class k p.class && same_key e.key p.key) ≡ false
+apart_in : (k : Class) (s : State) (e : Entry) (p : Place) → CanBeCommitted k s e → is_committed (arrival_of e) p.class p.key ≡ false → (same_class k p.class && same_key e.key p.key) ≡ false
 apart_in k s e p c other = ap (λ (x : Class). same_class x p.class && same_key e.key p.key) (sym c.class_is) ∙ other
 
-placed_there : (k : Class) (s : State) (e : Entry) (p : Place) → IsCommit k s e → is_committed (arrival_of e) p.class p.key ≡ false → field_under p (placed_by k s e) ≡ field_under p s
+placed_there : (k : Class) (s : State) (e : Entry) (p : Place) → CanBeCommitted k s e → is_committed (arrival_of e) p.class p.key ≡ false → field_under p (placed_by k s e) ≡ field_under p s
 placed_there k s e p c other = ap (option_and_then (field_at p.field)) (kept_placed k p.class (arrival_of e) s p.key c.class_is (apart_in k s e p c other))
 
-own_there : (k : Class) (all : List Linkable) (s middle : State) (e : Entry) (p : Place) → IsCommit k s e → is_committed (arrival_of e) p.class p.key ≡ false →
+own_there : (k : Class) (all : List Linkable) (s middle : State) (e : Entry) (p : Place) → CanBeCommitted k s e → is_committed (arrival_of e) p.class p.key ≡ false →
     field_under p (settle_own all k e.key middle) ≡ field_under p middle
 own_there k all s middle e p c other =
     own_in all k p.class e.key p.key p.field middle
@@ -119,7 +119,7 @@ state_by : (s : State) (e : Entry) (p : Place) → field_under p (state_staged s
 unfolding by_stages
 state_by s e p = field_each (choose_of_commit s e) p (state_own_settled s e)
 
-module _ (s : State) (e : Entry) (p : Place) (c : IsCommit Authority s e) (other : is_committed (arrival_of e) p.class p.key ≡ false) where
+module _ (s : State) (e : Entry) (p : Place) (c : CanBeCommitted Authority s e) (other : is_committed (arrival_of e) p.class p.key ≡ false) where
   abbrev o : Option KeptField
   o = field_under p s
 
@@ -156,13 +156,13 @@ module _ (s : State) (e : Entry) (p : Place) (c : IsCommit Authority s e) (other
       ∙ (λ i. differs_in drop (sym (placed_there Authority s e p c other) i) || differs_in carry (sym dropped_is i)
       || differs_in choose (sym settled_is i))
 
-pub exchanged_by_stages : (s : State) (e : Entry) (p : Place) → IsCommit Authority s e → is_committed (arrival_of e) p.class p.key ≡ false →
+pub exchanged_by_stages : (s : State) (e : Entry) (p : Place) → CanBeCommitted Authority s e → is_committed (arrival_of e) p.class p.key ≡ false →
     is_exchanged_at s (step s (arrival_of e)) p ≡ is_changed_by_stages s e p
 exchanged_by_stages s e p c other = exchanged_there s e p c other
 
 -- ---- a bibliographic commit
 
-pub nothing_exchanged : (s : State) (e : Entry) (p : Place) → IsCommit Bibliographic s e → is_committed (arrival_of e) p.class p.key ≡ false →
+pub nothing_exchanged : (s : State) (e : Entry) (p : Place) → CanBeCommitted Bibliographic s e → is_committed (arrival_of e) p.class p.key ≡ false →
     is_exchanged_at s (step s (arrival_of e)) p ≡ false
 nothing_exchanged s e p c other =
     let ended : field_under p (step s (arrival_of e)) ≡ field_under p s =

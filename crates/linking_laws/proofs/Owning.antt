@@ -19,7 +19,7 @@ use Rattle.catalogue_rules.proofs.Put.{tied_new}
 use Rattle.catalogue_rules.proofs.Rows.{ascend_place, each_place}
 use Rattle.catalogue_rules.proofs.States.{fit_entry}
 use Rattle.record_store.specs.Store.{field_at, field_under}
-use Rattle.linking_laws.specs.Commits.{IsCommit, placed_by}
+use Rattle.linking_laws.specs.Commits.{CanBeCommitted, placed_by}
 use Rattle.linking_laws.specs.Middle.{IsMiddleWith}
 use Rattle.linking_laws.specs.Partway.{is_place_among, is_place_of, row_outline, outlines, changed_among, AreOrdered, AreOwnDone, IsPartway}
 use Rattle.linking_laws.specs.Stages.{in_own_row, settle_own}
@@ -93,7 +93,7 @@ new_ties : (all : List Linkable) (class : Class) (fields : List Field) → Each 
 new_ties all class [] = tt
 new_ties all class (f ∷ fields) = (tied_new all class (new_field f) refl refl refl, new_ties all class fields)
 
-pub bibliographic_middle : (s : State) (e : Entry) → IsCommit Bibliographic s e → IsMiddleWith (linkable_authorities s) (placed_by Bibliographic s e)
+pub bibliographic_middle : (s : State) (e : Entry) → CanBeCommitted Bibliographic s e → IsMiddleWith (linkable_authorities s) (placed_by Bibliographic s e)
 bibliographic_middle s e c =
     let a = arrival_of e in
     let all = linkable_authorities s in

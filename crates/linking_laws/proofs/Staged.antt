@@ -23,7 +23,7 @@ use Rattle.catalogue_rules.proofs.Still.{field_same}
 use Rattle.linking_laws.specs.Behind.{placed_in, ended_in, row_behind, state_behind}
 use Rattle.linking_laws.specs.Waiting.{forms_touched}
 use Rattle.linking_laws.specs.Stages.{dropping_by, successor_in, drop_by, carry_by, choose_field, in_own_row, settle_own, by_stages, field_by_stages}
-use Rattle.linking_laws.specs.Commits.{IsCommit, IsSound, IsChosenAlike, StaysUntouched, authorities_behind, field_behind, field_staged, state_staged, placed_by}
+use Rattle.linking_laws.specs.Commits.{CanBeCommitted, IsSound, IsChosenAlike, StaysUntouched, authorities_behind, field_behind, field_staged, state_staged, placed_by}
 use Rattle.linking_laws.proofs.Commits.{valid_ready, placed_fit, step_behind}
 use Rattle.linking_laws.proofs.Others.{own_key, others_place, each_placed, successor_gone}
 use Rattle.linking_laws.proofs.Touched.{IsTurn, field_touched, new_by_stages, unlinked_elsewhere, untouched_stays}
@@ -230,24 +230,24 @@ bibliographic_by_stages s e v admitted is =
 
 -- ---- the laws of a commit
 
-pub turn_by : (s : State) (e : Entry) → IsCommit Authority s e → IsTurn e.key (successor_in (arrival_of e)) (linkable_authorities s) (authorities_behind s e)
+pub turn_by : (s : State) (e : Entry) → CanBeCommitted Authority s e → IsTurn e.key (successor_in (arrival_of e)) (linkable_authorities s) (authorities_behind s e)
 turn_by s e c = turn_of (arrival_of e) s c.class_is (fit_entry e c.admitted) c.valid
 
-pub chosen_alike : (s : State) (e : Entry) (class : Class) (h : KeptField) → IsCommit Authority s e → IsChosenAlike s e class h
+pub chosen_alike : (s : State) (e : Entry) (class : Class) (h : KeptField) → CanBeCommitted Authority s e → IsChosenAlike s e class h
 chosen_alike s e class h c = λ unlinked w.
     unlinked_elsewhere e.key (successor_in (arrival_of e)) (linkable_authorities s) (authorities_behind s e) (turn_by s e c) class h unlinked w
 
-pub staged_field : (s : State) (e : Entry) (class : Class) (h : KeptField) → IsCommit Authority s e → IsSound (linkable_authorities s) class h → field_staged s e class h ≡ field_behind s e class h
+pub staged_field : (s : State) (e : Entry) (class : Class) (h : KeptField) → CanBeCommitted Authority s e → IsSound (linkable_authorities s) class h → field_staged s e class h ≡ field_behind s e class h
 staged_field s e class h c sound = field_touched e.key (successor_in (arrival_of e)) (linkable_authorities s) (authorities_behind s e) (turn_by s e c) class h sound
 
-pub untouched_field : (s : State) (e : Entry) (class : Class) (h : KeptField) → IsCommit Authority s e → IsSound (linkable_authorities s) class h → StaysUntouched s e class h
+pub untouched_field : (s : State) (e : Entry) (class : Class) (h : KeptField) → CanBeCommitted Authority s e → IsSound (linkable_authorities s) class h → StaysUntouched s e class h
 untouched_field s e class h c sound = λ untouched.
     untouched_stays e.key (successor_in (arrival_of e)) (linkable_authorities s) (authorities_behind s e) (turn_by s e c) class h sound untouched
 
-pub staged_state : (s : State) (e : Entry) → IsCommit Authority s e → step s (arrival_of e) ≡ state_staged s e
+pub staged_state : (s : State) (e : Entry) → CanBeCommitted Authority s e → step s (arrival_of e) ≡ state_staged s e
 staged_state s e c = authority_by_stages s e c.valid c.admitted c.class_is
 
-pub settled_state : (s : State) (e : Entry) → IsCommit Bibliographic s e → step s (arrival_of e) ≡ settle_own (linkable_authorities s) Bibliographic e.key (placed_by Bibliographic s e)
+pub settled_state : (s : State) (e : Entry) → CanBeCommitted Bibliographic s e → step s (arrival_of e) ≡ settle_own (linkable_authorities s) Bibliographic e.key (placed_by Bibliographic s e)
 settled_state s e c = bibliographic_by_stages s e c.valid c.admitted c.class_is
 
 all_sound : (all : List Linkable) (class : Class) (rows : List Row) → Each (λ (row : Row). Each (IsSound all class) row.1.fields) rows → All (λ (row : Row). All (IsSound all class) row.1.fields) rows

@@ -29,7 +29,7 @@ use Rattle.catalogue_rules.proofs.Once.{field_once}
 use Rattle.catalogue_rules.proofs.States.{fit_entry}
 use Rattle.linking_laws.specs.Behind.{placed_in}
 use Rattle.linking_laws.specs.Waiting.{forms_touched}
-use Rattle.linking_laws.specs.Commits.{IsCommit, IsSound, authorities_behind}
+use Rattle.linking_laws.specs.Commits.{CanBeCommitted, IsSound, authorities_behind}
 use Rattle.linking_laws.specs.Stages.{dropping_by, successor_in, drop_by, carry_by, in_own_row, settle_own}
 use Rattle.linking_laws.specs.Weights.{touched_weight, sum_row, own_weight, arrival_weight, state_weight}
 use Rattle.linking_laws.specs.Visits.{drop_visits_by, carry_visits, own_visits, choose_visits, own_row_visits, stage_visits, commit_visits, commit_weight, own_commit_visits}
@@ -277,7 +277,7 @@ stages_within a s before now is turn order authorities bibliographic =
     (subst (λ (k : ℕ). k ≤ sum_by (sum_row (touched_weight forms key successor Bibliographic)) s.bibliographic) (sym second) others)
 
 -- the visits of an authority's commit are within what it touches
-pub visits_within : (s : State) (e : Entry) → IsCommit Authority s e → commit_visits s e ≤ commit_weight s e
+pub visits_within : (s : State) (e : Entry) → CanBeCommitted Authority s e → commit_visits s e ≤ commit_weight s e
 visits_within s e c =
     stages_within (arrival_of e) s (linkable_authorities s) (authorities_behind s e) c.class_is (turn_of (arrival_of e) s c.class_is (fit_entry e c.admitted) c.valid)
     c.valid.authorities_ascend (sound_authorities s c.valid) (sound_bibliographic s c.valid)
@@ -315,7 +315,7 @@ all_of f [] = tt
 all_of f (row ∷ rows) = (f row, all_of f rows)
 
 -- the visits of a bibliographic commit are within what it brings
-pub own_visits_within : (s : State) (e : Entry) → IsCommit Bibliographic s e → own_commit_visits s e ≤ arrival_weight (arrival_of e)
+pub own_visits_within : (s : State) (e : Entry) → CanBeCommitted Bibliographic s e → own_commit_visits s e ≤ arrival_weight (arrival_of e)
 own_visits_within s e c =
     let a = arrival_of e in
     let all = linkable_authorities s in

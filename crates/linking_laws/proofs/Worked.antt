@@ -13,7 +13,7 @@ use Rattle.entry_record.specs.Authority.{successor_of, key_of_text, heading_kind
 use Rattle.catalogue_rules.specs.State.{State, linkable_authorities}
 use Rattle.catalogue_rules.specs.Settle.{arrival_of}
 use Rattle.catalogue_rules.specs.Worked.{numbered}
-use Rattle.linking_laws.specs.Commits.{IsCommit}
+use Rattle.linking_laws.specs.Commits.{CanBeCommitted}
 use Rattle.linking_laws.specs.Visits.{touched, touched_by, touched_in, visits_in}
 use Rattle.linking_laws.specs.Waiting.{asks_for, forms_touched, is_named, is_waiting_for}
 use Rattle.linking_laws.specs.Behind.{placed_in}
@@ -23,7 +23,7 @@ use Rattle.linking_laws.specs.Weights.{arrival_weight, linked_weight, touched_we
 use Rattle.linking_laws.specs.Worked.{arrived, awaiting_name, awaiting_state, clemens_key, brought, deleted, linked_state, plain_name, replaced}
 use Rattle.linking_laws.proofs.Sums.{visits_within, own_visits_within}
 
-pub visits_touched : (class : Class) (s : State) (e : Entry) → IsCommit class s e → visits_in class s e ≤ touched s e
+pub visits_touched : (class : Class) (s : State) (e : Entry) → CanBeCommitted class s e → visits_in class s e ≤ touched s e
 visits_touched Authority s e c = subst (λ (k : Class). visits_in Authority s e ≤ touched_in k s (arrival_of e)) (sym c.class_is) (visits_within s e c)
 visits_touched Bibliographic s e c =
     subst (λ (k : Class). visits_in Bibliographic s e ≤ touched_in k s (arrival_of e)) (sym c.class_is) (own_visits_within s e c)

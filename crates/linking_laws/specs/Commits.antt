@@ -17,7 +17,7 @@ use Rattle.linking_laws.specs.Waiting.{is_waiting_for, is_touched, forms_touched
 use Rattle.linking_laws.specs.Stages.{Dropping, dropping_by, successor_in, by_stages, field_by_stages}
 
 -- an entry that was admitted comes to a valid state
-pub record IsCommit (class : Class) (s : State) (e : Entry) : Type 0 where
+pub record CanBeCommitted (class : Class) (s : State) (e : Entry) : Type 0 where
   pub valid : IsValid s
   pub admitted : IsAdmitted e
   pub class_is : e.class ≡ class

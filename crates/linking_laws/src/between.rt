@@ -16,7 +16,7 @@ ghost use Rattle.marc_types.specs.declared.field.Field.{Field};
 ghost use Rattle.marc_types.specs.declared.form.Form.{Form};
 ghost use Rattle.marc_types.specs.declared.key.Place.{Place};
 ghost use Rattle.record_store.specs.Store.{StaysRecord, field_under};
-ghost use Rattle.linking_laws.specs.Commits.{IsCommit, dropping_of, placed_by};
+ghost use Rattle.linking_laws.specs.Commits.{CanBeCommitted, dropping_of, placed_by};
 
 /// A valid state may stand between two stages.
 #[tactic(auto, using(crate::proofs::Settling::valid_middle))]
@@ -73,12 +73,12 @@ pub fn dropping_is_steady()
 
 /// With the record of an admitted authority in its place, a valid state can drop the links that the commit ends.
 pub fn a_commit_can_drop()
-    ensures { (s : State) (e : Entry) → IsCommit Authority s e → CanDrop (dropping_of s e) e.key (placed_by Authority s e) }
+    ensures { (s : State) (e : Entry) → CanBeCommitted Authority s e → CanDrop (dropping_of s e) e.key (placed_by Authority s e) }
 {}
 
 /// A bibliographic record in its place leads from a valid state to one between stages.
 pub fn a_bibliographic_record_leads_to_a_middle()
-    ensures { (s : State) (e : Entry) → IsCommit Bibliographic s e
+    ensures { (s : State) (e : Entry) → CanBeCommitted Bibliographic s e
         → IsMiddleWith (linkable_authorities s) (placed_by Bibliographic s e) }
 {}
 

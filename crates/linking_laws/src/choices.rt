@@ -17,7 +17,7 @@ ghost use Rattle.linking_laws.specs.Waiting.{names_key, others_of, AreSameForms,
 ghost use Rattle.linking_laws.specs.Stages.{choose_field, settle_own};
 ghost use Rattle.linking_laws.specs.Visits.{choose_visits};
 ghost use Rattle.linking_laws.specs.Weights.{sum_fields};
-ghost use Rattle.linking_laws.specs.Commits.{IsCommit, IsSound, IsChosenAlike, StaysUntouched, field_behind, field_staged, placed_by, state_staged};
+ghost use Rattle.linking_laws.specs.Commits.{CanBeCommitted, IsSound, IsChosenAlike, StaysUntouched, field_behind, field_staged, placed_by, state_staged};
 
 /// A choice is the same without the authorities of one key, where the field doesn't name the key and asks for none of their forms.
 #[tactic(auto, using(crate::proofs::Heart::choice_without))]
@@ -37,7 +37,7 @@ pub fn other_authorities_stay()
 /// An unlinked field that neither names the committed key nor asks for one of its forms has the choice that it had.
 #[tactic(auto, using(crate::proofs::Staged::chosen_alike))]
 pub fn choices_elsewhere_stay()
-    ensures { (s : State) (e : Entry) (class : Class) (h : KeptField) → IsCommit Authority s e → IsChosenAlike s e class h }
+    ensures { (s : State) (e : Entry) (class : Class) (h : KeptField) → CanBeCommitted Authority s e → IsChosenAlike s e class h }
 {}
 
 /// Each field of a valid state is tied, and settling leaves it.
@@ -50,26 +50,26 @@ pub fn every_field_is_sound()
 #[tactic(auto, using(crate::proofs::Staged::staged_field))]
 pub fn a_field_changes_by_stages()
     ensures { (s : State) (e : Entry) (class : Class) (h : KeptField)
-        → IsCommit Authority s e → IsSound (linkable_authorities s) class h → field_staged s e class h ≡ field_behind s e class h }
+        → CanBeCommitted Authority s e → IsSound (linkable_authorities s) class h → field_staged s e class h ≡ field_behind s e class h }
 {}
 
 /// A field that is neither linked to the committed key nor waits for it or for one of its forms stays.
 #[tactic(auto, using(crate::proofs::Staged::untouched_field))]
 pub fn an_untouched_field_stays()
     ensures { (s : State) (e : Entry) (class : Class) (h : KeptField)
-        → IsCommit Authority s e → IsSound (linkable_authorities s) class h → StaysUntouched s e class h }
+        → CanBeCommitted Authority s e → IsSound (linkable_authorities s) class h → StaysUntouched s e class h }
 {}
 
 /// The state behind an authority's commit is made by stages that look at touched fields alone.
 #[tactic(auto, using(crate::proofs::Staged::staged_state))]
 pub fn an_authority_is_committed_by_stages()
-    ensures { (s : State) (e : Entry) → IsCommit Authority s e → step s (arrival_of e) ≡ state_staged s e }
+    ensures { (s : State) (e : Entry) → CanBeCommitted Authority s e → step s (arrival_of e) ≡ state_staged s e }
 {}
 
 /// A bibliographic commit puts the record into its place and settles its own fields.
 #[tactic(auto, using(crate::proofs::Staged::settled_state))]
 pub fn a_bibliographic_record_is_committed_alone()
-    ensures { (s : State) (e : Entry) → IsCommit Bibliographic s e
+    ensures { (s : State) (e : Entry) → CanBeCommitted Bibliographic s e
         → step s (arrival_of e) ≡ settle_own (linkable_authorities s) Bibliographic e.key (placed_by Bibliographic s e) }
 {}
 

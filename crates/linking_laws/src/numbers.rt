@@ -11,7 +11,7 @@ ghost use Rattle.linking_laws.specs.Worked.{arrived, awaiting_state, brought, de
 ghost use Rattle.catalogue_rules.specs.Worked.{numbered};
 ghost use Rattle.entry_record.specs.Authority.{has_form};
 ghost use Rattle.marc_types.specs.declared.form.Kind.TheVariants.{Personal};
-ghost use Rattle.linking_laws.specs.Commits.{IsCommit};
+ghost use Rattle.linking_laws.specs.Commits.{CanBeCommitted};
 ghost use Rattle.catalogue_rules.specs.Settle.{arrival_of};
 ghost use Rattle.linking_laws.specs.Weights.{arrival_weight, number_at, sum_fields};
 ghost use Rattle.catalogue_rules.specs.State.{KeptField};
@@ -28,19 +28,19 @@ pub fn places_named_once_are_within_the_sum()
 /// The stages of an authority's commit make at most as many visits to kept records as what it touches weighs.
 #[tactic(auto, using(crate::proofs::Sums::visits_within))]
 pub fn visits_are_within_what_is_touched()
-    ensures { (s : State) (e : Entry) → IsCommit Authority s e → commit_visits s e ≤ commit_weight s e }
+    ensures { (s : State) (e : Entry) → CanBeCommitted Authority s e → commit_visits s e ≤ commit_weight s e }
 {}
 
 /// A bibliographic commit makes at most as many visits as its own heading fields weigh.
 #[tactic(auto, using(crate::proofs::Sums::own_visits_within))]
 pub fn own_visits_are_within_what_is_brought()
-    ensures { (s : State) (e : Entry) → IsCommit Bibliographic s e → own_commit_visits s e ≤ arrival_weight (arrival_of e) }
+    ensures { (s : State) (e : Entry) → CanBeCommitted Bibliographic s e → own_commit_visits s e ≤ arrival_weight (arrival_of e) }
 {}
 
 /// A commit of either class makes at most as many visits as what it touches weighs.
 #[tactic(auto, using(crate::proofs::Worked::visits_touched))]
 pub fn a_commit_visits_what_it_touches()
-    ensures { (class : Class) (s : State) (e : Entry) → IsCommit class s e → visits_in class s e ≤ touched s e }
+    ensures { (class : Class) (s : State) (e : Entry) → CanBeCommitted class s e → visits_in class s e ≤ touched s e }
 {}
 
 /// A worked case: an authority to which one field is linked, by one `$0`, is replaced by another. The field counts twice, each
@@ -73,12 +73,12 @@ pub fn a_bibliographic_record_touches_two()
 #[tactic(auto, using(crate::proofs::Counts::changed_number))]
 pub fn a_receipt_counts_the_changed_records()
     ensures { (at : ℕ) (s : State) (e : Entry) (k : Class) (authorities bibliographic : List Key)
-        → IsCommit k s e → AreChangedBy s e Authority authorities → AreChangedBy s e Bibliographic bibliographic
+        → CanBeCommitted k s e → AreChangedBy s e Authority authorities → AreChangedBy s e Bibliographic bibliographic
         → (receipt_by at s e).changed_records ≡ length authorities + length bibliographic }
 {}
 
 /// The other numbers of a receipt are counted over the committed record's own fields, as soon as these are settled.
 #[tactic(auto, using(crate::proofs::Counts::own_counts))]
 pub fn a_receipt_counts_the_own_fields()
-    ensures { (at : ℕ) (s : State) (e : Entry) (k : Class) → IsCommit k s e → AreOwnCounts s e (receipt_by at s e) }
+    ensures { (at : ℕ) (s : State) (e : Entry) (k : Class) → CanBeCommitted k s e → AreOwnCounts s e (receipt_by at s e) }
 {}

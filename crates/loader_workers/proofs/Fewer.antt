@@ -17,7 +17,7 @@ use Rattle.catalogue_lock.specs.Passes.{Pass, Turned}
 use Rattle.catalogue_lock.proofs.Numbers.{items-append, items-numbered}
 use Rattle.loader_workers.specs.Counts.{HasRoom, IsSummed}
 use Rattle.marc_types.specs.Limits.{most_entries}
-use Rattle.loader_workers.specs.Turns.{Replies, IsCatalogue, IsCounted}
+use Rattle.loader_workers.specs.Turns.{Replies, AnswersAsCatalogue, IsCounted}
 use Rattle.loader_workers.specs.declared.counts.Counts.{Counts}
 use Rattle.catalogue_rules.proofs.FewRows.{few_changed}
 use Rattle.loader_workers.proofs.Frames.{IsWithin, NoEntry, Within, frame_within}
@@ -103,7 +103,7 @@ module _ {O : Type 0} where
     earlier : length (entries_of (items old.seen)) ≤ length before
     later : length before + length receipts ≤ length (entries_of (items new.seen))
 
-  sees : (replies : Replies) (batch : List Entry) (reply : BatchReply) (old new : Pass O Event) → IsCatalogue replies
+  sees : (replies : Replies) (batch : List Entry) (reply : BatchReply) (old new : Pass O Event) → AnswersAsCatalogue replies
       → Turned replies batch reply old new → Sees reply.receipts old new
   sees replies batch reply old new catalogue turned =
       let ended = catalogue.commits (items turned.before) batch reply turned.added turned.replied in
@@ -124,7 +124,7 @@ module _ {O : Type 0} where
         later = omega (arith, grown, all);
       }
 
-  pub room_for : (replies : Replies) (batch : List Entry) (reply : BatchReply) (counted : Counts) (old new : Pass O Event) → IsCatalogue replies
+  pub room_for : (replies : Replies) (batch : List Entry) (reply : BatchReply) (counted : Counts) (old new : Pass O Event) → AnswersAsCatalogue replies
       → Turned replies batch reply old new → IsCounted counted old.seen → HasRoom counted reply.receipts
   room_for replies batch reply counted old new catalogue turned is =
       let s = sees replies batch reply old new catalogue turned in
@@ -145,7 +145,7 @@ module _ {O : Type 0} where
           let more = s.few.changed in
           record { few = omega arith; accepted = omega arith; linked = omega arith; ambiguous = omega arith; unlinked = omega arith; changed = omega arith }
 
-  pub counted_more : (replies : Replies) (batch : List Entry) (reply : BatchReply) (counted now : Counts) (old new : Pass O Event) → IsCatalogue replies
+  pub counted_more : (replies : Replies) (batch : List Entry) (reply : BatchReply) (counted now : Counts) (old new : Pass O Event) → AnswersAsCatalogue replies
       → Turned replies batch reply old new → IsCounted counted old.seen → IsSummed counted now reply.receipts → IsCounted now new.seen
   counted_more replies batch reply counted now old new catalogue turned is summed =
       more (sees replies batch reply old new catalogue turned)

@@ -19,7 +19,7 @@ use Rattle.file_entries.specs.Files.{IsJudged, NoItem, Accepts, Refuses, listed}
 use Rattle.file_entries.specs.Entries.{FileView}
 use Rattle.file_entries.specs.declared.refused.RefusedItem.{RefusedItem}
 use Rattle.loader_workers.specs.Counts.{with_receipts}
-use Rattle.loader_workers.specs.Gathering.{IsTaken}
+use Rattle.loader_workers.specs.Gathering.{IsGathered}
 use Rattle.loader_workers.specs.Turns.{receipts_by, HasCommitted}
 use Rattle.loader_workers.specs.declared.counts.Counts.{Counts}
 use Rattle.loader_workers.proofs.Receipts.{receipts_by_append, entries_append}
@@ -45,7 +45,7 @@ judged_then library loader is begun rs _ _ _ first (Refuses items accepted refus
 
 -- what is taken of a file in two parts
 pub taken_then : (start mid now : FileView) (begun accepted : List Entry) (rs refused : List RefusedItem)
-    → IsTaken start mid begun rs → IsTaken mid now accepted refused → IsTaken start now (begun ++ accepted) (rs ++ refused)
+    → IsGathered start mid begun rs → IsGathered mid now accepted refused → IsGathered start now (begun ++ accepted) (rs ++ refused)
 taken_then start mid now begun accepted rs refused first second =
     let a = first.answered in
     let b = second.answered in

@@ -12,9 +12,9 @@ use Rattle.file_entries.specs.Files.{IsJudged, NoItem}
 use Rattle.file_entries.specs.Entries.{FileView}
 use Rattle.file_entries.specs.declared.refused.RefusedItem.{RefusedItem}
 use Rattle.loader_workers.specs.Counts.{no_counts, result_of}
-use Rattle.loader_workers.specs.Gathering.{IsTaken, StopsAt, HasGathered}
-use Rattle.loader_workers.specs.Turns.{Replies, CommitsAs, IsCatalogue, HasCommitted, CommitsFront, IsSamePass, IsCounted, IsEndOf, IsEndOfBatch}
-use Rattle.loader_workers.specs.Loading.{IsReadTo, Loads, IsLoading}
+use Rattle.loader_workers.specs.Gathering.{IsGathered, StopsAt, HasGathered}
+use Rattle.loader_workers.specs.Turns.{Replies, CommitsAs, AnswersAsCatalogue, HasCommitted, CommitsFront, IsSamePass, IsCounted, IsEndOf, IsEndOfBatch}
+use Rattle.loader_workers.specs.Loading.{IsReadTo, LoadsOneFile, IsLoading}
 use Rattle.loader_workers.specs.declared.counts.Counts.{Counts}
 use Rattle.loader_workers.specs.declared.file_end.FileEnd.{FileEnd}
 use Rattle.loader_workers.specs.declared.file_end.FileEnd.TheVariants.{Done, ReadFault, Full, DeviceFault, NoMemory}
@@ -49,7 +49,7 @@ file_end origin DeviceFault last now rest marks history stops is = absurd stops
 file_end origin NoMemory last now rest marks history stops is = is.1
 
 file_read_to : (end : FileEnd) (start last now : FileView) (accepted : List Entry) (refused : List RefusedItem) → start.stream.given ≡ 0
-    → IsTaken start last accepted refused → StopsAt (Some end) last now → IsReadTo end start.stream.tells start.stream.left now.stream.left last.stream.coming
+    → IsGathered start last accepted refused → StopsAt (Some end) last now → IsReadTo end start.stream.tells start.stream.left now.stream.left last.stream.coming
 file_read_to Done start last now accepted refused fresh taken stops =
     (λ told. stops.ends.coming (taken.answered.tells ∙ told), stops.ends.read_all)
 file_read_to ReadFault start last now accepted refused fresh taken stops = λ told. record {
@@ -101,12 +101,12 @@ module _ {O : Type 0} where
     pub same : IsSamePass pass new
 
   loads_by : (origin : Origin) (start last : FileView) (left : Option (List ℕ)) (old pass new : Pass O Event) (batch begun : List Entry) (fault : Option FileEnd)
-      (counts counts' : Counts) (refused refused' more : List RefusedItem) (end : FileEnd) → refused' ≡ refused ++ more → IsTaken start last (begun ++ batch) (refused ++ more)
+      (counts counts' : Counts) (refused refused' more : List RefusedItem) (end : FileEnd) → refused' ≡ refused ++ more → IsGathered start last (begun ++ batch) (refused ++ more)
       → pass.number ≡ old.number → HasCommitted origin begun [] no_counts counts old pass → (f : CommitsFront origin batch fault counts counts' pass new)
       → IsEndOf origin end f.rest f.marks (items new.seen) → IsReadTo end start.stream.tells start.stream.left left last.stream.coming
-      → Loads origin start left old new (result_of counts' refused' end)
+      → LoadsOneFile origin start left old new (result_of counts' refused' end)
   loads_by origin start last left old pass new batch begun fault counts counts' refused refused' more end refused_are taken number before f ends read_to =
-      subst (λ rs. Loads origin start left old new (result_of counts' rs end)) (sym refused_are) (record {
+      subst (λ rs. LoadsOneFile origin start left old new (result_of counts' rs end)) (sym refused_are) (record {
         done = taken.answered.done;
         coming = last.stream.coming;
         front = begun ++ f.front;
@@ -124,7 +124,7 @@ module _ {O : Type 0} where
   pub loads_to_fault : (replies : Replies) (origin : Origin) (start mid now : FileView) (old pass new : Pass O Event) (counts counts' : Counts)
       (refused refused' : List RefusedItem) (batch : List Entry) (over : Option FileEnd) (end : FileEnd) → CommitsAs replies origin
       → IsLoading replies start mid old pass counts refused → Steps replies mid now refused refused' batch over (Some end) counts counts' pass new
-      → Loads origin start now.stream.left old new (result_of counts' refused' end)
+      → LoadsOneFile origin start now.stream.left old new (result_of counts' refused' end)
   loads_to_fault replies origin start mid now old pass new counts counts' refused refused' batch over end commits l s =
       let g = s.gathers.gathers in
       let f = s.commits origin commits in
@@ -138,7 +138,7 @@ module _ {O : Type 0} where
   pub loads_to_end : (replies : Replies) (origin : Origin) (start mid now : FileView) (old pass new : Pass O Event) (counts counts' : Counts)
       (refused refused' : List RefusedItem) (batch : List Entry) (end : FileEnd) → CommitsAs replies origin → start.stream.given ≡ 0
       → IsLoading replies start mid old pass counts refused → Steps replies mid now refused refused' batch (Some end) None counts counts' pass new
-      → Loads origin start now.stream.left old new (result_of counts' refused' end)
+      → LoadsOneFile origin start now.stream.left old new (result_of counts' refused' end)
   loads_to_end replies origin start mid now old pass new counts counts' refused refused' batch end commits fresh l s =
       let g = s.gathers.gathers in
       let f = s.commits origin commits in
@@ -157,7 +157,7 @@ module _ {O : Type 0} where
 
   -- all that was gathered is committed, and the file goes on
   pub loads_on : (replies : Replies) (start mid now : FileView) (old pass new : Pass O Event) (counts counts' : Counts)
-      (refused refused' : List RefusedItem) (batch : List Entry) → IsCatalogue replies
+      (refused refused' : List RefusedItem) (batch : List Entry) → AnswersAsCatalogue replies
       → IsLoading replies start mid old pass counts refused → Steps replies mid now refused refused' batch None None counts counts' pass new
       → HasSeenItsOwn new → IsCounted counts' new.seen → new.turns ≤ pass.turns + 1
       → IsLoading replies start now old new counts' refused'
@@ -170,7 +170,7 @@ module _ {O : Type 0} where
       let before = l.turns in
       subst (λ rs. IsLoading replies start now old new counts' rs) (sym s.gathers.refused_are) (record {
         accepted = l.accepted ++ batch;
-        taken = subst (λ (file : FileView). IsTaken start file (l.accepted ++ batch) (refused ++ s.gathers.more)) (sym g.stops) taken;
+        taken = subst (λ (file : FileView). IsGathered start file (l.accepted ++ batch) (refused ++ s.gathers.more)) (sym g.stops) taken;
         committed_are = λ origin commits. committed_then origin l.accepted batch [] no_counts counts counts' old pass new l.same.number
             (l.committed_are origin commits) (whole_batch origin batch counts counts' pass new (s.commits origin commits));
         same = same_then old pass new l.same s.same;
@@ -180,15 +180,15 @@ module _ {O : Type 0} where
       })
 
   -- a commit answers no fault of the source
-  pub no_read_fault : (replies : Replies) (batch : List Entry) (fault : Option FileEnd) (counts counts' : Counts) (pass new : Pass O Event) → IsCatalogue replies
+  pub no_read_fault : (replies : Replies) (batch : List Entry) (fault : Option FileEnd) (counts counts' : Counts) (pass new : Pass O Event) → AnswersAsCatalogue replies
       → ((origin : Origin) → CommitsAs replies origin → CommitsFront origin batch fault counts counts' pass new) → fault ≡ Some ReadFault → ⊥
   no_read_fault replies batch fault counts counts' pass new catalogue commits is =
       (subst (λ (end : Option FileEnd). CommitsFront catalogue.origin batch end counts counts' pass new) is (commits catalogue.origin catalogue.commits)).ends
 
   -- nothing is read, so nothing is judged or committed
   pub loads_nothing : (origin : Origin) (start : FileView) (left : Option (List ℕ)) (pass : Pass O Event) (result : FileResult)
-      → result ≡ result_of no_counts [] NoMemory → Loads origin start left pass pass result
-  loads_nothing origin start left pass result is = subst (Loads origin start left pass pass) (sym is) (record {
+      → result ≡ result_of no_counts [] NoMemory → LoadsOneFile origin start left pass pass result
+  loads_nothing origin start left pass result is = subst (LoadsOneFile origin start left pass pass) (sym is) (record {
     done = [];
     coming = start.stream.coming;
     front = [];

@@ -12,7 +12,7 @@ use Rattle.file_entries.specs.Files.{IsEntryOf, IsJudged, NoItem, Accepts, Refus
 use Rattle.file_entries.specs.Entries.{FileView, IsSameFile, GivesEntry, GivesRefused}
 use Rattle.file_entries.specs.declared.refused.RefusedItem.{RefusedItem}
 use Rattle.file_entries.proofs.Judged.{answered_none, answered_entry, answered_refused}
-use Rattle.loader_workers.specs.Gathering.{IsTaken, IsGathering}
+use Rattle.loader_workers.specs.Gathering.{IsGathered, IsGathering}
 
 pub reads_none : (s : Stream) → ReadsOn s s
 reads_none s = record { gives = gives_none s.left s.given; tells = refl; faults = omega arith }
@@ -24,18 +24,18 @@ reads_then a b c p q = record {
   faults = omega (arith, p.faults, q.faults);
 }
 
-pub taken_none : (start : FileView) → start.over ≡ false → IsTaken start start [] []
+pub taken_none : (start : FileView) → start.over ≡ false → IsGathered start start [] []
 taken_none start going = record { answered = answered_none start going; reads = reads_none start.stream }
 
 pub taken_entry : (start now next : FileView) (accepted : List Entry) (refused : List RefusedItem) (e : Entry)
-    → IsTaken start now accepted refused → IsSameFile now next → GivesEntry now next e → IsTaken start next (accepted ++ e ∷ []) refused
+    → IsGathered start now accepted refused → IsSameFile now next → GivesEntry now next e → IsGathered start next (accepted ++ e ∷ []) refused
 taken_entry start now next accepted refused e taken same given = record {
   answered = answered_entry start now next accepted refused e taken.answered same given;
   reads = reads_then start.stream now.stream next.stream taken.reads given.answers.reads;
 }
 
 pub taken_refused : (start now next : FileView) (accepted : List Entry) (refused : List RefusedItem) (item : RefusedItem)
-    → IsTaken start now accepted refused → IsSameFile now next → GivesRefused now next item → IsTaken start next accepted (refused ++ item ∷ [])
+    → IsGathered start now accepted refused → IsSameFile now next → GivesRefused now next item → IsGathered start next accepted (refused ++ item ∷ [])
 taken_refused start now next accepted refused item taken same given = record {
   answered = answered_refused start now next accepted refused item taken.answered same given;
   reads = reads_then start.stream now.stream next.stream taken.reads given.answers.reads;
@@ -70,7 +70,7 @@ like library loader one other p q = record {
 
 -- the next entry is like those before
 pub next_is_like : (start now next : FileView) (accepted : List Entry) (refused : List RefusedItem) (e : Entry)
-    → IsTaken start now accepted refused → GivesEntry now next e → All (λ one. IsLike one e) accepted
+    → IsGathered start now accepted refused → GivesEntry now next e → All (λ one. IsLike one e) accepted
 next_is_like start now next accepted refused e taken given =
     let same = taken.answered.same in
     let is = subst (λ (library : List ℕ). IsEntryOf library start.loader given.item e) same.library

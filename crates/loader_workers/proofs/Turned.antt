@@ -19,7 +19,7 @@ use Rattle.catalogue_lock.specs.Passes.{Pass, HasSeenItsOwn, Turned, having_turn
 use Rattle.catalogue_lock.proofs.Numbers.{items_by-append, items_by-own, items-append, items-numbered}
 use Rattle.loader_workers.specs.Counts.{with_receipts}
 use Rattle.loader_workers.specs.Ends.{end_of_commit}
-use Rattle.loader_workers.specs.Turns.{Replies, CommitsAs, receipts_by, HasCommitted, NoMark, OneMark, IsFullAt, CommitsFront}
+use Rattle.loader_workers.specs.Turns.{Replies, CommitsAs, receipts_by, HasCommitted, NoMark, OneMark, IsFullBehind, CommitsFront}
 use Rattle.loader_workers.specs.declared.counts.Counts.{Counts}
 use Rattle.loader_workers.specs.declared.file_end.FileEnd.{FileEnd}
 use Rattle.loader_workers.proofs.Frames.{fits, Stops}
@@ -42,7 +42,7 @@ none_of_none (x ∷ xs) none = absurd (omega arith)
 -- a frame that isn't the whole batch stops before an entry that passes a limit
 full_at : (origin : Origin) (history : List Event) (before : List Event) (front rest : List Entry)
     → (rest ≡ [] → ⊥) → (rest ≡ []) ⊎ Stops origin.limits origin.run (entries_of before ++ with_run origin.run front) rest
-    → entries_of history ≡ entries_of before ++ with_run origin.run front → IsFullAt origin history rest
+    → entries_of history ≡ entries_of before ++ with_run origin.run front → IsFullBehind origin.limits (entries_of history) origin.run rest
 full_at origin history before front rest some (inl none) same = absurd (some none)
 full_at origin history before front rest some (inr stops) same = record {
   next = stops.next;

@@ -6,12 +6,12 @@ use Rattle.loader_workers.specs.declared.file_end.FileEnd.{FileEnd}
 use Rattle.loader_workers.specs.declared.file_end.FileEnd.TheVariants.{Full, DeviceFault, NoMemory}
 
 -- the end of a file of which a commit answers this
-abbrev pub end_of : CommitFault → FileEnd
-end_of fault.Full = Full
-end_of fault.NoMemory = NoMemory
-end_of fault.DeviceFault = DeviceFault
-end_of fault.Broken = DeviceFault
+abbrev pub file_end_of : CommitFault → FileEnd
+file_end_of fault.Full = Full
+file_end_of fault.NoMemory = NoMemory
+file_end_of fault.DeviceFault = DeviceFault
+file_end_of fault.Broken = DeviceFault
 
 abbrev pub end_of_commit : Option CommitFault → Option FileEnd
 end_of_commit None = None
-end_of_commit (Some fault) = Some (end_of fault)
+end_of_commit (Some fault) = Some (file_end_of fault)

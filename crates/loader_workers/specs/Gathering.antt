@@ -8,7 +8,7 @@ use Rattle.loader_workers.specs.declared.file_end.FileEnd.{FileEnd}
 use Rattle.loader_workers.specs.declared.file_end.FileEnd.TheVariants.{Done, ReadFault, Full, DeviceFault, NoMemory}
 
 -- So far these entries and these refused items were answered, and the source was read on.
-pub record IsTaken (start now : FileView) (accepted : List Entry) (refused : List RefusedItem) : Type 0 where
+pub record IsGathered (start now : FileView) (accepted : List Entry) (refused : List RefusedItem) : Type 0 where
   pub answered : IsAnswered start now accepted refused
   pub reads : ReadsOn start.stream now.stream
 
@@ -24,7 +24,7 @@ StopsAt (Some DeviceFault) last now = ⊥
 -- These entries were gathered and these items refused. Where the file goes on there is an entry, and fewer bytes are ahead.
 pub record Gathers (start now : FileView) (accepted : List Entry) (refused : List RefusedItem) (end : Option FileEnd) : Type 0 where
   pub last : FileView
-  pub taken : IsTaken start last accepted refused
+  pub taken : IsGathered start last accepted refused
   pub stops : StopsAt end last now
   pub some : end ≡ None → (accepted ≢ []) × (now.stream.most < start.stream.most)
 
@@ -32,7 +32,7 @@ pub record Gathers (start now : FileView) (accepted : List Entry) (refused : Lis
 pub record IsGathering (start now : FileView) (before refused : List RefusedItem) (held : List Entry) : Type 0 where
   pub more : List RefusedItem
   pub refused_are : refused ≡ before ++ more
-  pub taken : IsTaken start now held more
+  pub taken : IsGathered start now held more
   pub falls : now.stream.most + length held ≤ start.stream.most
 
 -- these items were refused behind those before, and these entries gathered

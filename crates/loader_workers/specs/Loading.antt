@@ -13,7 +13,7 @@ use Rattle.file_entries.specs.Files.{IsJudged}
 use Rattle.file_entries.specs.Entries.{FileView, view_of}
 use Rattle.file_entries.specs.declared.refused.RefusedItem.{RefusedItem}
 use Rattle.loader_workers.specs.Counts.{no_counts, counts_in}
-use Rattle.loader_workers.specs.Gathering.{IsTaken}
+use Rattle.loader_workers.specs.Gathering.{IsGathered}
 use Rattle.loader_workers.specs.Turns.{Replies, CommitsAs, HasCommitted, IsSamePass, IsCounted, IsEndOf}
 use Rattle.loader_workers.specs.declared.counts.Counts.{Counts}
 use Rattle.loader_workers.specs.declared.file_end.FileEnd.{FileEnd}
@@ -37,7 +37,7 @@ IsReadTo NoMemory tells start left coming = Unit {0}
 
 -- What loading a file did. Of its items, `done` are judged and `coming` are not; of the accepted entries `front` are committed, and
 -- `rest` are not.
-pub record Loads {O : Type 0} (origin : Origin) (file : FileView) (left : Option (List ℕ)) (old new : Pass O Event) (result : FileResult) : Type 0 where
+pub record LoadsOneFile {O : Type 0} (origin : Origin) (file : FileView) (left : Option (List ℕ)) (old new : Pass O Event) (result : FileResult) : Type 0 where
   pub done : List Item
   pub coming : List Item
   pub front : List Entry
@@ -56,7 +56,7 @@ unread left bound faults code loader = view_of (opened left bound faults) code l
 -- So far these items of the file are answered, and all accepted entries among them are committed.
 pub record IsLoading {O : Type 0} (replies : Replies) (start now : FileView) (old new : Pass O Event) (counts : Counts) (refused : List RefusedItem) : Type 0 where
   pub accepted : List Entry
-  pub taken : IsTaken start now accepted refused
+  pub taken : IsGathered start now accepted refused
   pub committed_are : (origin : Origin) → CommitsAs replies origin → HasCommitted origin accepted [] no_counts counts old new
   pub same : IsSamePass old new
   pub own : HasSeenItsOwn new

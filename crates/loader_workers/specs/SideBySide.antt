@@ -6,7 +6,7 @@ use Rattle.entry_history.specs.Commits.{Origin}
 use Rattle.entry_history.specs.declared.event.Event.{Event}
 use Rattle.catalogue_lock.specs.Passes.{Lock, Pass, IsPassOf, HasSeenItsOwn}
 use Rattle.loader_workers.specs.Turns.{Replies, CommitsAs, IsSamePass}
-use Rattle.loader_workers.specs.Loading.{Loads, unread}
+use Rattle.loader_workers.specs.Loading.{LoadsOneFile, unread}
 use Rattle.loader_workers.specs.declared.file_end.FileEnd.TheVariants.{ReadFault}
 use Rattle.loader_workers.specs.declared.job.Job.{Job}
 use Rattle.loader_workers.specs.declared.result.FileResult.{FileResult}
@@ -21,7 +21,7 @@ pub record CanLoad {O : Type 0} (lock : Lock O) (pass : Pass O Event) (code : Li
 -- what loading one job did
 pub record LoadsJob {O S C R Q A : Type 0} (replies : Replies) (left : S → Option (List ℕ)) (bound faults : S → ℕ) (old new : Job O S Event C R Q A) (result : FileResult) : Type 0 where
   pub loads : (origin : Origin) → CommitsAs replies origin
-      → Loads origin (unread (left old.source) (bound old.source) (faults old.source) old.code old.loader) (left new.source) old.pass new.pass result
+      → LoadsOneFile origin (unread (left old.source) (bound old.source) (faults old.source) old.code old.loader) (left new.source) old.pass new.pass result
   pub same : IsSamePass old.pass new.pass
   pub seen : HasSeenItsOwn new.pass
   pub turns : new.pass.turns ≤ old.pass.turns + 2 ^ 20 + 1

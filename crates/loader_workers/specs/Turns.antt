@@ -1,6 +1,7 @@
 -- What the turns of a loader commit, and what its counts come to. The rules are this project's own.
 use Rattle.std.specs.Prelude.{◌≡◌, ◌≢◌, ℕ, ◌+◌, ◌*◌, ◌^◌, ◌≤◌, true, List, [], ◌∷◌, ◌++◌, length, Option, Some, None, if◌then◌else◌}
 use Rattle.marc_types.specs.declared.entry.Entry.{Entry}
+use Rattle.marc_types.specs.declared.entry.Limits.{Limits}
 use Rattle.marc_types.specs.declared.entry.Receipt.{Receipt}
 use Rattle.marc_types.specs.Limits.{most_entries}
 use Rattle.entry_record.specs.History.{in_run, with_run, passes_limits}
@@ -28,7 +29,7 @@ CommitsAs replies origin = (before : List Event) (batch : List Entry) (reply : B
     → replies before batch reply added → IsCommit origin before batch reply added
 
 -- the object is such a catalogue, whose limits aren't above the most
-pub record IsCatalogue (replies : Replies) : Type 0 where
+pub record AnswersAsCatalogue (replies : Replies) : Type 0 where
   pub origin : Origin
   pub commits : CommitsAs replies origin
   pub few : origin.limits.entries ≤ most_entries
@@ -63,12 +64,12 @@ pub data IsMarkOf (run : ℕ) (rest : List Entry) (marks : List Event) : Type 0 
   NoMark : marks ≡ [] → IsMarkOf run rest marks
   OneMark : (next more : List Entry) → rest ≡ next ++ more → next ≢ [] → marks ≡ Broke (with_run run next) ∷ [] → IsMarkOf run rest marks
 
--- the next of the entries that are left would pass a limit behind the entries of this history
-pub record IsFullAt (origin : Origin) (history : List Event) (rest : List Entry) : Type 0 where
+-- the next of the entries that are left would pass a limit behind this history
+pub record IsFullBehind (limits : Limits) (history : List Entry) (run : ℕ) (rest : List Entry) : Type 0 where
   pub next : Entry
   pub more : List Entry
   pub rest_is : rest ≡ next ∷ more
-  pub passes : passes_limits origin.limits (entries_of history) (in_run origin.run next) ≡ true
+  pub passes : passes_limits limits history (in_run run next) ≡ true
 
 -- What is left of the accepted entries at an end, which marks were added, and what stands in the history that the pass has seen.
 -- Done and ReadFault: all are committed. Full: the next passes a limit. DeviceFault: a device failed, in this loader's turn or in
@@ -76,7 +77,7 @@ pub record IsFullAt (origin : Origin) (history : List Event) (rest : List Entry)
 abbrev pub IsEndOf : Origin → FileEnd → List Entry → List Event → List Event → Type 0
 IsEndOf origin Done rest marks history = (rest ≡ []) × (marks ≡ [])
 IsEndOf origin ReadFault rest marks history = (rest ≡ []) × (marks ≡ [])
-IsEndOf origin Full rest marks history = IsFullAt origin history rest × (marks ≡ [])
+IsEndOf origin Full rest marks history = IsFullBehind origin.limits (entries_of history) origin.run rest × (marks ≡ [])
 IsEndOf origin DeviceFault rest marks history = (is_broken history ≡ true) × IsMarkOf origin.run rest marks
 IsEndOf origin NoMemory rest marks history = marks ≡ []
 

@@ -1,5 +1,5 @@
 ghost use Rattle.std.specs.Prelude.{◌≡◌};
-ghost use Rattle.loader_workers.specs.Ends.{end_of, end_of_commit};
+ghost use Rattle.loader_workers.specs.Ends.{file_end_of, end_of_commit};
 
 use marc_types::CommitFault;
 
@@ -18,8 +18,8 @@ pub enum FileEnd {
 }
 
 /// The end of a file of which a commit answers this.
-fn end_of(fault: CommitFault) -> FileEnd
-    ensures { result ≡ end_of fault }
+fn file_end_of(fault: CommitFault) -> FileEnd
+    ensures { result ≡ file_end_of fault }
 {
     match fault {
         CommitFault::Full => FileEnd::Full,
@@ -32,5 +32,5 @@ fn end_of(fault: CommitFault) -> FileEnd
 pub(crate) fn end_of_commit(end: Option<CommitFault>) -> Option<FileEnd>
     ensures { result ≡ end_of_commit end }
 {
-    end.map(end_of)
+    end.map(file_end_of)
 }

@@ -5,8 +5,8 @@ ghost use Rattle.marc_types.specs.Valid.{is_code};
 ghost use Rattle.entry_history.specs.Commits.{Origin};
 ghost use Rattle.catalogue_lock.specs.Passes.{IsPassOf, HasSeenItsOwn};
 ghost use Rattle.loader_workers.specs.Counts.{no_counts, result_of};
-ghost use Rattle.loader_workers.specs.Turns.{CommitsAs, IsCatalogue, IsSamePass};
-ghost use Rattle.loader_workers.specs.Loading.{Loads, unread};
+ghost use Rattle.loader_workers.specs.Turns.{CommitsAs, AnswersAsCatalogue, IsSamePass};
+ghost use Rattle.loader_workers.specs.Loading.{LoadsOneFile, unread};
 
 use crate::counts::Counts;
 use crate::file_end::FileEnd;
@@ -41,11 +41,11 @@ fn load_entries<
     requires seen { HasSeenItsOwn pass.old }
     requires room { pass.old.turns < 2 ^ 30 }
     requires takes { (call : List Entry) → call ≢ [] → O.takes call }
-    requires catalogue { IsCatalogue (O.replies (O.origin lock.now.opened)) }
+    requires catalogue { AnswersAsCatalogue (O.replies (O.origin lock.now.opened)) }
     requires going { entries.old.over ≡ false }
     requires fresh { entries.old.stream.given ≡ 0 }
     ensures loads { (origin : Origin) → CommitsAs (O.replies (O.origin lock.now.opened)) origin
-        → Loads origin entries.old entries.new.stream.left pass.old pass.new result }
+        → LoadsOneFile origin entries.old entries.new.stream.left pass.old pass.new result }
     ensures same { IsSamePass pass.old pass.new }
     ensures seen { HasSeenItsOwn pass.new }
     ensures turns { pass.new.turns ≤ pass.old.turns + 2 ^ 20 + 1 }
@@ -101,9 +101,9 @@ fn load_source<
     requires room { pass.old.turns < 2 ^ 30 }
     requires code { IsTrue (is_code code.now) }
     requires takes { (call : List Entry) → call ≢ [] → O.takes call }
-    requires catalogue { IsCatalogue (O.replies (O.origin lock.now.opened)) }
+    requires catalogue { AnswersAsCatalogue (O.replies (O.origin lock.now.opened)) }
     ensures loads { (origin : Origin) → CommitsAs (O.replies (O.origin lock.now.opened)) origin
-        → Loads origin (unread (S.left source) (S.bound source) (S.faults source) code.now loader) (S.left result.0) pass.old pass.new result.1 }
+        → LoadsOneFile origin (unread (S.left source) (S.bound source) (S.faults source) code.now loader) (S.left result.0) pass.old pass.new result.1 }
     ensures same { IsSamePass pass.old pass.new }
     ensures seen { HasSeenItsOwn pass.new }
     ensures turns { pass.new.turns ≤ pass.old.turns + 2 ^ 20 + 1 }
@@ -142,11 +142,11 @@ pub fn load<O: Object<Item = Event, Call = Batch, Reply = BatchReply>, R: Wait, 
     requires room { job.pass.turns < 2 ^ 30 }
     requires code { IsTrue (is_code job.code) }
     requires takes { (call : List Entry) → call ≢ [] → O.takes call }
-    requires catalogue { IsCatalogue (O.replies (O.origin lock.now.opened)) }
+    requires catalogue { AnswersAsCatalogue (O.replies (O.origin lock.now.opened)) }
 
     // What of the file is committed, counted and refused, and what the end means.
     ensures loads { (origin : Origin) → CommitsAs (O.replies (O.origin lock.now.opened)) origin
-        → Loads origin (unread (S.left job.source) (S.bound job.source) (S.faults job.source) job.code job.loader) (S.left result.0.source)
+        → LoadsOneFile origin (unread (S.left job.source) (S.bound job.source) (S.faults job.source) job.code job.loader) (S.left result.0.source)
         job.pass result.0.pass result.1 }
 
     // The pass can be used again.

@@ -1,6 +1,6 @@
 ghost use Rattle.std.specs.Prelude.{◌≡◌, ◌≢◌, ◌<◌, ◌≤◌, ◌^◌, ℕ, [], List, Some, All, IfOk, IfErr, length, map, slice_index_or, vec_capacity};
 ghost use Rattle.marc_types.specs.declared.entry.Entry.{Entry};
-ghost use Rattle.loader_workers.specs.Turns.{IsCatalogue};
+ghost use Rattle.loader_workers.specs.Turns.{AnswersAsCatalogue};
 ghost use Rattle.loader_workers.specs.SideBySide.{CanLoad, IsWaiting, IsDone, Each, LoadsJob, IsThere};
 
 use crate::job::Job;
@@ -33,7 +33,7 @@ fn load_slot<
 >(rt: &R, alloc: Global, lock: &HistoryLock<O>, slot: &mut Slot<O, S>, gate: &G)
     requires waits { IsWaiting (λ job. CanLoad lock.now job.pass job.code) slot.old.job }
     requires takes { (call : List Entry) → call ≢ [] → O.takes call }
-    requires catalogue { IsCatalogue (O.replies (O.origin lock.now.opened)) }
+    requires catalogue { AnswersAsCatalogue (O.replies (O.origin lock.now.opened)) }
     ensures { IsDone (LoadsJob (O.replies (O.origin lock.now.opened)) S.left S.bound S.faults) slot.old.job slot.new.job slot.new.result }
 {
     let Some(job) = slot.job.take() else {
@@ -56,7 +56,7 @@ fn load_slots<
 >(rt: &R, alloc: Global, lock: &HistoryLock<O>, slots: &mut [Slot<O, S>], gate: &G)
     requires wait { All (λ slot. IsWaiting (λ job. CanLoad lock.now job.pass job.code) slot.job) slots.old }
     requires takes { (call : List Entry) → call ≢ [] → O.takes call }
-    requires catalogue { IsCatalogue (O.replies (O.origin lock.now.opened)) }
+    requires catalogue { AnswersAsCatalogue (O.replies (O.origin lock.now.opened)) }
     ensures len { length slots.new ≡ length slots.old }
     ensures done { (k : ℕ) (d : _) → k < length slots.old
         → IsDone (LoadsJob (O.replies (O.origin lock.now.opened)) S.left S.bound S.faults) (slice_index_or slots.old k d).job
@@ -69,7 +69,7 @@ fn load_slots<
         threads,
         &|_, slot: &mut Slot<O, S>|
             requires { IsWaiting (λ job. CanLoad lock.now job.pass job.code) slot.now.job
-                × ((call : List Entry) → call ≢ [] → O.takes call) × IsCatalogue (O.replies (O.origin lock.now.opened)) }
+                × ((call : List Entry) → call ≢ [] → O.takes call) × AnswersAsCatalogue (O.replies (O.origin lock.now.opened)) }
             ensures { IsDone (LoadsJob (O.replies (O.origin lock.entry.now.opened)) S.left S.bound S.faults) slot.entry.now.job slot.exit.now.job slot.exit.now.result }
         { load_slot(rt, alloc, lock, slot, gate) },
     );
@@ -136,7 +136,7 @@ pub fn load_all<
 ) -> Result<(Jobs<O, S>, Results), (Jobs<O, S>, NoMemory)>
     requires can { All (λ job. CanLoad lock.now job.pass job.code) jobs }
     requires takes { (call : List Entry) → call ≢ [] → O.takes call }
-    requires catalogue { IsCatalogue (O.replies (O.origin lock.now.opened)) }
+    requires catalogue { AnswersAsCatalogue (O.replies (O.origin lock.now.opened)) }
     ensures each { IfOk result (λ r. Each (LoadsJob (O.replies (O.origin lock.now.opened)) S.left S.bound S.faults) jobs r.0 r.1) }
     ensures err { IfErr result (λ e. e.0 ≡ jobs) }
 {

@@ -2,7 +2,7 @@ ghost use Rattle.std.specs.Prelude.{◌≡◌, ◌≢◌, ◌+◌, ◌^◌, ◌<
 ghost use Rattle.marc_types.specs.declared.entry.Entry.{Entry};
 ghost use Rattle.entry_history.specs.Commits.{Origin};
 ghost use Rattle.catalogue_lock.specs.Passes.{IsPassOf, HasSeenItsOwn};
-ghost use Rattle.loader_workers.specs.Turns.{CommitsAs, IsCatalogue, CommitsFront, IsSamePass, IsCounted};
+ghost use Rattle.loader_workers.specs.Turns.{CommitsAs, AnswersAsCatalogue, CommitsFront, IsSamePass, IsCounted};
 
 use crate::counts::Counts;
 use crate::file_end::{FileEnd, end_of_commit};
@@ -23,7 +23,7 @@ pub fn commit<O: Object<Item = Event, Call = Batch, Reply = BatchReply>, R: Wait
     requires seen { HasSeenItsOwn pass.old }
     requires room { pass.old.turns < 2 ^ 31 }
     requires takes { (call : List Entry) → call ≢ [] → O.takes call }
-    requires catalogue { IsCatalogue (O.replies (O.origin lock.now.opened)) }
+    requires catalogue { AnswersAsCatalogue (O.replies (O.origin lock.now.opened)) }
     requires counted { IsCounted counts.old pass.old.seen }
     ensures front { (origin : Origin) → CommitsAs (O.replies (O.origin lock.now.opened)) origin
         → CommitsFront origin batch result counts.old counts.new pass.old pass.new }

@@ -3,7 +3,7 @@ use Rattle.std.proofs.Common.{◌≡◌, ◌≢◌, ◌∙◌, ℕ, ◌+◌, tru
 use Rattle.marc_types.specs.declared.entry.Entry.{Entry}
 use Rattle.outside.specs.Room.{RoomView}
 use Rattle.command_words.specs.declared.library.Library.{Library}
-use Rattle.console_lines.specs.Ends.{IsUntold, out_unwritten, report_unwritten}
+use Rattle.console_lines.specs.Ends.{TellsNoFault, out_unwritten, report_unwritten}
 use Rattle.console_lines.specs.declared.end.End.{End}
 use Rattle.console_lines.specs.declared.end.End.TheVariants.{Done, Refused, Unwritten, Told}
 use Rattle.console_lines.specs.declared.end.Unwritten.TheVariants as unwritten
@@ -26,7 +26,7 @@ told_of_loading fault.Memory no_usage no_other = tt
 told_of_loading fault.OldVersion no_usage no_other = tt
 told_of_loading fault.OtherHistory no_usage no_other = absurd (no_other refl)
 
-pub loading_untold : (end : End) → IsUntold end → (end ≢ out_unwritten) × (end ≢ report_unwritten) → EndsLoad end
+pub loading_untold : (end : End) → TellsNoFault end → (end ≢ out_unwritten) × (end ≢ report_unwritten) → EndsLoad end
 loading_untold Done untold others = tt
 loading_untold Refused untold others = tt
 loading_untold (Unwritten unwritten.Out) untold others = absurd (others.0 refl)
@@ -34,7 +34,7 @@ loading_untold (Unwritten unwritten.Report) untold others = absurd (others.1 ref
 loading_untold (Unwritten unwritten.Console) untold others = tt
 loading_untold (Told why) untold others = absurd untold
 
-pub running_untold : (end : End) → IsUntold end → EndsRun end
+pub running_untold : (end : End) → TellsNoFault end → EndsRun end
 running_untold Done untold = tt
 running_untold Refused untold = tt
 running_untold (Unwritten which) untold = tt

@@ -11,7 +11,7 @@ use Rattle.commit_journal.specs.Journal.{EndsAt}
 use Rattle.command_words.specs.declared.library.Library.{Library}
 use Rattle.entry_record.specs.History.{IsMerged, brought_by, with_run, next_run, IsWithin}
 use Rattle.durable_catalogue.specs.Logs.{HasHistory}
-use Rattle.durable_catalogue.specs.Images.{Holds, framed_lengths}
+use Rattle.durable_catalogue.specs.Images.{HoldsEntries, framed_lengths}
 use Rattle.durable_catalogue.specs.Durables.{Opening}
 use Rattle.durable_catalogue.proofs.Framed.{framed_append}
 use Rattle.durable_catalogue.proofs.Images.{front_of, whole_is}
@@ -33,7 +33,7 @@ some_same : {A : Type 0} {x y : A} → Some x ≡ Some y → x ≡ y
 some_same is = cc
 
 -- an image that has all entries has the history
-whole_history : (entries : List Entry) (image : List ℕ) → Holds (length entries) entries [] image → HasHistory entries image
+whole_history : (entries : List Entry) (image : List ℕ) → HoldsEntries (length entries) entries [] image → HasHistory entries image
 whole_history entries image holds = ∥∥₁_map holds (λ r. whole_is entries image (front_of (length entries) entries image r))
 
 module _ (old new : RoomView) (journal : List ℕ) (libraries : List Library) (before added : List Entry) (o : Opening) (results : List FileResult)
@@ -87,7 +87,7 @@ module _ (old new : RoomView) (journal : List ℕ) (libraries : List Library) (b
     synced = λ dated.
         let first = some_of o.synced (opened.synced (sym closed.left.dated ∙ dated)) in
         ap is_some (subst (λ t. (new.log journal).synced t ≡ Some first.0) opened.moment (closed.left.syncs first.0 first.1));
-    crash = λ s c dated synced left. subst (λ n. Holds n (before ++ added) [] c) opened.opened (closed.left.since s c (opened.tells tells) (first_sync s dated synced) left);
+    crash = λ s c dated synced left. subst (λ n. HoldsEntries n (before ++ added) [] c) opened.opened (closed.left.since s c (opened.tells tells) (first_sync s dated synced) left);
   }
 
 -- what a load makes that is known by its results

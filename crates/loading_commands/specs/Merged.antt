@@ -12,7 +12,7 @@ use Rattle.file_entries.specs.Files.{IsJudged}
 use Rattle.file_entries.specs.declared.refused.RefusedItem.{RefusedItem}
 use Rattle.entry_record.specs.History.{IsMerged, IsWithin}
 use Rattle.durable_catalogue.specs.Logs.{HasHistory}
-use Rattle.durable_catalogue.specs.Images.{Holds, framed_lengths}
+use Rattle.durable_catalogue.specs.Images.{HoldsEntries, framed_lengths}
 use Rattle.room_files.specs.Journals.{journal_limits, log_bytes}
 
 -- The accepted entries and the refused items of the files of libraries, in their order: each file is there, and each of its items
@@ -51,4 +51,4 @@ pub record IsOneHistory (old new : RoomView) (journal : List ℕ) (libraries : L
   -- where the log tells its moments there was that sync
   pub synced : (new.log journal).dated ≡ true → is_some ((new.log journal).synced 0) ≡ true
   pub crash : (s : ℕ) (c : List ℕ) → (new.log journal).dated ≡ true → (new.log journal).synced 0 ≡ Some s → (new.log journal).left s c
-      → Holds (length before) (before ++ added) [] c
+      → HoldsEntries (length before) (before ++ added) [] c

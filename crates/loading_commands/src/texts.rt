@@ -1,9 +1,9 @@
 //! The console's lines of a command's files.
 ghost use Rattle.std.specs.Prelude.{◌≡◌, length, nat_lt, IfOk, string_bytes};
-ghost use Rattle.loading_commands.specs.Texts.{totals_in, refused_text, totals_text, files_text, has_refused};
+ghost use Rattle.loading_commands.specs.Texts.{totals_in, files_text, has_refused};
 
 use command_words::Library;
-use console_lines::{Sums, Totals, refused_text, totals_text};
+use console_lines::{Sums, Totals, refused_lines, totals_line};
 use loader_workers::FileResult;
 use marc_types::NoMemory;
 use std::alloc::Global;
@@ -23,42 +23,6 @@ fn totals_in(file: &FileResult) -> Totals
     }
 }
 
-/// The refused items of each file, in the files' order.
-fn all_refused(
-    alloc: Global,
-    libraries: &[Library],
-    results: &[FileResult],
-) -> Result<String, NoMemory>
-    requires { length libraries.now ≡ length results.now }
-    ensures { IfOk result (λ text. string_bytes text ≡ refused_text libraries.now results.now) }
-{
-    let mut text = String::new(alloc);
-    for index in 0..results.len() {
-        let file = libraries[index].file.as_str();
-        let lines = refused_text(alloc, file, results[index].refused.as_slice())?;
-        text.push_str(lines.as_str())?;
-    }
-    Ok(text)
-}
-
-/// What is counted of each file, in the files' order.
-fn all_totals(
-    alloc: Global,
-    libraries: &[Library],
-    results: &[FileResult],
-) -> Result<String, NoMemory>
-    requires { length libraries.now ≡ length results.now }
-    ensures { IfOk result (λ text. string_bytes text ≡ totals_text libraries.now results.now) }
-{
-    let mut text = String::new(alloc);
-    for index in 0..results.len() {
-        let file = libraries[index].file.as_str();
-        let line = totals_text(alloc, file, &totals_in(&results[index]))?;
-        text.push_str(line.as_str())?;
-    }
-    Ok(text)
-}
-
 /// What the console is told of files: their refused items, file by file, and then what is counted of each.
 pub fn files_text(
     alloc: Global,
@@ -68,8 +32,15 @@ pub fn files_text(
     requires { length libraries.now ≡ length results.now }
     ensures { IfOk result (λ text. string_bytes text ≡ files_text libraries.now results.now) }
 {
-    let mut text = all_refused(alloc, libraries, results)?;
-    let totals = all_totals(alloc, libraries, results)?;
+    let mut text = String::new(alloc);
+    let mut totals = String::new(alloc);
+    for (library, loaded) in libraries.iter().zip(results) {
+        let file = library.file.as_str();
+        let lines = refused_lines(alloc, file, loaded.refused.as_slice())?;
+        text.push_str(lines.as_str())?;
+        let line = totals_line(alloc, file, &totals_in(loaded))?;
+        totals.push_str(line.as_str())?;
+    }
     text.push_str(totals.as_str())?;
     Ok(text)
 }

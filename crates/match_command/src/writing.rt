@@ -28,8 +28,7 @@ fn write_groups<R: Room>(room: &mut R, name: &str, groups: &Groups<'_>) -> Resul
     let written = groups.write(&mut out);
     let closed = room.close_out(name, out);
     written?;
-    closed?;
-    Ok(())
+    closed
 }
 
 /// Writes the lines of a table's groups into the file of that name. Only the finding of the groups takes memory, and without it no

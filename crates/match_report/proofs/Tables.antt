@@ -23,7 +23,7 @@ use Rattle.kept_fields.specs.Committed.{Committed, is_plain, plain_fields, plain
 use Rattle.kept_fields.proofs.Kept.{kept_as_committed}
 use Rattle.kept_fields.proofs.Maps.{with_value, map_inserted, map_removed}
 use Rattle.match_report.specs.Numbers.{isbns_of_field, lccns_of_field, numbers_of}
-use Rattle.match_report.specs.Groups.{Numbered, matches_of, lines_of}
+use Rattle.match_report.specs.Groups.{RecordNumbers, matches_of, lines_of}
 use Rattle.match_report.specs.Matches.{numbered_row, numbered_rows, take_numbers, table_after, match_report_of}
 use Rattle.match_report.specs.declared.number.Number.{Number}
 
@@ -81,7 +81,7 @@ numbers_in_plain fields =
 
 -- ---- the table is that of the committed records
 
-abbrev numbered : Committed → Numbered
+abbrev numbered : Committed → RecordNumbers
 numbered row = (row.0, numbers_of row.1)
 
 one_taken : (rows : List Committed) (a : Arrival) → take_numbers (map numbered rows) a ≡ map numbered (take_in_class Bibliographic rows a)

@@ -11,17 +11,17 @@ use Rattle.match_report.specs.declared.number.Number.{Number}
 use Rattle.match_report.specs.declared.number.Number.TheVariants.{Isbn, Lccn}
 
 -- the key of a record, and its numbers
-abbrev pub Numbered : Type 0
-Numbered = Key × List Number
+abbrev pub RecordNumbers : Type 0
+RecordNumbers = Key × List Number
 
 abbrev pub posting : Number → Key → Posting
 posting number key = record { number = number; key = key }
 
-abbrev pub postings_of_row : Numbered → List Posting
+abbrev pub postings_of_row : RecordNumbers → List Posting
 postings_of_row row = map (λ number. posting number row.0) row.1
 
 -- each number beside each record that has it, once, in their order
-abbrev pub postings_of : List Numbered → List Posting
+abbrev pub postings_of : List RecordNumbers → List Posting
 postings_of rows = fold (insert_key posting_cmp) [] (flat_map postings_of_row rows)
 
 -- a number, and the keys of the records that have it
@@ -52,7 +52,7 @@ abbrev pub is_match : NumberGroup → Bool
 is_match g = nat_le 2 (length g.keys)
 
 -- the groups of two or more, of rows
-unfoldable pub matches_of : List Numbered → List NumberGroup
+unfoldable pub matches_of : List RecordNumbers → List NumberGroup
 matches_of rows = filter is_match (groups_of (postings_of rows))
 
 abbrev pub number_word : Number → List ℕ

@@ -10,13 +10,13 @@ use Rattle.catalogue_rules.specs.State.{Row, State, fields_of}
 use Rattle.catalogue_rules.specs.Receipt.{same_class}
 use Rattle.catalogue_rules.specs.Settle.{Arrival, arrival_of}
 use Rattle.match_report.specs.Numbers.{numbers_of}
-use Rattle.match_report.specs.Groups.{Numbered, matches_of, lines_of}
+use Rattle.match_report.specs.Groups.{RecordNumbers, matches_of, lines_of}
 
-abbrev pub numbered_row : Row → Numbered
+abbrev pub numbered_row : Row → RecordNumbers
 numbered_row row = (row.0, numbers_of (fields_of row.1))
 
 -- the numbers of all bibliographic records of a state, by a scan of them
-abbrev pub numbered_rows : State → List Numbered
+abbrev pub numbered_rows : State → List RecordNumbers
 numbered_rows s = map numbered_row s.bibliographic
 
 -- the match report of a state
@@ -24,12 +24,12 @@ unfoldable pub match_report_of : State → List ℕ
 match_report_of s = lines_of (matches_of (numbered_rows s))
 
 -- a bibliographic record brings its numbers into its key's place, in place of those that stood there; a deletion takes them away
-abbrev pub take_numbers : List Numbered → Arrival → List Numbered
+abbrev pub take_numbers : List RecordNumbers → Arrival → List RecordNumbers
 take_numbers rows a =
     if same_class a.class Bibliographic
     then (if is_deletion a.leader then remove_entry (same_key a.key) rows else insert_entry key_cmp rows a.key (numbers_of a.fields))
     else rows
 
 -- the table after a history
-unfoldable pub table_after : List Entry → List Numbered
+unfoldable pub table_after : List Entry → List RecordNumbers
 table_after history = fold take_numbers [] (map arrival_of history)

@@ -9,10 +9,10 @@ ghost use Rattle.match_report.specs.Walk.{matching, matches_from};
 
 use crate::number::Number;
 use crate::posting::PostingRef;
-use crate::row_key::RowKey;
 use crate::writing::write_lines;
 use marc_types::NoMemory;
 use outside::{Failed, Sink};
+use packed_keys::PackedKey;
 use std::alloc::Global;
 use std::collections::BTreeSet;
 use std::marker::Model;
@@ -22,7 +22,7 @@ use std::mem;
 #[derive(Drop)]
 pub(crate) struct Group<'a> {
     pub number: &'a Number,
-    pub keys: Vec<&'a RowKey>,
+    pub keys: Vec<&'a PackedKey>,
 }
 
 impl<'a> Model for Group<'a> {

@@ -13,6 +13,5 @@ mod isbn;
 pub mod laws;
 mod number;
 mod posting;
-mod row_key;
 mod table;
 mod writing;

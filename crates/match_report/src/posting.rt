@@ -1,5 +1,5 @@
 use crate::number::Number;
-use crate::row_key::RowKey;
+use packed_keys::PackedKey;
 use std::cmp::Ordering;
 use std::marker::Model;
 
@@ -8,7 +8,7 @@ use std::marker::Model;
 #[derive(Drop)]
 pub(crate) struct PostingRef<'a> {
     pub number: &'a Number,
-    pub key: &'a RowKey,
+    pub key: &'a PackedKey,
 }
 
 impl<'a> Model for PostingRef<'a> {

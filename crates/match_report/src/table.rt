@@ -15,9 +15,9 @@ use crate::fields::numbers;
 use crate::groups::{Groups, groups_among};
 use crate::number::Numbers;
 use crate::posting::PostingRef;
-use crate::row_key::RowKey;
 use entry_record::is_deletion;
 use marc_types::{Class, Entry, Key, NoMemory, Record};
+use packed_keys::PackedKey;
 use std::alloc::Global;
 use std::collections::{BTreeMap, BTreeSet};
 use std::marker::Model;
@@ -25,21 +25,21 @@ use std::marker::Model;
 /// The numbers of each bibliographic record that is kept, under its key. Contracts see them in key order.
 #[derive(Drop)]
 pub struct Matches {
-    rows: BTreeMap<RowKey, Numbers>,
+    rows: BTreeMap<PackedKey, Numbers>,
 }
 
 impl Model for Matches {
     ghost use Rattle.std.specs.Prelude.{List};
-    ghost use Rattle.match_report.specs.Groups.{Numbered};
+    ghost use Rattle.match_report.specs.Groups.{RecordNumbers};
 
-    ghost Value = { List Numbered };
+    ghost Value = { List RecordNumbers };
 
     ghost view = { λ m. m.rows.entries };
 }
 
 /// The numbers of a record, each beside the record's key.
 fn add_postings<'a>(
-    key: &'a RowKey,
+    key: &'a PackedKey,
     numbers: &'a Numbers,
     held: &mut BTreeSet<PostingRef<'a>>,
 ) -> Result<(), NoMemory>
@@ -66,7 +66,7 @@ impl Matches {
         ensures err { OnErr result (self.new ≡ self.old) }
     {
         let found = numbers(alloc, rec)?;
-        let own = RowKey::new(alloc, key)?;
+        let own = PackedKey::of(alloc, key)?;
         self.rows.insert(own, found)?;
         Ok(())
     }
@@ -75,7 +75,7 @@ impl Matches {
         ensures ok { OnOk result (self.new ≡ remove_entry (same_key key.now) self.old) }
         ensures err { OnErr result (self.new ≡ self.old) }
     {
-        let own = RowKey::new(alloc, key)?;
+        let own = PackedKey::of(alloc, key)?;
         self.rows.remove(&own);
         Ok(())
     }

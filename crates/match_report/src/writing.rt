@@ -10,9 +10,9 @@ ghost use Rattle.match_report.specs.Postings.{number_text};
 ghost use Rattle.match_report.specs.Groups.{number_word, group_line, total_line, lines_of};
 
 use crate::groups::Group;
-use crate::row_key::RowKey;
 use itoa::Buffer;
 use outside::{Failed, Sink};
+use packed_keys::PackedKey;
 
 /// A piece, and another behind it.
 #[tactic(auto, using(outside::proofs::Fronts::front_more, outside::proofs::Fronts::front_then, outside::proofs::Fronts::appends_then))]
@@ -28,7 +28,7 @@ fn write_both<K: Sink>(first: &[u8], second: &[u8], out: &mut K) -> Result<(), F
 
 /// The text of a key, behind a blank.
 #[tactic(auto, unfolding(heading_fields::specs::Numbers::key_text), using(crate::proofs::Writes::code_front, crate::proofs::Writes::code_then, outside::proofs::Fronts::appends_then))]
-fn write_key<K: Sink>(key: &RowKey, out: &mut K) -> Result<(), Failed>
+fn write_key<K: Sink>(key: &PackedKey, out: &mut K) -> Result<(), Failed>
     ensures bytes { OnOk result (Appends (K.written out.old) (K.written out.new) (then_word (key_text key.now))) }
     ensures front { WritesFront (K.written out.old) (K.written out.new) (then_word (key_text key.now)) }
     ensures tells { is_some (K.written out.new) ≡ is_some (K.written out.old) }
@@ -39,7 +39,7 @@ fn write_key<K: Sink>(key: &RowKey, out: &mut K) -> Result<(), Failed>
 }
 
 #[tactic(auto, using(outside::proofs::Fronts::writing_begun, outside::proofs::Fronts::writing_done))]
-fn write_keys<K: Sink>(keys: &[&RowKey], out: &mut K) -> Result<(), Failed>
+fn write_keys<K: Sink>(keys: &[&PackedKey], out: &mut K) -> Result<(), Failed>
     ensures bytes { OnOk result (Appends (K.written out.old) (K.written out.new) (then_words (map key_text (map (λ key. key.now) keys.now)))) }
     ensures front { WritesFront (K.written out.old) (K.written out.new) (then_words (map key_text (map (λ key. key.now) keys.now))) }
     ensures tells { is_some (K.written out.new) ≡ is_some (K.written out.old) }

@@ -11,7 +11,7 @@ use Rattle.durable_catalogue.specs.Logs.{HasHistory}
 use Rattle.durable_catalogue.specs.Openings.{IsUnopened}
 use Rattle.durable_catalogue.specs.declared.fault.OpenFault.{OpenFault}
 use Rattle.durable_catalogue.specs.declared.fault.OpenFault.TheVariants as opening
-use Rattle.console_lines.specs.Ends.{Outcome, IsTold, IsUntold, console_unwritten}
+use Rattle.console_lines.specs.Ends.{Outcome, IsTold, TellsNoFault, console_unwritten}
 use Rattle.console_lines.specs.declared.end.End.{End}
 use Rattle.console_lines.specs.declared.end.End.TheVariants.{Done, Refused, Unwritten, Told}
 use Rattle.console_lines.specs.declared.end.Unwritten.TheVariants.{Out, Report, Console}
@@ -100,14 +100,14 @@ pub record Migrates (from into : List ℕ) (o : Outcome) : Type 0 where
       → IsTold why o × ((WhyNotFrom o.old from why × SameBut o.old o.new (from ∷ [])) ⊎ WhyNotInto o.old from into why)
   pub device : o.end ≡ Told Device → Rose (o.old.log_faults from) (o.new.log_faults from) ⊎ Rose (o.old.log_faults into) (o.new.log_faults into)
   -- without one the old journal has a history, within the limits, and is of version 1, and the new one was fit for that
-  pub history : IsUntold o.end → o.old.tells ≡ true → HasFittingHistory (log_bytes o.old from)
-  pub version : IsUntold o.end → o.old.tells ≡ true → version_of (log_bytes o.old from) ≡ 1
-  pub fit : (entries : List Entry) → IsUntold o.end → o.old.tells ≡ true → HasHistory entries (log_bytes o.old from)
+  pub history : TellsNoFault o.end → o.old.tells ≡ true → HasFittingHistory (log_bytes o.old from)
+  pub version : TellsNoFault o.end → o.old.tells ≡ true → version_of (log_bytes o.old from) ≡ 1
+  pub fit : (entries : List Entry) → TellsNoFault o.end → o.old.tells ≡ true → HasHistory entries (log_bytes o.old from)
       → ∥ ((before : List Entry) × IsFit journal_limits entries before (log_bytes o.old into)) ∥₁
   -- the new one has it, in its file and in each image, and is of version 2
-  pub all : (entries : List Entry) → IsUntold o.end → o.old.tells ≡ true → HasHistory entries (log_bytes o.old from)
+  pub all : (entries : List Entry) → TellsNoFault o.end → o.old.tells ≡ true → HasHistory entries (log_bytes o.old from)
       → IsBrought entries (log_bytes o.new into)
-  pub durable : (entries : List Entry) → IsUntold o.end → o.old.tells ≡ true → HasHistory entries (log_bytes o.old from)
+  pub durable : (entries : List Entry) → TellsNoFault o.end → o.old.tells ≡ true → HasHistory entries (log_bytes o.old from)
       → HasInEachImage entries o.new into
   -- the console is told how many entries it has, or a front of that, where it failed
   pub line : (entries : List Entry) → o.end ≡ Done → o.old.tells ≡ true → HasHistory entries (log_bytes o.old from)

@@ -22,7 +22,7 @@ use Rattle.durable_catalogue.specs.Durables.{events}
 use Rattle.file_entries.specs.Files.{IsJudged}
 use Rattle.loader_workers.specs.Counts.{no_counts, with_receipts, counts_in}
 use Rattle.loader_workers.specs.Turns.{IsEndOf, HasCommitted, IsSamePass, receipts_by}
-use Rattle.loader_workers.specs.Loading.{IsCutShort, IsReadTo, Loads, unread}
+use Rattle.loader_workers.specs.Loading.{IsCutShort, IsReadTo, LoadsOneFile, unread}
 use Rattle.loader_workers.specs.declared.counts.Counts.{Counts}
 use Rattle.loader_workers.specs.declared.file_end.FileEnd.TheVariants.{ReadFault, DeviceFault}
 use Rattle.loader_workers.specs.declared.result.FileResult.{FileResult}
@@ -47,7 +47,7 @@ start_of lock before number = new_pass lock.id (Some lock.opened) (brought_in be
 -- what became of a file that was loaded with a pass of such a lock
 pub record Did {O S : Type 0} (limits : Limits) (lock : Lock O) (before : List Entry) (left : S → Option (List ℕ)) (bound faults : S → ℕ)
     (loader : ℕ) (old : InputFile S) (pass : Pass O Event) (new : InputFile S) (result : FileResult) : Type 0 where
-  pub loads : Loads (origin_of limits before) (unread (left old.source) (bound old.source) (faults old.source) old.code loader) (left new.source)
+  pub loads : LoadsOneFile (origin_of limits before) (unread (left old.source) (bound old.source) (faults old.source) old.code loader) (left new.source)
       (start_of lock before loader) pass result
   pub same : IsSamePass (start_of lock before loader) pass
   pub code : new.code ≡ old.code

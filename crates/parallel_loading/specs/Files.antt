@@ -5,22 +5,16 @@ use Rattle.marc_types.specs.declared.entry.Limits.{Limits}
 use Rattle.outside.specs.Fault.{Rose}
 use Rattle.marc_stream.specs.Pieces.{Item, items}
 use Rattle.file_entries.specs.Files.{IsJudged}
-use Rattle.entry_record.specs.History.{brought_by, in_run, with_run, next_run, passes_limits}
+use Rattle.entry_record.specs.History.{brought_by, with_run, next_run}
 use Rattle.catalogue_rules.specs.Receipts.{receipts_of_loader}
 use Rattle.durable_catalogue.specs.Durables.{marked}
 use Rattle.loader_workers.specs.Counts.{no_counts, with_receipts, counts_in}
 use Rattle.loader_workers.specs.Loading.{IsCutShort}
+use Rattle.loader_workers.specs.Turns.{IsFullBehind}
 use Rattle.loader_workers.specs.declared.file_end.FileEnd.{FileEnd}
 use Rattle.loader_workers.specs.declared.file_end.FileEnd.TheVariants.{Done, ReadFault, Full, DeviceFault, NoMemory}
 use Rattle.loader_workers.specs.declared.result.FileResult.{FileResult}
 use Rattle.parallel_loading.specs.declared.input.InputFile.{InputFile}
-
--- the next of the entries that are left would pass a limit behind this history
-pub record IsFullBehind (limits : Limits) (history : List Entry) (run : ℕ) (rest : List Entry) : Type 0 where
-  pub next : Entry
-  pub more : List Entry
-  pub rest_is : rest ≡ next ∷ more
-  pub passes : passes_limits limits history (in_run run next) ≡ true
 
 -- Why the loading of a file ended. Done: all of its items are judged, and all accepted entries are committed. ReadFault: all
 -- accepted entries among those judged are committed. Full: the next one passes a limit. DeviceFault: a device failed.

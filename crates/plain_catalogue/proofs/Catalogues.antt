@@ -10,7 +10,7 @@ use Rattle.catalogue_rules.specs.State.{State, empty_state}
 use Rattle.catalogue_rules.specs.Settle.{step, arrival_of, state_of}
 use Rattle.catalogue_rules.specs.Receipt.{receipt_of, receipt}
 use Rattle.entry_record.specs.History.{IsAdmitted, entry_size, entries_size}
-use Rattle.commit_stages.specs.Receipts.{AreNumbersOf}
+use Rattle.commit_stages.specs.Receipts.{AreReceiptCounts}
 use Rattle.commit_stages.specs.declared.changes.Changes.{Changes}
 use Rattle.catalogue_core.specs.Catalogues.{all_entries, is_full, receipt_with, with_staged, with_kept, without_staged}
 use Rattle.catalogue_core.proofs.Entries.{state_last, each_last, size_last, length_last, take_whole, drop_none, each_taken, size_taken, length_taken, room_of, receipt_made as receipt_of_step}
@@ -162,6 +162,6 @@ room_in_bytes engine before entries bytes limits e c full =
 
 -- the numbers of a step behind these entries are those of the entry's receipt
 pub receipt_made : (entries : List Entry) (e : Entry) (engine next : State) (changes : Changes) → engine ≡ state_of entries → next ≡ step engine (arrival_of e)
-    → ((at : ℕ) → AreNumbersOf (receipt_of at engine (arrival_of e) next) changes) → receipt_with (length entries) changes ≡ receipt (map arrival_of entries) (arrival_of e)
+    → ((at : ℕ) → AreReceiptCounts (receipt_of at engine (arrival_of e) next) changes) → receipt_with (length entries) changes ≡ receipt (map arrival_of entries) (arrival_of e)
 receipt_made entries e engine next changes is made numbers =
-    receipt_of_step entries e engine changes is (λ at. subst (λ (s : State). AreNumbersOf (receipt_of at engine (arrival_of e) s) changes) made (numbers at))
+    receipt_of_step entries e engine changes is (λ at. subst (λ (s : State). AreReceiptCounts (receipt_of at engine (arrival_of e) s) changes) made (numbers at))

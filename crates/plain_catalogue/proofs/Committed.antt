@@ -10,9 +10,9 @@ use Rattle.record_store.specs.Store.{kept_rows}
 use Rattle.record_store.proofs.Mapped.{kept_insert}
 use Rattle.entry_record.specs.Authority.{Linkable}
 use Rattle.catalogue_rules.specs.State.{KeptRecord}
-use Rattle.plain_catalogue.specs.Stands.{field_standing, standings_of}
+use Rattle.catalogue_tables.specs.Stands.{field_standing, standings_of}
 use Rattle.plain_catalogue.specs.KeptRecords.{kept_record}
-use Rattle.plain_catalogue.specs.declared.standing.Standing.{Standing}
+use Rattle.catalogue_tables.specs.declared.standing.Standing.{Standing}
 use Rattle.plain_catalogue.proofs.Halfway.{record_same}
 use Rattle.record_store.proofs.Joined.{joined_length}
 

@@ -8,9 +8,11 @@ use Rattle.entry_record.specs.Authority.{Linkable}
 use Rattle.catalogue_rules.specs.State.{KeptField, KeptRecord}
 use Rattle.catalogue_rules.specs.Receipt as definition
 use Rattle.catalogue_rules.specs.Receipt.{is_linked, is_ambiguous, is_unlinked, standing_of, count_standing}
-use Rattle.plain_catalogue.specs.Stands.{stands_as, field_standing, standings_of}
-use Rattle.plain_catalogue.specs.Counted.{is_linked_here, is_ambiguous_here, is_unlinked_here, HasRoom, IsCountOf}
-use Rattle.plain_catalogue.specs.declared.standing.Standing.{Standing}
+use Rattle.catalogue_tables.specs.Stands.{stands_as, field_standing, standings_of}
+use Rattle.catalogue_core.specs.Standings.{is_linked_here, is_ambiguous_here, is_unlinked_here}
+use Rattle.catalogue_core.proofs.Standings.{linked_alike, ambiguous_alike, unlinked_alike, count_alike}
+use Rattle.plain_catalogue.specs.Counted.{HasRoom, IsCountOf}
+use Rattle.catalogue_tables.specs.declared.standing.Standing.{Standing}
 use Rattle.plain_catalogue.specs.declared.counts.Counts.{Counts}
 use Rattle.plain_catalogue.proofs.Making.{take_whole}
 
@@ -46,33 +48,6 @@ counted_room xs i counts within most so_far = record {
   ambiguous = few is_ambiguous_here xs i counts.ambiguous within most so_far.ambiguous;
   unlinked = few is_unlinked_here xs i counts.unlinked within most so_far.unlinked;
 }
-
-pub linked_alike : (s : definition.Standing) → is_linked_here (stands_as s) ≡ is_linked s
-linked_alike (definition.LinkedTo key) = refl
-linked_alike (definition.AmbiguousAmong keys) = refl
-linked_alike definition.WithoutLink = refl
-linked_alike definition.WithoutHeading = refl
-
-pub ambiguous_alike : (s : definition.Standing) → is_ambiguous_here (stands_as s) ≡ is_ambiguous s
-ambiguous_alike (definition.LinkedTo key) = refl
-ambiguous_alike (definition.AmbiguousAmong keys) = refl
-ambiguous_alike definition.WithoutLink = refl
-ambiguous_alike definition.WithoutHeading = refl
-
-pub unlinked_alike : (s : definition.Standing) → is_unlinked_here (stands_as s) ≡ is_unlinked s
-unlinked_alike (definition.LinkedTo key) = refl
-unlinked_alike (definition.AmbiguousAmong keys) = refl
-unlinked_alike definition.WithoutLink = refl
-unlinked_alike definition.WithoutHeading = refl
-
-pub count_alike : (p : Standing → Bool) (q : definition.Standing → Bool) → ((s : definition.Standing) → p (stands_as s) ≡ q s) → (all : List Linkable) (class : Class) (hs : List KeptField) →
-    count_by p (map (field_standing all class) hs) ≡ count_by (λ h. q (standing_of all class h)) hs
-count_alike p q same all class [] = refl
-count_alike p q same all class (h ∷ hs) =
-    sum_by-cons (λ s. cond (p s) 1 0) (field_standing all class h) (map (field_standing all class) hs)
-    ∙ ap (λ b. cond b 1 0 + count_by p (map (field_standing all class) hs)) (same (standing_of all class h))
-    ∙ ap (λ n. cond (q (standing_of all class h)) 1 0 + n) (count_alike p q same all class hs)
-    ∙ sym (sum_by-cons (λ g. cond (q (standing_of all class g)) 1 0) h hs)
 
 count_end : (p : Standing → Bool) (q : definition.Standing → Bool) → ((s : definition.Standing) → p (stands_as s) ≡ q s) → (all : List Linkable) (class : Class) (r : KeptRecord)
     (xs : List Standing) (i n : ℕ) → length xs ≤ i → n ≡ count_by p (take i xs) → xs ≡ standings_of all class r → n ≡ count_standing q all class r

@@ -28,12 +28,12 @@ use Rattle.catalogue_rules.proofs.Elements.{Each}
 use Rattle.catalogue_rules.proofs.States.{fit_entry, new_ready, every_state_valid}
 use Rattle.linking_laws.specs.Behind.{placed_in, placed, linkable_behind, ended_by, record_behind, row_behind, rows_behind, state_behind}
 use Rattle.plain_catalogue.specs.KeptRecords.{CanStand, HasSize}
-use Rattle.plain_catalogue.specs.Behind.{authority_row, linkable_rows, standings_rows, incoming, authorities_in, authorities_behind, count_incoming, StandsIn, CanFollow, IsStateAfter, is_other_changed}
+use Rattle.plain_catalogue.specs.Behind.{authority_row, linkable_rows, standings_rows, incoming, authorities_in, authorities_behind, count_incoming, StandsIn, CanBeMade, IsStateAfter, is_other_changed}
 use Rattle.plain_catalogue.specs.Engines.{IsEngine}
-use Rattle.commit_stages.specs.Receipts.{AreNumbersOf}
+use Rattle.commit_stages.specs.Receipts.{AreReceiptCounts}
 use Rattle.plain_catalogue.specs.declared.behind.StateAfter.{StateAfter}
 use Rattle.commit_stages.specs.declared.changes.Changes.{Changes}
-use Rattle.plain_catalogue.specs.declared.standing.Standing as here
+use Rattle.catalogue_tables.specs.declared.standing.Standing as here
 use Rattle.record_store.specs.Store.{stored}
 use Rattle.plain_catalogue.proofs.Building.{order_over}
 use Rattle.linking_laws.proofs.Commits.{valid_ready, step_valid, step_linkables, step_behind, placed_fit}
@@ -107,7 +107,7 @@ incoming_size s e v admitted =
     let fitting = done_fits all a.class (row_behind all (ended_by a) a.class row) (placed_fit a.class a s refl fit ready) done in
     size_of_fitting (fields_of (incoming all a)) (subst (λ (r : KeptRecord). fits (fields_of r) ≡ true) (fresh_record all (ended_by a) a.class a.leader a.fields) fitting)
 
-follow : (s : State) (e : Entry) → IsValid s → IsAdmitted e → Each CanStand (linkable_behind (arrival_of e) s) → CanFollow (linkable_behind (arrival_of e) s) (arrival_of e) s
+follow : (s : State) (e : Entry) → IsValid s → IsAdmitted e → Each CanStand (linkable_behind (arrival_of e) s) → CanBeMade (linkable_behind (arrival_of e) s) (arrival_of e) s
 follow s e v admitted stand =
     let a = arrival_of e in
     let all = linkable_behind a s in
@@ -121,11 +121,11 @@ follow s e v admitted stand =
 
 -- a commit can be made of an engine's parts
 pub can_follow : (s : State) (e : Entry) (before now : List (Key × Option Linkable)) (one two : List (Key × List here.Standing)) → IsEngine s before one two → IsAdmitted e →
-    now ≡ authorities_behind (arrival_of e) (authority_of e) before → CanFollow (linkable_rows now) (arrival_of e) s
+    now ≡ authorities_behind (arrival_of e) (authority_of e) before → CanBeMade (linkable_rows now) (arrival_of e) s
 can_follow s e before now one two engine admitted is =
     let all : linkable_rows now ≡ linkable_behind (arrival_of e) s = now_linkable s e before now engine.authorities_are is in
     let stand : All StandsIn now = subst (All StandsIn) (sym is) (stand_behind e before admitted engine.in_records) in
-    subst (λ (l : List Linkable). CanFollow l (arrival_of e) s) (sym all)
+    subst (λ (l : List Linkable). CanBeMade l (arrival_of e) s) (sym all)
     (follow s e engine.valid admitted (subst (Each CanStand) all (linkable_stand now (recursion_from_All StandsIn now stand))))
 
 -- ---- what it makes
@@ -208,7 +208,7 @@ pub numbers_made : (s : State) (e : Entry) (before now : List (Key × Option Lin
     now ≡ authorities_behind (arrival_of e) (authority_of e) before → IsStateAfter (linkable_rows now) (arrival_of e) s after →
     changes.linked ≡ after.counts.linked → changes.ambiguous ≡ after.counts.ambiguous → changes.unlinked ≡ after.counts.unlinked →
     changes.changed_records ≡ after.authorities.changed + after.bibliographic.changed →
-    (at : ℕ) → AreNumbersOf (receipt_of at s (arrival_of e) (step s (arrival_of e))) changes
+    (at : ℕ) → AreReceiptCounts (receipt_of at s (arrival_of e) (step s (arrival_of e))) changes
 unfolding receipt_of
 numbers_made s e before now one two after changes engine admitted is made linked ambiguous unlinked changed at =
     let a = arrival_of e in

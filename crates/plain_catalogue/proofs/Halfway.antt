@@ -21,11 +21,11 @@ use Rattle.catalogue_rules.specs.Settle.{Arrival}
 use Rattle.catalogue_rules.specs.Receipt.{is_committed}
 use Rattle.catalogue_rules.specs.Valid.{IsAscending}
 use Rattle.catalogue_rules.proofs.Elements.{Each}
-use Rattle.plain_catalogue.specs.Stands.{standings_of}
+use Rattle.catalogue_tables.specs.Stands.{standings_of}
 use Rattle.linking_laws.specs.Behind.{record_behind, rows_behind}
 use Rattle.plain_catalogue.specs.KeptRecords.{kept_record, record_after, HasSize}
 use Rattle.plain_catalogue.specs.Behind.{HasSizeBehind, ended, standings_rows, is_other_changed, IsRowAfter, IsRowsAfter}
-use Rattle.plain_catalogue.specs.declared.standing.Standing.{Standing}
+use Rattle.catalogue_tables.specs.declared.standing.Standing.{Standing}
 use Rattle.plain_catalogue.specs.declared.settling.Loosening.{Loosening}
 use Rattle.plain_catalogue.specs.declared.behind.RowAfter.{RowAfter}
 use Rattle.plain_catalogue.specs.declared.behind.RowsAfter.{RowsAfter}

@@ -14,14 +14,15 @@ use Rattle.record_store.proofs.Joined.{tie_at}
 use Rattle.entry_record.specs.Authority.{Linkable, linkable_of}
 use Rattle.catalogue_rules.specs.State.{KeptField, KeptRecord, Row, fields_of, kept_record}
 use Rattle.catalogue_rules.specs.Receipt as definition
-use Rattle.plain_catalogue.specs.Stands.{stands_as, field_standing, standings_of}
+use Rattle.catalogue_tables.specs.Stands.{stands_as, field_standing, standings_of}
 use Rattle.plain_catalogue.specs.Behind.{authority_row, standings_rows}
 use Rattle.entry_record.specs.Authority.{heading_kind}
 use Rattle.catalogue_rules.specs.Choice as choices
 use Rattle.catalogue_rules.specs.Choice.{Choice, Link, choice}
 use Rattle.marc_types.specs.declared.form.Kind.{Kind}
-use Rattle.plain_catalogue.specs.Told.{told_by, told_of, field_told, candidates_by, candidates_of, field_candidates}
-use Rattle.plain_catalogue.specs.declared.standing.Standing.{Standing}
+use Rattle.catalogue_core.specs.Told.{told_by, field_told}
+use Rattle.plain_catalogue.specs.Told.{told_of, candidates_by, candidates_of, field_candidates}
+use Rattle.catalogue_tables.specs.declared.standing.Standing.{Standing}
 
 -- ---- authorities
 

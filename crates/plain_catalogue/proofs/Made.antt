@@ -7,11 +7,11 @@ use Rattle.record_store.specs.Store.{kept_rows}
 use Rattle.entry_record.specs.Authority.{Linkable}
 use Rattle.catalogue_rules.specs.State.{Row, State}
 use Rattle.catalogue_rules.specs.Settle.{Arrival, place}
-use Rattle.plain_catalogue.specs.Stands.{standings_of}
+use Rattle.catalogue_tables.specs.Stands.{standings_of}
 use Rattle.linking_laws.specs.Behind.{placed_in, ended_by, rows_behind, state_behind}
 use Rattle.plain_catalogue.specs.Behind.{standings_rows, committed, incoming, AreCounts, IsRowsAfter, IsStateAfter}
 use Rattle.plain_catalogue.specs.declared.counts.Counts.{Counts}
-use Rattle.plain_catalogue.specs.declared.standing.Standing.{Standing}
+use Rattle.catalogue_tables.specs.declared.standing.Standing.{Standing}
 use Rattle.plain_catalogue.specs.declared.behind.RowsAfter.{RowsAfter}
 use Rattle.plain_catalogue.proofs.Placed.{placed_rows, placed_standings}
 

@@ -16,9 +16,9 @@ use Rattle.catalogue_rules.specs.State.{KeptField, KeptRecord, new_tie, new_fiel
 use Rattle.catalogue_rules.specs.Settle.{settle_field}
 use Rattle.catalogue_rules.specs.Sameness.{same_kept}
 use Rattle.plain_catalogue.specs.Changes.{held_as, change, loosened, field_after, IsFieldAfter}
-use Rattle.plain_catalogue.specs.Stands.{field_standing, standings_of}
+use Rattle.catalogue_tables.specs.Stands.{field_standing, standings_of}
 use Rattle.plain_catalogue.specs.KeptRecords.{kept_record, record_after, new_record_after, record_change}
-use Rattle.plain_catalogue.specs.declared.standing.Standing.{Standing}
+use Rattle.catalogue_tables.specs.declared.standing.Standing.{Standing}
 use Rattle.plain_catalogue.specs.declared.settling.Loosening.{Loosening}
 use Rattle.plain_catalogue.specs.declared.settling.FieldAfter.{FieldAfter}
 use Rattle.plain_catalogue.specs.Drafts.{IsDraft, IsBegun, IsDraftOf, IsBegunAt, GoesOn, IsAdded}

@@ -35,7 +35,7 @@ use Rattle.catalogue_rules.proofs.Put.{IsTiedBut, steady_loosen}
 use Rattle.catalogue_rules.proofs.States.{IsReadyRow, IsReady, IsFitArrival, IsLooseRow, put_ready, fit_entry, link_of_heading}
 use Rattle.catalogue_rules.proofs.Steady.{IsSteady, linkable_stays}
 use Rattle.entry_record.proofs.Written.{fitting_length}
-use Rattle.plain_catalogue.specs.Stands.{standings_of}
+use Rattle.catalogue_tables.specs.Stands.{standings_of}
 use Rattle.linking_laws.specs.Behind.{placed_in, placed, ended_in, loosened_by, record_behind, rows_behind}
 use Rattle.plain_catalogue.specs.KeptRecords.{CanStand, new_record_after}
 use Rattle.plain_catalogue.specs.Behind.{ended_if, authority_row, linkable_rows, standings_rows, committed, incoming, authorities_in, authorities_behind, HasSizeBehind}

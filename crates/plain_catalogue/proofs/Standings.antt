@@ -15,13 +15,14 @@ use Rattle.catalogue_rules.specs.State.{KeptField}
 use Rattle.catalogue_rules.specs.Choice.{Choice, Link, Ambiguous, Unlinked, has_key, choice}
 use Rattle.catalogue_rules.specs.Settle.{loosen, link_to, take_choice, settle_linked, settle_unlinked, settle_field}
 use Rattle.catalogue_rules.specs.Receipt.{LinkedTo, WithoutHeading, standing_of, standing_by, standing_unlinked}
-use Rattle.plain_catalogue.specs.Stands.{stands_as, standing_chosen, field_standing}
+use Rattle.catalogue_tables.specs.Stands.{stands_as, field_standing}
+use Rattle.plain_catalogue.specs.Stands.{standing_chosen}
 use Rattle.plain_catalogue.specs.Changes.{held_as, change, field_after, IsFieldAfter}
 use Rattle.plain_catalogue.specs.declared.settling.Held.{Held}
 use Rattle.plain_catalogue.specs.declared.settling.Loosening.{Loosening}
 use Rattle.plain_catalogue.specs.declared.settling.FieldAfter.{FieldAfter}
 use Rattle.plain_catalogue.proofs.Sames.{changed, unchanged}
-use Rattle.plain_catalogue.specs.declared.standing.Standing.TheVariants.{Linked, NoHeading}
+use Rattle.catalogue_tables.specs.declared.standing.Standing.TheVariants.{Linked, NoHeading}
 
 pub linked_stands : (all : List Linkable) (class : Class) (h : KeptField) (key : Key) → h.tie.key ≡ Some key → Linked ≡ field_standing all class h
 unfolding standing_of

@@ -16,10 +16,10 @@ use Rattle.catalogue_rules.specs.State.{KeptRecord, Row, State, new_record, row_
 use Rattle.catalogue_rules.specs.Settle.{Arrival}
 use Rattle.catalogue_rules.specs.Receipt as definition
 use Rattle.catalogue_rules.specs.Receipt.{is_linked, is_ambiguous, is_unlinked, count_standing, differs, is_committed}
-use Rattle.plain_catalogue.specs.Stands.{standings_of}
+use Rattle.catalogue_tables.specs.Stands.{standings_of}
 use Rattle.linking_laws.specs.Behind.{placed, ended_by, record_behind, rows_behind, state_behind}
 use Rattle.plain_catalogue.specs.KeptRecords.{kept_record, new_record_after, CanStand, HasSize}
-use Rattle.plain_catalogue.specs.declared.standing.Standing.{Standing}
+use Rattle.catalogue_tables.specs.declared.standing.Standing.{Standing}
 use Rattle.plain_catalogue.specs.declared.settling.Loosening.{Loosening}
 use Rattle.plain_catalogue.specs.declared.behind.RowAfter.{RowAfter}
 use Rattle.plain_catalogue.specs.declared.behind.RowsAfter.{RowsAfter}
@@ -118,7 +118,7 @@ abbrev pub StandsIn : Key × Option Linkable → Type 0
 StandsIn row = IfSome row.1 CanStand
 
 -- what a commit can be made of: the authorities can stand in records, and there is room for what each record becomes
-pub record CanFollow (authorities : List Linkable) (a : Arrival) (s : State) : Type 0 where
+pub record CanBeMade (authorities : List Linkable) (a : Arrival) (s : State) : Type 0 where
   pub stand : All CanStand authorities
   pub authorities_fit : All (HasSizeBehind authorities (ended_by a) Authority) s.authorities
   pub bibliographic_fit : All (HasSizeBehind authorities (ended_by a) Bibliographic) s.bibliographic

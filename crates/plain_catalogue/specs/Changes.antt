@@ -7,7 +7,7 @@ use Rattle.entry_record.specs.Authority.{Linkable}
 use Rattle.catalogue_rules.specs.State.{KeptField, kept_field}
 use Rattle.catalogue_rules.specs.Sameness.{same_kept}
 use Rattle.catalogue_rules.specs.Settle.{loosen, settle_field}
-use Rattle.plain_catalogue.specs.Stands.{field_standing}
+use Rattle.catalogue_tables.specs.Stands.{field_standing}
 use Rattle.plain_catalogue.specs.declared.settling.Held.{Held}
 use Rattle.plain_catalogue.specs.declared.settling.Loosening.{Loosening}
 use Rattle.plain_catalogue.specs.declared.settling.FieldAfter.{FieldAfter}

@@ -1,30 +1,10 @@
 -- The numbers of a receipt, by how the fields of the committed record stand.
-use Rattle.std.specs.Prelude.{◌≡◌, ◌<◌, Bool, true, false, List}
+use Rattle.std.specs.Prelude.{◌≡◌, ◌<◌, List}
 use Rattle.marc_types.specs.declared.key.Class.{Class}
 use Rattle.entry_record.specs.Authority.{Linkable}
 use Rattle.catalogue_rules.specs.State.{KeptRecord}
 use Rattle.catalogue_rules.specs.Receipt.{is_linked, is_ambiguous, is_unlinked, count_standing}
-use Rattle.plain_catalogue.specs.declared.standing.Standing.{Standing}
-use Rattle.plain_catalogue.specs.declared.standing.Standing.TheVariants.{Linked, Ambiguous, Unlinked, NoHeading}
 use Rattle.plain_catalogue.specs.declared.counts.Counts.{Counts}
-
-abbrev pub is_linked_here : Standing → Bool
-is_linked_here Linked = true
-is_linked_here (Ambiguous keys) = false
-is_linked_here Unlinked = false
-is_linked_here NoHeading = false
-
-abbrev pub is_ambiguous_here : Standing → Bool
-is_ambiguous_here Linked = false
-is_ambiguous_here (Ambiguous keys) = true
-is_ambiguous_here Unlinked = false
-is_ambiguous_here NoHeading = false
-
-abbrev pub is_unlinked_here : Standing → Bool
-is_unlinked_here Linked = false
-is_unlinked_here (Ambiguous keys) = false
-is_unlinked_here Unlinked = true
-is_unlinked_here NoHeading = false
 
 -- each number can grow by one
 pub record HasRoom (counts : Counts) : Type 0 where

@@ -10,7 +10,7 @@ use Rattle.catalogue_rules.specs.State.{KeptRecord, State, fields_of, linkable_a
 use Rattle.catalogue_rules.specs.Receipt.{kept_under}
 use Rattle.catalogue_rules.specs.Valid.{IsValid}
 use Rattle.plain_catalogue.specs.Behind.{authority_row, standings_rows, StandsIn}
-use Rattle.plain_catalogue.specs.declared.standing.Standing.{Standing}
+use Rattle.catalogue_tables.specs.declared.standing.Standing.{Standing}
 
 -- Beside a valid state: the authority of each authority record, where fields can be linked to it, and how the fields of each
 -- record stand.

@@ -9,7 +9,7 @@ use Rattle.entry_record.specs.Authority.{Linkable}
 use Rattle.catalogue_rules.specs.State.{KeptRecord, fields_of, each_in_record, tied}
 use Rattle.catalogue_rules.specs.Settle.{settle_field}
 use Rattle.catalogue_rules.specs.Receipt.{differs}
-use Rattle.plain_catalogue.specs.Stands.{standings_of}
+use Rattle.catalogue_tables.specs.Stands.{standings_of}
 use Rattle.plain_catalogue.specs.Changes.{loosened}
 use Rattle.plain_catalogue.specs.declared.settling.Loosening.{Loosening}
 use Rattle.plain_catalogue.specs.declared.records.RecordAfter.{RecordAfter}

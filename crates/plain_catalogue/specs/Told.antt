@@ -7,30 +7,15 @@ use Rattle.marc_types.specs.declared.entry.Status.TheVariants.{Linked, Ambiguous
 use Rattle.entry_record.specs.Authority.{Linkable}
 use Rattle.catalogue_rules.specs.State.{KeptField}
 use Rattle.catalogue_rules.specs.Receipt as definition
-use Rattle.plain_catalogue.specs.declared.standing.Standing.{Standing}
-use Rattle.plain_catalogue.specs.declared.standing.Standing.TheVariants as here
-
-pub data Told : Type 0 where
-  ToldLinked : Key → Told
-  ToldAmbiguous : Told
-  ToldUnlinked : Told
-  ToldNoHeading : Told
-
-abbrev pub told_by : definition.Standing → Told
-told_by (definition.LinkedTo key) = ToldLinked key
-told_by (definition.AmbiguousAmong keys) = ToldAmbiguous
-told_by definition.WithoutLink = ToldUnlinked
-told_by definition.WithoutHeading = ToldNoHeading
+use Rattle.catalogue_core.specs.Told.{Told, ToldLinked, ToldAmbiguous, ToldUnlinked, ToldNoHeading}
+use Rattle.catalogue_tables.specs.declared.standing.Standing.{Standing}
+use Rattle.catalogue_tables.specs.declared.standing.Standing.TheVariants as here
 
 abbrev pub told_as : Status → Told
 told_as (Linked key) = ToldLinked key.now
 told_as Ambiguous = ToldAmbiguous
 told_as Unlinked = ToldUnlinked
 told_as NoHeading = ToldNoHeading
-
--- how a field stands over these authorities, as it is told
-abbrev pub field_told : List Linkable → Class → KeptField → Told
-field_told authorities class h = told_by (definition.standing_of authorities class h)
 
 abbrev pub candidates_by : definition.Standing → Option (List Key)
 candidates_by (definition.LinkedTo key) = None

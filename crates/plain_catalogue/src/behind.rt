@@ -9,10 +9,10 @@ ghost use Rattle.catalogue_rules.specs.Settle.{arrival_of};
 ghost use Rattle.catalogue_rules.specs.Receipt.{is_committed};
 ghost use Rattle.plain_catalogue.specs.Views.{linkables};
 ghost use Rattle.plain_catalogue.specs.KeptRecords.{kept_record, record_after, CanStand, HasSize};
-ghost use Rattle.plain_catalogue.specs.Behind.{ended_if, ended, linkable_rows, committed, incoming, authorities_behind, CanFollow, HasSizeBehind, AreCounts, IsRowAfter, IsRowsAfter, IsStateAfter};
+ghost use Rattle.plain_catalogue.specs.Behind.{ended_if, ended, linkable_rows, committed, incoming, authorities_behind, CanBeMade, HasSizeBehind, AreCounts, IsRowAfter, IsRowsAfter, IsStateAfter};
 ghost use Rattle.linking_laws.specs.Behind.{ended_by};
 ghost use Rattle.plain_catalogue.specs.Counted.{IsCountOf};
-ghost use Rattle.plain_catalogue.specs.Stands.{standings_of};
+ghost use Rattle.catalogue_tables.specs.Stands.{standings_of};
 ghost use Rattle.record_store.specs.Store.{kept_rows};
 ghost use Rattle.std.specs.Option.{option_copied};
 ghost use Rattle.std.specs.Map.{remove_entry};
@@ -321,7 +321,7 @@ fn state_over<L: Ledger>(
     item: &Prepared,
     steps: &mut Steps<L>,
 ) -> Result<StateAfter, NoMemory>
-    requires can_follow { CanFollow (linkables authorities.now) (arrival_of item.now) store.now.state }
+    requires can_follow { CanBeMade (linkables authorities.now) (arrival_of item.now) store.now.state }
     requires links { ended loosening ≡ ended_by (arrival_of item.now) }
     ensures { IfOk result (IsStateAfter (linkables authorities.now) (arrival_of item.now) store.now.state) }
 {
@@ -372,7 +372,7 @@ pub(crate) fn state_after<L: Ledger>(
     item: &Prepared,
     steps: &mut Steps<L>,
 ) -> Result<StateAfter, NoMemory>
-    requires { CanFollow (linkable_rows authorities.now.rows) (arrival_of item.now) store.now.state }
+    requires { CanBeMade (linkable_rows authorities.now.rows) (arrival_of item.now) store.now.state }
     ensures { IfOk result (IsStateAfter (linkable_rows authorities.now.rows) (arrival_of item.now) store.now.state) }
 {
     let linkable = linkable(alloc, authorities)?;

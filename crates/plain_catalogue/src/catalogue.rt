@@ -7,7 +7,8 @@ ghost use Rattle.entry_record.specs.History.{IsAdmitted, entries_size};
 ghost use Rattle.catalogue_rules.specs.Settle.{arrival_of, state_of};
 ghost use Rattle.catalogue_rules.specs.Receipt.{kept_under, receipt};
 ghost use Rattle.plain_catalogue.specs.Engines.{linkable_under, forms_as, forms_in};
-ghost use Rattle.plain_catalogue.specs.Told.{told_as, field_told, field_candidates};
+ghost use Rattle.catalogue_core.specs.Told.{field_told};
+ghost use Rattle.plain_catalogue.specs.Told.{told_as, field_candidates};
 ghost use Rattle.catalogue_core.specs.Catalogues.{all_entries, empty_catalogue, is_full, IsDue, with_staged, with_kept, without_staged, with_entry};
 
 use crate::engine::{Behind, Engine};

@@ -3,10 +3,11 @@ ghost use Rattle.std.specs.Prelude.{◌≡◌, ◌+◌, ◌<◌, ◌≤◌, List
 ghost use Rattle.marc_types.specs.declared.key.Class.{Class};
 ghost use Rattle.entry_record.specs.Authority.{Linkable};
 ghost use Rattle.catalogue_rules.specs.State.{KeptRecord};
-ghost use Rattle.plain_catalogue.specs.Stands.{standings_of};
-ghost use Rattle.plain_catalogue.specs.Counted.{is_linked_here, is_ambiguous_here, is_unlinked_here, IsCountOf, HasRoom};
+ghost use Rattle.catalogue_tables.specs.Stands.{standings_of};
+ghost use Rattle.catalogue_core.specs.Standings.{is_linked_here, is_ambiguous_here, is_unlinked_here};
+ghost use Rattle.plain_catalogue.specs.Counted.{IsCountOf, HasRoom};
 
-use crate::standing::Standing;
+use catalogue_tables::Standing;
 
 /// How many fields of a record are linked, ambiguous, and heading fields without a link.
 #[derive(Clone, Copy, Debug, PartialEq, Eq)]

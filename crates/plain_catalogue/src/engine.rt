@@ -7,15 +7,17 @@ ghost use Rattle.catalogue_rules.specs.Settle.{step, arrival_of};
 ghost use Rattle.catalogue_rules.specs.Receipt.{kept_under, receipt_of};
 ghost use Rattle.catalogue_rules.specs.Valid.{IsValid};
 ghost use Rattle.plain_catalogue.specs.Behind.{standings_rows};
-ghost use Rattle.commit_stages.specs.Receipts.{AreNumbersOf};
+ghost use Rattle.commit_stages.specs.Receipts.{AreReceiptCounts};
 ghost use Rattle.plain_catalogue.specs.Engines.{linkable_under, forms_as, forms_in};
-ghost use Rattle.plain_catalogue.specs.Stands.{field_standing};
+ghost use Rattle.catalogue_tables.specs.Stands.{field_standing};
 ghost use Rattle.plain_catalogue.specs.Views.{linkables};
-ghost use Rattle.plain_catalogue.specs.Told.{told_as, told_of, field_told, candidates_of, field_candidates};
+ghost use Rattle.catalogue_core.specs.Told.{field_told};
+ghost use Rattle.plain_catalogue.specs.Told.{told_as, told_of, candidates_of, field_candidates};
 
 use crate::authority::Authority;
 use crate::behind::{StateAfter, authorities_after, linkable, state_after};
-use crate::standing::{Standing, Standings};
+use crate::standing::Standings;
+use catalogue_tables::Standing;
 use commit_stages::Changes;
 use entry_record::Prepared;
 use marc_types::{Class, Form, Forms, Kept, Key, Keys, NoMemory, Place, Status, Tie};
@@ -76,7 +78,7 @@ impl Engine {
         steps: &mut Steps<L>,
     ) -> Result<Changes, NoMemory>
         ensures state { OnOk result (self.new ≡ step self.old (arrival_of item.now)) }
-        ensures changes { IfOk result (λ changes. (at : ℕ) → AreNumbersOf (receipt_of at self.old (arrival_of item.now) self.new) changes) }
+        ensures changes { IfOk result (λ changes. (at : ℕ) → AreReceiptCounts (receipt_of at self.old (arrival_of item.now) self.new) changes) }
         ensures err { OnErr result (self.new ≡ self.old) }
     {
         let Behind { engine, changes } = self.behind(alloc, item, steps)?;
@@ -93,7 +95,7 @@ impl Engine {
         steps: &mut Steps<L>,
     ) -> Result<Behind, NoMemory>
         ensures state { IfOk result (λ made. made.engine ≡ step self.now (arrival_of item.now)) }
-        ensures changes { IfOk result (λ made. (at : ℕ) → AreNumbersOf (receipt_of at self.now (arrival_of item.now) made.engine) made.changes) }
+        ensures changes { IfOk result (λ made. (at : ℕ) → AreReceiptCounts (receipt_of at self.now (arrival_of item.now) made.engine) made.changes) }
     {
         // as many records can be counted
         let _first = self.store.count(Class::Authority);

@@ -5,7 +5,7 @@
 pub use authority::Authority;
 pub use catalogue::Catalogue;
 pub use engine::Engine;
-pub use standing::{Standing, Standings};
+pub use standing::Standings;
 
 mod authority;
 mod behind;

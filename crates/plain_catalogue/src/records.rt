@@ -3,14 +3,15 @@ ghost use Rattle.std.specs.Prelude.{◌≡◌, ◌<◌, List, map, [], ◌∷◌
 ghost use Rattle.marc_types.specs.Valid.{is_record};
 ghost use Rattle.catalogue_rules.specs.State.{KeptField, new_tie, new_record, kept_field, tied};
 ghost use Rattle.plain_catalogue.specs.Views.{linkables};
-ghost use Rattle.plain_catalogue.specs.Stands.{field_standing, standings_of};
+ghost use Rattle.catalogue_tables.specs.Stands.{field_standing, standings_of};
 ghost use Rattle.plain_catalogue.specs.Changes.{held_as, change, field_after};
 ghost use Rattle.plain_catalogue.specs.KeptRecords.{kept_record, record_after, new_record_after, IsRecordAfter, CanStand, HasSize};
 ghost use Rattle.plain_catalogue.specs.Drafts.{IsDraft, IsDraftOf, IsBegunAt, GoesOn, IsAdded};
 
 use crate::authority::Authority;
 use crate::settling::{FieldAfter, Held, Loosening, field_after};
-use crate::standing::{Standing, Standings};
+use crate::standing::Standings;
+use catalogue_tables::Standing;
 use marc_types::{Class, Field, Fields, Kept, Leader, Links, NoMemory, Record, Tie, TryCopy};
 use std::alloc::Global;
 

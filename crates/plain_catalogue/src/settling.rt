@@ -13,7 +13,7 @@ ghost use Rattle.plain_catalogue.specs.Changes.{held_as, change, field_after, Is
 
 use crate::authority::{Authority, is_bare};
 use crate::choice::{Chosen, choose};
-use crate::standing::Standing;
+use catalogue_tables::Standing;
 use heading_fields::{controlled, heading_kind, rewrite, unlink};
 use marc_types::{Class, Field, Form, Key, NoMemory, Tie, TiedKey, TryCopy};
 use naco_form::form;

@@ -10,7 +10,7 @@ use Rattle.console_lines.specs.declared.end.Unwritten.TheVariants.{Out, Console}
 use Rattle.console_lines.specs.declared.fault.Fault.TheVariants.{Memory}
 use Rattle.console_lines.proofs.Ends.{told_not_unwritten, told_not_done, done_not_unwritten, out_not_console}
 use Rattle.output_files.specs.Outputs.{IsPartWritten}
-use Rattle.plain_commands.specs.Making.{workload_line, EndsMake, Makes}
+use Rattle.plain_commands.specs.Making.{workload_line, EndsMaking, Makes}
 
 neither : {A B C : Type 0} → (A → ⊥) → (B → ⊥) → A ⊎ B → C
 neither first second (inl a) = absurd (first a)
@@ -20,7 +20,7 @@ module _ (seed count : ℕ) (out : List ℕ) (o : Outcome) where
   pub makes_no_memory : o.end ≡ Told Memory → IsTold Memory o
       → (o.old.tells ≡ true → IsPartWritten (o.old.file out) (o.new.file out) (workload_bytes seed count)) → Makes seed count out o
   makes_no_memory is told part = record {
-    ends = subst EndsMake (sym is) refl;
+    ends = subst EndsMaking (sym is) refl;
     told = λ also. told;
     out_cause = λ also. absurd (told_not_unwritten o.end Memory Out is also);
     console_cause = λ also. absurd (told_not_unwritten o.end Memory Console is also);
@@ -35,7 +35,7 @@ module _ (seed count : ℕ) (out : List ℕ) (o : Outcome) where
   pub makes_failed : o.end ≡ out_unwritten → Rose (o.old.out_faults out) (o.new.out_faults out) → IsSilent o
       → (o.old.tells ≡ true → IsPartWritten (o.old.file out) (o.new.file out) (workload_bytes seed count)) → Makes seed count out o
   makes_failed is rose silent part = record {
-    ends = subst EndsMake (sym is) tt;
+    ends = subst EndsMaking (sym is) tt;
     told = λ also. absurd (told_not_unwritten o.end Memory Out also is);
     out_cause = λ also. rose;
     console_cause = λ also. absurd (out_not_console o.end is also);
@@ -51,7 +51,7 @@ module _ (seed count : ℕ) (out : List ℕ) (o : Outcome) where
       → (o.old.tells ≡ true → o.new.file out ≡ Some (workload_bytes seed count)) → WritesFront o.told o.now (workload_line seed count)
       → Makes seed count out o
   makes_untold is rose made front = record {
-    ends = subst EndsMake (sym is) tt;
+    ends = subst EndsMaking (sym is) tt;
     told = λ also. absurd (told_not_unwritten o.end Memory Console also is);
     out_cause = λ also. absurd (out_not_console o.end also is);
     console_cause = λ also. rose;
@@ -65,7 +65,7 @@ module _ (seed count : ℕ) (out : List ℕ) (o : Outcome) where
   pub makes_all : o.end ≡ Done → (o.old.tells ≡ true → o.new.file out ≡ Some (workload_bytes seed count))
       → Appends o.told o.now (workload_line seed count) → Makes seed count out o
   makes_all is made line = record {
-    ends = subst EndsMake (sym is) tt;
+    ends = subst EndsMaking (sym is) tt;
     told = λ also. absurd (told_not_done o.end Memory also is);
     out_cause = λ also. absurd (done_not_unwritten o.end Out is also);
     console_cause = λ also. absurd (done_not_unwritten o.end Console is also);

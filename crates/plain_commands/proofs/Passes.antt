@@ -9,7 +9,7 @@ use Rattle.outside.proofs.Rooms.{same_but_then}
 use Rattle.marc_stream.specs.Pieces.{items}
 use Rattle.command_words.specs.declared.library.Library.{Library}
 use Rattle.catalogue_core.specs.Catalogues.{Catalogued}
-use Rattle.console_lines.specs.Ends.{Outcome, IsTold, IsAllDone, IsUntold, IsResultTold, end_of, out_unwritten, console_unwritten}
+use Rattle.console_lines.specs.Ends.{Outcome, IsTold, IsAllDone, TellsNoFault, IsResultTold, end_of, out_unwritten, console_unwritten}
 use Rattle.console_lines.specs.declared.end.End.{End}
 use Rattle.console_lines.specs.declared.end.End.TheVariants.{Told}
 use Rattle.console_lines.specs.declared.end.Unwritten.TheVariants.{Out, Report, Console}
@@ -18,7 +18,7 @@ use Rattle.console_lines.specs.declared.fault.Fault.TheVariants.{Input, Full, Me
 use Rattle.console_lines.proofs.Ends.{told_once, told_not_unwritten, told_not_all, all_not_unwritten, out_not_console, result_done, result_line, result_front, result_no_output, result_cause}
 use Rattle.plain_commands.specs.Totals.{holding}
 use Rattle.output_files.specs.Outputs.{IsPartWritten}
-use Rattle.plain_commands.specs.Loading.{EndsLoading, IsFullAt}
+use Rattle.plain_commands.specs.Loading.{IsFaultOfLoading, IsFullAt}
 use Rattle.plain_commands.specs.Passing.{exported, IsReady, IsPassed, IsPassedInPart, IsPassedUntold, IsPassDelivered, EndsDelivering, Passes}
 use Rattle.plain_commands.proofs.There.{there_more}
 use Rattle.plain_commands.specs.declared.ready.Ready.{Ready}
@@ -105,17 +105,17 @@ ends_told out o told = record {
   silent = λ also. absurd ((result_no_output told).0 also);
 }
 
-pub no_fault_told : (end : End) (why : Fault) → IsUntold end → end ≡ Told why → ⊥
-no_fault_told end why untold is = subst IsUntold is untold
+pub no_fault_told : (end : End) (why : Fault) → TellsNoFault end → end ≡ Told why → ⊥
+no_fault_told end why untold is = subst TellsNoFault is untold
 
 module _ (library : Library) (out : List ℕ) (o : Outcome) where
   -- a fault was told before anything was written
-  pub passes_told : (why : Fault) → o.end ≡ Told why → IsTold why o → EndsLoading why → SameBut o.old o.new []
+  pub passes_told : (why : Fault) → o.end ≡ Told why → IsTold why o → IsFaultOfLoading why → SameBut o.old o.new []
       → (why ≡ Input → Rose (o.old.in_faults library.file) (o.new.in_faults library.file))
       → (why ≡ Full → o.old.tells ≡ true → IsSomeAnd (o.old.file library.file) (λ bytes. IsFullAt library.code (items bytes)))
       → Passes library out o
   passes_told why is told kind stays input full = record {
-    told = λ other also. subst (λ w. IsTold w o × EndsLoading w × SameBut o.old o.new []) (told_once o.end why other is also) (told, kind, stays);
+    told = λ other also. subst (λ w. IsTold w o × IsFaultOfLoading w × SameBut o.old o.new []) (told_once o.end why other is also) (told, kind, stays);
     input = λ also. input (told_once o.end why Input is also);
     out_cause = λ also. absurd (told_not_unwritten o.end why Out is also);
     console_cause = λ also. absurd (told_not_unwritten o.end why Console is also);
@@ -136,7 +136,7 @@ module _ (library : Library) (out : List ℕ) (o : Outcome) where
   passes_delivered mid ready stays fault ends is delivered = record {
     told = λ why also.
         let memory = fault why also in
-        (memory.2, subst EndsLoading (sym memory.0) tt, same_but_then o.old mid o.new [] stays memory.1);
+        (memory.2, subst IsFaultOfLoading (sym memory.0) tt, same_but_then o.old mid o.new [] stays memory.1);
     input = λ also. let is : Input ≡ Memory = (fault Input also).0 in cc;
     out_cause = λ also. let earlier = stays.outs out in let rose = ends.out_cause also in omega (arith, earlier, rose);
     console_cause = ends.console_cause;

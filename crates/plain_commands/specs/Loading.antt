@@ -56,15 +56,15 @@ pub record IsFullAt (library : List ℕ) (items : List Item) : Type 0 where
   pub full : is_full (holding accepted) next ≡ true
 
 -- the faults that end the loading of a file
-abbrev pub EndsLoading : Fault → Type 0
-EndsLoading Input = Unit {0}
-EndsLoading Full = Unit {0}
-EndsLoading Memory = Unit {0}
-EndsLoading Usage = ⊥
-EndsLoading Device = ⊥
-EndsLoading (NotAJournal place) = ⊥
-EndsLoading OldVersion = ⊥
-EndsLoading OtherHistory = ⊥
+abbrev pub IsFaultOfLoading : Fault → Type 0
+IsFaultOfLoading Input = Unit {0}
+IsFaultOfLoading Full = Unit {0}
+IsFaultOfLoading Memory = Unit {0}
+IsFaultOfLoading Usage = ⊥
+IsFaultOfLoading Device = ⊥
+IsFaultOfLoading (NotAJournal place) = ⊥
+IsFaultOfLoading OldVersion = ⊥
+IsFaultOfLoading OtherHistory = ⊥
 
 -- one more item of a file was taken up
 pub data IsTakenUp (old : FileView) (before : LoadedView) (new : FileView) (after : LoadedView) : Type 0 where
@@ -100,4 +100,4 @@ pub record LoadsItems (library : List ℕ) (told : Option (List Item)) (before n
   pub full : IfErr result (λ fault. fault ≡ Full → (items : List Item) → told ≡ Some items → IsFullAt library items)
   pub faults : before ≤ now
   pub cause : IfErr result (λ fault. fault ≡ Input → Rose before now)
-  pub kind : IfErr result EndsLoading
+  pub kind : IfErr result IsFaultOfLoading

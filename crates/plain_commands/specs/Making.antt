@@ -25,17 +25,17 @@ abbrev pub workload_line : ℕ → ℕ → List ℕ
 workload_line seed count = made_line count (workload_sums seed count)
 
 -- how a make ends: nothing is refused, and no fault is told but want of memory
-abbrev pub EndsMake : End → Type 0
-EndsMake Done = Unit {0}
-EndsMake Refused = ⊥
-EndsMake (Unwritten Out) = Unit {0}
-EndsMake (Unwritten Report) = ⊥
-EndsMake (Unwritten Console) = Unit {0}
-EndsMake (Told why) = why ≡ Memory
+abbrev pub EndsMaking : End → Type 0
+EndsMaking Done = Unit {0}
+EndsMaking Refused = ⊥
+EndsMaking (Unwritten Out) = Unit {0}
+EndsMaking (Unwritten Report) = ⊥
+EndsMaking (Unwritten Console) = Unit {0}
+EndsMaking (Told why) = why ≡ Memory
 
 -- The command `make`: a workload of so many records into the file OUT.
 pub record Makes (seed count : ℕ) (out : List ℕ) (o : Outcome) : Type 0 where
-  pub ends : EndsMake o.end
+  pub ends : EndsMaking o.end
   pub told : o.end ≡ Told Memory → IsTold Memory o
   -- OUT or the console could not be written; where OUT could not, the console is untouched
   pub out_cause : o.end ≡ out_unwritten → Rose (o.old.out_faults out) (o.new.out_faults out)

@@ -19,7 +19,7 @@ use Rattle.console_lines.specs.declared.fault.Fault.{Fault}
 use Rattle.console_lines.specs.declared.fault.Fault.TheVariants.{Input, Full}
 use Rattle.output_files.specs.Outputs.{IsPartWritten}
 use Rattle.plain_commands.specs.Totals.{totals_of, IsWithinLimits}
-use Rattle.plain_commands.specs.Loading.{EndsLoading, IsLoaded, IsFullAt}
+use Rattle.plain_commands.specs.Loading.{IsFaultOfLoading, IsLoaded, IsFullAt}
 use Rattle.plain_commands.specs.declared.ready.Ready.{Ready}
 
 -- what the console is told of a file
@@ -79,7 +79,7 @@ pub record EndsDelivering (out : List ℕ) (o : Outcome) : Type 0 where
 -- The command `pass`: one file through an empty catalogue, into the file OUT.
 pub record Passes (library : Library) (out : List ℕ) (o : Outcome) : Type 0 where
   -- a fault that is told is one of loading, and leaves the room as it was
-  pub told : (why : Fault) → o.end ≡ Told why → IsTold why o × EndsLoading why × SameBut o.old o.new []
+  pub told : (why : Fault) → o.end ≡ Told why → IsTold why o × IsFaultOfLoading why × SameBut o.old o.new []
   -- each fault has its cause
   pub input : o.end ≡ Told Input → Rose (o.old.in_faults library.file) (o.new.in_faults library.file)
   pub out_cause : o.end ≡ out_unwritten → Rose (o.old.out_faults out) (o.new.out_faults out)

@@ -5,7 +5,7 @@ ghost use Rattle.outside.specs.Fault.{Rose};
 ghost use Rattle.outside.specs.Room.{SameBut};
 ghost use Rattle.marc_stream.specs.Pieces.{items};
 ghost use Rattle.file_entries.specs.Entries.{IsSameFile};
-ghost use Rattle.plain_commands.specs.Loading.{EndsLoading, IsLoaded, IsFullAt, LoadsItems, TakesNext, told_items};
+ghost use Rattle.plain_commands.specs.Loading.{IsFaultOfLoading, IsLoaded, IsFullAt, LoadsItems, TakesNext, told_items};
 
 use crate::loaded::Loaded;
 use catalogue_core::CoreFault;
@@ -110,7 +110,7 @@ pub fn load_file<R: Room>(
         IsSomeAnd ((R.seen room.old).file name.now) (λ bytes. IsFullAt library (items bytes))) }
     ensures cause { IfErr result (λ fault. fault ≡ Fault.Input →
         Rose ((R.seen room.old).in_faults name.now) ((R.seen room.new).in_faults name.now)) }
-    ensures kind { IfErr result EndsLoading }
+    ensures kind { IfErr result IsFaultOfLoading }
 {
     let source = match room.open_in(name) {
         Ok(source) => source,

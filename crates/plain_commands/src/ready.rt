@@ -3,7 +3,7 @@ ghost use Rattle.marc_types.specs.Valid.{is_code};
 ghost use Rattle.outside.specs.Fault.{Rose};
 ghost use Rattle.outside.specs.Room.{SameBut};
 ghost use Rattle.marc_stream.specs.Pieces.{items};
-ghost use Rattle.plain_commands.specs.Loading.{EndsLoading, IsLoaded, IsFullAt};
+ghost use Rattle.plain_commands.specs.Loading.{IsFaultOfLoading, IsLoaded, IsFullAt};
 ghost use Rattle.plain_commands.specs.Passing.{IsReady};
 
 use crate::loaded::Loaded;
@@ -45,7 +45,7 @@ pub fn prepare<R: Room>(alloc: Global, room: &mut R, library: &Library) -> Resul
         IsSomeAnd ((R.seen room.old).file library.now.file) (λ bytes. IsFullAt library.now.code (items bytes))) }
     ensures cause { IfErr result (λ fault. fault ≡ Fault.Input →
         Rose ((R.seen room.old).in_faults library.now.file) ((R.seen room.new).in_faults library.now.file)) }
-    ensures kind { IfErr result EndsLoading }
+    ensures kind { IfErr result IsFaultOfLoading }
 {
     let code = match library.code.copy(alloc) {
         Ok(code) => code,

@@ -5,7 +5,7 @@ ghost use Rattle.plain_commands.specs.Making.{workload_sums, workload_line};
 
 use crate::loaded::Loaded;
 use catalogue_core::CoreFault;
-use console_lines::{Sums, made_text};
+use console_lines::{Sums, made_line};
 use entry_record::Prepared;
 use marc_types::NoMemory;
 use record_store::Steps;
@@ -70,5 +70,5 @@ pub fn workload_text(alloc: Global, seed: u64, count: u64) -> Result<String, NoM
     requires { count ≤ most_entries }
     ensures { IfOk result (λ text. string_bytes text ≡ workload_line seed count) }
 {
-    made_text(alloc, count, &sum_workload(alloc, seed, count)?)
+    made_line(alloc, count, &sum_workload(alloc, seed, count)?)
 }

@@ -3,7 +3,7 @@ ghost use Rattle.program_help.specs.Telling.{help_text, version_text, IsTextTold
 
 use crate::texts;
 use command_words::Topic;
-use console_lines::{End, Unwritten};
+use console_lines::{End, tell_result};
 use outside::Sink;
 
 /// The text of a topic.
@@ -30,10 +30,7 @@ fn text_of(topic: Topic) -> &'static str
 fn tell_text<K: Sink>(console: &mut K, text: &str) -> End
     ensures { IsTextTold text.now (K.written console.old) (K.written console.new) (K.faults console.old) (K.faults console.new) result }
 {
-    match console.write_all(text.as_bytes()) {
-        Ok(()) => End::Done,
-        Err(_) => End::Unwritten(Unwritten::Console),
-    }
+    tell_result(console, text, false)
 }
 
 /// The command `help`: tells how the commands are used, or one of them. It takes no memory.

@@ -7,7 +7,7 @@ use Rattle.outside.specs.Fault.{Rose, count_sum}
 use Rattle.outside.specs.Room.{RoomView, AsLog, SameBut, bytes_or_none}
 use Rattle.outside.proofs.Counts.{rose_closed}
 use Rattle.commit_journal.specs.declared.format.TheConstants.{BLANK_LENGTH}
-use Rattle.commit_journal.specs.Journal.{IsSettled, EndsAt, LeavesLog}
+use Rattle.commit_journal.specs.Journal.{IsDurableLog, EndsAt, LeavesLog}
 use Rattle.commit_journal.specs.Log.{version_of}
 use Rattle.durable_catalogue.specs.Logs.{HasHistory}
 use Rattle.durable_catalogue.specs.Opened.{IsOpenedDisk, IsRefusedDisk}
@@ -19,7 +19,7 @@ use Rattle.durable_catalogue.specs.Durables.{Opening, IsLeft, marked}
 use Rattle.durable_catalogue.proofs.Images.{holds_newest}
 use Rattle.durable_catalogue.proofs.Keeping.{some_of}
 use Rattle.durable_catalogue.proofs.Readings.{same_log}
-use Rattle.room_files.specs.Journals.{journal_limits, log_bytes, HasSynced, KeepsLog, KeepsHistory, Unopened, Opened, IsClosedDisk, IsClosedTo, IsOpenLog, IsRefusedLog, IsDurable}
+use Rattle.room_files.specs.Journals.{journal_limits, log_bytes, HasSynced, KeepsLog, KeepsHistory, Unopened, Opened, IsClosedDisk, IsClosedTo, IsJustOpened, IsOpenLog, IsRefusedLog, IsDurable}
 
 -- what the trait says of a disk's moments
 pub record IsTimed (disk : DiskView) : Type 0 where
@@ -167,22 +167,17 @@ open_log old new name version was now open_as bytes begins named opened = record
   kept = λ told. opening_keeps was now (log_bytes old name) (bytes told) begins opened.crash opened;
 }
 
--- a log that was opened, and closed again since it is refused
-pub refused_log : (old mid new : RoomView) (name : List ℕ) (was now : DiskView) (why : OpenFault) → (old.tells ≡ true → was.content ≡ Some (log_bytes old name))
-    → was.moment ≡ 0 → was.faults ≡ 0 → SameBut old mid (name ∷ []) → IsRefusedDisk journal_limits was now why
-    → ((t s : ℕ) → now.synced t ≡ Some s → t < s) → ((t s : ℕ) → now.synced t ≡ Some s → s ≤ now.moment) → (now.dated ≡ false → OnlyContent now)
-    → new.open_as name ≡ None → (mid.tells ≡ true → new.file name ≡ now.content) → (mid.tells ≡ true → new.has_log name ≡ true)
-    → (mid.tells ≡ true → SameDisk now (new.log name)) → new.log_faults name ≡ count_sum (mid.log_faults name) now.faults → IsRefusedLog old new name why
-refused_log old mid new name was now why bytes begins fresh opened refused after by_now undated closed file is_log same counted = record {
+-- a log that was just opened, and closed again since it is refused
+pub refused_log : (old mid new : RoomView) (name : List ℕ) (was now : DiskView) (why : OpenFault) → IsJustOpened old mid name was
+    → IsRefusedDisk journal_limits was now why → IsTimed now → new.open_as name ≡ None → (mid.tells ≡ true → IsClosedDisk now new name)
+    → new.log_faults name ≡ count_sum (mid.log_faults name) now.faults → IsRefusedLog old new name why
+refused_log old mid new name was now why opened refused timed closed disk counted = record {
   closed = closed;
-  keeps = λ told.
-      let then = opened.tells ∙ told in
-      refused_keeps old new name now (record { file = file then; is_log = is_log then; same = same then }) was why (bytes told) begins refused
-      (record { after = after; by_now = by_now; undated = undated });
-  so = λ told. refused.so (log_bytes old name) (bytes told);
+  keeps = λ told. refused_keeps old new name now (disk (opened.apart.tells ∙ told)) was why (opened.bytes told) opened.beginning refused timed;
+  so = λ told. refused.so (log_bytes old name) (opened.bytes told);
   cause = λ device.
-      let rose = rose_closed (old.log_faults name) (mid.log_faults name) now.faults (opened.log_counts name)
-      (subst (λ n. Rose n now.faults) fresh (refused.failed device)) in
+      let rose = rose_closed (old.log_faults name) (mid.log_faults name) now.faults (opened.apart.log_counts name)
+      (subst (λ n. Rose n now.faults) opened.fresh (refused.failed device)) in
       subst (Rose (old.log_faults name)) (sym counted) rose;
 }
 
@@ -224,7 +219,7 @@ left_same o entries more disk now same left =
 
 -- what a catalogue's log is once it is closed
 pub closed_to : (room : RoomView) (name : List ℕ) (entries : List Entry) (mark : Option (List Entry)) (o : Opening) (disk : DiskView) (place : ℕ) → IsLeft o entries (marked mark) disk
-    → length (marked mark) ≤ 32 → (mark ≡ None → IsSettled place 2 disk)
+    → length (marked mark) ≤ 32 → (mark ≡ None → IsDurableLog place 2 disk)
     → o.tells ≡ true → ((b : List ℕ) → disk.content ≡ Some b → disk.image b) → room.has_log name ≡ true → room.file name ≡ disk.content
     → SameDisk disk (room.log name) → IsClosedTo room name entries mark o
 closed_to room name entries mark o disk place left few settled tells image is_log file same =

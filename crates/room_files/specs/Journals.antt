@@ -1,17 +1,17 @@
 -- A journal in a room: as it is opened, and as it is closed again. The rules are this project's own.
-use Rattle.std.specs.Prelude.{◌≡◌, ℕ, ◌+◌, ◌≤◌, max, true, List, ◌++◌, length, take, Option, Some, None, is_some}
+use Rattle.std.specs.Prelude.{◌≡◌, ℕ, ◌+◌, ◌≤◌, max, true, List, [], ◌∷◌, ◌++◌, length, take, Option, Some, None, is_some}
 use Rattle.marc_types.specs.declared.entry.Entry.{Entry}
 use Rattle.marc_types.specs.declared.entry.Limits.{Limits}
 use Rattle.marc_types.specs.Limits.{greatest_limits}
 use Rattle.outside.specs.Disk.{DiskView, SameDisk, OnlyContent}
 use Rattle.outside.specs.Fault.{Rose}
-use Rattle.outside.specs.Room.{RoomView, AsLog, bytes_or_none}
+use Rattle.outside.specs.Room.{RoomView, AsLog, SameBut, bytes_or_none}
 use Rattle.commit_journal.specs.declared.format.TheConstants.{BLANK_LENGTH}
 use Rattle.commit_journal.specs.Log.{walk_of, version_of}
 use Rattle.commit_journal.specs.Journal.{EndsAt, LeavesLog, in_order}
 use Rattle.entry_record.specs.History.{next_run, IsWithin}
 use Rattle.durable_catalogue.specs.Logs.{HasHistory}
-use Rattle.durable_catalogue.specs.Images.{Holds, framed_lengths}
+use Rattle.durable_catalogue.specs.Images.{HoldsEntries, framed_lengths}
 use Rattle.durable_catalogue.specs.declared.fault.OpenFault.{OpenFault}
 use Rattle.durable_catalogue.specs.declared.fault.OpenFault.TheVariants.{DeviceFault}
 use Rattle.durable_catalogue.specs.Openings.{IsUnopened}
@@ -52,7 +52,7 @@ pub record IsClosedTo (room : RoomView) (name : List ℕ) (entries : List Entry)
   pub bytes : List ℕ
   pub file : room.file name ≡ Some bytes
   pub content : (room.log name).content ≡ Some bytes
-  pub holds : Holds (length entries) entries (marked mark) bytes
+  pub holds : HoldsEntries (length entries) entries (marked mark) bytes
   pub newest : version_of bytes ≡ 2
   pub longest : length bytes + framed_lengths (take o.opened entries) ≤ o.length + framed_lengths (entries ++ marked mark)
   pub few : length (marked mark) ≤ 32
@@ -81,6 +81,14 @@ pub record IsClosedDisk (disk : DiskView) (room : RoomView) (name : List ℕ) : 
 -- a disk has synced since its time began, where it tells its moments
 abbrev pub HasSynced : DiskView → Type 0
 HasSynced disk = disk.dated ≡ true → is_some (disk.synced 0) ≡ true
+
+-- The log of that name was just opened as this disk: it has the file's bytes, its time begins, and it has no fault yet. Nothing changed
+-- under another name.
+pub record IsJustOpened (old new : RoomView) (name : List ℕ) (disk : DiskView) : Type 0 where
+  pub apart : SameBut old new (name ∷ [])
+  pub bytes : old.tells ≡ true → disk.content ≡ Some (log_bytes old name)
+  pub beginning : disk.moment ≡ 0
+  pub fresh : disk.faults ≡ 0
 
 -- The log of that name was opened, and was closed as a log again. Its file is left alone, with the history that it had, and each image
 -- since the first sync is the same log, with that history; of a log that tells its moments and has not synced the file is as it was.

@@ -6,7 +6,7 @@ ghost use Rattle.durable_catalogue.specs.Logs.{HasHistory};
 ghost use Rattle.entry_record.specs.History.{IsWithin};
 ghost use Rattle.room_files.specs.Journals.{journal_limits, log_bytes, IsClosedDisk, IsOpenLog, IsRefusedLog};
 
-use crate::JOURNAL_LIMITS;
+use crate::{JOURNAL_LIMITS, close_refused};
 use durable_catalogue::{Archive, Memory, OpenFault};
 use outside::Room;
 use std::alloc::Global;
@@ -35,11 +35,7 @@ pub fn open_archive<R: Room>(
     };
     match Archive::open(alloc, log, JOURNAL_LIMITS) {
         Ok(archive) => Ok(archive),
-        Err(failed) => {
-            let (log, fault) = failed;
-            room.close_log(name, log);
-            Err(fault)
-        }
+        Err(refused) => Err(close_refused(room, name, refused)),
     }
 }
 

@@ -8,6 +8,7 @@ ghost use Rattle.durable_catalogue.specs.Durables.{mark_of};
 ghost use Rattle.durable_catalogue.specs.Views.{durable_view};
 ghost use Rattle.room_files.specs.Journals.{log_bytes, IsOpenedAs, IsClosedAs, IsRefusedLog};
 
+use crate::close_refused;
 use durable_catalogue::{Durable, Memory, OpenFault};
 use marc_types::Limits;
 use outside::Room;
@@ -39,11 +40,7 @@ pub fn open_journal<R: Room>(
     };
     match Durable::open(alloc, log, JOURNAL_LIMITS) {
         Ok(durable) => Ok(durable),
-        Err(failed) => {
-            let (log, fault) = failed;
-            room.close_log(name, log);
-            Err(fault)
-        }
+        Err(refused) => Err(close_refused(room, name, refused)),
     }
 }
 

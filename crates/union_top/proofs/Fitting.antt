@@ -22,8 +22,8 @@ use Rattle.console_lines.specs.declared.fault.Fault.TheVariants as fault
 use Rattle.room_files.specs.Faults.{fault_of_opening}
 use Rattle.room_files.specs.Journals.{log_bytes}
 use Rattle.archive_commands.specs.Reads.{ReadsJournal, EndsReading}
-use Rattle.plain_commands.specs.Loading.{IsFullAt, EndsLoading}
-use Rattle.plain_commands.specs.Making.{Makes, EndsMake}
+use Rattle.plain_commands.specs.Loading.{IsFullAt, IsFaultOfLoading}
+use Rattle.plain_commands.specs.Making.{Makes, EndsMaking}
 use Rattle.plain_commands.specs.Totals.{IsWithinLimits}
 use Rattle.holdings_command.specs.Attaching.{EndsAttaching}
 use Rattle.loading_commands.specs.Loading.{Loads, Runs}
@@ -56,7 +56,7 @@ by_end (Unwritten unwritten.Console) out report console told = absurd (console r
 by_end (Told why) out report console told = inr (ap Told (told why refl))
 
 -- a fault of a pass that remains
-pass_why : (why : Fault) → EndsLoading why → (why ≡ fault.Input → ⊥) → (why ≡ fault.Full → ⊥) → why ≡ fault.Memory
+pass_why : (why : Fault) → IsFaultOfLoading why → (why ≡ fault.Input → ⊥) → (why ≡ fault.Full → ⊥) → why ≡ fault.Memory
 pass_why fault.Input kind input full = absurd (input refl)
 pass_why fault.Full kind input full = absurd (full refl)
 pass_why fault.Memory kind input full = refl
@@ -114,7 +114,7 @@ module _ (o : Outcome) where
 
   pub makes_well : (seed count : ℕ) (out : List ℕ) → Makes seed count out o → Never out_unwritten → Never console_unwritten → EndsWell o.end
   makes_well seed count out m no_out no_console =
-      by_end o.end no_out (λ is. subst EndsMake is m.ends) no_console (λ why is. subst EndsMake is m.ends)
+      by_end o.end no_out (λ is. subst EndsMaking is m.ends) no_console (λ why is. subst EndsMaking is m.ends)
 
   pub reads_well : (journal out : List ℕ) (due : List Entry → List ℕ) → ReadsJournal journal out due o → FitsReading o.old journal
       → Never out_unwritten → Never (Told fault.Device) → EndsWell o.end

@@ -14,7 +14,7 @@ use Rattle.command_words.specs.declared.library.Library.{Library}
 use Rattle.command_words.specs.Command.{Command, Pass, Run, Load, Export, Report, Make, Verify, Matches, Holdings, Migrate, Help, Version, libraries_of}
 use Rattle.file_entries.specs.Files.{IsJudged}
 use Rattle.file_entries.specs.declared.refused.RefusedItem.{RefusedItem}
-use Rattle.console_lines.specs.Ends.{Outcome, IsAllDone, IsUntold, end_of, end_status, out_unwritten, report_unwritten, console_unwritten}
+use Rattle.console_lines.specs.Ends.{Outcome, IsAllDone, TellsNoFault, end_of, end_status, out_unwritten, report_unwritten, console_unwritten}
 use Rattle.console_lines.specs.declared.end.End.TheVariants.{Told}
 use Rattle.console_lines.specs.declared.end.Unwritten.TheVariants as unwritten
 use Rattle.console_lines.specs.declared.fault.Fault.TheVariants as fault
@@ -181,7 +181,7 @@ module _ (o : Outcome) (promises : (n : List ℕ) → o.new.promise n ≡ o.old.
     h_command = ends f.library f.named
 
     -- without a fault to tell there is a case whose due was delivered
-    delivered : IsUntold o.end → ((c : Cases) → IsDelivered (holdings_due code c) out rest o → ⊥) → ⊥
+    delivered : TellsNoFault o.end → ((c : Cases) → IsDelivered (holdings_due code c) out rest o → ⊥) → ⊥
     delivered untold so =
         ∥∥₁_elim f.reading.history ⊥_prop (λ (one : (entries : List Entry) × IsLogOf entries (log_bytes o.old journal) × IsWithin journal_limits entries).
         let found = there (λ bytes. IsAttached f.library code bytes (state_of one.0) out rest o) (o.old.file f.library.file)
@@ -200,11 +200,11 @@ module _ (o : Outcome) (promises : (n : List ℕ) → o.new.promise n ≡ o.old.
     sure_holdings : EndsWell o.end
     sure_holdings =
         attaches_well o words journal out rest code ends f
-        (λ is. delivered (subst IsUntold (sym is) tt) (λ c d.
+        (λ is. delivered (subst TellsNoFault (sym is) tt) (λ c d.
         out_stayed a promises kept out (holdings_due code c).out (h.output c) (at_out (holdings_due code c) out rest is d) (h_command.out_cause is)))
-        (λ is. delivered (subst IsUntold (sym is) tt) (λ c d.
+        (λ is. delivered (subst TellsNoFault (sym is) tt) (λ c d.
         out_stayed a promises kept rest (holdings_due code c).rest (h.rest_output c) (at_rest (holdings_due code c) out rest is d) (h_command.rest_cause is)))
-        (λ is. delivered (subst IsUntold (sym is) tt) (λ c d.
+        (λ is. delivered (subst TellsNoFault (sym is) tt) (λ c d.
         text_stayed a (holdings_due code c).text (h.console c) (at_console (holdings_due code c) out rest is d) (h_command.console_cause is)))
         (λ is. one_stayed a (libraries_of words) (inputs_stayed a promises kept (libraries_of words) h.inputs) f.library f.named (h_command.input is))
         (no_device journal h.log (h_command.keeps f.reading.tells) h_command.device)

@@ -1,5 +1,5 @@
 use console_lines::{
-    End, Fault, Sums, Totals, made_text, refused_text, results_text, tell, totals_text,
+    End, Fault, Sums, Totals, made_line, refused_lines, results_text, tell, totals_line,
 };
 use file_entries::RefusedItem;
 use marc_types::{NoMemory, Refusal, Set};
@@ -38,12 +38,12 @@ fn texts(rt: HostRuntime) -> Result<(), Fail> {
 
 // Each in a function without a clause, since the text of one is nothing to the next.
 fn has_refused_text(alloc: Global) -> Result<bool, NoMemory> {
-    let made = refused_text(alloc, "f", &[REFUSED])?;
+    let made = refused_lines(alloc, "f", &[REFUSED])?;
     Ok(made.as_str() == "f 3 210 15 other set Basic Hebrew in entry 4 at 17\n")
 }
 
 fn has_totals_text(alloc: Global) -> Result<bool, NoMemory> {
-    let made = totals_text(alloc, "f", &TOTALS)?;
+    let made = totals_line(alloc, "f", &TOTALS)?;
     Ok(made.as_str() == "f: accepted 2, refused 1, linked 3, ambiguous 0, unlinked 12, changed 7\n")
 }
 
@@ -56,7 +56,7 @@ fn has_results_text(alloc: Global) -> Result<bool, NoMemory> {
 }
 
 fn has_made_text(alloc: Global) -> Result<bool, NoMemory> {
-    let made = made_text(alloc, 20, &SUMS)?;
+    let made = made_line(alloc, 20, &SUMS)?;
     Ok(made.as_str() == "made 20, linked 3, ambiguous 0, unlinked 12, changed 7\n")
 }
 

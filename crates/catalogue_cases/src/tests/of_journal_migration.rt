@@ -16,7 +16,9 @@ const LIMITS: Limits = Limits {
 };
 
 fn disk(alloc: Global, bytes: &[u8]) -> Result<MemDisk, MigrateFault> {
-    let bytes = bytes[..bytes.len().min(4096)].to_vec(alloc)?;
+    let Ok(bytes) = bytes[..bytes.len().min(4096)].to_vec(alloc) else {
+        return Err(MigrateFault::NoMemory);
+    };
     Ok(MemDisk::new(alloc, bytes, Vec::new(alloc)))
 }
 

@@ -1,5 +1,6 @@
-use holdings::{Holding, HoldingFault, HoldingShelf, PackedHolding, PackedKey, admit_holding};
+use holdings::{Holding, HoldingFault, HoldingShelf, PackedHolding, admit_holding};
 use marc_types::{Field, Fields, Leader, Record, Tag, Text, makes_record};
+use packed_keys::PackedKey;
 use std::alloc::Global;
 use std::process::Abort;
 use std::test::Fail;

@@ -1,7 +1,7 @@
 use Rattle.std.proofs.Common.{◌≡◌, ℕ, true, List, Some}
 use Rattle.durable_catalogue.specs.Logs.{HasHistory}
 use Rattle.room_files.specs.Journals.{journal_limits, log_bytes}
-use Rattle.room_files.proofs.Journals.{open_log, refused_log}
+use Rattle.room_files.proofs.Journals.{open_log}
 use Rattle.history_logs.proofs.Turns.{is_also}
 use Rattle.history_logs.proofs.rooms.open_history.Goals as goal
 
@@ -20,9 +20,6 @@ returns-in-Ok-open-clause-taken g c =
 
 pub returns-in-Err-clause-refused : goal.returns-in-Err-clause-refused
 returns-in-Err-clause-refused g c =
-    let law = g.met.R.Log.Disk g.world.𝓛 g.world.𝓜 g.world.𝓡 ((λ s x. x), (λ x. x), (λ x. x), λ x. x) in
-    let disk = c.in-Err.failed.0 in
     let was = c.in-Ok.ensures in
-    let closed = c.close_log.ensures in
-    refused_log _ _ _ _ _ _ _ was.bytes was.beginning was.fresh was.apart c.in-Err.ensures.refused (law.synced_after disk) (law.synced_by_now disk)
-    (law.undated_content disk) closed.closed closed.bytes closed.log closed.moments closed.counted
+    c.close_refused.ensures.keeps c.args.room.now c.in-Ok.log
+    (record { apart = was.apart; bytes = was.bytes; beginning = was.beginning; fresh = was.fresh }) c.in-Err.ensures.refused

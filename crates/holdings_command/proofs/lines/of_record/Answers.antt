@@ -5,5 +5,5 @@ use Rattle.holdings_command.proofs.lines.of_record.Goals as goal
 
 pub returns : goal.returns
 returns c =
-    IfOk-weaker c.refused_text.result _ _
-    (λ text is. is ∙ line_of_record c.args.file.now c.args.item.now c.args.refusal c.requires) c.refused_text.ensures
+    IfOk-weaker c.refused_lines.result _ _
+    (λ text is. is ∙ line_of_record c.args.file.now c.args.item.now c.args.refusal c.requires) c.refused_lines.ensures

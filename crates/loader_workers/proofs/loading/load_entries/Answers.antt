@@ -1,6 +1,6 @@
 use Rattle.std.proofs.Common.{ap, sym, subst, ◌∙◌, Option, Some}
 use Rattle.loader_workers.specs.Gathering.{HasGathered}
-use Rattle.loader_workers.specs.Loading.{Loads}
+use Rattle.loader_workers.specs.Loading.{LoadsOneFile}
 use Rattle.loader_workers.specs.declared.file_end.FileEnd.{FileEnd}
 use Rattle.loader_workers.specs.declared.result.FileResult.{FileResult}
 use Rattle.loader_workers.proofs.Loaded.{loads_on, loads_to_end, loads_to_fault, loading_none, no_read_fault}
@@ -11,7 +11,7 @@ turns-init g c = loading_none _ _ _ _ _ c.requires.going c.requires.seen c.none-
 
 pub returns-in-Some-clause-loads : goal.returns-in-Some-clause-loads
 returns-in-Some-clause-loads g c origin commits =
-    subst (λ (r : FileResult). Loads origin c.args.entries.now c.gather-batch.new.entries.stream.left c.args.pass.now c.commit.new.pass r) (sym c.result.ensures)
+    subst (λ (r : FileResult). LoadsOneFile origin c.args.entries.now c.gather-batch.new.entries.stream.left c.args.pass.now c.commit.new.pass r) (sym c.result.ensures)
     (loads_to_fault _ origin _ _ _ _ _ _ _ _ _ _ _ _ _ commits c.turns.invariant
     (record { gathers = c.gather-batch.ensures.gathers; commits = c.in-Some.ensures.front; same = c.commit.ensures.same }))
 
@@ -24,7 +24,7 @@ pub returns-in-Some-over-clause-loads : goal.returns-in-Some-over-clause-loads
 returns-in-Some-over-clause-loads g c origin commits =
     let gathers = subst (λ (end : Option FileEnd). HasGathered c.turns.entries c.gather-batch.new.entries c.turns.refused.items c.gather-batch.new.refused.items c.gather-batch.result.0 end)
     c.in-Some-over.is c.gather-batch.ensures.gathers in
-    subst (λ (r : FileResult). Loads origin c.args.entries.now c.gather-batch.new.entries.stream.left c.args.pass.now c.commit.new.pass r) (sym c.result-in-Some-over.ensures)
+    subst (λ (r : FileResult). LoadsOneFile origin c.args.entries.now c.gather-batch.new.entries.stream.left c.args.pass.now c.commit.new.pass r) (sym c.result-in-Some-over.ensures)
     (loads_to_end _ origin _ _ _ _ _ _ _ _ _ _ _ _ commits c.requires.fresh c.turns.invariant
     (record { gathers = gathers; commits = c.in_default.ensures.front; same = c.commit.ensures.same }))
 

@@ -4,7 +4,7 @@ use Rattle.marc_types.specs.declared.record.Record.{Record}
 use Rattle.catalogue_rules.specs.State.{new_record}
 use Rattle.catalogue_rules.specs.Settle.{arrival_of}
 use Rattle.plain_catalogue.specs.Views.{linkables}
-use Rattle.plain_catalogue.specs.Stands.{standings_of}
+use Rattle.catalogue_tables.specs.Stands.{standings_of}
 use Rattle.plain_catalogue.specs.KeptRecords.{kept_record, new_record_after}
 use Rattle.plain_catalogue.specs.Behind.{incoming}
 use Rattle.plain_catalogue.proofs.behind.put_row.Goals as goal

@@ -1,7 +1,7 @@
 use Rattle.std.proofs.Common.{◌≡◌, None, refl, sym, ap, ◌∙◌, subst}
 use Rattle.catalogue_rules.specs.State.{KeptRecord, new_record}
 use Rattle.plain_catalogue.specs.Views.{linkables}
-use Rattle.plain_catalogue.specs.Stands.{standings_of}
+use Rattle.catalogue_tables.specs.Stands.{standings_of}
 use Rattle.plain_catalogue.specs.KeptRecords.{kept_record, record_after, new_record_after, HasSize}
 use Rattle.plain_catalogue.proofs.Making.{record_new, record_becomes}
 use Rattle.plain_catalogue.proofs.records.new_record_after.Goals as goal

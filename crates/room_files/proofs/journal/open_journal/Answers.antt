@@ -1,7 +1,7 @@
 use Rattle.std.proofs.Common.{◌≡◌, ◌≤◌, true, is_some, max, length, sym, ap, subst, ◌∙◌}
 use Rattle.commit_journal.specs.declared.format.TheConstants.{BLANK_LENGTH}
 use Rattle.room_files.specs.Journals.{log_bytes}
-use Rattle.room_files.proofs.Journals.{opened_length, refused_log}
+use Rattle.room_files.proofs.Journals.{opened_length}
 use Rattle.room_files.proofs.journal.open_journal.Goals as goal
 
 pub returns-in-Ok-open-clause-catalogue : goal.returns-in-Ok-open-clause-catalogue
@@ -34,13 +34,10 @@ returns-in-Ok-open-clause-catalogue g c =
 
 pub returns-in-Err-clause-old_first : goal.returns-in-Err-clause-old_first
 returns-in-Err-clause-old_first g c full told =
-    c.in-Err.ensures.old_first full (log_bytes (g.R.Room.seen c.args.room.now) c.args.name.now) (c.in-Ok.ensures.bytes told)
+    c.in-Err.ensures.old_first (sym c.close_refused.ensures.fault ∙ full) (log_bytes (g.R.Room.seen c.args.room.now) c.args.name.now) (c.in-Ok.ensures.bytes told)
 
 pub returns-in-Err-clause-refused : goal.returns-in-Err-clause-refused
 returns-in-Err-clause-refused g c =
-    let law = g.met.R.Log.Disk g.world.𝓛 g.world.𝓜 g.world.𝓡 ((λ s x. x), (λ x. x), (λ x. x), λ x. x) in
-    let disk = c.in-Err.failed.0 in
     let was = c.in-Ok.ensures in
-    let closed = c.close_log.ensures in
-    refused_log _ _ _ _ _ _ _ was.bytes was.beginning was.fresh was.apart c.in-Err.ensures.refused (law.synced_after disk) (law.synced_by_now disk)
-    (law.undated_content disk) closed.closed closed.bytes closed.log closed.moments closed.counted
+    c.close_refused.ensures.keeps c.args.room.now c.in-Ok.log
+    (record { apart = was.apart; bytes = was.bytes; beginning = was.beginning; fresh = was.fresh }) c.in-Err.ensures.refused

@@ -6,7 +6,7 @@ use Rattle.command_words.specs.declared.library.Library.{Library}
 use Rattle.command_words.specs.Asked.{command_asked}
 use Rattle.console_lines.specs.Ends.{Outcome, outcome}
 use Rattle.console_lines.specs.declared.fault.Fault.TheVariants as fault
-use Rattle.plain_commands.specs.Making.{EndsMake}
+use Rattle.plain_commands.specs.Making.{EndsMaking}
 use Rattle.plain_commands.specs.Passing.{Passes}
 use Rattle.archive_commands.specs.Reads.{EndsReading}
 use Rattle.journal_verification.specs.Verifying.{EndsVerifying}
@@ -71,7 +71,7 @@ returns-in-Report g c =
 pub returns-in-Make : goal.returns-in-Make
 returns-in-Make g c =
     let did = c.make.ensures in
-    carries c.args.words.now c.args.asked c.in-Make.is did.closed did.apart did.ends (λ usage. let no = subst EndsMake usage did.ends.ends in cc)
+    carries c.args.words.now c.args.asked c.in-Make.is did.closed did.apart did.ends (λ usage. let no = subst EndsMaking usage did.ends.ends in cc)
 
 pub returns-in-Verify : goal.returns-in-Verify
 returns-in-Verify g c =

@@ -5,7 +5,7 @@ use Rattle.catalogue_rules.specs.Receipt.{receipt_of}
 use Rattle.record_store.specs.Store.{Stored}
 use Rattle.plain_catalogue.specs.Behind.{linkable_rows}
 use Rattle.plain_catalogue.specs.Engines.{IsEngine}
-use Rattle.commit_stages.specs.Receipts.{AreNumbersOf}
+use Rattle.commit_stages.specs.Receipts.{AreReceiptCounts}
 use Rattle.commit_stages.specs.declared.changes.Changes.{Changes}
 use Rattle.plain_catalogue.proofs.Engines.{can_follow, step_made, engine_made, numbers_made, few_changed}
 use Rattle.plain_catalogue.proofs.engine.Engine.behind.Goals as goal
@@ -49,7 +49,7 @@ returns-clause-changes g c at =
     let made = ap (λ (x : Stored). x.state) c.of.ensures
     ∙ step_made s c.args.item.now c.self.inside.authorities.rows c.in_ok-authorities.authorities.rows c.self.inside.authorities_stand.rows c.self.inside.bibliographic_stand.rows
     c.in_ok-first.field-0 c.self.invariant c.in_ok-authorities.ensures.admitted c.in_ok-authorities.ensures.rows c.in_ok-first.ensures in
-    subst (λ (t : State). AreNumbersOf (receipt_of at c.args.self.now a t) changes) (sym made)
-    (subst (λ (b : State). AreNumbersOf (receipt_of at b a (step s a)) changes) c.self.view_is
+    subst (λ (t : State). AreReceiptCounts (receipt_of at c.args.self.now a t) changes) (sym made)
+    (subst (λ (b : State). AreReceiptCounts (receipt_of at b a (step s a)) changes) c.self.view_is
     (numbers_made s c.args.item.now c.self.inside.authorities.rows c.in_ok-authorities.authorities.rows c.self.inside.authorities_stand.rows c.self.inside.bibliographic_stand.rows
     c.in_ok-first.field-0 changes c.self.invariant c.in_ok-authorities.ensures.admitted c.in_ok-authorities.ensures.rows c.in_ok-first.ensures refl refl refl refl at))

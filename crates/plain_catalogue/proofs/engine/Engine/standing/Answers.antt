@@ -1,7 +1,7 @@
 use Rattle.std.proofs.Common.{List, Some, None, ap, ◌∙◌}
 use Rattle.std.specs.Prelude.{slice_get}
 use Rattle.catalogue_rules.specs.State.{rows_of, linkable_authorities}
-use Rattle.plain_catalogue.specs.declared.standing.Standing.{Standing}
+use Rattle.catalogue_tables.specs.declared.standing.Standing.{Standing}
 use Rattle.plain_catalogue.proofs.Look.{standing_found}
 use Rattle.plain_catalogue.proofs.engine.Engine.standing.Goals as goal
 

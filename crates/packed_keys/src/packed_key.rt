@@ -1,56 +1,62 @@
-ghost use Rattle.std.specs.Prelude.{◌≡◌, IfOk, IsTrue};
-ghost use Rattle.marc_types.specs.Valid.{is_code};
+ghost use Rattle.std.specs.Prelude.{◌≡◌, IfOk};
 
-use marc_types::{Key, NoMemory};
+use marc_types::{Key, NoMemory, Text};
 use std::alloc::Global;
 use std::cmp::Ordering;
 use std::marker::Model;
 
-/// A key in one vector of exactly its length: its number behind its code. Contracts see it as the key, and it is ordered as keys
-/// are.
+/// A key in one text of exactly its length, its number behind its code, since a table of many takes less memory so. Contracts see
+/// it as the key, and it is ordered as keys are.
 #[derive(Drop)]
 pub struct PackedKey {
-    bytes: Vec<u8>,
+    text: String,
     code_len: usize,
 }
 
 impl Model for PackedKey {
-    ghost use Rattle.std.specs.Prelude.{◌≤◌, length, take, drop, IsTrue};
-    ghost use Rattle.marc_types.specs.Valid.{is_code};
+    ghost use Rattle.std.specs.Prelude.{take, drop, string_bytes, IsCharBoundary};
     ghost use Rattle.marc_types.specs.declared.key.Key.{Key};
 
     ghost Value = { Key };
 
-    ghost view = { λ k. record { code = take k.code_len k.bytes.items; number = drop k.code_len k.bytes.items } };
+    ghost view = { λ k. record { code = take k.code_len (string_bytes k.text); number = drop k.code_len (string_bytes k.text) } };
 
-    ghost invariant = { λ k. (k.code_len ≤ length k.bytes.items) × IsTrue (is_code (take k.code_len k.bytes.items)) };
+    ghost invariant = { λ k. IsCharBoundary (string_bytes k.text) k.code_len };
 }
 
 impl PackedKey {
-    pub(crate) fn of(alloc: Global, key: &Key) -> Result<PackedKey, NoMemory>
-        requires { IsTrue (is_code key.now.code) }
+    /// An equal key.
+    pub fn of(alloc: Global, key: &Key) -> Result<PackedKey, NoMemory>
         ensures { IfOk result (λ packed. packed ≡ key.now) }
     {
-        let code = key.code.as_bytes();
-        let number = key.number.as_bytes();
+        let code = key.code.as_str();
+        let number = key.number.as_str();
         let code_len = code.len();
-        let mut bytes = Vec::with_capacity(alloc, code_len + number.len())?;
-        bytes.extend_from_slice(code)?;
-        bytes.extend_from_slice(number)?;
-        Ok(PackedKey { bytes, code_len })
+        let mut text = String::with_capacity(alloc, code_len + number.len())?;
+        text.push_str(code)?;
+        text.push_str(number)?;
+        Ok(PackedKey { text, code_len })
     }
 
+    /// The bytes of the code.
     pub fn code(&self) -> &[u8]
-        ensures value { result.now ≡ self.now.code }
-        ensures code { IsTrue (is_code result.now) }
+        ensures { result.now ≡ self.now.code }
     {
-        &self.bytes[..self.code_len]
+        &self.text.as_bytes()[..self.code_len]
     }
 
+    /// The bytes of the number.
     pub fn number(&self) -> &[u8]
         ensures { result.now ≡ self.now.number }
     {
-        &self.bytes[self.code_len..]
+        &self.text.as_bytes()[self.code_len..]
+    }
+
+    /// The code as a text of its own.
+    pub fn code_text(&self, alloc: Global) -> Result<Text, NoMemory>
+        ensures { IfOk result (λ text. text ≡ self.now.code) }
+    {
+        Text::from_str(alloc, &self.text.as_str()[..self.code_len])
     }
 }
 

@@ -1,6 +1,6 @@
 use Rattle.std.proofs.Common.{append_assoc}
 use Rattle.console_lines.specs.Lines.{refused_line}
-use Rattle.console_lines.proofs.lines.line_of_refused.Goals as goal
+use Rattle.console_lines.proofs.lines.refused_line.Goals as goal
 
 pub returns : goal.returns
 unfolding refused_line

@@ -1,6 +1,6 @@
 use Rattle.std.proofs.Common.{append_assoc}
 use Rattle.console_lines.specs.Lines.{totals_line}
-use Rattle.console_lines.proofs.results.totals_text.Goals as goal
+use Rattle.console_lines.proofs.results.totals_line.Goals as goal
 
 pub returns : goal.returns
 unfolding totals_line

@@ -1,7 +1,0 @@
-use Rattle.std.proofs.Common.{◌≡◌, ◌++◌, drop, string_bytes}
-use Rattle.loading_commands.specs.Texts.{refused_text}
-use Rattle.loading_commands.proofs.texts.all_refused.Given as goal
-
-abbrev pub invariant-loop-index : goal.invariant-loop-index
-invariant-loop-index l =
-    string_bytes l.text ++ refused_text (drop l.index l.fn.libraries) (drop l.index l.fn.results) ≡ refused_text l.fn.libraries l.fn.results

@@ -1,0 +1,6 @@
+//! Keys in one text each, for tables of many.
+#![tactic(auto)]
+
+pub use packed_key::PackedKey;
+
+mod packed_key;
