@@ -1,4 +1,4 @@
--- What is told of a field: under which key it is linked, that it is ambiguous, that it has no link, or that it is no heading.
+-- What a status, and how a field stands, tell of a field; and the authorities that an ambiguous one can be linked to.
 use Rattle.std.specs.Prelude.{List, Option, Some, None}
 use Rattle.marc_types.specs.declared.key.Class.{Class}
 use Rattle.marc_types.specs.declared.key.Key.{Key}

@@ -82,8 +82,8 @@ pub record IsClosedDisk (disk : DiskView) (room : RoomView) (name : List ℕ) : 
 abbrev pub HasSynced : DiskView → Type 0
 HasSynced disk = disk.dated ≡ true → is_some (disk.synced 0) ≡ true
 
--- The log of that name was just opened as this disk: it has the file's bytes, its time begins, and it has no fault yet. Nothing changed
--- under another name.
+-- The log of that name was just opened as this disk: it has the file's bytes, where the room tells them, its time begins, and it has no
+-- fault yet. Nothing changed under another name.
 pub record IsJustOpened (old new : RoomView) (name : List ℕ) (disk : DiskView) : Type 0 where
   pub apart : SameBut old new (name ∷ [])
   pub bytes : old.tells ≡ true → disk.content ≡ Some (log_bytes old name)

@@ -19,7 +19,7 @@ pub fn close_refused<R: Room>(room: &mut R, name: &str, refused: (R::Log, OpenFa
     ensures counted { (R.seen room.new).log_faults name.now
         ≡ count_sum ((R.seen room.old).log_faults name.now) (R.Log.seen refused.0).faults }
 
-    // Where it had just been opened, it keeps its history.
+    // Where it had just been opened, and the opening left it as a refusal does, it keeps its history.
     ensures keeps { (before : R) (log : R.Log) → IsJustOpened (R.seen before) (R.seen room.old) name.now (R.Log.seen log) →
         IsRefusedDisk journal_limits (R.Log.seen log) (R.Log.seen refused.0) refused.1 →
         IsRefusedLog (R.seen before) (R.seen room.new) name.now result }
