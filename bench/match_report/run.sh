@@ -6,7 +6,7 @@ here=$(cd "$(dirname "$0")" && pwd)
 top=$here/../..
 work=${1:-$(mktemp -d)}
 count=${2:-1000000}
-crates='marc_types packed_keys outside outside_mem naco_form heading_fields iso2709_record marc8_latin marc_stream entry_record catalogue_rules reading kept_fields file_entries match_report'
+crates='marc_types packed_keys outside outside_mem naco_form heading_fields iso2709_record marc8_latin marc_stream entry_record catalogue_rules reading file_entries match_report'
 mkdir -p "$work/crates/match_bench/src"
 : >"$work/crates.txt"
 for crate in $crates; do
@@ -17,7 +17,7 @@ done
 grep -E "^(${crates// /|}):" "$top/crates.txt" >"$work/crates.txt"
 cp "$top/HANDLES" "$work/"
 cp "$here/main.rt.txt" "$work/crates/match_bench/src/main.rt"
-echo "match_bench: match_report file_entries marc_stream reading kept_fields catalogue_rules entry_record iso2709_record marc8_latin heading_fields naco_form marc_types outside outside_mem itoa" >>"$work/crates.txt"
+echo "match_bench: match_report file_entries marc_stream reading catalogue_rules entry_record iso2709_record marc8_latin heading_fields naco_form marc_types outside outside_mem itoa" >>"$work/crates.txt"
 rustc -O --edition 2024 -o "$work/plain" "$here/plain.rs"
 "$work/plain" make "$count" "$work/made.mrc"
 (cd "$work/crates/match_bench" && rt run >/dev/null)

@@ -1,7 +1,6 @@
 -- The states of an engine are valid, and a record is found by its key's number.
-use Rattle.std.proofs.Common.{◌≡◌, ◌∙◌, sym, ap, refl, subst, ℕ, Bool, true, false, List, [], Option, Some, None}
-use Rattle.std.specs.Prelude.{IsSome, if◌then◌else◌}
-use Rattle.std.proofs.lemmas.List.Elements.{All-from_recursion}
+use Rattle.std.proofs.Common.{◌≡◌, sym, ap, refl, subst, ℕ, Bool, true, false, List, [], Option, Some, None}
+use Rattle.std.specs.Prelude.{if◌then◌else◌}
 use Rattle.marc_types.specs.Order.{same_key}
 use Rattle.marc_types.specs.declared.entry.Entry.{Entry}
 use Rattle.marc_types.specs.declared.key.Class.{Class}
@@ -10,9 +9,8 @@ use Rattle.numbering.specs.Numbers.{IsNumberOf, is_known, number_of}
 use Rattle.entry_record.specs.History.{IsAdmitted}
 use Rattle.catalogue_rules.specs.Receipt.{kept_under}
 use Rattle.catalogue_rules.specs.Settle.{arrival_of, state_after, state_of, step}
-use Rattle.catalogue_rules.specs.State.{KeptRecord, State, empty_state}
+use Rattle.catalogue_rules.specs.State.{State, empty_state}
 use Rattle.catalogue_rules.specs.Valid.{IsValid}
-use Rattle.catalogue_rules.proofs.States.{every_state_valid}
 use Rattle.numbered_store.proofs.Shelving.{low_number}
 use Rattle.catalogue_tables.specs.Seam.{KeyLists, keys_in}
 use Rattle.linking_laws.specs.Middle.{AreAuthoritiesInOrder}
@@ -24,11 +22,6 @@ use Rattle.catalogue_core.specs.Engines.{IsEngine}
 pub empty_is : empty_state ≡ state_of []
 unfolding state_after
 empty_is = refl
-
-pub engine_empty : IsEngine empty_state empty_state
-engine_empty =
-    let valid : IsValid empty_state = subst IsValid (sym empty_is) (every_state_valid [] (All-from_recursion IsAdmitted [] tt)) in
-    record { valid = valid; valid_before = valid }
 
 pub engine_stepped : (s t before now : State) (e : Entry) → IsEngine s before → IsAdmitted e → t ≡ step s (arrival_of e) → now ≡ before → IsEngine t now
 engine_stepped s t before now e engine admitted is stays = record {
@@ -50,17 +43,6 @@ number_given keys key number is = at (is_known same_key keys key) refl is
     at false known e = cc
 
 module _ (class : Class) (key : Key) (keys : KeyLists) (s : State) where
-  pub nothing_under : ((c : Class) (k : Key) → IsSome (kept_under c k s) → is_known same_key (keys_in c keys) k ≡ true)
-      → None ≡ number_if (is_known same_key (keys_in class keys) key) (keys_in class keys) key → None ≡ kept_under class key s
-  nothing_under numbered none = at (kept_under class key s) refl
-    where
-      at : (o : Option KeptRecord) → kept_under class key s ≡ o → None ≡ o
-      at None e = refl
-      at (Some r) e =
-          let known : is_known same_key (keys_in class keys) key ≡ true = numbered class key (subst IsSome (sym e) refl) in
-          let some : None ≡ Some (number_of same_key (keys_in class keys) key) = none ∙ ap (λ (b : Bool). number_if b (keys_in class keys) key) known in
-          cc
-
   pub number_low : (number : ℕ) → Some number ≡ number_if (is_known same_key (keys_in class keys) key) (keys_in class keys) key → IsNumber class number keys
   number_low number is = low_number (keys_in class keys) key number (number_given (keys_in class keys) key number is)
 

@@ -2,7 +2,7 @@
 use Rattle.std.proofs.Common.{◌≡◌, ℕ, zero, suc, ◌+◌, ◌-◌, ◌<◌, ◌≤◌, Bool, true, false, ◌||◌, List, [], ◌∷◌, ◌++◌, length, take, drop, map, refl, sym, ap, ◌∙◌, arith}
 use Rattle.std.specs.Prelude.{nat_lt}
 use Rattle.std.specs.List.{sum_by}
-use Rattle.std.proofs.lemmas.Bool.{or_parts, ltb-false, ltb-true, lt-ltb, le-ltb}
+use Rattle.std.proofs.lemmas.Bool.{or_parts, ltb-false}
 use Rattle.std.proofs.lemmas.List.{take-append-drop}
 use Rattle.std.proofs.lemmas.List.Sums.{fold-append, sum_by-append, sum_by-cons}
 use Rattle.marc_types.specs.declared.entry.Entry.{Entry}
@@ -90,7 +90,7 @@ room_for entries limits e h =
     let parts = or_parts (nat_lt limits.entries (length entries + 1)) (nat_lt limits.bytes (entries_size entries + entry_size e)) h in
     record { count = ltb-false limits.entries (length entries + 1) parts.0; size = ltb-false limits.bytes (entries_size entries + entry_size e) parts.1 }
 
-full_all : (c : Catalogued) (entries : List Entry) (e : Entry) → all_entries c ≡ entries
+pub full_all : (c : Catalogued) (entries : List Entry) (e : Entry) → all_entries c ≡ entries
     → (nat_lt c.limits.entries (length entries + 1) || nat_lt c.limits.bytes (entries_size entries + entry_size e)) ≡ is_full c e
 full_all c entries e are =
     ap (λ (all : List Entry). nat_lt c.limits.entries (length all + 1) || nat_lt c.limits.bytes (entries_size all + entry_size e)) (sym are)
@@ -98,35 +98,6 @@ full_all c entries e are =
 -- where it isn't full, there is room for the entry
 pub room_of : (c : Catalogued) (entries : List Entry) (e : Entry) → all_entries c ≡ entries → is_full c e ≡ false → HasRoomFor entries c.limits e
 room_of c entries e are h = room_for entries c.limits e (full_all c entries e are ∙ h)
-
-apart_by : (u v : ℕ) → u < v → v ≤ u → ⊥
-apart_by u v less more = omega arith
-
-same_test_at : (x y u v : ℕ) (b d : Bool) → nat_lt x y ≡ b → nat_lt u v ≡ d → (x < y → u < v) → (u < v → x < y) → b ≡ d
-same_test_at x y u v true true e f to from = refl
-same_test_at x y u v false false e f to from = refl
-same_test_at x y u v true false e f to from = let less = to (ltb-true x y e) in let more = ltb-false u v f in absurd (apart_by u v less more)
-same_test_at x y u v false true e f to from = let less = from (ltb-true u v f) in let more = ltb-false x y e in absurd (apart_by x y less more)
-
-same_test : (x y u v : ℕ) → (x < y → u < v) → (u < v → x < y) → nat_lt x y ≡ nat_lt u v
-same_test x y u v to from = same_test_at x y u v (nat_lt x y) (nat_lt u v) refl refl to from
-
--- there are as many entries as there may be
-pub full_count : (c : Catalogued) (entries : List Entry) (e : Entry) → all_entries c ≡ entries → c.limits.entries ≤ length entries → true ≡ is_full c e
-full_count c entries e are many =
-    ap (λ b. b || nat_lt c.limits.bytes (entries_size entries + entry_size e)) (sym (lt-ltb c.limits.entries (length entries + 1) (omega arith)))
-    ∙ full_all c entries e are
-
-not_many : (n most : ℕ) → n < most → nat_lt most (n + 1) ≡ false
-not_many n most few = le-ltb most (n + 1) (omega arith)
-
--- or there are fewer, and the bytes decide
-pub full_size : (c : Catalogued) (entries : List Entry) (bytes : ℕ) (e : Entry) → all_entries c ≡ entries → bytes ≡ entries_size entries → entries_size entries ≤ c.limits.bytes
-    → length entries < c.limits.entries → nat_lt (c.limits.bytes - bytes) (entry_size e) ≡ is_full c e
-full_size c entries bytes e all_are bytes_are fit few =
-    same_test (c.limits.bytes - bytes) (entry_size e) c.limits.bytes (entries_size entries + entry_size e) (λ h. omega arith) (λ h. omega arith)
-    ∙ ap (λ b. b || nat_lt c.limits.bytes (entries_size entries + entry_size e)) (sym (not_many (length entries) c.limits.entries few))
-    ∙ full_all c entries e all_are
 
 -- ---- the receipt
 

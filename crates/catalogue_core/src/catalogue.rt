@@ -10,6 +10,7 @@ ghost use Rattle.linking_laws.specs.Visits.{touched};
 ghost use Rattle.catalogue_core.specs.Catalogues.{receipt_with, all_entries, empty_catalogue, is_full, IsDue, with_staged, with_kept, without_staged, with_entry};
 
 use crate::engine::Engine;
+use crate::limits::passes_limits;
 use commit_stages::Changes;
 use entry_record::Prepared;
 use marc_types::{Class, Entry, Kept, Key, Limits, NoMemory, Receipt};
@@ -94,17 +95,18 @@ impl Catalogue {
     fn is_full(&self, item: &Prepared) -> bool
         ensures { result ≡ is_full self.now item.now }
     {
-        self.entries.len() as u64 >= self.limits.entries
-            || item.size() > self.limits.bytes - self.bytes
+        passes_limits(&self.limits, self.entries.len() as u64, self.bytes, item)
     }
 
-    fn add<L: Ledger>(
+    /// Puts an entry behind those that are staged, where the limits aren't passed with it. Its receipt is that behind the history and
+    /// the staged entries. Want of memory changes nothing, and the entry is gone then.
+    pub fn stage<L: Ledger>(
         &mut self,
         alloc: Global,
         item: Prepared,
         steps: &mut Steps<L>,
     ) -> Result<Receipt, NoMemory>
-        requires { is_full self.old item ≡ false }
+        requires room { is_full self.old item ≡ false }
         ensures receipt { IfOk result (λ r. r ≡ receipt (map arrival_of (all_entries self.old)) (arrival_of item)) }
         ensures staged { OnOk result (self.new ≡ with_staged self.old item) }
         ensures err { OnErr result (self.new ≡ self.old) }
@@ -119,32 +121,6 @@ impl Catalogue {
         self.entries.push_reserved(entry);
         self.bytes += size;
         Ok(receipt_at(at, changes))
-    }
-
-    /// Puts an entry behind those that are staged. Its receipt is that behind the history and the staged entries. Full comes
-    /// before all else, where with this entry the limits would be passed. After either fault nothing is changed, and the entry
-    /// is gone.
-    pub fn stage<L: Ledger>(
-        &mut self,
-        alloc: Global,
-        item: Prepared,
-        steps: &mut Steps<L>,
-    ) -> Result<Receipt, CoreFault>
-        requires { length self.old.staged < 32 }
-        ensures receipt { IfOk result (λ r. r ≡ receipt (map arrival_of (all_entries self.old)) (arrival_of item)) }
-        ensures staged { OnOk result (self.new ≡ with_staged self.old item) }
-        ensures room { OnOk result (is_full self.old item ≡ false) }
-        ensures fault { IfErr result (IsDue (is_full self.old item)) }
-        ensures err { OnErr result (self.new ≡ self.old) }
-        ensures visits { steps.new ≤ steps.old + touched (state_of (all_entries self.old)) item }
-    {
-        if self.is_full(&item) {
-            return Err(CoreFault::Full);
-        }
-        match self.add(alloc, item, steps) {
-            Ok(receipt) => Ok(receipt),
-            Err(NoMemory) => Err(CoreFault::NoMemory),
-        }
     }
 
     /// The staged entries become history. It takes no memory.
@@ -182,9 +158,16 @@ impl Catalogue {
         ensures err { OnErr result (self.new ≡ self.old) }
         ensures visits { steps.new ≤ steps.old + touched (state_of self.old.history) item }
     {
-        let receipt = self.stage(alloc, item, steps)?;
-        self.keep();
-        Ok(receipt)
+        if self.is_full(&item) {
+            return Err(CoreFault::Full);
+        }
+        match self.stage(alloc, item, steps) {
+            Ok(receipt) => {
+                self.keep();
+                Ok(receipt)
+            }
+            Err(NoMemory) => Err(CoreFault::NoMemory),
+        }
     }
 
     /// How many entries there are, with the staged ones.
@@ -207,6 +190,12 @@ impl Catalogue {
         ensures { All IsAdmitted (all_entries self.now) }
     {
         let _entries = &self.entries;
+    }
+
+    pub fn limits(&self) -> &Limits
+        ensures { result.now ≡ self.now.limits }
+    {
+        &self.limits
     }
 
     /// All entries together are within the limits.

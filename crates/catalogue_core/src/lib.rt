@@ -6,6 +6,8 @@ pub use catalogue::{Catalogue, CoreFault};
 pub use catalogue_tables::Standing;
 pub use commit_stages::{Changes, FieldAt};
 pub use engine::Engine;
+pub use limits::passes_limits;
 
 mod catalogue;
 mod engine;
+mod limits;

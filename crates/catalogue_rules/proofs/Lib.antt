@@ -2,6 +2,8 @@ pub mod Elements
 pub mod FewRows
 pub mod Fit
 pub mod Fitting
+pub mod Kept
+pub mod Maps
 pub mod Once
 pub mod Proper
 pub mod Put

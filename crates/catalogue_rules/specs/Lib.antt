@@ -1,4 +1,5 @@
 pub mod Choice
+pub mod Committed
 pub mod Lines
 pub mod Output
 pub mod Receipt

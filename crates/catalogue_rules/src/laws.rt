@@ -1,13 +1,15 @@
 //! Laws of the catalogue's rules: each is the contract of a function that does nothing.
-ghost use Rattle.std.specs.Prelude.{◌≡◌, true, false, [], ◌∷◌, All, codes};
+ghost use Rattle.std.specs.Prelude.{◌≡◌, true, false, List, [], ◌∷◌, map, All, codes};
+ghost use Rattle.marc_types.specs.declared.key.Class.{Class};
 ghost use Rattle.marc_types.specs.declared.key.Class.TheVariants.{Bibliographic};
 ghost use Rattle.marc_types.specs.declared.form.Kind.TheVariants.{Personal, Topical};
 ghost use Rattle.entry_record.specs.Authority.{base_form, full_form};
-ghost use Rattle.catalogue_rules.specs.State.{State, fields_of, new_field};
+ghost use Rattle.catalogue_rules.specs.State.{State, fields_of, new_field, rows_of};
 ghost use Rattle.catalogue_rules.specs.Choice.{choice, Link, Ambiguous};
 ghost use Rattle.catalogue_rules.specs.Worked.{dlc_key, item, twain, doe, women_history, women, numbered, clemens, shouted_doe, french_women, name_form, topic_form};
 ghost use Rattle.iso2709_record.specs.Written.{fits};
-ghost use Rattle.catalogue_rules.specs.Settle.{settle, state_of};
+ghost use Rattle.catalogue_rules.specs.Settle.{Arrival, settle, state_after, state_of};
+ghost use Rattle.catalogue_rules.specs.Committed.{committed_after, plain_of_committed, plain_of_kept};
 ghost use Rattle.entry_record.specs.History.{IsAdmitted};
 ghost use Rattle.catalogue_rules.specs.Valid.{IsReadyToSettle, IsValid, EachRow};
 
@@ -35,6 +37,14 @@ pub fn every_kept_record_fits()
 #[tactic(auto, using(crate::proofs::Still::valid_settled))]
 pub fn settling_leaves_a_valid_state()
     ensures { (s : State) → IsValid s → settle s ≡ s }
+{}
+
+/// Whatever was committed, in whatever order: of the kept records all fields that are no headings stand as they came in. So
+/// what is due of such fields alone can be told of what was committed, with no link made.
+#[tactic(auto, using(crate::proofs::Kept::kept_as_committed))]
+pub fn other_fields_stay_as_committed()
+    ensures { (class : Class) (history : List Arrival) →
+        map (plain_of_kept class) (rows_of class (state_after history)) ≡ map (plain_of_committed class) (committed_after class history) }
 {}
 
 /// A worked case: `700 1_ $aTwayne, M.$0(DLC)n 79021164` is linked to the authority of that number, whatever its name.

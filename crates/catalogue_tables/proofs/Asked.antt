@@ -101,7 +101,3 @@ pub heading_chosen : (keys : List Key) (all : List Linkable) (class : Class) (h 
     → c ≡ chosen_for keys (choice all class kind h) → Some c ≡ option_map (chosen_for keys) (heading_choice all class h)
 heading_chosen keys all class h kind c is chosen =
     ap (λ (d : Chosen). Some d) chosen ∙ ap (λ (o : Option Kind). option_map (chosen_for keys) (option_map (λ k. choice all class k h) o)) (sym is)
-
-pub no_heading_chosen : (keys : List Key) (all : List Linkable) (class : Class) (h : KeptField) → heading_kind class h.field ≡ None
-    → None ≡ option_map (chosen_for keys) (heading_choice all class h)
-no_heading_chosen keys all class h is = ap (λ (o : Option Kind). option_map (chosen_for keys) (option_map (λ k. choice all class k h) o)) (sym is)

@@ -10,7 +10,7 @@ use Rattle.marc_types.specs.declared.key.Class.{Class}
 use Rattle.marc_types.specs.declared.key.Class.TheVariants.{Authority, Bibliographic}
 use Rattle.marc_types.specs.declared.key.Key.{Key}
 use Rattle.marc_types.specs.Fields.{subfields_of}
-use Rattle.form_index.specs.Index.{Indexed, row_under}
+use Rattle.form_index.specs.Index.{Indexed}
 use Rattle.heading_fields.specs.Parts.{is_subdivided}
 use Rattle.entry_record.specs.Authority.{Linkable, heading_of, is_bare, linkable_by, linkable_kind, linkable_of, linkable_with}
 use Rattle.entry_record.specs.Identity.{is_deletion}
@@ -18,7 +18,7 @@ use Rattle.entry_record.specs.Prepared.{authority_in, authority_of, established_
 use Rattle.catalogue_rules.specs.Settle.{arrival_of}
 use Rattle.catalogue_tables.specs.Following.{FollowsAuthority, authority_brought}
 use Rattle.catalogue_tables.specs.Rows.{PutsAuthority}
-use Rattle.catalogue_tables.proofs.Followed.{follows_nobody, follows_put}
+use Rattle.catalogue_tables.proofs.Followed.{follows_put}
 
 -- ---- whose heading is bare
 
@@ -44,22 +44,6 @@ in_authority Bibliographic key fields e = cc
 kept_brought : (e : Entry) → e.class ≡ Authority → is_deletion e.rec.leader ≡ false → authority_brought (arrival_of e) ≡ authority_of e
 kept_brought e class kept =
     ap (λ b. if b then None else linkable_of e.key e.rec.fields) kept ∙ sym (in_authority e.class e.key e.rec.fields class)
-
-nobody_established : (o : Option Linkable) → None ≡ established_in o → o ≡ None
-nobody_established None e = refl
-nobody_established (Some c) e = cc
-
--- a deletion brings nobody
-pub follows_deletion : (names : List Form) (number : ℕ) (e : Entry) (x : Indexed) → row_under number x ≡ None → is_deletion e.rec.leader ≡ true
-    → FollowsAuthority names number (authority_brought (arrival_of e)) x x
-follows_deletion names number e x free deletion =
-    subst (λ o. FollowsAuthority names number o x x) (sym (ap (λ b. if b then None else linkable_of e.key e.rec.fields) deletion)) (follows_nobody names number x free)
-
--- nor does an entry without an established form
-pub follows_unlinkable : (names : List Form) (number : ℕ) (e : Entry) (x : Indexed) → row_under number x ≡ None → e.class ≡ Authority → is_deletion e.rec.leader ≡ false
-    → None ≡ established_of e → FollowsAuthority names number (authority_brought (arrival_of e)) x x
-follows_unlinkable names number e x free class kept none =
-    subst (λ o. FollowsAuthority names number o x x) (sym (kept_brought e class kept ∙ nobody_established (authority_of e) none)) (follows_nobody names number x free)
 
 put_of : (names : List Form) (number : ℕ) (o : Option Linkable) (form : Form) (bare : Bool) (old new : Indexed) → Some form ≡ established_in o
     → ((c : Linkable) → o ≡ Some c → bare ≡ is_bare c) → PutsAuthority names number form (see_from_in o) bare old new → FollowsAuthority names number o old new

@@ -1,5 +1,5 @@
 -- What the link table tells of places.
-use Rattle.std.proofs.Common.{◌≡◌, ◌∙◌, sym, ap, refl, subst, ℕ, ◌<◌, arith, length, Bool, true, false, cond, Option, Some, None, IfSome}
+use Rattle.std.proofs.Common.{◌≡◌, ◌∙◌, sym, ap, refl, subst, ℕ, ◌<◌, length, Bool, true, false, cond, Option, Some, None, IfSome}
 use Rattle.std.specs.Prelude.{nat_eq, if◌then◌else◌}
 use Rattle.std.specs.Cmp.{unsigned_Decides}
 use Rattle.std.proofs.lemmas.Cmp.{eq_by_cmp_equiv}
@@ -28,9 +28,6 @@ Sets one to old new = (seat : Seat) → new.key_of seat ≡ (if same_seat one se
 renumbered : (one : Seat) (to : Option ℕ) (old new : Links) → Sets one to old new
     → IsRenumbered one (λ n. leads_to n to) (λ n seat. is_linked n old seat) (λ n seat. is_linked n new seat)
 renumbered one to old new sets n seat = ap (leads_to n) (sets seat) ∙ leads_by n (same_seat one seat) to (old.key_of seat)
-
-nat_symm : (m n : ℕ) → nat_eq m n ≡ nat_eq n m
-nat_symm m n = grind arith
 
 leads_to_key : (keys : KeyLists) (key name : Key) (number : ℕ) → IsNumberOf same_key keys.authorities key number
     → nat_eq number (number_of same_key keys.authorities name) ≡ same_key name key

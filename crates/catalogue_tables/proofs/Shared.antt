@@ -1,5 +1,5 @@
 -- Authorities that share a form, and those under whose heading one is found, by the index in numbers.
-use Rattle.std.proofs.Common.{◌≡◌, ◌∙◌, sym, ap, refl, subst, ℕ, ◌+◌, ◌<◌, Bool, true, false, cond, List, [], ◌∷◌, ◌++◌, length, map, take, get_or, Option, Some, None}
+use Rattle.std.proofs.Common.{◌≡◌, ◌∙◌, sym, ap, refl, subst, ℕ, ◌+◌, ◌<◌, Bool, true, false, cond, List, [], ◌∷◌, length, map, take, get_or, Option, Some, None}
 use Rattle.std.specs.Prelude.{◌==◌, ◌&&◌, ◌||◌, not, filter, find, option_and_then, slice_get}
 use Rattle.std.specs.Borrow.{Bor}
 use Rattle.std.specs.BTreeSet.{insert_key}
@@ -98,23 +98,6 @@ lent_sorted (x ∷ xs) sorted = (above_lent x xs sorted.0, lent_sorted xs sorted
 
 abbrev pub all_but : Key → List (Bor Key) → List Key
 all_but own xs = filter (λ k. not (same_key own k)) (shown_keys xs)
-
-pub but_other : (own : Key) (xs more : List (Bor Key)) (key : Bor Key) (list longer : List Key) → xs ≡ key ∷ more → same_key own key.now ≡ false
-    → longer ≡ list ++ key.now ∷ [] → longer ++ all_but own more ≡ list ++ all_but own xs
-but_other own xs more key list longer next differs pushed =
-    ap (λ (l : List Key). l ++ all_but own more) pushed
-    ∙ joined list
-    ∙ ap (λ b. list ++ cond (not b) (key.now ∷ all_but own more) (all_but own more)) (sym differs)
-    ∙ ap (λ (l : List (Bor Key)). list ++ all_but own l) (sym next)
-  where
-    joined : (l : List Key) → (l ++ key.now ∷ []) ++ all_but own more ≡ l ++ key.now ∷ all_but own more
-    joined [] = refl
-    joined (k ∷ ks) = ap (λ r. k ∷ r) (joined ks)
-
-pub but_own : (own : Key) (xs more : List (Bor Key)) (key : Bor Key) (list : List Key) → xs ≡ key ∷ more → same_key own key.now ≡ true
-    → list ++ all_but own more ≡ list ++ all_but own xs
-but_own own xs more key list next same =
-    ap (λ b. list ++ cond (not b) (key.now ∷ all_but own more) (all_but own more)) (sym same) ∙ ap (λ (l : List (Bor Key)). list ++ all_but own l) (sym next)
 
 -- ---- the numbers of a form
 

@@ -22,9 +22,9 @@ use Rattle.entry_record.specs.Headings.{divided_form}
 use Rattle.entry_record.specs.Prepared.{heading_base_form}
 use Rattle.entry_record.proofs.Undivided.{full_either}
 use Rattle.catalogue_rules.specs.Choice as rules
-use Rattle.catalogue_rules.specs.Choice.{Choice, asks_base, by_base_form, by_form, by_full_form, by_number, choice, choice_among, is_established, is_see_from_form}
+use Rattle.catalogue_rules.specs.Choice.{Choice, asks_base, by_base_form, by_form, by_full_form, choice, choice_among, is_established, is_see_from_form}
 use Rattle.catalogue_rules.specs.Receipt as definition
-use Rattle.catalogue_rules.specs.Receipt.{Standing, AmbiguousAmong, WithoutHeading, WithoutLink, standing_by, standing_of}
+use Rattle.catalogue_rules.specs.Receipt.{WithoutHeading, WithoutLink, standing_by, standing_of}
 use Rattle.catalogue_rules.specs.State.{KeptField, State, kept_field, linkable_authorities}
 use Rattle.linking_laws.specs.Tables.{has_established, has_traced}
 use Rattle.catalogue_tables.specs.Choosing.{TellsState, authorities_among, chosen_for, form_choice, link_by_taker, taker_by_number}
@@ -104,18 +104,11 @@ full_meant keys all class kind f tie form base divided numbers takes is made ful
     subst (λ b. AreMeant keys (if b then by_form all true (full_form kind class f) else None) numbers) (sym takes)
     (subst (λ g. AreMeant keys (by_form all true g) numbers) whole meant)
 
-pub full_unasked : (all : List Linkable) (class : Class) (kind : Kind) (f : Field) (tie : Tie) → is_subdividable class (tag_of f) ≡ false
-    → by_full_form all class kind (kept_field f tie) ≡ None
-full_unasked all class kind f tie takes = ap (λ b. if b then by_form all true (full_form kind class f) else None) takes
-
 pub base_meant : (keys : List Key) (all : List Linkable) (class : Class) (kind : Kind) (h : KeptField) (base : Form) (numbers : List ℕ) → asks_base class h ≡ true
     → base ≡ base_form kind h.field → AreMeant keys (by_form (filter is_bare all) false base) numbers → AreMeant keys (by_base_form all class kind h) numbers
 base_meant keys all class kind h base numbers asks is meant =
     subst (λ b. AreMeant keys (if b then by_form (filter is_bare all) false (base_form kind h.field) else None) numbers) (sym asks)
     (subst (λ g. AreMeant keys (by_form (filter is_bare all) false g) numbers) is meant)
-
-pub base_unasked : (all : List Linkable) (class : Class) (kind : Kind) (h : KeptField) → asks_base class h ≡ false → by_base_form all class kind h ≡ None
-base_unasked all class kind h asks = ap (λ b. if b then by_form (filter is_bare all) false (base_form kind h.field) else None) asks
 
 -- by the full form nobody is meant
 pub base_then : (keys : List Key) (full base : Option Choice) (none numbers : List ℕ) → none ≡ [] → AreMeant keys full none → AreMeant keys base numbers

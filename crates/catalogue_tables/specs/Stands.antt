@@ -1,8 +1,8 @@
 -- How a field stands, as this crate tells it: without the key of a link, which the field's tie has.
-use Rattle.std.specs.Prelude.{List, map}
+use Rattle.std.specs.Prelude.{List}
 use Rattle.marc_types.specs.declared.key.Class.{Class}
 use Rattle.entry_record.specs.Authority.{Linkable}
-use Rattle.catalogue_rules.specs.State.{KeptField, KeptRecord}
+use Rattle.catalogue_rules.specs.State.{KeptField}
 use Rattle.catalogue_rules.specs.Receipt as definition
 use Rattle.catalogue_tables.specs.declared.standing.Standing.{Standing}
 use Rattle.catalogue_tables.specs.declared.standing.Standing.TheVariants.{Linked, Ambiguous, Unlinked, NoHeading}
@@ -15,7 +15,3 @@ stands_as definition.WithoutHeading = NoHeading
 
 abbrev pub field_standing : List Linkable → Class → KeptField → Standing
 field_standing authorities class h = stands_as (definition.standing_of authorities class h)
-
--- how each field of a record stands, in order
-abbrev pub standings_of : List Linkable → Class → KeptRecord → List Standing
-standings_of authorities class r = map (field_standing authorities class) r.fields

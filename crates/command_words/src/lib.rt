@@ -3,7 +3,7 @@
 
 pub use asked::Request;
 pub use library::Library;
-pub use topic::Topic;
+pub use topic::{Topic, named_topic};
 pub use words::{Words, libraries, request};
 
 mod asked;

@@ -4,6 +4,7 @@ pub mod Steps
 pub mod Logs
 pub mod Fillings
 pub mod Heads
-pub mod Faults
 pub mod Recoveries
+pub mod Faults
 pub mod Appends
+pub mod Chains

@@ -1,5 +1,5 @@
 -- How runs of calls on a disk make steps of its images.
-use Rattle.std.proofs.Common.{◌≡◌, inl, inr, ⊎_elim, ℕ, ◌<◌, ◌≤◌, List, Bool, true, false, Option, Some, None, is_some, refl, sym, ap, subst, ◌∙◌, arith}
+use Rattle.std.proofs.Common.{◌≡◌, inl, inr, ⊎_elim, ℕ, ◌<◌, ◌≤◌, List, Bool, true, false, Option, Some, None, is_some, refl, sym, ap, subst, ◌∙◌, arith, true≢false}
 use Rattle.std.specs.Option.{option_or, option_map}
 use Rattle.outside.specs.Disk.{DiskView, Follows, NoNewImage, Elapses, SameSyncs, SyncsNow, Unchanged, OnlyContent, Torn, TornCut, LeavesOnly}
 use Rattle.commit_journal.specs.Journal.{Continues, Steps, Keeps, StaysShort, LeavesLog, Opens, IsRecovered}
@@ -82,13 +82,7 @@ keeps_only step P old new log only told steps has = record {
     from : (c : List ℕ) → (d : List ℕ) × old.image d × step d c → P c
     from c w = has c (subst (λ d. step d c) (only log w.0 told w.1) w.2)
 
--- one after what changed nothing
-pub keeps_after : (P : List ℕ → Type 0) (a b c : DiskView) → Unchanged a b → Keeps P b c → Keeps P a c
-keeps_after P a b c same kept = record {
-  since = λ t i le left. ⊎_elim (λ was. inl ((same.lefts t i).0 was)) (λ has. inr has) (kept.since t i (omega (arith, le, same.moment)) left);
-  now = kept.now;
-}
-
+-- what only reads
 pub keeps_unchanged : (P : List ℕ → Type 0) (old new : DiskView) (log : List ℕ) → OnlyContent old → old.content ≡ Some log → Unchanged old new → P log → Keeps P old new
 keeps_unchanged P old new log only told same has = record {
   since = λ t c le left. inl ((same.lefts t c).0 left);
@@ -109,6 +103,13 @@ leaves_kept P old new log only_now only told has kept = record {
   now = kept.now;
   each = λ c left. ⊎_elim (λ was. subst P (sym (only log c told (only_now c was))) has) (λ p. p) (kept.since old.moment c (omega arith) left);
   since = kept.since;
+}
+
+pub leaves_weaker : (P Q : List ℕ → Type 0) (old new : DiskView) → ((c : List ℕ) → P c → Q c) → LeavesOnly old new P → LeavesOnly old new Q
+leaves_weaker P Q old new weaker leaves = record {
+  now = λ c image. weaker c (leaves.now c image);
+  each = λ c left. weaker c (leaves.each c left);
+  since = λ t c le left. ⊎_elim (λ was. inl was) (λ has. inr (weaker c has)) (leaves.since t c le left);
 }
 
 -- what is told of a changed content
@@ -172,6 +173,40 @@ synced_once old mid new now further later dated = decided (old.synced old.moment
     decided : (o : Option ℕ) → mid.synced old.moment ≡ option_or o (Some mid.moment) → is_some (new.synced old.moment) ≡ true
     decided None is = ap is_some (further.syncs old.moment mid.moment later is)
     decided (Some s) is = ap is_some (further.syncs old.moment s later is)
+
+pub synced_still : (mid new : DiskView) (t : ℕ) → Continues mid new → t ≤ mid.moment → is_some (mid.synced t) ≡ true → is_some (new.synced t) ≡ true
+synced_still mid new t further le some = decided (mid.synced t) refl
+  where
+    decided : (o : Option ℕ) → mid.synced t ≡ o → is_some (new.synced t) ≡ true
+    decided None is = absurd (true≢false (sym some ∙ ap is_some is))
+    decided (Some s) is = ap is_some (further.syncs t s le is)
+
+-- an opening that only read
+pub opens_read : (old mid new : DiskView) → old.synced old.moment ≡ None → ((c : List ℕ) → mid.left mid.moment c → mid.image c) → ((t : ℕ) → new.dated ≡ false → new.synced t ≡ None)
+    → Continues old mid → SyncsNow old mid → mid.content ≡ old.content → OnlyContent mid → Unchanged mid new → Opens old new
+opens_read old mid new none only_now undated on now content only same =
+    opens_synced old mid new none only_now undated on now content only (unchanged_continues mid new same) (λ log told. keeps_unchanged (LeavesLog log) mid new log only told same (leaves_self log))
+
+-- one that goes on behind its first sync
+pub opens_further : (old mid new : DiskView) → Opens old mid → (old.dated ≡ true → is_some (mid.synced old.moment) ≡ true) → ((t s : ℕ) → mid.synced t ≡ Some s → s ≤ mid.moment)
+    → ((t : ℕ) → new.dated ≡ false → new.synced t ≡ None) → mid.content ≡ old.content → Continues mid new → ((log : List ℕ) → mid.content ≡ Some log → Keeps (LeavesLog log) mid new) → Opens old new
+opens_further old mid new opens synced by_now undated content further kept = record {
+  continues = continues_then old mid new opens.continues further;
+  crash = λ s log c first told left. crashed (mid.synced old.moment) refl s log c first told left;
+  unsynced = λ dated none. absurd (true≢false (sym (synced_still mid new old.moment further opens.continues.later (synced dated)) ∙ ap is_some none));
+}
+  where
+    dated_or_not : (b : Bool) → old.dated ≡ b → (s : ℕ) → mid.synced old.moment ≡ None → new.synced old.moment ≡ Some s → ⊥
+    dated_or_not true is s none first = true≢false (sym (synced is) ∙ ap is_some none)
+    dated_or_not false is s none first = not_both (new.synced old.moment) s (undated old.moment (further.dated ∙ opens.continues.dated ∙ is)) first
+
+    crashed : (o : Option ℕ) → mid.synced old.moment ≡ o → (s : ℕ) (log c : List ℕ) → new.synced old.moment ≡ Some s → old.content ≡ Some log → new.left s c → LeavesLog log c
+    crashed None is s log c first told left = absurd (dated_or_not old.dated refl s is first)
+    crashed (Some r) is s log c first told left =
+        let again : new.synced old.moment ≡ Some r = further.syncs old.moment r opens.continues.later is in
+        let same : r ≡ s = (let e : Some r ≡ Some s = sym again ∙ first in cc) in
+        let le : s ≤ mid.moment = (let now = by_now old.moment r is in omega (arith, now, same)) in
+        ⊎_elim (opens.crash s log c (is ∙ ap Some same) told) (λ has. has) ((kept log (content ∙ told)).since s c le left)
 
 -- what is recovered of the content is recovered of an earlier one, where it is the same
 pub recovered_since : (frames : List Frame) (place version : ℕ) (old mid new : DiskView) → mid.content ≡ old.content → IsRecovered frames place version mid new → IsRecovered frames place version old new

@@ -7,7 +7,7 @@ use Rattle.commit_journal.specs.declared.fault.JournalFault.TheVariants.{DeviceF
 use Rattle.commit_journal.specs.declared.frame.Frame.{Frame}
 use Rattle.commit_journal.specs.declared.reading.Head.{Head}
 use Rattle.commit_journal.specs.declared.reading.Head.TheVariants.{Closed, Lost, Frame as HeadFrame}
-use Rattle.commit_journal.specs.declared.format.TheConstants.{LENGTH_BYTES, CLOSED_GATE, LARGEST_PAYLOAD}
+use Rattle.commit_journal.specs.declared.format.TheConstants.{LENGTH_BYTES, CLOSED_GATE, LARGEST_PAYLOAD, BLANK_LENGTH, FIRST_GATE}
 use Rattle.commit_journal.specs.Log.{header_fault, version_of_header, payload_length, walk, walk_of, closed_at, lost_at, behind}
 
 -- the disk was only read, and a device fault has its cause in it
@@ -51,3 +51,15 @@ pub record IsLog (frames : List Frame) (place version : ℕ) (log : List ℕ) : 
   pub header : header_fault log ≡ None
   pub says : version_of_header log ≡ version
   pub walked : walk_of log ≡ behind frames (closed_at place)
+
+-- a disk's log is blank, or of a right header of that version and leads to a closed gate at that place
+pub record IsReadAt (place version : ℕ) (disk : DiskView) : Type 0 where
+  pub blank : disk.len ≤ BLANK_LENGTH → (place ≡ FIRST_GATE) × (version ≡ 2)
+  pub long : BLANK_LENGTH < disk.len → (log : List ℕ) → disk.content ≡ Some log → IsLog (walk_of log).frames place version log
+  pub within : BLANK_LENGTH < disk.len → place < disk.len
+
+-- the same, and these are its frames
+pub record IsReadFrom (frames : List Frame) (place version : ℕ) (disk : DiskView) : Type 0 where
+  pub blank : disk.len ≤ BLANK_LENGTH → (frames ≡ []) × (place ≡ FIRST_GATE) × (version ≡ 2)
+  pub long : BLANK_LENGTH < disk.len → (log : List ℕ) → disk.content ≡ Some log → IsLog frames place version log
+  pub within : BLANK_LENGTH < disk.len → place < disk.len

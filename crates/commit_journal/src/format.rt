@@ -34,6 +34,9 @@ pub const LARGEST_PAYLOAD: usize = 3_201_025;
 /// How many bytes the length of a payload takes.
 pub const LENGTH_BYTES: usize = 4;
 
+/// How many bytes a gate and a payload's length take.
+pub const HEAD_BYTES: usize = 5;
+
 /// How many bytes the largest payload takes, with its length and the gate behind it.
 pub const FRAME_ROOM: usize = 3_201_030;
 

@@ -1,30 +1,30 @@
-ghost use Rattle.std.specs.Prelude.{◌≡◌, ℕ, ◌+◌, ◌≤◌, List, [], ◌∷◌, length, take, max, vec_len, true, false, Some, is_some, None, IfOk, IfErr, OnOk, OnErr, MatchResult};
+ghost use Rattle.std.specs.Prelude.{◌≡◌, ℕ, ◌+◌, ◌≤◌, All, List, [], ◌∷◌, ◌++◌, length, take, max, vec_len, true, false, Some, is_some, IfOk, IfErr, OnOk, OnErr, MatchResult};
+ghost use Rattle.std.specs.List.{flat_map};
 ghost use Rattle.std.specs.Option.{option_map};
 ghost use Rattle.outside.specs.Disk.{OnlyContent, LeavesOnly, patch, Torn};
 ghost use Rattle.outside.specs.Fault.{HasCause};
 ghost use Rattle.commit_journal.specs.declared.format.TheConstants.{FRAME_ROOM};
 ghost use Rattle.commit_journal.specs.Log.{frames_of};
-ghost use Rattle.commit_journal.specs.Journal.{frame_text, and_frame, IsDurableLog, HasFrameOrNot, Steps, Continues, IsRecovered, LeavesContent, Opens, HasOpenCause};
+ghost use Rattle.commit_journal.specs.Journal.{gated, frame_text, chain_text, frames_from, frames_len, IsPayload, and_frame, and_frames, IsDurableLog, HasFrameOrNot, HasAllOrNone, Steps, Continues, IsRecovered, LeavesContent, Opens, HasOpenCause};
 
 use crate::format::{CLOSED_GATE, FRAME_ROOM, LARGEST_PAYLOAD, LENGTH_BYTES, OPEN_GATE};
+use crate::found::FoundLog;
 use crate::frame::Frames;
-use crate::reading::{Log, zeros};
-use crate::recovery::recover;
 use crate::{DeviceFault, JournalFault, calls};
-use outside::{Disk, Failed};
+use outside::{Bytes, Disk, Failed};
 use std::alloc::Global;
 
-/// Writes into the buffer's front a payload's length, the payload and a closed gate, and answers how many bytes they are.
-fn lay_frame(buffer: &mut [u8], payload: &[u8]) -> usize
+/// Writes into the buffer's front a payload's length, the payload and the gate behind it, and answers how many bytes they are.
+fn lay_frame(buffer: &mut [u8], payload: &[u8], gate: u8) -> usize
     requires room { length buffer.old ≡ FRAME_ROOM }
     requires most { length payload.now ≤ LARGEST_PAYLOAD }
     ensures count { result ≡ LENGTH_BYTES + length payload.now + 1 }
-    ensures text { take result buffer.new ≡ frame_text payload.now }
+    ensures text { take result buffer.new ≡ gated gate payload.now }
 {
     let end = LENGTH_BYTES + payload.len();
     buffer[..LENGTH_BYTES].copy_from_slice(&(payload.len() as u32).to_be_bytes());
     buffer[LENGTH_BYTES..end].copy_from_slice(payload);
-    buffer[end] = CLOSED_GATE;
+    buffer[end] = gate;
     end + 1
 }
 
@@ -46,36 +46,73 @@ fn write_frame<D: Disk>(
     ensures crash { Steps (Torn at (LENGTH_BYTES + length payload.now + 1)) (D.seen disk.old) (D.seen disk.new) }
     ensures cause { HasCause (D.seen disk.old).faults (D.seen disk.new).faults result }
 {
-    let count = lay_frame(buffer, payload);
+    let count = lay_frame(buffer, payload, CLOSED_GATE);
     calls::write_synced(disk, at, &buffer[..count])
 }
 
-/// Takes the room for one frame, syncs, and brings the log into order.
-fn prepare<D: Disk>(alloc: Global, disk: &mut D) -> Result<(Vec<u8>, Log), JournalFault>
-    ensures room { IfOk result (λ r. vec_len r.0 ≡ FRAME_ROOM) }
-    ensures recovered { IfOk result (λ r. IsRecovered r.1.frames.items r.1.place r.1.version (D.seen disk.old) (D.seen disk.new)) }
-    ensures crash { Opens (D.seen disk.old) (D.seen disk.new) }
-    ensures content { LeavesContent (D.seen disk.old) (D.seen disk.new) }
-    ensures synced { OnOk result ((D.seen disk.old).dated ≡ true → is_some ((D.seen disk.new).synced (D.seen disk.old).moment) ≡ true) }
-    ensures later { (D.seen disk.old).faults ≤ (D.seen disk.new).faults }
-    ensures fault { IfErr result (HasOpenCause (D.seen disk.old) (D.seen disk.new)) }
+/// Writes payloads' frames one behind the other, each with an open gate behind it, and answers where the next one is to stand.
+fn write_open<D: Disk>(
+    disk: &mut D,
+    buffer: &mut [u8],
+    at: u64,
+    payloads: &[Bytes],
+) -> Result<u64, Failed>
+    requires within { at ≤ (D.seen disk.old).len }
+    requires room { length buffer.old ≡ FRAME_ROOM }
+    requires fit { All IsPayload payloads.now }
+    ensures next { IfOk result (λ next. next ≡ at + frames_len payloads.now) }
+    ensures room { length buffer.new ≡ FRAME_ROOM }
+    ensures content { OnOk result ((D.seen disk.new).content
+        ≡ option_map (patch at (flat_map (gated OPEN_GATE) payloads.now)) (D.seen disk.old).content) }
+    ensures len { OnOk result ((D.seen disk.new).len ≡ max (D.seen disk.old).len (at + frames_len payloads.now)) }
+    ensures crash { Steps (Torn at (frames_len payloads.now)) (D.seen disk.old) (D.seen disk.new) }
+    ensures cause { HasCause (D.seen disk.old).faults (D.seen disk.new).faults result }
 {
-    let buffer = zeros(alloc, FRAME_ROOM)?;
-    disk.sync()?;
-    let log = recover(alloc, disk)?;
-    Ok((buffer, log))
+    let mut next = at;
+    for payload in payloads {
+        let count = lay_frame(buffer, payload.as_slice(), OPEN_GATE);
+        disk.write_at(next, &buffer[..count])?;
+        next += count as u64;
+    }
+    Ok(next)
+}
+
+/// Writes payloads' frames one behind the other with open gates between them, and a last one with a closed gate behind it, and syncs.
+/// Answers the place of that gate.
+fn write_chain<D: Disk>(
+    disk: &mut D,
+    buffer: &mut [u8],
+    at: u64,
+    front: &[Bytes],
+    last: &[u8],
+) -> Result<u64, Failed>
+    requires within { at ≤ (D.seen disk.old).len }
+    requires room { length buffer.old ≡ FRAME_ROOM }
+    requires fit { All IsPayload front.now }
+    requires last { IsPayload last.now }
+    ensures gate { IfOk result (λ gate. gate + 1 ≡ at + length (chain_text front.now last.now)) }
+    ensures content { OnOk result ((D.seen disk.new).content
+        ≡ option_map (patch at (chain_text front.now last.now)) (D.seen disk.old).content) }
+    ensures len { OnOk result ((D.seen disk.new).len ≡ max (D.seen disk.old).len (at + length (chain_text front.now last.now))) }
+    ensures durable { OnOk result (OnlyContent (D.seen disk.new)) }
+    ensures crash { Steps (Torn at (length (chain_text front.now last.now))) (D.seen disk.old) (D.seen disk.new) }
+    ensures cause { HasCause (D.seen disk.old).faults (D.seen disk.new).faults result }
+{
+    let next = write_open(disk, buffer, at, front)?;
+    write_frame(disk, buffer, next, last)?;
+    Ok(next + (LENGTH_BYTES + last.len()) as u64)
 }
 
 /// A log on a disk that is open to be appended to. It has what it needs for that, and takes no more memory.
 #[derive(Drop)]
 pub struct Journal<D: Disk> {
-    disk: D,
+    pub(crate) disk: D,
     // Room for one frame and the gate behind it.
-    buffer: Vec<u8>,
+    pub(crate) buffer: Vec<u8>,
     // The place of the closed gate, which is the log's last byte.
-    place: u64,
-    version: u8,
-    broken: bool,
+    pub(crate) place: u64,
+    pub(crate) version: u8,
+    pub(crate) broken: bool,
     ghost room: { vec_len buffer ≡ FRAME_ROOM },
     ghost settled: { broken ≡ false → IsDurableLog place version (D.seen disk) },
 }
@@ -101,19 +138,13 @@ impl<D: Disk> Journal<D> {
         // and what a crash may leave then is the content alone, or want of memory came before any call on the disk.
         ensures fault { IfErr result (λ e. HasOpenCause (D.seen disk) (D.seen e.0) e.1) }
     {
-        let mut disk = disk;
-        match prepare(alloc, &mut disk) {
-            Ok((buffer, log)) => {
-                let journal = Journal {
-                    disk,
-                    buffer,
-                    place: log.place,
-                    version: log.version,
-                    broken: false,
-                };
-                Ok((journal, Frames::from_vec(log.frames)))
+        let (found, frames) = FoundLog::find(alloc, disk)?;
+        match found.settle() {
+            Ok(journal) => Ok((journal, frames)),
+            Err(failed) => {
+                let (disk, _fault) = failed;
+                Err((disk, JournalFault::DeviceFault))
             }
-            Err(fault) => Err((disk, fault)),
         }
     }
 
@@ -165,15 +196,68 @@ impl<D: Disk> Journal<D> {
         ensures broken { OnErr result (self.new.broken ≡ true) }
         ensures version { self.new.version ≡ self.old.version }
     {
+        self.append_chain(&[], payload)
+    }
+
+    /// Appends payloads of 1 to 3,201,025 bytes each, all or none. Their frames are written behind the closed gate, and synced; only then
+    /// is that gate opened in a write of its own, and synced. After `Ok` each crash leaves a log that has them all; after a fault a crash
+    /// leaves them all or none, and the journal is broken. Where there are none it makes no call on the disk.
+    pub fn append_all(&mut self, payloads: &[Bytes]) -> Result<(), DeviceFault>
+        requires whole { self.old.broken ≡ false }
+        requires newest { self.old.version ≡ 2 }
+        requires fit { All IsPayload payloads.now }
+
+        // After Ok the log has the frames at its end, and is all that a crash may leave.
+        ensures appended { OnOk result ((b c : List ℕ) → (D.seen self.old.disk).content ≡ Some b → (D.seen self.new.disk).content ≡ Some c
+            → frames_of c ≡ and_frames (frames_of b) (frames_from self.old.place payloads.now)) }
+        ensures settled { OnOk result (IsDurableLog self.new.place 2 (D.seen self.new.disk)) }
+        ensures place { OnOk result (self.new.place ≡ self.old.place + frames_len payloads.now) }
+
+        // Each image at each moment of the call has the frames before, or these and all of the new ones.
+        ensures crash { (log : List ℕ) → (D.seen self.old.disk).content ≡ Some log → LeavesOnly (D.seen self.old.disk) (D.seen self.new.disk)
+            (HasAllOrNone log self.old.place payloads.now) }
+        ensures continues { Continues (D.seen self.old.disk) (D.seen self.new.disk) }
+
+        // It fails only where the count of faults rose, and is then broken.
+        ensures cause { HasCause (D.seen self.old.disk).faults (D.seen self.new.disk).faults result }
+        ensures whole { OnOk result (self.new.broken ≡ false) }
+        ensures broken { OnErr result (self.new.broken ≡ true) }
+        ensures version { self.new.version ≡ self.old.version }
+    {
+        match payloads.split_last() {
+            Some((last, front)) => self.append_chain(front, last.as_slice()),
+            None => Ok(()),
+        }
+    }
+
+    /// Appends payloads and a last one, all or none.
+    fn append_chain(&mut self, front: &[Bytes], last: &[u8]) -> Result<(), DeviceFault>
+        requires whole { self.old.broken ≡ false }
+        requires newest { self.old.version ≡ 2 }
+        requires fit { All IsPayload front.now }
+        requires last { IsPayload last.now }
+        ensures appended { OnOk result ((b c : List ℕ) → (D.seen self.old.disk).content ≡ Some b → (D.seen self.new.disk).content ≡ Some c
+            → frames_of c ≡ and_frames (frames_of b) (frames_from self.old.place (front.now ++ last.now ∷ []))) }
+        ensures settled { OnOk result (IsDurableLog self.new.place 2 (D.seen self.new.disk)) }
+        ensures place { OnOk result (self.new.place ≡ self.old.place + frames_len (front.now ++ last.now ∷ [])) }
+        ensures crash { (log : List ℕ) → (D.seen self.old.disk).content ≡ Some log → LeavesOnly (D.seen self.old.disk) (D.seen self.new.disk)
+            (HasAllOrNone log self.old.place (front.now ++ last.now ∷ [])) }
+        ensures continues { Continues (D.seen self.old.disk) (D.seen self.new.disk) }
+        ensures cause { HasCause (D.seen self.old.disk).faults (D.seen self.new.disk).faults result }
+        ensures whole { OnOk result (self.new.broken ≡ false) }
+        ensures broken { OnErr result (self.new.broken ≡ true) }
+        ensures version { self.new.version ≡ self.old.version }
+    {
         self.broken = true;
-        write_frame(
+        let gate = write_chain(
             &mut self.disk,
             self.buffer.as_mut_slice(),
             self.place + 1,
-            payload,
+            front,
+            last,
         )?;
         calls::write_synced(&mut self.disk, self.place, &[OPEN_GATE])?;
-        self.place += (1 + LENGTH_BYTES + payload.len()) as u64;
+        self.place = gate;
         self.broken = false;
         Ok(())
     }

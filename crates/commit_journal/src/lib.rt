@@ -9,12 +9,16 @@
 mod calls;
 mod fault;
 mod format;
+mod found;
 mod frame;
 mod journal;
 mod reading;
-mod recovery;
+mod settling;
 
 pub use fault::{DeviceFault, JournalFault};
-pub use format::LARGEST_PAYLOAD;
+pub use format::{
+    BLANK_LENGTH, CLOSED_GATE, FIRST_GATE, HEAD_BYTES, LARGEST_PAYLOAD, LENGTH_BYTES,
+};
+pub use found::FoundLog;
 pub use frame::{Frame, Frames};
 pub use journal::Journal;

@@ -2,18 +2,15 @@ ghost use Rattle.std.specs.Prelude.{◌≡◌, ℕ, ◌+◌, ◌-◌, ◌<◌, �
 ghost use Rattle.outside.specs.Disk.{Unchanged};
 ghost use Rattle.outside.specs.Fault.{HasCause, Rose};
 ghost use Rattle.commit_journal.specs.Log.{header_fault, frames_of, version_of_header, walk, walk_of, closed_at, lost_at, behind};
-ghost use Rattle.commit_journal.specs.Reading.{HasRead, HeadSays, IsHead, HeadFits, IsStep, IsWalk, IsLog};
+ghost use Rattle.commit_journal.specs.Reading.{HasRead, HeadSays, IsHead, HeadFits, IsStep, IsWalk, IsLog, IsReadFrom};
 
 use crate::format::{
-    BLANK_LENGTH, CLOSED_GATE, FIRST_GATE, LARGEST_PAYLOAD, version_of, wrong_place,
+    BLANK_LENGTH, CLOSED_GATE, FIRST_GATE, HEAD_BYTES, LARGEST_PAYLOAD, version_of, wrong_place,
 };
 use crate::frame::Frame;
 use crate::{JournalFault, calls};
 use outside::{Bytes, Disk, Failed};
 use std::alloc::{AllocError, Global};
-
-/// How many bytes a gate and a payload's length take.
-const HEAD_BYTES: u64 = 5;
 
 /// What stands in a log up to its first closed gate.
 #[derive(Debug, Drop)]
@@ -50,7 +47,7 @@ fn head_of(head: &[u8; 5], left: u64) -> Head
         return Head::Closed;
     }
     let length = u32::from_be_bytes([head[1], head[2], head[3], head[4]]) as usize;
-    if length == 0 || length > LARGEST_PAYLOAD || left <= HEAD_BYTES + length as u64 {
+    if length == 0 || length > LARGEST_PAYLOAD || left <= (HEAD_BYTES + length) as u64 {
         return Head::Lost;
     }
     Head::Frame(length)
@@ -81,7 +78,7 @@ fn read_head<D: Disk>(disk: &mut D, place: u64) -> Result<Head, Failed>
     ensures cause { HasCause (D.seen disk.old).faults (D.seen disk.new).faults result }
 {
     let left = disk.len() - place;
-    let head = head_bytes(disk, place, left.min(HEAD_BYTES) as usize)?;
+    let head = head_bytes(disk, place, left.min(HEAD_BYTES as u64) as usize)?;
     Ok(head_of(&head, left))
 }
 
@@ -120,7 +117,7 @@ fn read_frame<D: Disk>(
     match read_head(disk, place)? {
         Head::Closed => Ok(None),
         Head::Frame(length) => {
-            let payload = read_payload(alloc, disk, place + HEAD_BYTES, length)?;
+            let payload = read_payload(alloc, disk, place + HEAD_BYTES as u64, length)?;
             Ok(Some(payload))
         }
         Head::Lost => Err(JournalFault::NotAJournal(place)),
@@ -140,7 +137,7 @@ fn read_frames<D: Disk>(alloc: Global, disk: &mut D) -> Result<(Vec<Frame>, u64)
     let mut frames = Vec::new(alloc);
     let mut place = FIRST_GATE;
     while let Some(payload) = read_frame(alloc, disk, place)? {
-        let next = place + HEAD_BYTES + payload.len() as u64;
+        let next = place + (HEAD_BYTES + payload.len()) as u64;
         frames.push(Frame {
             gate: place,
             payload,
@@ -168,7 +165,7 @@ fn read_header<D: Disk>(disk: &mut D) -> Result<u8, JournalFault>
 }
 
 /// What stands in a log that isn't blank, up to its first closed gate.
-pub fn read_log<D: Disk>(alloc: Global, disk: &mut D) -> Result<Log, JournalFault>
+fn read_journal<D: Disk>(alloc: Global, disk: &mut D) -> Result<Log, JournalFault>
     requires { BLANK_LENGTH < (D.seen disk.old).len }
     ensures log { IfOk result (λ log. (b : List ℕ) → (D.seen disk.old).content ≡ Some b → IsLog log.frames.items log.place log.version b) }
     ensures within { IfOk result (λ log. log.place < (D.seen disk.old).len) }
@@ -183,4 +180,21 @@ pub fn read_log<D: Disk>(alloc: Global, disk: &mut D) -> Result<Log, JournalFaul
         place,
         version,
     })
+}
+
+/// What stands in a log, up to its first closed gate. A blank one has no frames.
+pub fn read_log<D: Disk>(alloc: Global, disk: &mut D) -> Result<Log, JournalFault>
+    ensures log { IfOk result (λ log. IsReadFrom log.frames.items log.place log.version (D.seen disk.old)) }
+    ensures lost { (wrong : ℕ) → IsErrOf result (JournalFault.NotAJournal wrong) → (b : List ℕ) → (D.seen disk.old).content ≡ Some b
+        → frames_of b ≡ Err wrong }
+    ensures read { HasRead (D.seen disk.old) (D.seen disk.new) result }
+{
+    if disk.len() <= BLANK_LENGTH {
+        return Ok(Log {
+            frames: Vec::new(alloc),
+            place: FIRST_GATE,
+            version: 2,
+        });
+    }
+    read_journal(alloc, disk)
 }

@@ -1,5 +1,6 @@
 //! An entry committed: made stage by stage, or taken back.
 ghost use Rattle.std.specs.Prelude.{◌≡◌, ℕ, ◌+◌, ◌≤◌, IfOk, OnOk, OnErr};
+ghost use Rattle.entry_record.specs.History.{IsAdmitted};
 ghost use Rattle.catalogue_rules.specs.Receipt.{receipt_of};
 ghost use Rattle.catalogue_rules.specs.Settle.{arrival_of, step};
 ghost use Rattle.catalogue_rules.specs.Valid.{IsValid};
@@ -53,13 +54,13 @@ fn make<L: Ledger>(
     steps: &mut Steps<L>,
 ) -> Result<Changes, NoMemory>
     requires own { rec ≡ item.now.rec }
+    requires admitted { IsAdmitted item.now }
     requires valid { IsValid store.old.state }
     ensures state { OnOk result (store.new.state ≡ step store.old.state (arrival_of item.now)) }
     ensures changes { IfOk result (λ changes. (at : ℕ) → AreReceiptCounts (receipt_of at store.old.state (arrival_of item.now) (step store.old.state (arrival_of item.now))) changes) }
     ensures ahead { IsAhead store.old store.new }
     ensures visits { steps.new ≤ steps.old + touched store.old.state item.now }
 {
-    item.was_admitted();
     let number = store.number(alloc, item.class(), item.key())?;
     match item.class() {
         Class::Authority => commit_authority(store, alloc, number, rec, item, steps),

@@ -2,6 +2,7 @@
 ghost use Rattle.std.specs.Prelude.{◌≡◌, ◌+◌, ◌≤◌, true, IfOk, OnOk, find};
 ghost use Rattle.std.specs.Option.{option_copied};
 ghost use Rattle.entry_record.specs.Authority.{is_valid_key};
+ghost use Rattle.entry_record.specs.History.{IsAdmitted};
 ghost use Rattle.marc_types.specs.declared.key.Class.TheVariants.{Authority as AnAuthority};
 ghost use Rattle.catalogue_rules.specs.Choice.{has_key};
 ghost use Rattle.catalogue_rules.specs.Settle.{arrival_of};
@@ -41,6 +42,7 @@ pub(crate) fn drop_ended<L: Ledger>(
     noted: &mut Numbering<Seat>,
     steps: &mut Steps<L>,
 ) -> Result<(), NoMemory>
+    requires admitted { IsAdmitted item.now }
     requires number { IsNumber AnAuthority number store.old.keys }
     requires key { key_of AnAuthority number store.old.keys ≡ item.now.key }
     requires can { CanDrop (dropping_to ending) item.now.key store.old.state }
@@ -61,12 +63,12 @@ pub(crate) fn drop_ended<L: Ledger>(
 
 // The links to the entry's key, all or those by the base, with its successor.
 fn ended(item: &Preparation, only_base: bool) -> EndingLinks<'_>
+    requires admitted { IsAdmitted item.now }
     ensures key { result.key.now ≡ item.now.key }
     ensures only_base { result.only_base ≡ only_base }
     ensures successor { option_copied result.successor ≡ successor_in (arrival_of item.now) }
     ensures valid { is_valid_key item.now.key ≡ true }
 {
-    item.was_admitted();
     EndingLinks {
         key: item.key(),
         only_base,
@@ -83,6 +85,7 @@ pub(crate) fn carry_heading<L: Ledger>(
     noted: &mut Numbering<Seat>,
     steps: &mut Steps<L>,
 ) -> Result<(), NoMemory>
+    requires admitted { IsAdmitted item.now }
     requires class { item.now.class ≡ AnAuthority }
     requires number { IsNumber AnAuthority number store.old.keys }
     requires key { key_of AnAuthority number store.old.keys ≡ item.now.key }
@@ -94,7 +97,6 @@ pub(crate) fn carry_heading<L: Ledger>(
     ensures ahead { IsAhead store.old store.new }
     ensures visits { steps.new ≤ steps.old + sum_fields (carry_visits item.now.key (authority_brought (arrival_of item.now))) store.old.state }
 {
-    item.was_admitted();
     match brought_heading(item) {
         Some(_) => carry(store, alloc, number, item.key(), noted, steps),
         None => Ok(()),

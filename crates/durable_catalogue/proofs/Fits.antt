@@ -1,8 +1,8 @@
 -- The entries of a batch that fit, one after the other.
 use Rattle.std.proofs.Common.{◌≡◌, ℕ, ◌+◌, ◌<◌, ◌≤◌, Bool, true, false, ◌||◌, nat_lt, List, [], ◌∷◌, ◌++◌, length, take, drop, get_or, refl, sym, ap, subst, ◌∙◌, arith, append_assoc, length-append, length-take}
-use Rattle.std.proofs.lemmas.List.{append-nil, drop_more, take_more, take_all, drop_all}
+use Rattle.std.proofs.lemmas.List.{append-nil, drop_more, take_more, take_all, drop_all, take-append-drop}
 use Rattle.std.proofs.lemmas.List.Sums.{sum_by-append}
-use Rattle.std.proofs.lemmas.Bool.{or_parts, ltb-false}
+use Rattle.std.proofs.lemmas.Bool.{or_parts, ltb-false, le-ltb}
 use Rattle.marc_types.specs.declared.entry.Entry.{Entry}
 use Rattle.marc_types.specs.declared.entry.Limits.{Limits}
 use Rattle.std.specs.List.{All}
@@ -141,3 +141,19 @@ frame_within limits core more ran frame unstaged unmarked within is =
     let history = core.history in
     let whole = subst (λ es. IsWithin limits es) (ap (λ es. history ++ es) unmarked ∙ append-nil history) within in
     subst (λ es. IsWithin limits (history ++ es)) (sym (is ∙ ap (λ es. fitting limits es ran) (all_kept core unstaged))) (fitting_within limits history ran whole)
+
+-- none of the entries that are within the limits passes them
+pub passes_none : (limits : Limits) (before items : List Entry) (count : ℕ) (e : Entry) → IsWithin limits (before ++ items) → count < length items
+    → e ≡ get_or items count e → passes_limits limits (before ++ take count items) e ≡ false
+passes_none limits before items count e within more at =
+    let so_far : List Entry = before ++ take count items in
+    let rest : List Entry = drop (count + 1) items in
+    let now : before ++ take (count + 1) items ≡ so_far ++ e ∷ [] = ap (λ xs. before ++ xs) (take_is items count e more at) ∙ sym (append_assoc before (take count items) (e ∷ [])) in
+    let joined : (so_far ++ e ∷ []) ++ rest ≡ before ++ items =
+    ap (λ xs. xs ++ rest) (sym now) ∙ append_assoc before (take (count + 1) items) rest ∙ ap (λ xs. before ++ xs) (take-append-drop (count + 1) items) in
+    let sum : entries_size ((so_far ++ e ∷ []) ++ rest) ≡ entries_size (so_far ++ e ∷ []) + entries_size rest = sum_by-append entry_size (so_far ++ e ∷ []) rest in
+    let few : nat_lt limits.entries (length so_far + 1) ≡ false = le-ltb limits.entries (length so_far + 1)
+    (omega (arith, within.count, ap length joined, length-append (so_far ++ e ∷ []) rest, length-append so_far (e ∷ []))) in
+    let small : nat_lt limits.bytes (entries_size so_far + entry_size e) ≡ false = le-ltb limits.bytes (entries_size so_far + entry_size e)
+    (omega (arith, within.size, ap entries_size joined, sum, size_more so_far e)) in
+    ap (λ b. b || nat_lt limits.bytes (entries_size so_far + entry_size e)) few ∙ small

@@ -3,7 +3,7 @@ use Rattle.std.proofs.Common.{◌≡◌, ℕ, ◌+◌, ◌≤◌, List, [], ◌�
 use Rattle.std.specs.List.{All, flat_map}
 use Rattle.marc_types.specs.declared.entry.Entry.{Entry}
 use Rattle.commit_journal.specs.declared.format.TheConstants.{LENGTH_BYTES}
-use Rattle.entry_record.specs.Payload.{entry_bytes, payload_bytes}
+use Rattle.entry_history.specs.Format.{entry_bytes, payload_bytes}
 use Rattle.entry_history.specs.Payloads.{IsOf, Holds, Newer, Older}
 use Rattle.entry_history.proofs.Batches.{front, length-front, payload-front}
 use Rattle.durable_catalogue.specs.Images.{framed_length, framed_lengths}

@@ -1,12 +1,15 @@
 -- Entries that are staged one after the other.
-use Rattle.std.proofs.Common.{◌≡◌, List, [], ◌∷◌, ◌++◌, refl, sym, ap, ◌∙◌, append_assoc}
+use Rattle.std.proofs.Common.{◌≡◌, ◌<◌, false, List, [], ◌∷◌, ◌++◌, length, take, get_or, refl, sym, ap, ◌∙◌, append_assoc}
 use Rattle.std.specs.Prelude.{◌≢◌}
 use Rattle.std.proofs.lemmas.List.{append-nil}
 use Rattle.marc_types.specs.declared.entry.Entry.{Entry}
+use Rattle.marc_types.specs.declared.entry.Limits.{Limits}
 use Rattle.marc_types.specs.declared.entry.Receipt.{Receipt}
+use Rattle.entry_record.specs.History.{IsWithin, passes_limits}
 use Rattle.catalogue_rules.specs.Receipts.{receipt_behind, receipts_behind}
-use Rattle.catalogue_core.specs.Catalogues.{Catalogued, all_entries, with_staged}
+use Rattle.catalogue_core.specs.Catalogues.{Catalogued, all_entries, is_full, with_staged}
 use Rattle.durable_catalogue.specs.Staged.{with_all_staged}
+use Rattle.durable_catalogue.proofs.Fits.{passes_none}
 
 pub none_behind : (history : List Entry) → receipts_behind history [] ≡ []
 unfolding receipts_behind
@@ -52,3 +55,13 @@ one_staged was now after receipts entries e r unstaged s answered staged =
       receipts_are = ap (λ x. receipts ++ x ∷ []) (answered ∙ ap (λ h. receipt_behind h e) all)
           ∙ ap (λ rs. rs ++ receipt_behind (was.history ++ entries) e ∷ []) s.receipts_are ∙ sym (last_behind was.history entries e);
     }
+
+-- there is room for each of the entries that are within the limits
+pub has_room : (was now : Catalogued) (receipts : List Receipt) (done items : List Entry) (e : Entry) → was.staged ≡ [] → AreStaged was now receipts done
+    → IsWithin was.limits (was.history ++ items) → done ≡ take (length done) items → length done < length items → e ≡ get_or items (length done) e → is_full now e ≡ false
+has_room was now receipts done items e unstaged s within front more at =
+    let all : all_entries now ≡ was.history ++ take (length done) items =
+    ap all_entries s.staged ∙ ap (λ es. was.history ++ (es ++ done)) unstaged ∙ ap (λ es. was.history ++ es) front in
+    ap (λ (limits : Limits). passes_limits limits (all_entries now) e) (ap (λ c. c.limits) s.staged)
+    ∙ ap (λ es. passes_limits was.limits es e) all
+    ∙ passes_none was.limits was.history items (length done) e within more at

@@ -3,7 +3,7 @@ use Rattle.std.specs.Prelude.{◌≡◌, ◌⊎◌, ℕ, ◌+◌, ◌<◌, ◌�
 use Rattle.marc_types.specs.declared.entry.Entry.{Entry}
 use Rattle.commit_journal.specs.declared.format.TheConstants.{LENGTH_BYTES}
 use Rattle.commit_journal.specs.Log.{version_of}
-use Rattle.entry_record.specs.Payload.{payload_of}
+use Rattle.entry_history.specs.Format.{payload_of}
 use Rattle.entry_history.specs.Batches.{batch_payload}
 use Rattle.durable_catalogue.specs.Logs.{IsLogOf}
 

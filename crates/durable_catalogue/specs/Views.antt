@@ -15,5 +15,5 @@ abbrev pub durable_view : {D : Type 0} {disk : Ghosts D} → Durable D disk → 
 durable_view {D} {disk} d = record {
   entries = d.core.history;
   mark = mark_of d.mark;
-  opened = opening d.limits d.run d.opened (disk.seen d.before.value) (disk.seen d.first.value.disk);
+  opened = opening d.core.limits d.run d.opened (disk.seen d.before.value) (disk.seen d.first.value.disk);
 }

@@ -23,11 +23,11 @@ use crate::fitting::fitting_part;
 use crate::loading::{Loaded, load};
 use crate::seen::{Seen, look_at};
 use crate::staging::stage_all;
-use crate::written::each_can_stand_in_a_payload;
 use crate::{Memory, OpenFault};
 use catalogue_core::Catalogue;
 use catalogue_lock::Object;
 use commit_journal::Journal;
+use entry_history::laws::each_can_stand_in_a_payload;
 use entry_history::{Batch, BatchReply, Event, Receipts};
 use marc_types::{CommitFault, Limits, NoMemory, Place};
 use outside::Disk;
@@ -42,7 +42,6 @@ pub struct Durable<D: Disk> {
     alloc: Global,
     core: Catalogue,
     journal: Journal<D>,
-    limits: Limits,
     // The run of all that is committed.
     run: u64,
     // How many entries there were at the opening.
@@ -53,14 +52,13 @@ pub struct Durable<D: Disk> {
     before: Snapshot<D>,
     first: Snapshot<Journal<D>>,
     ghost unstaged: { core.staged ≡ [] },
-    ghost limited: { core.limits ≡ limits },
     ghost newest: { journal.version ≡ 2 },
     ghost broken: { journal.broken ≡ is_some mark },
     ghost follows: { CanFollow core.history run },
     ghost kept: { IsKept opened core.history (marked (mark_of mark)) (D.seen before.value) (D.seen first.value.disk) (D.seen journal.disk) },
     ghost rose: { is_some mark ≡ true → Rose (D.seen before.value).faults (D.seen journal.disk).faults },
     ghost few: { length (marked (mark_of mark)) ≤ 32 },
-    ghost within: { IsWithin limits (core.history ++ marked (mark_of mark)) },
+    ghost within: { IsWithin core.limits (core.history ++ marked (mark_of mark)) },
 }
 
 /// A commit that added nothing.
@@ -85,7 +83,7 @@ impl<D: Disk> Durable<D> {
         ensures unmarked { IfOk result (λ d. mark_of d.mark ≡ None) }
 
         // What the origin has: the limits, the run that comes next, the number of entries, and the disk as it was.
-        ensures limits { IfOk result (λ d. d.limits ≡ limits) }
+        ensures limits { IfOk result (λ d. d.core.limits ≡ limits) }
         ensures run { IfOk result (λ d. d.run ≡ next_run d.core.history) }
         ensures opened { IfOk result (λ d. d.opened ≡ length d.core.history) }
         ensures before { IfOk result (λ d. d.before.value ≡ disk) }
@@ -108,7 +106,6 @@ impl<D: Disk> Durable<D> {
                             alloc,
                             core,
                             journal,
-                            limits,
                             run,
                             opened,
                             mark: None,
@@ -136,7 +133,7 @@ impl<D: Disk> Durable<D> {
 
     /// The history is within the limits. This is a law for proofs; the call only looks at the catalogue.
     pub fn is_within_limits(&self)
-        ensures { IsWithin self.now.limits self.now.core.history }
+        ensures { IsWithin self.now.core.limits self.now.core.history }
     {
         self.core().is_within_limits();
     }
@@ -145,7 +142,7 @@ impl<D: Disk> Durable<D> {
     #[tactic(auto, using(crate::proofs::Keeping::left_of))]
     pub fn close(self, memory: Memory) -> D
         ensures disk { result ≡ self.journal.disk }
-        ensures left { IsLeft (opening self.limits self.run self.opened (D.seen self.before.value) (D.seen self.first.value.disk))
+        ensures left { IsLeft (opening self.core.limits self.run self.opened (D.seen self.before.value) (D.seen self.first.value.disk))
             self.core.history (marked (mark_of self.mark)) (D.seen result) }
         ensures few { length (marked (mark_of self.mark)) ≤ 32 }
 
@@ -164,7 +161,7 @@ impl<D: Disk> Durable<D> {
         requires whole { is_some self.old.mark ≡ false }
         requires some { frame ≢ [] }
         requires run { All (λ e. e.run ≡ self.old.run) frame }
-        requires within { IsWithin self.old.limits (self.old.core.history ++ frame) }
+        requires within { IsWithin self.old.core.limits (self.old.core.history ++ frame) }
         ensures receipts { IfOk result (λ r. r ≡ receipts_behind self.old.core.history frame) }
         ensures added { OnOk result (self.new.core.history ≡ self.old.core.history ++ frame) }
         ensures unmarked { OnOk result (self.new.mark ≡ self.old.mark) }
@@ -175,7 +172,7 @@ impl<D: Disk> Durable<D> {
         ensures quiet { IfErr result (λ fault. fault ≢ DeviceFault → self.new.journal ≡ self.old.journal) }
         ensures later { (D.seen self.old.journal.disk).moment ≤ (D.seen self.new.journal.disk).moment }
         ensures cause { IfErr result (λ fault. fault ≡ DeviceFault → Rose (D.seen self.old.journal.disk).faults (D.seen self.new.journal.disk).faults) }
-        ensures stays { IsSameOpening self.old.limits self.old.run self.old.opened self.new.limits self.new.run self.new.opened }
+        ensures stays { IsSameOpening self.old.core.limits self.old.run self.old.opened self.new.core.limits self.new.run self.new.opened }
         ensures before { self.new.before ≡ self.old.before }
         ensures first { self.new.first ≡ self.old.first }
     {
@@ -208,12 +205,12 @@ impl<D: Disk> Durable<D> {
 
         // The reply, and what it adds to the history.
         ensures reply { (added : List Event) × (events self.new.core.history (mark_of self.new.mark) ≡ events self.old.core.history (mark_of self.old.mark) ++ added)
-            × IsCommit (record { limits = self.old.limits; run = self.old.run }) (events self.old.core.history (mark_of self.old.mark)) batch result added }
+            × IsCommit (record { limits = self.old.core.limits; run = self.old.run }) (events self.old.core.history (mark_of self.old.mark)) batch result added }
 
         // Each image at each moment of the call, and the images at its end where the frame is committed.
         ensures crash { (log : List ℕ) → is_some self.old.mark ≡ false → (D.seen self.old.journal.disk).content ≡ Some log
             → LeavesOnly (D.seen self.old.journal.disk) (D.seen self.new.journal.disk)
-            (HasCommitOrNot self.old.core.history (fitting self.old.limits self.old.core.history (with_run self.old.run batch)) log) }
+            (HasCommitOrNot self.old.core.history (fitting self.old.core.limits self.old.core.history (with_run self.old.run batch)) log) }
         ensures all { (log c : List ℕ) → is_taken result.end ≡ true → (D.seen self.new.journal.disk).content ≡ Some log
             → (D.seen self.new.journal.disk).image c → HasHistory self.new.core.history c }
 
@@ -226,7 +223,7 @@ impl<D: Disk> Durable<D> {
         ensures goes_on { GoesOn (is_some (D.seen self.old.before.value).content) self.old.core.history self.new.core.history
             (D.seen self.old.journal.disk) (D.seen self.new.journal.disk) }
         ensures taken { is_taken result.end ≡ true → self.new.core.history
-            ≡ self.old.core.history ++ fitting self.old.limits self.old.core.history (with_run self.old.run batch) }
+            ≡ self.old.core.history ++ fitting self.old.core.limits self.old.core.history (with_run self.old.run batch) }
         ensures few { length (marked (mark_of self.new.mark)) ≤ 32 }
 
         // A commit that took nothing made no call on the disk, unless a device failed in it.
@@ -234,7 +231,7 @@ impl<D: Disk> Durable<D> {
 
         // A device fault comes only where the count of faults rose; what the opening left stays.
         ensures cause { result.end ≡ Some DeviceFault → Rose (D.seen self.old.journal.disk).faults (D.seen self.new.journal.disk).faults }
-        ensures stays { IsSameOpening self.old.limits self.old.run self.old.opened self.new.limits self.new.run self.new.opened }
+        ensures stays { IsSameOpening self.old.core.limits self.old.run self.old.opened self.new.core.limits self.new.run self.new.opened }
         ensures before { self.new.before ≡ self.old.before }
         ensures first { self.new.first ≡ self.old.first }
     {
@@ -244,7 +241,7 @@ impl<D: Disk> Durable<D> {
         let mut batch = batch;
         batch.set_run(self.run);
         let len = batch.len();
-        let Some(frame) = fitting_part(&self.core, &self.limits, batch) else {
+        let Some(frame) = fitting_part(&self.core, batch) else {
             return nothing(alloc, CommitFault::Full);
         };
         let end = if frame.len() < len {
@@ -281,7 +278,7 @@ impl<D: Disk> Object for Durable<D> {
 
     ghost history = { λ d. events d.core.history (mark_of d.mark) };
 
-    ghost origin = { λ d. opening d.limits d.run d.opened (D.seen d.before.value) (D.seen d.first.value.disk) };
+    ghost origin = { λ d. opening d.core.limits d.run d.opened (D.seen d.before.value) (D.seen d.first.value.disk) };
 
     ghost takes = { λ batch. batch ≢ [] };
 

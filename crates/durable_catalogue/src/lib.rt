@@ -17,4 +17,3 @@ mod loading;
 mod memory;
 mod seen;
 mod staging;
-mod written;

@@ -1,5 +1,6 @@
 //! Entries that are put behind a history together, or not at all.
-ghost use Rattle.std.specs.Prelude.{◌≡◌, ◌≤◌, ◌<◌, [], length, IfOk, OnOk, OnErr};
+ghost use Rattle.std.specs.Prelude.{◌≡◌, ◌<◌, ◌++◌, [], IfOk, OnOk, OnErr};
+ghost use Rattle.entry_record.specs.History.{IsWithin};
 ghost use Rattle.catalogue_rules.specs.Receipts.{receipts_behind};
 ghost use Rattle.durable_catalogue.specs.Staged.{with_all_staged};
 
@@ -17,7 +18,7 @@ fn stage_each<L: Ledger>(
     items: Vec<Prepared>,
     steps: &mut Steps<L>,
 ) -> Result<Receipts, NoMemory>
-    requires few { length items.items ≤ 32 }
+    requires within { IsWithin core.old.limits (core.old.history ++ items.items) }
     requires unstaged { core.old.staged ≡ [] }
     ensures receipts { IfOk result (λ r. r ≡ receipts_behind core.old.history items.items) }
     ensures staged { OnOk result (core.new ≡ with_all_staged core.old items.items) }
@@ -26,15 +27,13 @@ fn stage_each<L: Ledger>(
 {
     let mut receipts = Vec::with_capacity(alloc, items.len())?;
     for item in items {
-        match core.stage(alloc, item, steps) {
-            Ok(receipt) => receipts.push(receipt)?,
-            Err(_) => return Err(NoMemory),
-        }
+        let receipt = core.stage(alloc, item, steps)?;
+        receipts.push(receipt)?;
     }
     Ok(Receipts::from_vec(receipts))
 }
 
-/// Stages all items. At want of memory nothing is changed.
+/// Stages all items, which are within the limits behind the history. At want of memory nothing is changed.
 pub fn stage_all<L: Ledger>(
     core: &mut Catalogue,
     alloc: Global,
@@ -44,7 +43,7 @@ pub fn stage_all<L: Ledger>(
     requires name { blank.name ≡ L.name }
     requires parts { blank.parts ≡ L.parts }
     requires shared { 0 < blank.parts }
-    requires few { length items.items ≤ 32 }
+    requires within { IsWithin core.old.limits (core.old.history ++ items.items) }
     requires unstaged { core.old.staged ≡ [] }
     ensures receipts { IfOk result (λ r. r ≡ receipts_behind core.old.history items.items) }
     ensures staged { OnOk result (core.new ≡ with_all_staged core.old items.items) }

@@ -7,5 +7,4 @@ mod of_file_holdings;
 mod of_holdings;
 mod of_match_report;
 mod of_reading;
-mod of_record_store;
 mod pieces;

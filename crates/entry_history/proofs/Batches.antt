@@ -1,22 +1,21 @@
 -- The payload of a batch, piece by piece, and how it changes with the batch.
-use Rattle.std.proofs.Common.{◌≡◌, ◌∙◌, ℕ, zero, suc, ◌+◌, ◌-◌, ◌*◌, ◌<◌, ◌≤◌, ◌≢◌, List, [], ◌∷◌, ◌++◌, length, take, drop, get_or, set, slice_get, Some, refl, sym, ap, subst, arith, append_assoc, length-append, length-take}
+use Rattle.std.proofs.Common.{◌≡◌, ◌∙◌, ℕ, zero, suc, ◌+◌, ◌*◌, ◌<◌, ◌≤◌, ◌≢◌, List, [], ◌∷◌, ◌++◌, length, take, drop, get_or, set, slice_get, Some, refl, sym, ap, subst, arith, append_assoc, length-append, length-take}
 use Rattle.std.specs.Int.{w32, w64, to_be_bytes}
 use Rattle.std.specs.List.{All, AllPairs, flat_map}
-use Rattle.std.proofs.Math.Seq.{drop-append-add, take-append-add, take-append_seam, set-append_seam}
-use Rattle.std.proofs.lemmas.Grind.{common_steps, flat_map-append}
+use Rattle.std.proofs.Math.Seq.{take-append-add, take-append_seam, set-append_seam}
+use Rattle.std.proofs.lemmas.Grind.{flat_map-append}
 use Rattle.std.proofs.lemmas.List.{get_or-take, get_or-map, length-map, take-append-drop, append-nil}
 use Rattle.std.proofs.lemmas.List.Elements.{All-push, All-take, All-map}
 use Rattle.std.proofs.lemmas.List.Quantifiers.{all_pairs_push}
 use Rattle.marc_types.specs.declared.entry.Entry.{Entry}
-use Rattle.iso2709_record.specs.Written.{record_length, record_bytes}
-use Rattle.iso2709_record.proofs.Lengths.{length-record_bytes}
 use Rattle.entry_record.proofs.Admitted.{admitted_fits, admitted_library}
 use Rattle.entry_record.proofs.Written.{fitting_length}
-use Rattle.entry_record.proofs.Runs.{payload_in_run, same_entries}
+use Rattle.entry_history.proofs.Format.{length_entry}
+use Rattle.entry_history.proofs.Runs.{payload_in_run, same_entries}
 use Rattle.entry_record.specs.History.{IsAdmitted, in_run, with_run}
-use Rattle.entry_record.specs.Payload.{payload_head, entry_bytes, payload_bytes, payload_of}
+use Rattle.entry_history.specs.Format.{payload_head, entry_bytes, payload_bytes, payload_of}
 use Rattle.entry_history.specs.Payloads.{IsEntry, IsOf, CanFollow, HoldsNow}
-use Rattle.entry_history.specs.Batches.{IsLike, IsBatch, batch_payload, part_behind, IsLaidOut}
+use Rattle.entry_history.specs.Batches.{IsLike, IsBatch, batch_payload, IsLaidOut}
 
 -- what stands before the count of entries
 pub front : ℕ → ℕ → List ℕ → List ℕ
@@ -36,37 +35,13 @@ pub payload-front : (run loader : ℕ) (library : List ℕ) (entries : List Entr
 unfolding front payload_bytes payload_head
 payload-front run loader library entries = simp append_assoc refl
 
-pub length-entry : (e : Entry) → length (entry_bytes e) ≡ 12 + record_length e.rec.fields
-unfolding entry_bytes
-length-entry e =
-    omega (
-      arith,
-      length-append (to_be_bytes w64 e.ordinal ++ to_be_bytes w32 (record_length e.rec.fields)) (record_bytes e.rec.leader e.rec.fields),
-      length-append (to_be_bytes w64 e.ordinal) (to_be_bytes w32 (record_length e.rec.fields)),
-      length-record_bytes e.rec.leader e.rec.fields,
-    )
-
-drop_front : (before rest : List ℕ) (b n : ℕ) → n ≡ length before + 1 → drop n (before ++ (b ∷ rest)) ≡ rest
-drop_front before rest b n is = rw is (drop-append-add before (b ∷ rest) 1)
-
--- the entry in the payload of one
-pub entry_alone : (e : Entry) (n : ℕ) → n ≡ 13 + length e.library + 1 → drop n (payload_of e) ≡ entry_bytes e
-entry_alone e n is =
-    rw (payload-front e.run e.loader e.library (e ∷ []))
-    (drop_front (front e.run e.loader e.library) (entry_bytes e ++ []) 1 n (omega (arith, length-front e.run e.loader e.library))
-    ∙ append-nil (entry_bytes e))
-
 pub length-alone : (e : Entry) → length (payload_of e) ≡ 14 + length e.library + length (entry_bytes e)
 length-alone e =
     rw (payload-front e.run e.loader e.library (e ∷ []), append-nil (entry_bytes e))
     (omega (arith, length-append (front e.run e.loader e.library) (1 ∷ entry_bytes e), length-front e.run e.loader e.library))
 
--- a slice from a place to the end
-pub rest_of : (xs : List ℕ) (n : ℕ) → take (length xs - n) (drop n xs) ≡ drop n xs
-rest_of xs n = grind (arith, common_steps)
-
 pub entry_bounded : (e : Entry) → IsAdmitted e → length (entry_bytes e) ≤ 100011
-entry_bounded e h = omega (arith, length-entry e, fitting_length e.rec.fields (admitted_fits e h))
+entry_bounded e h = omega (arith, length_entry e, fitting_length e.rec.fields (admitted_fits e h))
 
 -- one more part behind, and one more in the count
 grown : (before rest part : List ℕ) (n m place : ℕ) → place ≡ length before → set ((before ++ (n ∷ rest)) ++ part) place m ≡ before ++ (m ∷ (rest ++ part))
@@ -75,47 +50,62 @@ grown before rest part n m place is = rw (is, append_assoc before (n ∷ rest) p
 more_entries : (entries : List Entry) (e : Entry) → flat_map entry_bytes (entries ++ e ∷ []) ≡ flat_map entry_bytes entries ++ entry_bytes e
 more_entries entries e = flat_map-append entry_bytes entries (e ∷ []) ∙ ap (λ part. flat_map entry_bytes entries ++ part) (append-nil (entry_bytes e))
 
-pushed_payload : (entries : List Entry) (e : Entry) (place n : ℕ) → All (λ x. IsLike x e) entries → place ≡ 13 + length e.library
-    → n ≡ length (entries ++ e ∷ []) → set (batch_payload entries ++ part_behind entries e) place n ≡ batch_payload (entries ++ e ∷ [])
-pushed_payload [] e place n like is count =
-    rw (count, payload-front e.run e.loader e.library (e ∷ []), is, sym (length-front e.run e.loader e.library))
-    (set-append_seam (front e.run e.loader e.library) 1 (entry_bytes e ++ []) 1)
-pushed_payload (x ∷ xs) e place n like is count =
-    let first : IsLike x e = like 0 x (omega arith) in
+pushed_payload : (x e : Entry) (xs : List Entry) (place n : ℕ) → IsLike x e → place ≡ 13 + length e.library → n ≡ length (x ∷ (xs ++ e ∷ []))
+    → set (batch_payload (x ∷ xs) ++ entry_bytes e) place n ≡ batch_payload (x ∷ (xs ++ e ∷ []))
+pushed_payload x e xs place n first is count =
     rw (payload-front x.run x.loader x.library (x ∷ xs), payload-front x.run x.loader x.library (x ∷ (xs ++ e ∷ [])))
     (grown (front x.run x.loader x.library) (flat_map entry_bytes (x ∷ xs)) (entry_bytes e) (length (x ∷ xs)) n place
-    (omega (arith, length-front x.run x.loader x.library, ap length first.library))
+    (omega (arith, length-front x.run x.loader x.library, is, ap length first.library))
     ∙ ap (λ count. front x.run x.loader x.library ++ (count ∷ (flat_map entry_bytes (x ∷ xs) ++ entry_bytes e))) count
     ∙ ap (λ rest. front x.run x.loader x.library ++ (length (x ∷ (xs ++ e ∷ [])) ∷ rest)) (sym (more_entries (x ∷ xs) e)))
 
+more_laid : (entries : List Entry) (e : Entry) (place n : ℕ) → entries ≢ [] → All (λ x. IsLike x e) entries → place ≡ 13 + length e.library
+    → n ≡ length (entries ++ e ∷ []) → set (batch_payload entries ++ entry_bytes e) place n ≡ batch_payload (entries ++ e ∷ [])
+more_laid [] e place n some like is count = absurd (some refl)
+more_laid (x ∷ xs) e place n some like is count = pushed_payload x e xs place n (like 0 x (omega arith)) is count
+
+-- a batch of one entry
+pub begun_laid : (e : Entry) (payload : List ℕ) → IsAdmitted e → payload ≡ payload_of e → IsLaidOut (e ∷ []) payload
+begun_laid e payload admitted is = record {
+  batch = record {
+    few = omega arith;
+    admitted = All-push IsAdmitted [] e (λ k d within. absurd (omega arith)) admitted;
+    alike = all_pairs_push IsLike [] e (λ i j d first second. absurd (omega arith)) (λ k d within. absurd (omega arith));
+  };
+  payload_is = is;
+}
+
 -- a batch with one more entry
-pub pushed_laid : (entries : List Entry) (payload part : List ℕ) (e : Entry) (place n : ℕ) → IsLaidOut entries payload → length entries < 32
-    → IsAdmitted e → All (λ x. IsLike x e) entries → part ≡ part_behind entries e → place ≡ 13 + length e.library
-    → n ≡ length (entries ++ e ∷ []) → IsLaidOut (entries ++ e ∷ []) (set (payload ++ part) place n)
-pushed_laid entries payload part e place n laid room admitted like is at count = record {
+pub pushed_laid : (entries : List Entry) (payload : List ℕ) (e : Entry) (place n : ℕ) → IsLaidOut entries payload → entries ≢ [] → length entries < 32
+    → IsAdmitted e → All (λ x. IsLike x e) entries → place ≡ 13 + length e.library
+    → n ≡ length (entries ++ e ∷ []) → IsLaidOut (entries ++ e ∷ []) (set (payload ++ entry_bytes e) place n)
+pushed_laid entries payload e place n laid some room admitted like at count = record {
   batch = record {
     few = omega (arith, length-append entries (e ∷ []));
     admitted = All-push IsAdmitted entries e laid.batch.admitted admitted;
     alike = all_pairs_push IsLike entries e laid.batch.alike like;
   };
-  payload_is = rw (is, laid.payload_is) (pushed_payload entries e place n like at count);
+  payload_is = rw laid.payload_is (more_laid entries e place n some like at count);
 }
 
-pub place_within : (entries : List Entry) (payload part : List ℕ) (e : Entry) (place : ℕ) → IsLaidOut entries payload
-    → All (λ x. IsLike x e) entries → part ≡ part_behind entries e → place ≡ 13 + length e.library → place < length (payload ++ part)
-place_within entries payload part e place laid like is at = rw (is, laid.payload_is) (within entries like) where
-  within : (entries : List Entry) → All (λ x. IsLike x e) entries → place < length (batch_payload entries ++ part_behind entries e)
-  within [] like = omega (arith, length-alone e)
-  within (x ∷ xs) like =
-      let first : IsLike x e = like 0 x (omega arith) in
-      rw (payload-front x.run x.loader x.library (x ∷ xs))
-      (omega (
-        arith,
-        length-append (front x.run x.loader x.library ++ (length (x ∷ xs) ∷ flat_map entry_bytes (x ∷ xs))) (entry_bytes e),
-        length-append (front x.run x.loader x.library) (length (x ∷ xs) ∷ flat_map entry_bytes (x ∷ xs)),
-        length-front x.run x.loader x.library,
-        ap length first.library,
-      ))
+within : (entries : List Entry) (e : Entry) (place : ℕ) → entries ≢ [] → All (λ x. IsLike x e) entries → place ≡ 13 + length e.library
+    → place < length (batch_payload entries ++ entry_bytes e)
+within [] e place some like at = absurd (some refl)
+within (x ∷ xs) e place some like at =
+    let first : IsLike x e = like 0 x (omega arith) in
+    rw (payload-front x.run x.loader x.library (x ∷ xs))
+    (omega (
+      arith,
+      at,
+      length-append (front x.run x.loader x.library ++ (length (x ∷ xs) ∷ flat_map entry_bytes (x ∷ xs))) (entry_bytes e),
+      length-append (front x.run x.loader x.library) (length (x ∷ xs) ∷ flat_map entry_bytes (x ∷ xs)),
+      length-front x.run x.loader x.library,
+      ap length first.library,
+    ))
+
+pub place_within : (entries : List Entry) (payload : List ℕ) (e : Entry) (place : ℕ) → IsLaidOut entries payload → entries ≢ []
+    → All (λ x. IsLike x e) entries → place ≡ 13 + length e.library → place < length (payload ++ entry_bytes e)
+place_within entries payload e place laid some like at = rw laid.payload_is (within entries e place some like at)
 
 -- bounds of a payload
 entries_bounded : (entries : List Entry) → All IsAdmitted entries → length (flat_map entry_bytes entries) ≤ 100011 * length entries
@@ -244,10 +234,6 @@ cut_within (e ∷ es) payload d place len laid some at =
       length-front e.run e.loader e.library,
     ))
 
--- what a slice of a whole vector leaves of it
-pub written_all : {X : Type 0} (n : ℕ) (new old : List X) → n ≡ length old → length new ≡ length old → take n (new ++ drop (length new) old) ≡ new
-written_all n new old is same = grind (arith, common_steps)
-
 -- the payload of a batch whose entries can stand in one
 alike_first : (e : Entry) (es : List Entry) → AllPairs IsLike (e ∷ es) → All (IsOf e.run e.loader e.library) (e ∷ es)
 alike_first e es like zero d within = record { run_is = refl; loader_is = refl; library_is = refl }
@@ -270,8 +256,3 @@ held_by_payload (x ∷ xs) before e batch are first follows =
       shared = alike_first x xs batch.alike;
       entries_are = are;
     }
-
--- the record stands behind the ordinal and its length
-pub record_behind : (e : Entry) → drop 12 (entry_bytes e) ≡ record_bytes e.rec.leader e.rec.fields
-unfolding entry_bytes
-record_behind e = refl

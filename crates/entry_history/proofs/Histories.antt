@@ -2,11 +2,10 @@
 use Rattle.std.proofs.Common.{◌≡◌, ◌≢◌, ◌∙◌, ℕ, suc, List, [], ◌∷◌, ◌++◌, length, refl, sym, ap, subst, arith, append_assoc}
 use Rattle.std.specs.Int.{w32, w64, to_be_bytes}
 use Rattle.std.specs.List.{All, flat_map}
-use Rattle.std.proofs.lemmas.List.{append-nil}
 use Rattle.marc_types.specs.declared.entry.Entry.{Entry}
 use Rattle.iso2709_record.specs.Written.{record_length, record_bytes}
 use Rattle.iso2709_record.proofs.Spelled.{parts_same}
-use Rattle.entry_record.specs.Payload.{entry_bytes}
+use Rattle.entry_history.specs.Format.{entry_bytes}
 use Rattle.entry_history.specs.Payloads.{IsEntry, IsOf, IsOld, HoldsNow, HoldsOld, Holds, Newer, Older, old_entry_bytes, old_payload_bytes, IsHistory, NoMore, OneMore}
 use Rattle.entry_history.specs.Reading.{HasHead, HoldsNoneNow, HoldsNoneOld}
 use Rattle.entry_history.specs.Readers.{IsVersion, HoldsNone}

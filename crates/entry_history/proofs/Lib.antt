@@ -1,7 +1,10 @@
+pub mod Alone
 pub mod Batches
+pub mod Format
 pub mod Histories
 pub mod ReadEntries
 pub mod ReadNumbers
 pub mod ReadOld
 pub mod ReadPayloads
+pub mod Runs
 pub mod Spelled

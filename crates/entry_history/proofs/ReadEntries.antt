@@ -19,7 +19,7 @@ use Rattle.reading.proofs.OneReading.{one_leader, one_fields, read_or_refused}
 use Rattle.entry_record.specs.Admission.{admission_refusal}
 use Rattle.entry_record.specs.Identity.{key_of}
 use Rattle.entry_record.specs.History.{IsAdmitted, in_run}
-use Rattle.entry_record.specs.Payload.{entry_bytes}
+use Rattle.entry_history.specs.Format.{entry_bytes}
 use Rattle.entry_record.specs.Prepared.{new_entry}
 use Rattle.entry_record.proofs.Admitted.{admitted_fits}
 use Rattle.entry_record.proofs.Written.{fitting_length}
@@ -28,7 +28,7 @@ use Rattle.entry_history.specs.Reading.{IsEntryHead, BeginWithNone, BeginWith, I
 use Rattle.entry_history.specs.declared.fault.EntryFault.{EntryFault}
 use Rattle.entry_history.specs.declared.fault.EntryFault.TheVariants.{BadEntry, NoMemory}
 use Rattle.entry_history.proofs.Spelled.{long_once, short_once, entry_parts}
-use Rattle.entry_history.proofs.Batches.{length-entry}
+use Rattle.entry_history.proofs.Format.{length_entry}
 
 pub head_made : (bytes behind more written rest : List ℕ) (ordinal n : ℕ) → bytes ≡ to_be_bytes w64 ordinal ++ behind → behind ≡ to_be_bytes w32 n ++ more
     → written ≡ take n more → length written ≡ n → rest ≡ drop n more → ordinal < 2 ^ 64 → n < 2 ^ 32 → IsEntryHead bytes written ordinal
@@ -57,7 +57,7 @@ head_says bytes written ordinal e rest head admitted fits is =
     (t.0, parts.0)
 
 pub entry_long : (e : Entry) (rest : List ℕ) → 12 ≤ length (entry_bytes e ++ rest)
-entry_long e rest = omega (arith, length-append (entry_bytes e) rest, length-entry e)
+entry_long e rest = omega (arith, length-append (entry_bytes e) rest, length_entry e)
 
 pub no_ordinal : (bytes : List ℕ) → length bytes < 8 → BeginWithNone bytes
 no_ordinal bytes short = λ e rest h is. omega (arith, ap length is, entry_long e rest)

@@ -15,7 +15,7 @@ use Rattle.iso2709_record.proofs.Spelled.{parts_same}
 use Rattle.entry_record.specs.History.{last_run}
 use Rattle.entry_record.proofs.Graphic.{text_of_graphic, code_is_graphic}
 use Rattle.marc_types.specs.declared.entry.Entry.{Entry}
-use Rattle.entry_record.specs.Payload.{payload_head, entry_bytes, payload_bytes}
+use Rattle.entry_history.specs.Format.{payload_head, entry_bytes, payload_bytes}
 use Rattle.entry_history.specs.Payloads.{IsEntry, IsOf, CanFollow, IsCount, HoldsNow}
 use Rattle.entry_history.specs.Reading.{BeginWith, IsNoEntry, AreEntries, AreNoEntries, AreReadSoFar, HasHead, HasNoHead, HoldsNoneNow, IsNoCode}
 use Rattle.entry_history.specs.declared.fault.EntryFault.{EntryFault}

@@ -9,7 +9,7 @@ use Rattle.marc_types.specs.declared.entry.Entry.{Entry}
 use Rattle.iso2709_record.specs.Written.{record_length, record_bytes}
 use Rattle.iso2709_record.proofs.Spelled.{parts_same, record_spelled_once}
 use Rattle.entry_record.specs.Identity.{class_of, key_of}
-use Rattle.entry_record.specs.Payload.{entry_bytes}
+use Rattle.entry_history.specs.Format.{entry_bytes}
 use Rattle.entry_record.proofs.Admitted.{admitted_fits}
 use Rattle.entry_record.proofs.Written.{fitting_length}
 use Rattle.entry_history.specs.Payloads.{IsEntry, IsOf}

@@ -3,7 +3,7 @@ use Rattle.std.specs.Prelude.{◌≡◌, ℕ, ◌≤◌, List, [], ◌∷◌, le
 use Rattle.std.specs.List.{AllPairs}
 use Rattle.marc_types.specs.declared.entry.Entry.{Entry}
 use Rattle.entry_record.specs.History.{IsAdmitted}
-use Rattle.entry_record.specs.Payload.{entry_bytes, payload_bytes, payload_of}
+use Rattle.entry_history.specs.Format.{payload_bytes}
 
 -- two entries of one run, one loader and one library
 pub record IsLike (one other : Entry) : Type 0 where
@@ -21,11 +21,6 @@ pub record IsBatch (entries : List Entry) : Type 0 where
 abbrev pub batch_payload : List Entry → List ℕ
 batch_payload [] = []
 batch_payload (e ∷ es) = payload_bytes e.run e.loader e.library (e ∷ es)
-
--- what a payload gains by one more entry: the first brings the head
-abbrev pub part_behind : List Entry → Entry → List ℕ
-part_behind [] e = payload_of e
-part_behind (first ∷ others) e = entry_bytes e
 
 -- a batch, and its payload beside it
 pub record IsLaidOut (entries : List Entry) (payload : List ℕ) : Type 0 where

@@ -7,7 +7,7 @@ use Rattle.marc_types.specs.declared.entry.Entry.{Entry}
 use Rattle.iso2709_record.specs.Written.{record_length, record_bytes}
 use Rattle.reading.specs.Reading.{IsReadAs}
 use Rattle.entry_record.specs.History.{IsAdmitted, last_run}
-use Rattle.entry_record.specs.Payload.{payload_bytes}
+use Rattle.entry_history.specs.Format.{payload_bytes}
 
 -- an entry that can stand in a payload: a catalogue takes it, its numbers fit their places, and what is written of its record
 -- is read as that record (which holds of each record whose texts are UTF-8)

@@ -5,7 +5,7 @@ use Rattle.std.specs.List.{flat_map}
 use Rattle.marc_types.specs.Valid.{is_code}
 use Rattle.marc_types.specs.declared.entry.Entry.{Entry}
 use Rattle.iso2709_record.specs.Written.{record_bytes}
-use Rattle.entry_record.specs.Payload.{payload_head, entry_bytes}
+use Rattle.entry_history.specs.Format.{payload_head, entry_bytes}
 use Rattle.entry_history.specs.Payloads.{IsEntry, IsOf, IsOld, HoldsNow, HoldsOld, old_entry_bytes}
 use Rattle.entry_history.specs.declared.fault.EntryFault.{EntryFault}
 use Rattle.entry_history.specs.declared.fault.EntryFault.TheVariants.{BadEntry, NoMemory}

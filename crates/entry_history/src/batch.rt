@@ -3,16 +3,17 @@ ghost use Rattle.std.specs.Prelude.{◌≡◌, ◌≢◌, ◌↔◌, ◌<◌, �
 ghost use Rattle.std.specs.Option.{option_copied};
 ghost use Rattle.std.specs.List.{flat_map};
 ghost use Rattle.entry_record.specs.History.{IsAdmitted, with_run};
-ghost use Rattle.entry_record.specs.Payload.{entry_bytes};
+ghost use Rattle.entry_history.specs.Format.{entry_bytes};
 ghost use Rattle.marc_types.specs.declared.entry.Entry.{Entry};
 ghost use Rattle.entry_history.specs.Payloads.{IsEntry, CanFollow, HoldsNow};
-ghost use Rattle.entry_history.specs.Batches.{IsLike, IsBatch, batch_payload, part_behind};
+ghost use Rattle.entry_history.specs.Batches.{IsLike, IsBatch, batch_payload};
 
-use crate::part::{count_place, entry_part};
-use entry_record::{Prepared, write_run};
+use crate::laws::each_can_stand_in_a_payload;
+use crate::part::count_place;
+use crate::written::{append_entry, payload, write_run};
+use entry_record::Prepared;
 use marc_types::{NoMemory, TryCopy};
 use outside::{Bytes, LARGEST_BATCH};
-use reading::laws::a_written_record_reads_as_itself;
 use std::alloc::Global;
 use std::marker::Model;
 
@@ -39,15 +40,12 @@ impl Model for Batch {
     ghost invariant = { λ b. IsLaidOut b.items.items b.payload.items };
 }
 
-/// What a payload gains by an item: all of the item's own payload where it is the first, and else the entry.
-fn next_part<'a>(items: &[Prepared], item: &'a Prepared) -> &'a [u8]
-    ensures { result.now ≡ part_behind items.now item.now }
+#[tactic(auto, using(crate::proofs::Format::length_entry))]
+fn part_len(item: &Prepared) -> usize
+    ensures value { result ≡ length (entry_bytes item.now) }
+    ensures small { result ≤ 100011 }
 {
-    if items.is_empty() {
-        item.payload()
-    } else {
-        entry_part(item)
-    }
+    item.size() as usize
 }
 
 /// How many bytes some entries take in a payload.
@@ -58,7 +56,7 @@ fn parts_len(items: &[Prepared]) -> usize
 {
     let mut len = 0;
     for item in items {
-        len += entry_part(item).len();
+        len += part_len(item);
     }
     len
 }
@@ -72,29 +70,10 @@ fn set_runs(items: &mut [Prepared], run: u64)
     }
 }
 
-fn numbers_fit(run: u64, ordinal: u64, loader: u32)
-    ensures run { run < 2 ^ 64 }
-    ensures ordinal { ordinal < 2 ^ 64 }
-    ensures loader { loader < 2 ^ 32 }
+fn is_admitted(item: &Prepared)
+    ensures { IsAdmitted item.now }
 {
-    let _numbers = (run, ordinal, loader);
-}
-
-/// What the types of an entry's record and of its numbers say of it.
-fn is_entry(item: &Prepared)
-    ensures { IsEntry item.now }
-{
-    let entry = item.entry();
-    numbers_fit(entry.run, entry.ordinal, entry.loader);
-    a_written_record_reads_as_itself(&entry.rec);
-}
-
-fn all_entries(items: &[Prepared])
-    ensures { All IsEntry items.now }
-{
-    for item in items {
-        is_entry(item);
-    }
+    let _entry = item.entry();
 }
 
 fn copies(alloc: Global, items: &[Prepared]) -> Result<Vec<Prepared>, NoMemory>
@@ -118,8 +97,27 @@ impl Batch {
         }
     }
 
-    /// Puts an entry behind those that are there. At want of memory it comes back, and the batch is as it was.
-    pub fn push(&mut self, item: Prepared) -> Result<(), (Prepared, NoMemory)>
+    /// The first entry, and its payload.
+    fn begin(&mut self, alloc: Global, item: Prepared) -> Result<(), (Prepared, NoMemory)>
+        requires { self.old ≡ [] }
+        ensures pushed { OnOk result (self.new ≡ item ∷ []) }
+        ensures unchanged { OnErr result (self.new ≡ self.old) }
+        ensures back { IfErr result (λ e. e.0 ≡ item) }
+    {
+        is_admitted(&item);
+        let Ok(payload) = payload(alloc, &item) else {
+            return Err((item, NoMemory));
+        };
+        if let Err(failed) = self.items.push(item) {
+            return Err((failed.value, NoMemory));
+        }
+        self.payload = payload;
+        Ok(())
+    }
+
+    /// One more entry, and its part of the payload.
+    fn go_on(&mut self, alloc: Global, item: Prepared) -> Result<(), (Prepared, NoMemory)>
+        requires some { self.old ≢ [] }
         requires room { length self.old < 32 }
         requires like { All (λ e. IsLike e item) self.old }
         ensures pushed { OnOk result (self.new ≡ self.old ++ item ∷ []) }
@@ -128,8 +126,7 @@ impl Batch {
     {
         let before = self.payload.len();
         let place = count_place(&item);
-        let part = next_part(self.items.as_slice(), &item);
-        let Ok(()) = self.payload.extend_from_slice(part) else {
+        let Ok(()) = append_entry(alloc, &mut self.payload, &item) else {
             return Err((item, NoMemory));
         };
         if let Err(failed) = self.items.push(item) {
@@ -138,6 +135,22 @@ impl Batch {
         }
         self.payload[place] = self.items.len() as u8;
         Ok(())
+    }
+
+    /// Puts an entry behind those that are there, and writes it into the payload. At want of memory it comes back, and the batch is
+    /// as it was.
+    pub fn push(&mut self, alloc: Global, item: Prepared) -> Result<(), (Prepared, NoMemory)>
+        requires room { length self.old < 32 }
+        requires like { All (λ e. IsLike e item) self.old }
+        ensures pushed { OnOk result (self.new ≡ self.old ++ item ∷ []) }
+        ensures unchanged { OnErr result (self.new ≡ self.old) }
+        ensures back { IfErr result (λ e. e.0 ≡ item) }
+    {
+        if self.items.is_empty() {
+            self.begin(alloc, item)
+        } else {
+            self.go_on(alloc, item)
+        }
     }
 
     /// How many entries there are.
@@ -185,7 +198,7 @@ impl Batch {
         ensures { (before : List Entry) (e : Entry) → slice_get self.now 0 ≡ Some e → CanFollow before e.run
             → HoldsNow before self.now (batch_payload self.now) }
     {
-        all_entries(self.items.as_slice());
+        each_can_stand_in_a_payload(self.items.as_slice());
     }
 
     /// Keeps the first `n` entries and their payload; takes no memory.

@@ -8,7 +8,7 @@ ghost use Rattle.entry_history.specs.Reading.{IsEntryHead, BeginWithNone, BeginW
 
 use crate::EntryFault;
 use crate::numbers::{long_number, short_number};
-use crate::part::entry_part;
+use crate::written::entry_part;
 use entry_record::Prepared;
 use marc_types::{RecordFault, Text};
 use reading::prepare;
@@ -66,7 +66,8 @@ pub fn read_entry<'a>(
         return Err(EntryFault::BadEntry);
     };
     let mut item = prepare_written(alloc, written, library, loader, ordinal)?;
-    let Some(rest) = bytes.strip_prefix(entry_part(&item)) else {
+    let part = entry_part(alloc, &item)?;
+    let Some(rest) = bytes.strip_prefix(part.as_slice()) else {
         return Err(EntryFault::BadEntry);
     };
     item.set_run(run);

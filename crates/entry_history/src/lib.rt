@@ -4,6 +4,7 @@
 
 pub use batch::Batch;
 pub use counter::HistoryCounter;
+pub use entry_payload::EntryPayload;
 pub use event::Event;
 pub use fault::EntryFault;
 pub use reader::HistoryReader;
@@ -12,6 +13,7 @@ pub use reply::{BatchReply, Receipts};
 mod batch;
 mod counter;
 mod entry;
+mod entry_payload;
 mod event;
 mod extent;
 mod fault;
@@ -22,3 +24,4 @@ mod part;
 mod payload;
 mod reader;
 mod reply;
+mod written;

@@ -1,14 +1,16 @@
 //! The reading of a payload of version 1.
 ghost use Rattle.std.specs.Prelude.{◌≡◌, ◌≤◌, ◌↔◌, length, IfSome, IfNone, IfOk, IfErr, IsTrue};
+ghost use Rattle.iso2709_record.specs.Written.{record_bytes};
 ghost use Rattle.entry_history.specs.Payloads.{HoldsOld};
 ghost use Rattle.entry_history.specs.Reading.{IsOldHead, BeginOld, BeginWithNoOld, IsNoOldEntry, IsOldItem, AreOld, AreNoOld, HoldsNoneOld};
 
 use crate::EntryFault;
 use crate::entry::prepare_written;
 use crate::numbers::{coded, long_number, short_number, sized};
-use crate::part::record_part;
 use crate::payload::{is_count, read_library};
 use entry_record::Prepared;
+use iso2709_record::encode_vec;
+use marc_types::NoMemory;
 use std::alloc::Global;
 
 /// What stands before an entry's end, and what stands behind it.
@@ -38,12 +40,23 @@ fn read_head(bytes: &[u8]) -> Option<Head<'_>>
     })
 }
 
+#[tactic(auto, using(entry_record::proofs::Admitted::same_fits))]
+fn is_written(alloc: Global, item: &Prepared, written: &[u8]) -> Result<bool, NoMemory>
+    ensures { IfOk result (λ told. IsTrue told ↔ (record_bytes item.now.rec.leader item.now.rec.fields ≡ written.now)) }
+{
+    let bytes = encode_vec(alloc, &item.entry().rec)?;
+    Ok(bytes.as_slice() == written)
+}
+
 /// Whether an item stands under its library's code and is written so.
-fn is_old_item(item: &Prepared, written: &[u8]) -> bool
-    ensures { IsTrue result ↔ IsOldItem written.now item.now }
+fn is_old_item(alloc: Global, item: &Prepared, written: &[u8]) -> Result<bool, NoMemory>
+    ensures { IfOk result (λ told. IsTrue told ↔ IsOldItem written.now item.now) }
 {
     let entry = item.entry();
-    entry.key.code == entry.library && record_part(item) == written
+    if entry.key.code != entry.library {
+        return Ok(false);
+    }
+    is_written(alloc, item, written)
 }
 
 /// The entry with which bytes begin, and what stands behind it.
@@ -56,7 +69,8 @@ fn read_entry(alloc: Global, bytes: &[u8]) -> Result<(Prepared, &[u8]), EntryFau
     };
     let library = read_library(alloc, head.library)?;
     let item = prepare_written(alloc, head.written, &library, head.loader, head.ordinal)?;
-    if !is_old_item(&item, head.written) {
+    let is_old = is_old_item(alloc, &item, head.written)?;
+    if !is_old {
         return Err(EntryFault::BadEntry);
     }
     Ok((item, head.rest))

@@ -1,10 +1,10 @@
 -- A record that is taken fits its written form.
-use Rattle.std.proofs.Common.{◌≡◌, ℕ, ◌+◌, ◌*◌, ◌≤◌, Bool, true, false, ◌&&◌, not, nat_lt, nat_le, List, [], ◌∷◌, length, Some, None, refl, arith}
+use Rattle.std.proofs.Common.{◌≡◌, ℕ, ◌+◌, ◌*◌, ◌≤◌, Bool, true, false, ◌&&◌, not, nat_lt, nat_le, List, [], ◌∷◌, length, Some, None, refl, sym, subst, arith}
 use Rattle.std.specs.Prelude.{if◌then◌else◌}
 use Rattle.std.specs.List.{list_any, list_all, count_by}
 use Rattle.std.proofs.lemmas.Bool.{or_parts, and_parts, and_from, ltb-false, leb-true, le-leb}
 use Rattle.std.proofs.lemmas.List.Sums.{AllPass-from_list_all}
-use Rattle.marc_types.specs.Valid.{is_code, is_code_byte, is_number, fields_size}
+use Rattle.marc_types.specs.Valid.{is_code, is_code_byte, is_number}
 use Rattle.marc_types.specs.declared.field.Field.{Field}
 use Rattle.marc_types.specs.declared.field.Leader.{Leader}
 use Rattle.marc_types.specs.declared.key.Class.{Class}
@@ -13,11 +13,12 @@ use Rattle.marc_types.specs.declared.refusal.Refusal.{Refusal}
 use Rattle.marc_types.specs.declared.refusal.Refusal.TheVariants.{OtherType, NoNumber, BadCode, NoHeading, HeadingTooLong, NoRoom}
 use Rattle.std.specs.Option.{is_none}
 use Rattle.iso2709_record.specs.Written.{record_length, field_length, fits}
-use Rattle.iso2709_record.proofs.Lengths.{fits_from, record_bounds}
+use Rattle.iso2709_record.proofs.Lengths.{fits_from}
 use Rattle.entry_record.specs.Identity.{class_of, is_known_type, control_number_of, code_of}
 use Rattle.entry_record.specs.Authority.{is_heading_field, heading_of}
 use Rattle.entry_record.specs.Admission.{is_living_authority, has_long_heading, grown_length, has_no_room, admission_refusal}
 use Rattle.entry_record.specs.History.{IsAdmitted}
+use Rattle.entry_record.proofs.Written.{fitting_length}
 
 -- the last of six reasons in turn
 last_of : (a b c d e f : Bool) (p q r s t u : Refusal) →
@@ -71,5 +72,9 @@ admitted_library e h =
     leb-true (length e.library) 16 (and_parts (nat_le 1 (length e.library)) (nat_le (length e.library) 16)
     (and_parts (nat_le 1 (length e.library) && nat_le (length e.library) 16) (list_all is_code_byte e.library) h.library).0).1
 
-pub entry_small : (e : Entry) → fields_size e.rec.fields ≤ 1000000
-entry_small e = (record_bounds e.rec.leader e.rec.fields e.rec.valid).1
+pub admitted_length : (e : Entry) → IsAdmitted e → record_length e.rec.fields ≤ 99999
+admitted_length e h = fitting_length e.rec.fields (admitted_fits e h)
+
+-- what is the same as an admitted entry
+pub same_fits : (e f : Entry) → e ≡ f → IsAdmitted f → fits e.rec.fields ≡ true
+same_fits e f same h = subst (λ (g : Entry). fits g.rec.fields ≡ true) (sym same) (admitted_fits f h)

@@ -9,7 +9,7 @@ use Rattle.marc_types.specs.Valid.{is_graphic, is_code_byte}
 graphic_below : (b : ℕ) → is_graphic b ≡ true → b < 128
 graphic_below b h = let top : b ≤ 0x7e = leb-true b 0x7e (and_parts (nat_le 0x21 b) (nat_le b 0x7e) h).1 in omega arith
 
-graphic_is_ascii : (bs : List ℕ) → list_all is_graphic bs ≡ true → IsAscii bs
+pub graphic_is_ascii : (bs : List ℕ) → list_all is_graphic bs ≡ true → IsAscii bs
 graphic_is_ascii [] h i = omega arith
 graphic_is_ascii (b ∷ bs) h zero = graphic_below b (and_parts _ _ h).0
 graphic_is_ascii (b ∷ bs) h (suc i) = graphic_is_ascii bs (and_parts _ _ h).1 i

@@ -3,7 +3,7 @@ pub mod Admitted
 pub mod Graphic
 pub mod Growing
 pub mod Numbered
+pub mod PartItems
 pub mod Readings
-pub mod Runs
 pub mod Undivided
 pub mod Written

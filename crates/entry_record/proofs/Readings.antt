@@ -1,16 +1,12 @@
 -- What is kept of an entry, as its readers want it.
-use Rattle.std.proofs.Common.{◌≡◌, ℕ, zero, suc, ◌+◌, List, [], ◌∷◌, ◌++◌, map, length, slice_get, Option, Some, None, option_and_then, unwrap_or, refl, ap, ◌∙◌, arith, length-append}
+use Rattle.std.proofs.Common.{◌≡◌, ℕ, zero, suc, List, [], ◌∷◌, map, slice_get, Option, Some, None, option_and_then, unwrap_or, refl, ap, ◌∙◌}
 use Rattle.std.specs.Option.{option_map}
-use Rattle.std.specs.Int.{w32, w64, to_be_bytes}
 use Rattle.marc_types.specs.declared.field.Field.{Field}
 use Rattle.marc_types.specs.declared.key.Class.{Class}
 use Rattle.marc_types.specs.declared.form.Kind.{Kind}
 use Rattle.marc_types.specs.declared.entry.Entry.{Entry}
-use Rattle.iso2709_record.specs.Written.{record_length, record_bytes}
-use Rattle.iso2709_record.proofs.Lengths.{length-record_bytes}
 use Rattle.entry_record.specs.Authority.{base_form, full_form, heading_kind}
 use Rattle.entry_record.specs.Headings.{forms_of_kind, filled_forms, heading_forms}
-use Rattle.entry_record.specs.Payload.{payload_head, entry_bytes, payload_bytes, payload_of}
 use Rattle.entry_record.specs.Prepared.{heading_base_form, heading_full_form, field_form_of, full_form_of}
 use Rattle.entry_record.specs.declared.headings.HeadingForms.{HeadingForms}
 use Rattle.entry_record.proofs.Undivided.{full_either}
@@ -82,34 +78,3 @@ no_base_at e i h = no_base_in (slice_get e.rec.fields i) e.class h
 pub no_full_at : (e : Entry) (i : ℕ) → None ≡ option_and_then (heading_forms e.class) (slice_get e.rec.fields i) → None ≡ full_form_of e i
 unfolding full_form_of
 no_full_at e i h = no_full_in (slice_get e.rec.fields i) e.class h
-
-length-head : (run loader count : ℕ) (library : List ℕ) → length (payload_head run loader library count) ≡ 14 + length library
-unfolding payload_head
-length-head run loader count library =
-    omega (
-      arith,
-      length-append (to_be_bytes w64 run ++ to_be_bytes w32 loader ++ length library ∷ library) (count ∷ []),
-      length-append (to_be_bytes w64 run ++ to_be_bytes w32 loader) (length library ∷ library),
-      length-append (to_be_bytes w64 run) (to_be_bytes w32 loader),
-    )
-
-length-entry : (e : Entry) → length (entry_bytes e) ≡ 12 + record_length e.rec.fields
-unfolding entry_bytes
-length-entry e =
-    omega (
-      arith,
-      length-append (to_be_bytes w64 e.ordinal ++ to_be_bytes w32 (record_length e.rec.fields)) (record_bytes e.rec.leader e.rec.fields),
-      length-append (to_be_bytes w64 e.ordinal) (to_be_bytes w32 (record_length e.rec.fields)),
-      length-record_bytes e.rec.leader e.rec.fields,
-    )
-
-pub length-payload : (e : Entry) → length (payload_of e) ≡ 26 + length e.library + record_length e.rec.fields
-unfolding payload_bytes
-length-payload e =
-    omega (
-      arith,
-      length-append (payload_head e.run e.loader e.library 1) (entry_bytes e ++ []),
-      length-append (entry_bytes e) [],
-      length-head e.run e.loader 1 e.library,
-      length-entry e,
-    )

@@ -6,6 +6,5 @@ pub mod Headings
 pub mod History
 pub mod Identifying
 pub mod Identity
-pub mod Payload
 pub mod Prepared
 pub mod Taking

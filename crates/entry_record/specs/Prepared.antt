@@ -12,10 +12,8 @@ use Rattle.marc_types.specs.declared.record.Record.{Record}
 use Rattle.heading_fields.specs.Parts.{is_subdivided}
 use Rattle.entry_record.specs.Identity.{class_of, is_deletion, key_of}
 use Rattle.entry_record.specs.Authority.{Linkable, linkable_of, base_form, full_form, heading_kind, heading_of, successor_of}
-use Rattle.entry_record.specs.History.{IsAdmitted}
 use Rattle.entry_record.specs.Headings.{heading_forms}
-use Rattle.entry_record.specs.Payload.{payload_of}
-use Rattle.entry_record.specs.declared.headings.HeadingForms.{HeadingForms}
+use Rattle.entry_record.specs.declared.facts.Facts.{Facts}
 
 -- the authority that fields can be linked to, if the fields are those of one
 abbrev pub authority_in : Class → Key → List Field → Option Linkable
@@ -74,23 +72,23 @@ new_entry library loader ordinal rec = record {
   library = library;
 }
 
--- an admitted entry, and beside it what it comes to
-pub record IsPrepared (e : Entry) (established : Option Form) (see_from : List Form) (headings : List (Option HeadingForms)) (successor : Option Key) (payload : List ℕ) : Type 0 where
-  pub admitted : IsAdmitted e
-  pub established_is : established ≡ established_of e
-  pub see_from_is : see_from ≡ see_from_of e
-  pub headings_are : headings ≡ map (heading_forms e.class) e.rec.fields
-  pub successor_is : successor ≡ entry_successor e
-  pub payload_is : payload ≡ payload_of e
+-- the entry that stands for a record that is under its key already: no loader's, in no run
+abbrev pub kept_entry : Class → Key → Record → Entry
+kept_entry class key rec = record {
+  loader = 0;
+  ordinal = 0;
+  rec = rec;
+  class = class;
+  key = key;
+  run = 0;
+  library = [];
+}
 
--- what is kept of an admitted entry once its record is elsewhere
-pub record IsPreparation (e : Entry) (class : Class) (key : Key) (deletes bare : Bool) (established : Option Form) (see_from : List Form) (headings : List (Option HeadingForms)) (successor : Option Key) : Type 0 where
-  pub admitted : IsAdmitted e
-  pub class_is : class ≡ e.class
-  pub key_is : key ≡ e.key
-  pub deletes_is : deletes ≡ is_deletion e.rec.leader
-  pub bare_is : bare ≡ has_bare_heading e.rec.fields
-  pub established_is : established ≡ established_of e
-  pub see_from_is : see_from ≡ see_from_of e
-  pub headings_are : headings ≡ map (heading_forms e.class) e.rec.fields
-  pub successor_is : successor ≡ entry_successor e
+-- what a commit asks of an entry of that class under that key, beside its record
+pub record AreFacts (class : Class) (key : Key) (rec : Record) (facts : Facts) : Type 0 where
+  pub deletes_is : facts.deletes ≡ is_deletion rec.leader
+  pub bare_is : facts.bare ≡ has_bare_heading rec.fields
+  pub established_is : facts.established ≡ established_in (authority_in class key rec.fields)
+  pub see_from_is : facts.see_from ≡ see_from_in (authority_in class key rec.fields)
+  pub headings_are : facts.headings ≡ map (heading_forms class) rec.fields
+  pub successor_is : facts.successor ≡ successor_of rec.leader key rec.fields

@@ -158,7 +158,9 @@ fn has_no_room(fields: &[Field], headings: &[Option<HeadingForms>], class: Class
     len > MOST_RECORD_LEN
 }
 
-/// The key of a record and the forms of its heading fields, unless a catalogue doesn't take it.
+/// The key of a record and the forms of its heading fields, unless a catalogue doesn't take it. It answers the first reason: another
+/// type than a catalogue takes, no proper number, no proper code, and for an authority that stays one no heading or one that is too
+/// long; or that the record, or one of its fields, can become too long by the headings that it may be given.
 #[tactic(auto, unfolding(crate::specs::Admission::admission_refusal), using(iso2709_record::proofs::Lengths::record_bounds))]
 pub(crate) fn examine(alloc: Global, rec: &Record, library: &Text) -> Result<Examined, RecordFault>
     ensures taken { IfOk result (IsExamined library.now rec.now.leader rec.now.fields) }
@@ -178,21 +180,4 @@ pub(crate) fn examine(alloc: Global, rec: &Record, library: &Text) -> Result<Exa
         return Err(RecordFault::Refused(Refusal::NoRoom));
     }
     Ok(Examined { key, headings })
-}
-
-/// The first reason for which a catalogue doesn't take a record of a file with that library code: another type than it
-/// takes, no proper number, no proper code, and for an authority that stays one no heading or one that is too long; or
-/// that the record, or one of its fields, can become too long by the headings that it may be given.
-pub fn admission_refusal(
-    alloc: Global,
-    rec: &Record,
-    library: &Text,
-) -> Result<Option<Refusal>, NoMemory>
-    ensures { IfOk result (λ refusal. refusal ≡ admission_refusal library.now rec.now.leader rec.now.fields) }
-{
-    match examine(alloc, rec, library) {
-        Ok(_) => Ok(None),
-        Err(RecordFault::Refused(refusal)) => Ok(Some(refusal)),
-        Err(RecordFault::NoMemory) => Err(NoMemory),
-    }
 }

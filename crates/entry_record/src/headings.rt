@@ -3,9 +3,9 @@ ghost use Rattle.std.specs.Prelude.{◌≡◌, IfOk, Some, map, option_and_then,
 ghost use Rattle.std.specs.Option.{option_copied};
 ghost use Rattle.entry_record.specs.Headings.{is_divided, divided_form, filled_forms, heading_forms};
 
-use heading_fields::{controlled, full, has_subdivision, heading_kind, takes_subdivisions};
+use crate::part_forms::{base_form, full_form};
+use heading_fields::{has_subdivision, heading_kind, takes_subdivisions};
 use marc_types::{Class, Field, Form, Kind, NoMemory, Sequence, TryCopy};
-use naco_form::form;
 use std::alloc::Global;
 
 /// The base form of a heading field, and its full form where its subdivisions make that another one.
@@ -72,8 +72,7 @@ fn divided_form(
     if !is_divided(field, class) {
         return Ok(None);
     }
-    let part = full(alloc, field, kind, class)?;
-    Ok(Some(form(alloc, kind, &part)?))
+    Ok(Some(full_form(alloc, field, kind, class)?))
 }
 
 /// The forms of a field of that kind; none where its base form is empty.
@@ -86,8 +85,7 @@ pub(crate) fn forms_of_kind(
 ) -> Result<Option<HeadingForms>, NoMemory>
     ensures { IfOk result (λ made. made ≡ filled_forms class field.now (Some kind)) }
 {
-    let part = controlled(alloc, field, kind)?;
-    let base = form(alloc, kind, &part)?;
+    let base = base_form(alloc, field, kind)?;
     if base.items.is_empty() {
         return Ok(None);
     }

@@ -1,20 +1,18 @@
 //! What a record is, and which key it stands under.
-ghost use Rattle.std.specs.Prelude.{◌≡◌, None, IfOk, OnOk, IfErr, IsTrue};
+ghost use Rattle.std.specs.Prelude.{◌≡◌, [], None, IfOk, OnOk, IfErr, IsTrue, unwrap_or};
 ghost use Rattle.std.specs.Option.{option_copied};
 ghost use Rattle.std.specs.List.{list_all};
-ghost use Rattle.marc_types.specs.Valid.{is_graphic, is_number, is_code};
+ghost use Rattle.marc_types.specs.Valid.{is_graphic};
 ghost use Rattle.heading_fields.specs.Numbers.{without_blanks};
-ghost use Rattle.entry_record.specs.Identity.{class_of, is_known_type, is_deletion, has_tag, first_control, control_number_of, code_of, key_of};
-ghost use Rattle.entry_record.specs.Identifying.{own_code_of, key_refusal};
+ghost use Rattle.entry_record.specs.Identity.{class_of, is_known_type, is_deletion, has_tag, first_control, code_of, key_of};
+ghost use Rattle.entry_record.specs.Identifying.{key_refusal};
 ghost use Rattle.entry_record.specs.Answers.{IsRefusalOf};
 
 use marc_types::{
-    Class, Field, Key, Leader, NoMemory, Record, RecordFault, Refusal, Tag, Text, can_be_code,
-    can_be_number,
+    Class, Field, Key, Leader, NoMemory, Record, RecordFault, Refusal, Tag, Text, TryCopy,
+    can_be_code, can_be_number,
 };
 use std::alloc::Global;
-
-const BLANK: u8 = b' ';
 
 /// The last character of the tag of a control number, 001.
 const NUMBER: u8 = b'1';
@@ -61,7 +59,7 @@ fn is_control_tag(tag: &Tag, last: u8) -> bool
 }
 
 /// The text of the first control field whose tag is `00` and that character.
-fn first_control(fields: &[Field], last: u8) -> Option<&Text>
+pub fn first_control(fields: &[Field], last: u8) -> Option<&Text>
     ensures { option_copied result ≡ first_control last fields.now }
 {
     for field in fields {
@@ -74,99 +72,55 @@ fn first_control(fields: &[Field], last: u8) -> Option<&Text>
     None
 }
 
-pub(crate) fn filled_bytes(alloc: Global, bytes: &[u8]) -> Result<Vec<u8>, NoMemory>
-    ensures { IfOk result (λ filled. filled.items ≡ without_blanks bytes.now) }
+/// The text of that control field without its blanks; empty where there is none.
+fn filled_control(alloc: Global, fields: &[Field], last: u8) -> Result<Text, NoMemory>
+    ensures { IfOk result (λ filled. filled ≡ without_blanks (unwrap_or (first_control last fields.now) [])) }
 {
-    let filled = bytes
-        .iter()
-        .copied()
-        .filter(|byte| *byte != BLANK)
-        .collect(alloc)?;
-    Ok(filled)
-}
-
-/// The first 001 without its blanks; empty where there is none.
-#[tactic(auto, unfolding(crate::specs::Identity::control_number_of))]
-fn number_bytes(alloc: Global, fields: &[Field]) -> Result<Vec<u8>, NoMemory>
-    ensures { IfOk result (λ number. number.items ≡ control_number_of fields.now) }
-{
-    match first_control(fields, NUMBER) {
-        Some(text) => filled_bytes(alloc, text.as_bytes()),
-        None => Ok(Vec::new(alloc)),
-    }
-}
-
-/// The first 003 without its blanks; empty where there is none.
-fn own_code_bytes(alloc: Global, fields: &[Field]) -> Result<Vec<u8>, NoMemory>
-    ensures { IfOk result (λ code. code.items ≡ own_code_of fields.now) }
-{
-    match first_control(fields, CODE) {
-        Some(text) => filled_bytes(alloc, text.as_bytes()),
-        None => Ok(Vec::new(alloc)),
+    match first_control(fields, last) {
+        Some(text) => text.without_blanks(alloc),
+        None => Ok(Text::new()),
     }
 }
 
 /// The record's own code, or where it has none the library code of the file.
 #[tactic(auto, unfolding(crate::specs::Identity::code_of))]
-fn code_bytes(alloc: Global, library: &Text, fields: &[Field]) -> Result<Vec<u8>, NoMemory>
-    ensures { IfOk result (λ code. code.items ≡ code_of library.now fields.now) }
+fn code_text(alloc: Global, library: &Text, fields: &[Field]) -> Result<Text, NoMemory>
+    ensures { IfOk result (λ code. code ≡ code_of library.now fields.now) }
 {
-    let own = own_code_bytes(alloc, fields)?;
+    let own = filled_control(alloc, fields, CODE)?;
     if own.is_empty() {
-        Ok(Vec::from_slice(alloc, library.as_bytes())?)
+        library.copy(alloc)
     } else {
         Ok(own)
     }
 }
 
-/// Bytes of graphic ASCII characters as a text.
-#[tactic(auto, using(crate::proofs::Graphic::text_of_graphic))]
-fn graphic_text(bytes: Vec<u8>) -> Text
-    requires { IsTrue (list_all is_graphic bytes.items) }
-    ensures { result ≡ bytes.items }
+/// Graphic ASCII characters as a text.
+#[tactic(auto, using(crate::proofs::Graphic::graphic_is_ascii))]
+pub fn graphic_text(alloc: Global, bytes: &[u8]) -> Result<Text, NoMemory>
+    requires { IsTrue (list_all is_graphic bytes.now) }
+    ensures { IfOk result (λ made. made ≡ bytes.now) }
 {
-    match String::from_utf8(bytes) {
-        Ok(text) => Text::from_string(text),
-        Err(_) => unreachable!(),
-    }
-}
-
-#[tactic(auto, unfolding(marc_types::specs::Valid::is_number))]
-pub(crate) fn number_text(number: Vec<u8>) -> Text
-    requires { IsTrue (is_number number.items) }
-    ensures { result ≡ number.items }
-{
-    graphic_text(number)
-}
-
-#[tactic(auto, unfolding(marc_types::specs::Valid::is_code), using(crate::proofs::Graphic::code_is_graphic))]
-pub(crate) fn code_text(code: Vec<u8>) -> Text
-    requires { IsTrue (is_code code.items) }
-    ensures { result ≡ code.items }
-{
-    graphic_text(code)
+    Text::from_ascii(alloc, bytes)
 }
 
 /// The key of a record in a file of that library: the number of its first 001 under the code of its first 003, or where
 /// that is left blank under the library's code. Refused are a record without a proper number, and then one without a
 /// proper code.
-#[tactic(auto, unfolding(crate::specs::Identity::key_of))]
+#[tactic(auto, unfolding(crate::specs::Identity::key_of, crate::specs::Identity::control_number_of))]
 pub fn key_of(alloc: Global, rec: &Record, library: &Text) -> Result<Key, RecordFault>
     ensures key { IfOk result (λ key. key ≡ key_of library.now rec.now.fields) }
     ensures taken { OnOk result (key_refusal library.now rec.now.fields ≡ None) }
     ensures refused { IfErr result (IsRefusalOf (key_refusal library.now rec.now.fields)) }
 {
     let fields = rec.fields.as_slice();
-    let number = number_bytes(alloc, fields)?;
-    if !can_be_number(&number) {
+    let number = filled_control(alloc, fields, NUMBER)?;
+    if !can_be_number(number.as_bytes()) {
         return Err(RecordFault::Refused(Refusal::NoNumber));
     }
-    let code = code_bytes(alloc, library, fields)?;
-    if !can_be_code(&code) {
+    let code = code_text(alloc, library, fields)?;
+    if !can_be_code(code.as_bytes()) {
         return Err(RecordFault::Refused(Refusal::BadCode));
     }
-    Ok(Key {
-        code: code_text(code),
-        number: number_text(number),
-    })
+    Ok(Key { code, number })
 }

@@ -3,7 +3,7 @@ ghost use Rattle.std.specs.Prelude.{◌≡◌, Some, position, IfOk};
 ghost use Rattle.heading_fields.specs.Numbers.{without_blanks};
 ghost use Rattle.entry_record.specs.Authority.{is_right_parenthesis, is_valid_key, key_split_at_parenthesis, key_of_text, option_filter};
 
-use crate::identity::{code_text, filled_bytes, number_text};
+use crate::identity::graphic_text;
 use marc_types::{Key, NoMemory, Text, can_be_code, can_be_number};
 use std::alloc::Global;
 
@@ -25,6 +25,7 @@ fn split_at_parenthesis(text: &[u8]) -> (&[u8], &[u8])
     }
 }
 
+#[tactic(auto, unfolding(marc_types::specs::Valid::is_code, marc_types::specs::Valid::is_number), using(crate::proofs::Graphic::code_is_graphic))]
 fn valid_key(alloc: Global, text: &[u8]) -> Result<Option<Key>, NoMemory>
     ensures { IfOk result (λ key. key ≡ option_filter is_valid_key (Some (key_split_at_parenthesis text.now))) }
 {
@@ -33,8 +34,8 @@ fn valid_key(alloc: Global, text: &[u8]) -> Result<Option<Key>, NoMemory>
         return Ok(None);
     }
     Ok(Some(Key {
-        code: code_text(Vec::from_slice(alloc, code)?),
-        number: number_text(Vec::from_slice(alloc, number)?),
+        code: graphic_text(alloc, code)?,
+        number: graphic_text(alloc, number)?,
     }))
 }
 
@@ -43,8 +44,8 @@ fn valid_key(alloc: Global, text: &[u8]) -> Result<Option<Key>, NoMemory>
 pub fn key_of_text(alloc: Global, text: &Text) -> Result<Option<Key>, NoMemory>
     ensures { IfOk result (λ key. key ≡ key_of_text (without_blanks text.now)) }
 {
-    let filled = filled_bytes(alloc, text.as_bytes())?;
-    match filled.as_slice() {
+    let filled = text.without_blanks(alloc)?;
+    match filled.as_bytes() {
         [b'(', key_text @ ..] => valid_key(alloc, key_text),
         _ => Ok(None),
     }

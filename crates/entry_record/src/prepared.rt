@@ -1,48 +1,44 @@
 //! Entries, each with all that a catalogue asks of it.
 ghost use Rattle.std.specs.Prelude.{◌≡◌, ◌≤◌, None, map, IsTrue, IfOk, OnOk, IfErr};
-ghost use Rattle.std.specs.Option.{option_copied};
 ghost use Rattle.marc_types.specs.Valid.{is_code};
-ghost use Rattle.entry_record.specs.Identity.{is_deletion};
 ghost use Rattle.entry_record.specs.Admission.{admission_refusal};
 ghost use Rattle.entry_record.specs.History.{IsAdmitted, entry_size, in_run};
 ghost use Rattle.entry_record.specs.Answers.{IsRefusalOf};
 ghost use Rattle.entry_record.specs.Headings.{heading_forms};
-ghost use Rattle.entry_record.specs.Payload.{payload_of};
-ghost use Rattle.entry_record.specs.Prepared.{new_entry, established_of, see_from_of, field_form_of, full_form_of, entry_successor};
+ghost use Rattle.entry_record.specs.Prepared.{new_entry};
 
-use crate::access::{Access, access_of, has_bare_heading};
 use crate::admission::{Examined, examine};
-use crate::headings::{Headings, forms_at};
-use crate::identity::{class_of, is_deletion};
-use crate::payload::{HEAD_LEN, payload, write_run};
+use crate::facts::{Facts, facts_of};
+use crate::headings::Headings;
+use crate::identity::class_of;
 use crate::preparation::Preparation;
-use crate::successor::successor;
-use marc_types::{Entry, Form, Forms, Key, NoMemory, Record, RecordFault, Text, TryCopy};
+use iso2709_record::encoded_len;
+use marc_types::{Entry, NoMemory, Record, RecordFault, Text, TryCopy};
 use std::alloc::Global;
 use std::marker::Model;
-use std::snapshot::Snapshot;
 
-/// An entry that a catalogue takes, with the forms of its authority and of its heading fields, its successor and its
-/// payload, each made once. Contracts see it as the entry.
+/// What an entry counts besides its written record: the ordinal, and the record's length.
+const HEAD_LEN: u64 = 12;
+
+/// An entry that a catalogue takes, with its size and all that a commit asks of it, each found once. Contracts see it as the entry.
 #[derive(Debug, Drop)]
 pub struct Prepared {
     entry: Entry,
-    established: Option<Form>,
-    see_from: Forms,
-    headings: Headings,
-    successor: Option<Key>,
-    payload: Vec<u8>,
+    size: u64,
+    facts: Facts,
 }
 
 impl Model for Prepared {
+    ghost use Rattle.std.specs.Prelude.{◌≡◌};
     ghost use Rattle.marc_types.specs.declared.entry.Entry.{Entry};
-    ghost use Rattle.entry_record.specs.Prepared.{IsPrepared};
+    ghost use Rattle.entry_record.specs.History.{IsAdmitted, entry_size};
+    ghost use Rattle.entry_record.specs.Prepared.{AreFacts};
 
     ghost Value = { Entry };
 
     ghost view = { λ p. p.entry };
 
-    ghost invariant = { λ p. IsPrepared p.entry p.established p.see_from p.headings p.successor p.payload.items };
+    ghost invariant = { λ p. IsAdmitted p.entry × (p.size ≡ entry_size p.entry) × AreFacts p.entry.class p.entry.key p.entry.rec p.facts };
 }
 
 impl Prepared {
@@ -54,105 +50,14 @@ impl Prepared {
         &self.entry
     }
 
-    /// The entry alone.
-    pub fn into_entry(self) -> Entry
-        ensures value { result ≡ self }
-        ensures admitted { IsAdmitted self }
-    {
-        let Prepared { entry, .. } = self;
-        entry
-    }
-
     /// The entry's record, and what else a commit asks of the entry. It takes no memory.
     pub fn into_parts(self) -> (Record, Preparation)
         ensures record { result.0 ≡ self.rec }
         ensures rest { result.1 ≡ self }
         ensures admitted { IsAdmitted self }
     {
-        let Prepared {
-            entry,
-            established,
-            see_from,
-            headings,
-            successor,
-            ..
-        } = self;
-        let whole = Snapshot::of(&entry);
-        let deletes = is_deletion(&entry.rec.leader);
-        let bare = has_bare_heading(entry.rec.fields.as_slice());
-        let Entry {
-            rec,
-            class,
-            key,
-            ..
-        } = entry;
-        let preparation = Preparation {
-            whole,
-            class,
-            key,
-            deletes,
-            bare,
-            established,
-            see_from,
-            headings,
-            successor,
-        };
-        (rec, preparation)
-    }
-
-    /// The form under which fields are put under the entry's authority; none where they can't be.
-    pub fn established(&self) -> Option<&Form>
-        ensures { option_copied result ≡ established_of self.now }
-    {
-        self.established.as_ref()
-    }
-
-    /// The further forms under which the authority is found; none where it has no established form.
-    pub fn see_from(&self) -> &Forms
-        ensures { result.now ≡ see_from_of self.now }
-    {
-        &self.see_from
-    }
-
-    /// The base form of the field at a place, counted from 0; none where there is no heading field.
-    pub fn field_form(&self, field: u32) -> Option<&Form>
-        ensures { option_copied result ≡ field_form_of self.now field }
-    {
-        match forms_at(self.headings.as_slice(), field) {
-            Some(forms) => Some(&forms.base),
-            None => None,
-        }
-    }
-
-    /// The full form of the field at a place, counted from 0; none where there is no heading field.
-    pub fn full_form(&self, field: u32) -> Option<&Form>
-        ensures { option_copied result ≡ full_form_of self.now field }
-    {
-        match forms_at(self.headings.as_slice(), field) {
-            Some(forms) => Some(forms.full()),
-            None => None,
-        }
-    }
-
-    /// Whether the entry takes away what stands under its key.
-    pub fn is_deletion(&self) -> bool
-        ensures { result ≡ is_deletion self.now.rec.leader }
-    {
-        is_deletion(&self.entry.rec.leader)
-    }
-
-    /// The key that a replaced authority hands its links on to; none where it has no successor.
-    pub fn successor(&self) -> Option<&Key>
-        ensures { option_copied result ≡ entry_successor self.now }
-    {
-        self.successor.as_ref()
-    }
-
-    /// The payload of a frame of the journal that holds this entry alone.
-    pub fn payload(&self) -> &[u8]
-        ensures { result.now ≡ payload_of self.now }
-    {
-        self.payload.as_slice()
+        let Prepared { entry, facts, .. } = self;
+        Preparation::of_entry(entry, facts)
     }
 
     /// Puts the entry into a run; takes no memory.
@@ -160,14 +65,15 @@ impl Prepared {
         ensures { self.new ≡ in_run run self.old }
     {
         self.entry.run = run;
-        write_run(&mut self.payload, run);
     }
 
     /// What the entry counts against the limit in bytes: 12, and its written record.
+    #[tactic(auto, using(crate::proofs::Admitted::admitted_length))]
     pub fn size(&self) -> u64
-        ensures { result ≡ entry_size self.now }
+        ensures value { result ≡ entry_size self.now }
+        ensures small { result ≤ 100011 }
     {
-        self.payload.len() as u64 - HEAD_LEN - self.entry.library.len() as u64
+        self.size
     }
 }
 
@@ -175,40 +81,25 @@ impl TryCopy for Prepared {
     fn copy(&self, alloc: Global) -> Result<Self, NoMemory> {
         Ok(Prepared {
             entry: self.entry.copy(alloc)?,
-            established: self.established.copy(alloc)?,
-            see_from: self.see_from.copy(alloc)?,
-            headings: self.headings.copy(alloc)?,
-            successor: self.successor.copy(alloc)?,
-            payload: Vec::from_slice(alloc, self.payload.as_slice())?,
+            size: self.size,
+            facts: self.facts.copy(alloc)?,
         })
     }
 }
 
-#[tactic(auto, using(crate::proofs::Admitted::admitted_fits))]
+#[tactic(auto, using(crate::proofs::Admitted::admitted_length))]
 fn prepare_entry(alloc: Global, entry: Entry, headings: Headings) -> Result<Prepared, NoMemory>
     requires admitted { IsAdmitted entry }
     requires headings { headings ≡ map (heading_forms entry.class) entry.rec.fields }
     ensures { IfOk result (λ made. made ≡ entry) }
 {
-    let fields = entry.rec.fields.as_slice();
-    let Access {
-        established,
-        see_from,
-    } = access_of(alloc, fields, entry.class)?;
-    let successor = successor(alloc, &entry.rec.leader, &entry.key, fields)?;
-    let payload = payload(alloc, &entry)?;
-    Ok(Prepared {
-        entry,
-        established,
-        see_from,
-        headings,
-        successor,
-        payload,
-    })
+    let facts = facts_of(alloc, &entry.rec, entry.class, &entry.key, headings)?;
+    let size = HEAD_LEN + encoded_len(&entry.rec);
+    Ok(Prepared { entry, size, facts })
 }
 
 /// The entry of a record in a file of that library code, as the piece of that ordinal, counted from 1, that the loader
-/// brings. A record is refused for the first reason that there is against it, as by [`crate::admission_refusal`].
+/// brings. A record is refused for the first reason that there is against it.
 pub fn admit(
     alloc: Global,
     rec: Record,

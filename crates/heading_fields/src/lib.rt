@@ -3,7 +3,7 @@
 #![tactic(auto)]
 
 pub use numbers::{is_number_of, names};
-pub use parts::{controlled, full, has_subdivision, heading_len};
+pub use parts::{belongs, controlled, full, has_subdivision, heading_len, part_count, part_region};
 pub use rewriting::{rewrite, unlink};
 pub use tables::{authority_kind, heading_kind, is_controlled_code, takes_subdivisions};
 

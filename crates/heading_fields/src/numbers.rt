@@ -77,15 +77,12 @@ fn text_len(key: &Key) -> usize {
 pub(crate) fn number_of_key(alloc: Global, key: &Key) -> Result<Subfield, NoMemory>
     ensures { IfOk result (λ made. made ≡ number_of key.now) }
 {
-    let mut text = String::with_capacity(alloc, text_len(key))?;
-    text.push_str("(")?;
-    text.push_str(key.code.as_str())?;
-    text.push_str(")")?;
-    text.push_str(key.number.as_str())?;
-    Ok(Subfield {
-        code: NUMBER,
-        text: Text::from_string(text),
-    })
+    let mut text = Text::with_capacity(alloc, text_len(key))?;
+    text.push_str(alloc, "(")?;
+    text.push_str(alloc, key.code.as_str())?;
+    text.push_str(alloc, ")")?;
+    text.push_str(alloc, key.number.as_str())?;
+    Ok(Subfield { code: NUMBER, text })
 }
 
 /// Appends the subfields that aren't a `$0` naming the key.

@@ -40,9 +40,17 @@ pub(crate) fn split_region(subfields: &[Subfield], whole: bool) -> (&[Subfield],
     }
 }
 
+/// The subfields among which the base part or the full part of a heading may stand.
+pub fn part_region(subfields: &[Subfield], whole: bool) -> &[Subfield]
+    ensures { result.now ≡ region whole subfields.now }
+{
+    let (region, _) = split_region(subfields, whole);
+    region
+}
+
 /// Whether a subfield belongs to the base part or the full part of a heading, where it stands among the part's subfields.
 #[tactic(auto, unfolding(crate::specs::Parts::is_part))]
-pub(crate) fn belongs(subfield: &Subfield, kind: Kind, whole: bool) -> bool
+pub fn belongs(subfield: &Subfield, kind: Kind, whole: bool) -> bool
     ensures { result ≡ is_part whole kind subfield.now }
 {
     is_controlled_code(subfield.code, kind) || (whole && is_subdivision_code(subfield.code))
@@ -67,7 +75,7 @@ pub(crate) fn split_part(region: &[Subfield], kind: Kind, whole: bool) -> (&[Sub
 }
 
 /// How many of the subfields belong to the part.
-pub(crate) fn part_count(region: &[Subfield], kind: Kind, whole: bool) -> usize
+pub fn part_count(region: &[Subfield], kind: Kind, whole: bool) -> usize
     ensures { result ≤ length region.now }
 {
     region

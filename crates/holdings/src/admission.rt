@@ -1,20 +1,17 @@
 //! Which records are holdings.
-ghost use Rattle.std.specs.Prelude.{◌≡◌, None, IfOk, OnOk, IfErr, IsTrue};
-ghost use Rattle.std.specs.Option.{option_copied};
-ghost use Rattle.heading_fields.specs.Numbers.{without_blanks};
-ghost use Rattle.entry_record.specs.Identity.{first_control, has_tag};
+ghost use Rattle.std.specs.Prelude.{◌≡◌, None, IfOk, OnOk, IfErr};
 ghost use Rattle.holdings.specs.Admission.{is_holdings_type, target_number_of, holding_refusal, IsHoldingOf};
 ghost use Rattle.holdings.specs.Refusals.{IsRefusalOf};
 
 use crate::holding::{Holding, HoldingContent};
 use crate::refusal::{HoldingFault, HoldingRefusal};
-use crate::texts::number_text;
-use entry_record::key_of;
+use entry_record::{first_control, key_of};
 use iso2709_record::fits;
-use marc_types::{Field, Key, NoMemory, Record, Refusal, Tag, Text, TryCopy, can_be_number};
+use marc_types::{Field, Key, NoMemory, Record, Refusal, Text, TryCopy, can_be_number};
 use std::alloc::Global;
 
-const BLANK: u8 = b' ';
+/// The last character of the tag of the control number of the record that a holding belongs to, 004.
+const TARGET: u8 = b'4';
 
 /// Leader 06 of holdings: of an item of a form that isn't told, of one in parts, of one in a single part, and of a serial.
 fn is_holdings_type(rtype: u8) -> bool
@@ -23,46 +20,14 @@ fn is_holdings_type(rtype: u8) -> bool
     matches!(rtype, b'u' | b'v' | b'x' | b'y')
 }
 
-/// The tag of the control number of the record that a holding belongs to, 004.
-fn is_target_tag(tag: &Tag) -> bool
-    ensures { result ≡ has_tag 48 48 52 tag.now }
-{
-    tag.a == b'0' && tag.b == b'0' && tag.c == b'4'
-}
-
-/// The text of the first 004.
-fn first_target(fields: &[Field]) -> Option<&Text>
-    ensures { option_copied result ≡ first_control 52 fields.now }
-{
-    for field in fields {
-        if let Field::Control { tag, text } = field
-            && is_target_tag(tag)
-        {
-            return Some(text);
-        }
-    }
-    None
-}
-
-fn filled_bytes(alloc: Global, text: &[u8]) -> Result<Vec<u8>, NoMemory>
-    ensures { IfOk result (λ filled. filled.items ≡ without_blanks text.now) }
-{
-    let filled = text
-        .iter()
-        .copied()
-        .filter(|byte| *byte != BLANK)
-        .collect(alloc)?;
-    Ok(filled)
-}
-
 /// The first 004 without its blanks; empty where there is none.
 #[tactic(auto, unfolding(crate::specs::Admission::target_number_of))]
-fn target_number(alloc: Global, fields: &[Field]) -> Result<Vec<u8>, NoMemory>
-    ensures { IfOk result (λ number. number.items ≡ target_number_of fields.now) }
+fn target_number(alloc: Global, fields: &[Field]) -> Result<Text, NoMemory>
+    ensures { IfOk result (λ number. number ≡ target_number_of fields.now) }
 {
-    match first_target(fields) {
-        Some(text) => filled_bytes(alloc, text.as_bytes()),
-        None => Ok(Vec::new(alloc)),
+    match first_control(fields, TARGET) {
+        Some(text) => text.without_blanks(alloc),
+        None => Ok(Text::new()),
     }
 }
 
@@ -80,7 +45,7 @@ pub fn admit_holding(alloc: Global, rec: Record, code: &Text) -> Result<Holding,
     }
     let key = key_of(alloc, &rec, code)?;
     let number = target_number(alloc, rec.fields.as_slice())?;
-    if !can_be_number(&number) {
+    if !can_be_number(number.as_bytes()) {
         return Err(HoldingFault::Refused(HoldingRefusal::NoTarget));
     }
     if !fits(&rec) {
@@ -88,7 +53,7 @@ pub fn admit_holding(alloc: Global, rec: Record, code: &Text) -> Result<Holding,
     }
     let target = Key {
         code: key.code.copy(alloc)?,
-        number: number_text(number),
+        number,
     };
     Ok(Holding {
         key,

@@ -14,4 +14,3 @@ mod holding;
 mod packed;
 mod refusal;
 mod shelf;
-mod texts;

@@ -3,7 +3,7 @@ ghost use Rattle.marc_types.specs.Valid.{is_number};
 ghost use Rattle.holdings.specs.Shelves.{shelved, target_of_row};
 
 use crate::holding::HoldingContent;
-use crate::texts::number_text;
+use entry_record::graphic_text;
 use iso2709_record::{encode_into, encoded_len};
 use marc_types::{Key, NoMemory};
 use packed_keys::PackedKey;
@@ -61,13 +61,13 @@ impl PackedHolding {
     }
 
     /// The target of the holding under that key.
+    #[tactic(auto, unfolding(marc_types::specs::Valid::is_number))]
     pub fn target(&self, alloc: Global, key: &PackedKey) -> Result<Key, NoMemory>
         ensures { IfOk result (λ target. target ≡ target_of_row (key.now, self.now)) }
     {
-        let number = Vec::from_slice(alloc, self.target_number())?;
         Ok(Key {
             code: key.code_text(alloc)?,
-            number: number_text(number),
+            number: graphic_text(alloc, self.target_number())?,
         })
     }
 }

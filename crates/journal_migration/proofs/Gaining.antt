@@ -13,9 +13,9 @@ use Rattle.commit_journal.specs.Journal as journal
 use Rattle.commit_journal.specs.Journal.{and_frame, Continues, IsDurableLog}
 use Rattle.commit_journal.proofs.Logs.{version_two}
 use Rattle.commit_journal.proofs.Steps.{continues_then}
-use Rattle.entry_record.specs.Payload.{payload_of}
+use Rattle.entry_history.specs.Format.{payload_of}
 use Rattle.entry_history.specs.Payloads.{IsEntry, CanFollow, Holds}
-use Rattle.entry_payload.proofs.Payloads.{held_alone}
+use Rattle.entry_history.proofs.Alone.{held_alone}
 use Rattle.durable_catalogue.specs.Logs.{HasHistory}
 use Rattle.durable_catalogue.specs.Images.{framed_lengths}
 use Rattle.durable_catalogue.proofs.Framed.{framed_append}

@@ -13,7 +13,7 @@ ghost use Rattle.journal_migration.specs.Fronts.{Brings, BringsRest, MayGain, Ma
 use crate::MigrateFault;
 use crate::front::front_of;
 use commit_journal::{Frame, Journal};
-use entry_payload::EntryPayload;
+use entry_history::EntryPayload;
 use marc_types::Limits;
 use outside::Disk;
 use std::alloc::Global;

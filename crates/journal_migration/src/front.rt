@@ -10,10 +10,9 @@ ghost use Rattle.journal_migration.specs.declared.fault.MigrateFault.TheVariants
 
 use crate::MigrateFault;
 use commit_journal::Frame;
-use entry_history::{EntryFault, HistoryReader};
-use entry_payload::EntryPayload;
+use entry_history::{EntryFault, EntryPayload, HistoryReader};
 use entry_record::Prepared;
-use marc_types::Limits;
+use marc_types::{Limits, NoMemory};
 use std::alloc::Global;
 
 /// The entries of a journal's frames, in their order.
@@ -64,18 +63,19 @@ fn are_within(items: &[Prepared], limits: &Limits) -> bool
 }
 
 /// Whether a history begins with the entries of these items.
-fn begins(history: &[EntryPayload], items: &[Prepared]) -> bool
-    ensures { IsTrue result ↔ Begins history.now items.now }
+fn begins(alloc: Global, history: &[EntryPayload], items: &[Prepared]) -> Result<bool, NoMemory>
+    ensures { IfOk result (λ told. IsTrue told ↔ Begins history.now items.now) }
 {
     for (at, item) in items.iter().enumerate() {
         let Some(entry) = history.get(at) else {
-            return false;
+            return Ok(false);
         };
-        if !entry.is_of(item) {
-            return false;
+        let same = entry.is_of(alloc, item)?;
+        if !same {
+            return Ok(false);
         }
     }
-    true
+    Ok(true)
 }
 
 /// How many entries of a history the frames of a journal hold, which hold nothing else.
@@ -100,7 +100,10 @@ pub fn front_of(
     if !are_within(items.as_slice(), limits) {
         return Err(MigrateFault::Full);
     }
-    if !begins(history, items.as_slice()) {
+    let Ok(begun) = begins(alloc, history, items.as_slice()) else {
+        return Err(MigrateFault::NoMemory);
+    };
+    if !begun {
         return Err(MigrateFault::NotPrefix);
     }
     Ok(items.len())

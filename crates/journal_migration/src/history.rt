@@ -1,7 +1,7 @@
 //! The history that is brought into a journal.
 ghost use Rattle.std.specs.Prelude.{◌≡◌, []};
 
-use entry_payload::EntryPayload;
+use entry_history::EntryPayload;
 use entry_record::Prepared;
 use history_logs::EntryTaker;
 use marc_types::NoMemory;

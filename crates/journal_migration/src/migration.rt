@@ -8,7 +8,7 @@ use crate::MigrateFault;
 use crate::bringing::bring;
 use crate::fault::migrate_fault;
 use commit_journal::Journal;
-use entry_payload::EntryPayload;
+use entry_history::EntryPayload;
 use marc_types::Limits;
 use outside::Disk;
 use std::alloc::Global;

@@ -3,8 +3,7 @@ use Rattle.std.proofs.Common.{◌≡◌, ◌∙◌, sym, ap, refl, subst, ℕ, z
 use Rattle.numbering.specs.declared.seat.Seat.{Seat}
 use Rattle.wait_table.specs.declared.waiting.Waiting.{Waiting}
 use Rattle.numbered_store.specs.Numbered.{Grows, Numbered, KeyNumbers, with_field_of, with_record}
-use Rattle.numbered_store.specs.Steps as stored
-use Rattle.numbered_store.proofs.Growing.{grown_back}
+use Rattle.numbered_store.proofs.Growing.{field_put, record_put}
 use Rattle.numbering.specs.Numbers.{Keeps}
 use Rattle.marc_types.specs.Order.{same_key}
 use Rattle.std.specs.List.{IsDistinct}
@@ -34,10 +33,6 @@ pub record GrowsTo (c d : Contents) : Type 0 where
   pub links : d.links ≡ c.links
   pub waits : d.waits ≡ c.waits
 
--- a step that the store takes
-stored_step : (step : stored.Step) (old new : Numbered) → Grows old new → stored.Fits step old → stored.Fits step new × ((stored.apply step new).state ≡ (stored.apply step old).state)
-stored_step step old new grows fits = let both = grown_back (step ∷ []) old new grows (tt, fits) in (both.0.1, both.1)
-
 -- with another state of the records, and the same keys
 abbrev in_state : State → Contents → Contents
 in_state s c = record { numbered = record { state = s; keys = c.numbered.keys }; index = c.index; links = c.links; waits = c.waits }
@@ -54,10 +49,10 @@ state_grown c d s t grows same = record {
 
 step_grown : (step : Step) (c d : Contents) → GrowsTo c d → Fits step c → Fits step d × GrowsTo (apply step c) (apply step d)
 step_grown (ToRecord class number r) c d grows fits =
-    let both = stored_step (stored.ToRecord class number r) c.numbered d.numbered grows.numbered fits in
-    (both.0, state_grown c d (with_record class number r c.numbered).state (with_record class number r d.numbered).state grows both.1)
+    let same = record_put c.numbered d.numbered grows.numbered class number r fits in
+    (grows.numbered.longer class number fits, state_grown c d (with_record class number r c.numbered).state (with_record class number r d.numbered).state grows same)
 step_grown (ToField seat h) c d grows fits =
-    let both = stored_step (stored.ToField seat h) c.numbered d.numbered grows.numbered fits in
+    let both = field_put c.numbered d.numbered grows.numbered seat h fits in
     (both.0, state_grown c d (with_field_of seat h c.numbered).state (with_field_of seat h d.numbered).state grows both.1)
 step_grown (ToIndex number row) c d grows fits =
     let here : CanReturn d.numbered.keys.authorities number row c.index = record {

@@ -76,9 +76,6 @@ sum_least f g (x ∷ xs) a =
 -- ---- rows with one in its place
 
 module _ (f g : Row → ℕ) (key : Key) (r : KeptRecord) (n : ℕ) (own : f (key, r) ≤ n) where
-  abbrev IsLess : Row → Type 0
-  IsLess row = same_key key row.0 ≡ false → f row ≤ g row
-
   sum_above : (rows : List Row) → AllByRecursion (λ y. key_cmp key y ≡ Less) (keys_of rows) → Each (λ (row : Row). same_key key row.0 ≡ false → f row ≤ g row) rows → sum_by f rows ≤ sum_by g rows
   sum_above [] b a = omega arith
   sum_above (row ∷ rows) b a =

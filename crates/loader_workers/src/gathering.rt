@@ -36,7 +36,7 @@ pub fn gather<R: Wait, S: Source, G: Gate>(
         let pieces = before + u64::from(held) + refused.len() as u64;
         gate.before(rt, loader, pieces + 1);
         match entries.next(alloc) {
-            NextEntry::Entry(item) => match batch.push(item) {
+            NextEntry::Entry(item) => match batch.push(alloc, item) {
                 Ok(()) => {}
                 Err(_) => return (batch, Some(FileEnd::NoMemory)),
             },

@@ -2,4 +2,5 @@ pub mod Fields
 pub mod Limits
 pub mod Order
 pub mod Refusals
+pub mod Texts
 pub mod Valid

@@ -53,15 +53,6 @@ pub struct Receipt {
     pub changed_records: u64,
 }
 
-/// How a field stands in the catalogue.
-#[derive(Debug, Drop)]
-pub enum Status<'a> {
-    Linked(&'a Key),
-    Ambiguous,
-    Unlinked,
-    NoHeading,
-}
-
 /// The most that a catalogue takes: entries, and bytes of all entries.
 #[derive(Clone, Copy, Debug, PartialEq, Eq)]
 pub struct Limits {

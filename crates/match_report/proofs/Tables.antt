@@ -1,6 +1,6 @@
 -- The table after a history has the numbers of the records that are then kept.
-use Rattle.std.proofs.Common.{◌≡◌, ◌∙◌, ℕ, Bool, true, false, cond, ◌&&◌, ◌==◌, List, [], ◌∷◌, ◌++◌, map, Option, Some, None, refl, sym, ap, if◌then◌else◌}
-use Rattle.std.specs.Prelude.{filter, fold, is_none}
+use Rattle.std.proofs.Common.{◌≡◌, ◌∙◌, ℕ, Bool, true, false, cond, ◌&&◌, ◌==◌, List, [], ◌∷◌, ◌++◌, map, refl, sym, ap, if◌then◌else◌}
+use Rattle.std.specs.Prelude.{fold, is_none}
 use Rattle.std.specs.List.{flat_map}
 use Rattle.std.specs.BTreeMap.{insert_entry}
 use Rattle.std.specs.Map.{remove_entry}
@@ -12,16 +12,15 @@ use Rattle.marc_types.specs.declared.field.Field.{Field}
 use Rattle.marc_types.specs.declared.field.Field.TheVariants.{Control, Variable}
 use Rattle.marc_types.specs.declared.field.Tag.{Tag}
 use Rattle.marc_types.specs.declared.key.Class.TheVariants.{Bibliographic}
-use Rattle.marc_types.specs.declared.key.Key.{Key}
 use Rattle.marc_types.specs.declared.entry.Entry.{Entry}
-use Rattle.heading_fields.specs.Tables.{kind_by_tag, kind_of}
+use Rattle.heading_fields.specs.Tables.{kind_by_tag}
 use Rattle.entry_record.specs.Identity.{has_tag, is_deletion}
-use Rattle.catalogue_rules.specs.State.{Row, State, fields_of, rows_of}
+use Rattle.catalogue_rules.specs.State.{Row, fields_of, rows_of}
 use Rattle.catalogue_rules.specs.Receipt.{same_class}
 use Rattle.catalogue_rules.specs.Settle.{Arrival, arrival_of, state_after, state_of}
-use Rattle.kept_fields.specs.Committed.{Committed, is_plain, plain_fields, plain_of_kept, plain_of_committed, take_in, take_in_class, committed_after}
-use Rattle.kept_fields.proofs.Kept.{kept_as_committed}
-use Rattle.kept_fields.proofs.Maps.{with_value, map_inserted, map_removed}
+use Rattle.catalogue_rules.specs.Committed.{Committed, is_plain, plain_fields, plain_of_kept, plain_of_committed, take_in_class, committed_after}
+use Rattle.catalogue_rules.proofs.Kept.{kept_as_committed}
+use Rattle.catalogue_rules.proofs.Maps.{map_inserted, map_removed}
 use Rattle.match_report.specs.Numbers.{isbns_of_field, lccns_of_field, numbers_of}
 use Rattle.match_report.specs.Groups.{RecordNumbers, matches_of, lines_of}
 use Rattle.match_report.specs.Matches.{numbered_row, numbered_rows, take_numbers, table_after, match_report_of}

@@ -1,17 +1,13 @@
 //! The numbers of a record.
-ghost use Rattle.std.specs.Prelude.{◌≡◌, ◌++◌, [], IsTrue, IfOk, OnOk};
-ghost use Rattle.std.specs.List.{cons_option, list_all};
-ghost use Rattle.marc_types.specs.Valid.{is_graphic};
+ghost use Rattle.std.specs.Prelude.{◌≡◌, ◌++◌, [], IfOk, OnOk};
+ghost use Rattle.std.specs.List.{cons_option};
 ghost use Rattle.entry_record.specs.Identity.{has_tag};
-ghost use Rattle.heading_fields.specs.Numbers.{without_blanks};
 ghost use Rattle.match_report.specs.Numbers.{numbers_of, isbns_of_field, lccns_of_field, isbn_of_subfield, lccn_of_subfield, lccn_of};
 
 use crate::isbn::isbn_of;
 use crate::number::{Number, Numbers};
 use marc_types::{Field, NoMemory, Record, Subfield, Tag, Text, can_be_number};
 use std::alloc::Global;
-
-const BLANK: u8 = b' ';
 
 /// The code of the subfield that has a number, `$a`.
 const NUMBER: u8 = b'a';
@@ -34,37 +30,13 @@ fn is_tag(tag: &Tag, wanted: Tag) -> bool
     tag.a == wanted.a && tag.b == wanted.b && tag.c == wanted.c
 }
 
-/// Graphic ASCII characters as a text.
-#[tactic(auto, using(entry_record::proofs::Graphic::text_of_graphic))]
-fn graphic_text(bytes: Vec<u8>) -> Text
-    requires { IsTrue (list_all is_graphic bytes.items) }
-    ensures { result ≡ bytes.items }
-{
-    match String::from_utf8(bytes) {
-        Ok(text) => Text::from_string(text),
-        Err(_) => unreachable!(),
-    }
-}
-
-fn without_blanks(alloc: Global, text: &[u8]) -> Result<Vec<u8>, NoMemory>
-    ensures { IfOk result (λ filled. filled.items ≡ without_blanks text.now) }
-{
-    let filled = text
-        .iter()
-        .copied()
-        .filter(|byte| *byte != BLANK)
-        .collect(alloc)?;
-    Ok(filled)
-}
-
 /// The control number of a text: what it is without blanks, where a key could have that number.
-#[tactic(auto, unfolding(marc_types::specs::Valid::is_number))]
 fn lccn_of(alloc: Global, text: &Text) -> Result<Option<Text>, NoMemory>
     ensures { IfOk result (λ found. found ≡ lccn_of text.now) }
 {
-    let filled = without_blanks(alloc, text.as_bytes())?;
-    if can_be_number(&filled) {
-        Ok(Some(graphic_text(filled)))
+    let filled = text.without_blanks(alloc)?;
+    if can_be_number(filled.as_bytes()) {
+        Ok(Some(filled))
     } else {
         Ok(None)
     }

@@ -9,7 +9,7 @@ ghost use Rattle.migrate_command.specs.Migrates.{BringsInto};
 
 use crate::fault::fault_of_migrating;
 use console_lines::Fault;
-use entry_payload::EntryPayload;
+use entry_history::EntryPayload;
 use history_logs::{close_history, open_history};
 use journal_migration::{HistoryEntries, migrate};
 use outside::Room;

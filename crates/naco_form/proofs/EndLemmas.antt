@@ -1,18 +1,15 @@
 -- The end of a text, as the front of its characters in reverse.
-use Rattle.std.proofs.Common.{◌≡◌, ◌≢◌, ℕ, ◌+◌, ◌-◌, ◌<◌, Bool, true, false, List, [], ◌∷◌, ◌++◌, reverse, length, get_or, chars, IsUtf8, encode_utf8, encode_utf8_all, refl, sym, ap, ◌∙◌, arith, length-append}
+use Rattle.std.proofs.Common.{◌≡◌, ◌≢◌, ℕ, ◌<◌, Bool, true, false, List, [], ◌∷◌, ◌++◌, reverse, chars, IsUtf8, encode_utf8, encode_utf8_all, refl, sym, ap, subst, ◌∙◌, arith}
 use Rattle.std.proofs.lemmas.Bool.Decides.{nat_tests}
-use Rattle.std.proofs.lemmas.List.{reverse-append, reverse-reverse, get_or_push, append-nil}
+use Rattle.std.proofs.lemmas.List.{reverse-append, reverse-reverse, append-nil}
 use Rattle.std.proofs.lemmas.Str.{encodes-append, encode_ascii, encodes-chars}
 use Rattle.std.specs.Char.{IsScalar}
+use lib.Utf8.{low_scalar}
+use Rattle.marc_types.specs.Texts.{DropsIf}
 use Rattle.naco_form.specs.Comparison.{drop_first_comma, trim_front, trim_end}
 use Rattle.naco_form.specs.Table.{blank, comma}
 use Rattle.naco_form.specs.Pen.{PopsIf}
 use Rattle.naco_form.proofs.PenLemmas.{chars_snoc}
-
-pub last_byte : (bs front : List ℕ) (c : ℕ) → bs ≡ front ++ c ∷ [] → (0 < length bs) × (get_or bs (length bs - 1) 0 ≡ c)
-last_byte bs front c e =
-    let long : length bs ≡ length front + 1 = ap length e ∙ length-append front (c ∷ []) in
-    (omega arith, ap (λ l. get_or l (length bs - 1) 0) e ∙ get_or_push front c 0 (length bs - 1) (omega arith))
 
 -- an ASCII character at the end
 pub reverse_chars_last : (bs front : List ℕ) (c : ℕ) → IsUtf8 front → IsScalar c → c < 128 → bs ≡ front ++ c ∷ [] → reverse (chars bs) ≡ c ∷ reverse (chars front)
@@ -53,3 +50,9 @@ pub trim_done : (old new : List ℕ) → PopsIf blank (reverse old) (reverse new
 unfolding trim_end
 trim_done old new h =
     sym (reverse-reverse new) ∙ ap (λ l. reverse l) (h.0 ∙ sym (trim_front-other (reverse old) h.1))
+
+-- an ASCII character is taken off the end of the bytes
+pub pops : (old new : List ℕ) (c : ℕ) (popped : Bool) → IsUtf8 new → c < 128 → DropsIf c old new popped → PopsIf c (reverse (chars old)) (reverse (chars new)) popped
+pops old new c true text ascii e = reverse_chars_last old new c text (low_scalar c (omega arith)) ascii e
+pops old new c false text ascii h =
+    (ap (λ l. reverse (chars l)) h.0, λ rest e. h.1 _ (reverse_chars_other old rest c (subst IsUtf8 h.0 text) ascii e))

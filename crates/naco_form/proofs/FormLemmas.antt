@@ -6,7 +6,7 @@ use Rattle.marc_types.specs.declared.field.Subfield.{Subfield}
 use Rattle.marc_types.specs.declared.form.Item.{Item}
 use Rattle.naco_form.specs.Form.{item_of, is_filled, items_of}
 
-items_of-append : (xs ys : List Subfield) → items_of (xs ++ ys) ≡ items_of xs ++ items_of ys
+pub items_of-append : (xs ys : List Subfield) → items_of (xs ++ ys) ≡ items_of xs ++ items_of ys
 unfolding items_of
 items_of-append xs ys =
     ap (filter (λ (item : Item). is_filled item.text)) (map-append item_of xs ys) ∙ filter-append (λ (item : Item). is_filled item.text) (map item_of xs) (map item_of ys)

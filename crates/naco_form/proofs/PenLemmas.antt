@@ -1,5 +1,5 @@
 -- What a pen's steps do to its text and to what is still to come.
-use Rattle.std.proofs.Common.{◌≡◌, ◌≢◌, ℕ, List, [], ◌∷◌, ◌++◌, chars, string_bytes, IsUtf8, encode_utf8, refl, sym, ap, ap₂, ◌∙◌, arith, append_assoc}
+use Rattle.std.proofs.Common.{◌≡◌, ◌≢◌, ℕ, List, [], ◌∷◌, ◌++◌, chars, IsUtf8, encode_utf8, refl, sym, ap, ap₂, ◌∙◌, arith, append_assoc}
 use Rattle.std.proofs.lemmas.Bool.Decides.{nat_tests}
 use Rattle.std.proofs.lemmas.Str.{chars-append, chars-nil, chars_past_char, IsUtf8-encode, IsUtf8-append}
 use Rattle.std.proofs.lemmas.List.{append-nil}
@@ -51,9 +51,9 @@ write_held bs now at c cs text scalar h held e =
 pub put_decided : (old decided new : Pen) (c d : ℕ) (cs : List ℕ) → commas old.keeps_comma (c ∷ cs) ≡ d ∷ commas decided.keeps_comma cs → decided.out ≡ old.out → decided.at ≡ old.at → new.keeps_comma ≡ decided.keeps_comma → written_and_still new (commas decided.keeps_comma cs) ≡ written_and_still decided (d ∷ commas decided.keeps_comma cs) → whole new cs ≡ whole old (c ∷ cs)
 unfolding whole written_and_still
 put_decided old decided new c d cs comma out at keeps step =
-    ap (λ k. chars (string_bytes new.out) ++ still new.at (commas k cs)) keeps ∙ step
-    ∙ ap₂ (λ o a. chars (string_bytes o) ++ still a (d ∷ commas decided.keeps_comma cs)) out at
-    ∙ ap (λ l. chars (string_bytes old.out) ++ still old.at l) (sym comma)
+    ap (λ k. chars new.out ++ still new.at (commas k cs)) keeps ∙ step
+    ∙ ap₂ (λ o a. chars o ++ still a (d ∷ commas decided.keeps_comma cs)) out at
+    ∙ ap (λ l. chars old.out ++ still old.at l) (sym comma)
 
 -- nothing more comes
 still-nil : (at : At) → still at [] ≡ []
@@ -62,6 +62,6 @@ still-nil Front = refl
 still-nil Word = refl
 still-nil Blank = refl
 
-pub whole-nil : (pen : Pen) → whole pen [] ≡ chars (string_bytes pen.out)
+pub whole-nil : (pen : Pen) → whole pen [] ≡ chars pen.out
 unfolding whole written_and_still commas
-whole-nil pen = ap (λ l. chars (string_bytes pen.out) ++ l) (still-nil pen.at) ∙ append-nil _
+whole-nil pen = ap (λ l. chars pen.out ++ l) (still-nil pen.at) ∙ append-nil _

@@ -1,5 +1,5 @@
 -- What a pen has written, together with what is to come.
-use Rattle.std.specs.Prelude.{◌≡◌, ◌≢◌, ℕ, Bool, true, false, List, ◌∷◌, ◌++◌, chars, string_bytes}
+use Rattle.std.specs.Prelude.{◌≡◌, ◌≢◌, ℕ, Bool, true, false, List, ◌∷◌, ◌++◌, chars}
 use Rattle.naco_form.specs.declared.pen.At.{At}
 use Rattle.naco_form.specs.declared.pen.At.TheVariants.{Front, Word, Blank}
 use Rattle.naco_form.specs.declared.pen.Pen.{Pen}
@@ -14,7 +14,7 @@ still Blank cs = single_blanks (blank ∷ cs)
 
 -- the pen's text as it will be once these characters have come, their commas decided
 unfoldable pub written_and_still : Pen → List ℕ → List ℕ
-written_and_still pen cs = chars (string_bytes pen.out) ++ still pen.at cs
+written_and_still pen cs = chars pen.out ++ still pen.at cs
 
 -- the same of characters whose commas are still to be decided
 unfoldable pub whole : Pen → List ℕ → List ℕ

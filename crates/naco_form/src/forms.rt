@@ -23,13 +23,14 @@ fn items(alloc: Global, subs: &Subfields) -> Result<Items, NoMemory>
 {
     let mut items = Vec::with_capacity(alloc, subs.len())?;
     for sub in subs.as_slice() {
-        push_item(alloc, &mut items, sub)?;
+        append_item(alloc, &mut items, sub)?;
     }
     Ok(Items::from_vec(items))
 }
 
+/// Appends the item of a subfield, unless its comparison text is empty.
 #[tactic(auto, unfolding(crate::specs::Form::items_of))]
-fn push_item(alloc: Global, items: &mut Vec<Item>, sub: &Subfield) -> Result<(), NoMemory>
+pub fn append_item(alloc: Global, items: &mut Vec<Item>, sub: &Subfield) -> Result<(), NoMemory>
     ensures { OnOk result (items.new.items ≡ items.old.items ++ items_of (sub.now ∷ [])) }
 {
     let text = comparison(alloc, sub.code, &sub.text)?;

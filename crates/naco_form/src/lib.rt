@@ -6,5 +6,5 @@ mod pen;
 mod table;
 mod text;
 
-pub use forms::form;
+pub use forms::{append_item, form};
 pub use text::comparison;

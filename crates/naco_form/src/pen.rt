@@ -1,13 +1,13 @@
 //! A pen that writes a comparison text while the characters come, and holds blanks back.
-ghost use Rattle.std.specs.Prelude.{◌≡◌, ◌≢◌, ℕ, List, [], ◌∷◌, ◌++◌, ◌<◌, ◌≤◌, IsTrue, string_len, reverse, chars, string_bytes, encode_utf8_all, IfOk, OnOk};
-ghost use Rattle.std.specs.String.{string_capacity};
+ghost use Rattle.std.specs.Prelude.{◌≡◌, ◌≢◌, ℕ, List, [], ◌∷◌, ◌++◌, ◌<◌, IsTrue, IsUtf8, length, reverse, chars, encode_utf8_all, IfOk, OnOk};
 ghost use Rattle.naco_form.specs.Ascii.{ascii_entry};
 ghost use Rattle.naco_form.specs.Comparison.{commas, squeezed, keeps_first_comma, drop_first_comma, trim_end, without_last_comma};
 ghost use Rattle.naco_form.specs.Pen.{PopsIf, whole, written_and_still};
 ghost use Rattle.naco_form.specs.Table.{blank, table_entry};
 
 use crate::table::{Entry, ascii_entry_of, entry_of};
-use std::alloc::{AllocError, Global};
+use marc_types::{NoMemory, Text};
+use std::alloc::Global;
 
 /// Where a pen stands: before its first character, behind a character, or behind a character and a blank that is held back.
 #[derive(Clone, Copy)]
@@ -20,7 +20,7 @@ pub enum At {
 /// The text so far, where the pen stands, and whether the next comma stays.
 #[derive(Drop)]
 pub struct Pen {
-    pub out: String,
+    pub out: Text,
     pub at: At,
     pub keeps_comma: bool,
 }
@@ -30,19 +30,18 @@ const KEEPS_FIRST_COMMA: u8 = b'a';
 impl Pen {
     /// A pen for the text of a subfield with this code, with room for so many bytes.
     #[tactic(auto, unfolding(crate::proofs::Computing::squeezing), using(crate::proofs::PenLemmas::nothing_written))]
-    pub fn new(alloc: Global, code: u8, room: usize) -> Result<Pen, AllocError>
-        ensures text { IfOk result (λ pen. (cs : List ℕ) → whole pen cs ≡ squeezed (commas (keeps_first_comma code) cs)) }
-        ensures room { IfOk result (λ pen. room ≤ string_capacity pen.out) }
+    pub fn new(alloc: Global, code: u8, room: usize) -> Result<Pen, NoMemory>
+        ensures { IfOk result (λ pen. (cs : List ℕ) → whole pen cs ≡ squeezed (commas (keeps_first_comma code) cs)) }
     {
         Ok(Pen {
-            out: String::with_capacity(alloc, room)?,
+            out: Text::with_capacity(alloc, room)?,
             at: At::Front,
             keeps_comma: code == KEEPS_FIRST_COMMA,
         })
     }
 
     /// Takes the next character that the table gives.
-    pub fn put(&mut self, c: char) -> Result<(), AllocError>
+    pub fn put(&mut self, alloc: Global, c: char) -> Result<(), NoMemory>
         ensures { OnOk result ((cs : List ℕ) → whole self.new cs ≡ whole self.old (c ∷ cs)) }
     {
         match self.decide_comma(c) {
@@ -50,31 +49,31 @@ impl Pen {
                 self.hold_blank();
                 Ok(())
             }
-            decided => self.write(decided),
+            decided => self.write(alloc, decided),
         }
     }
 
     /// Takes the next character, as the table writes it.
-    pub fn put_entry(&mut self, c: char) -> Result<(), AllocError>
+    pub fn put_entry(&mut self, alloc: Global, c: char) -> Result<(), NoMemory>
         ensures { OnOk result ((cs : List ℕ) → whole self.new cs ≡ whole self.old (table_entry c ++ cs)) }
     {
         match entry_of(c) {
             Entry::Nothing => Ok(()),
-            Entry::One(first) => self.put(first),
+            Entry::One(first) => self.put(alloc, first),
             Entry::Two(first, second) => {
-                self.put(first)?;
-                self.put(second)
+                self.put(alloc, first)?;
+                self.put(alloc, second)
             }
         }
     }
 
     /// Takes the next ASCII character, as folding and the table write it.
-    pub fn put_ascii(&mut self, byte: u8) -> Result<(), AllocError>
+    pub fn put_ascii(&mut self, alloc: Global, byte: u8) -> Result<(), NoMemory>
         requires { byte < 128 }
         ensures { OnOk result ((cs : List ℕ) → whole self.new cs ≡ whole self.old (ascii_entry byte ++ cs)) }
     {
         match ascii_entry_of(byte) {
-            Some(c) => self.put(c),
+            Some(c) => self.put(alloc, c),
             None => Ok(()),
         }
     }
@@ -97,15 +96,15 @@ impl Pen {
     }
 
     /// Writes a character that is no blank, behind the blank that is held back.
-    fn write(&mut self, c: char) -> Result<(), AllocError>
+    fn write(&mut self, alloc: Global, c: char) -> Result<(), NoMemory>
         requires { c ≢ blank }
         ensures comma { self.new.keeps_comma ≡ self.old.keeps_comma }
         ensures text { OnOk result ((cs : List ℕ) → written_and_still self.new cs ≡ written_and_still self.old (c ∷ cs)) }
     {
         if let At::Blank = self.at {
-            self.out.push(' ')?;
+            self.out.push(alloc, ' ')?;
         }
-        self.out.push(c)?;
+        self.out.push(alloc, c)?;
         self.at = At::Word;
         Ok(())
     }
@@ -122,8 +121,8 @@ impl Pen {
     }
 
     /// The text, without a comma at its end and the blanks before that.
-    pub fn finish(self) -> String
-        ensures { string_bytes result ≡ encode_utf8_all (without_last_comma (whole self [])) }
+    pub fn finish(self) -> Text
+        ensures { result ≡ encode_utf8_all (without_last_comma (whole self [])) }
     {
         let Pen { mut out, .. } = self;
         drop_last_comma(&mut out);
@@ -133,28 +132,26 @@ impl Pen {
 }
 
 /// Takes a comma off the end.
-fn drop_last_comma(out: &mut String)
-    ensures { chars (string_bytes out.new) ≡ reverse (drop_first_comma (reverse (chars (string_bytes out.old)))) }
+fn drop_last_comma(out: &mut Text)
+    ensures { chars out.new ≡ reverse (drop_first_comma (reverse (chars out.old))) }
 {
-    pop_if(out, ',');
+    pop_if(out, b',');
 }
 
 /// Takes the blanks off the end.
-fn trim_end(out: &mut String)
-    ensures { chars (string_bytes out.new) ≡ trim_end (chars (string_bytes out.old)) }
+fn trim_end(out: &mut Text)
+    ensures trimmed { chars out.new ≡ trim_end (chars out.old) }
+    ensures utf8 { IsUtf8 out.new }
 {
-    while pop_if(out, ' ') {}
+    while pop_if(out, b' ') {}
 }
 
 /// Takes an ASCII character off the end, where the text ends with it.
-fn pop_if(out: &mut String, c: char) -> bool
-    requires { c < 128 }
-    ensures cases { PopsIf c (reverse (chars (string_bytes out.old))) (reverse (chars (string_bytes out.new))) result }
-    ensures shorter { IsTrue result → string_len out.new < string_len out.old }
+fn pop_if(out: &mut Text, byte: u8) -> bool
+    requires { byte < 128 }
+    ensures cases { PopsIf byte (reverse (chars out.old)) (reverse (chars out.new)) result }
+    ensures utf8 { IsUtf8 out.new }
+    ensures shorter { IsTrue result → length out.new < length out.old }
 {
-    if out.as_str().ends_with(c) {
-        out.pop();
-        return true;
-    }
-    false
+    out.pop_if(byte)
 }

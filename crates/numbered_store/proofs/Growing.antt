@@ -1,4 +1,4 @@
--- A store whose keys grow: each number stands for its key, and the way back is the same.
+-- A store whose keys grow: each number stands for its key, and what is put under a number changes the state as before.
 use Rattle.std.proofs.Common.{◌≡◌, ℕ, zero, suc, ◌<◌, Bool, true, false, cond, List, [], ◌∷◌, ◌++◌, length, Option, IsSome, IfSome, refl, sym, ap, ◌∙◌, subst, arith}
 use Rattle.std.specs.Prelude.{slice_get}
 use Rattle.std.specs.Option.{option_and_then}
@@ -11,8 +11,7 @@ use Rattle.marc_types.specs.declared.key.Key.{Key}
 use Rattle.catalogue_rules.specs.State.{KeptField, KeptRecord, rows_of}
 use Rattle.record_store.specs.Store.{StaysRecord, field_at, with_rows}
 use Rattle.numbered_store.specs.Rows.{row_under, with_row, with_row_field}
-use Rattle.numbered_store.specs.Numbered.{Grows, IsNumber, Numbered, field_of, key_at, keys_in, record_at, with_field_of, with_number, with_record}
-use Rattle.numbered_store.specs.Steps.{CanGoBack, Fits, Step, ToRecord, ToField, apply, apply_back}
+use Rattle.numbered_store.specs.Numbered.{Grows, IsNumber, Numbered, SuitsSeat, field_of, key_at, keys_in, record_at, with_field_of, with_number, with_record}
 use mathlib.Core.Bool.{false≢true}
 
 get_more : {X : Type 0} (xs more : List X) (n : ℕ) → n < length xs → slice_get (xs ++ more) n ≡ slice_get xs n
@@ -53,7 +52,7 @@ grows_by_a_key Bibliographic key s = record { state = refl; longer = λ c n low.
     get Bibliographic n low = with_get (is_known same_key s.keys.bibliographic key) s.keys.bibliographic key n low
     get Authority n low = refl
 
--- ---- one step
+-- ---- one change
 
 module _ (old new : Numbered) (grows : Grows old new) where
   record_grown : (class : Class) (number : ℕ) → IsNumber class number old → record_at class number new ≡ record_at class number old
@@ -69,8 +68,9 @@ module _ (old new : Numbered) (grows : Grows old new) where
       by (key ∷ keys) zero some = omega arith
       by (key ∷ keys) (suc n) some = let rest = by keys n some in omega (arith, rest)
 
-  record_state : (class : Class) (number : ℕ) (r : Option KeptRecord) → IsNumber class number old → (with_record class number r new).state ≡ (with_record class number r old).state
-  record_state class number r low =
+  -- a record under a number
+  pub record_put : (class : Class) (number : ℕ) (r : Option KeptRecord) → IsNumber class number old → (with_record class number r new).state ≡ (with_record class number r old).state
+  record_put class number r low =
       ap (λ key. with_rows class (with_row key r (rows_of class new.state)) new.state) (grows.same_key class number low)
       ∙ ap (λ s. with_rows class (with_row (key_at class number old) r (rows_of class s)) s) grows.state
 
@@ -79,25 +79,16 @@ module _ (old new : Numbered) (grows : Grows old new) where
       ap (λ key. with_rows seat.class (with_row_field key seat.field h (rows_of seat.class new.state)) new.state) (grows.same_key seat.class seat.number low)
       ∙ ap (λ s. with_rows seat.class (with_row_field (key_at seat.class seat.number old) seat.field h (rows_of seat.class s)) s) grows.state
 
-  grown_step : (step : Step) → Fits step old → Fits step new × Grows (apply step old) (apply step new)
-  grown_step (ToRecord class number r) fits =
-      (grows.longer class number fits, record { state = record_state class number r fits; longer = λ c n low. grows.longer c n low; same_key = λ c n low. grows.same_key c n low })
-  grown_step (ToField seat h) fits =
+  -- a field at a seat
+  pub field_put : (seat : Seat) (h : KeptField) → IsSome (field_of seat old) × SuitsSeat seat h.field old
+      → (IsSome (field_of seat new) × SuitsSeat seat h.field new) × ((with_field_of seat h new).state ≡ (with_field_of seat h old).state)
+  field_put seat h fits =
       let low = seat_low seat fits.0 in
       let same = record_grown seat.class seat.number low in (
         (subst (λ o. IsSome (option_and_then (field_at seat.field) o)) (sym same) fits.0, subst (λ o. IfSome o (StaysRecord seat.field h.field)) (sym same) fits.1),
-        record { state = field_state seat h low; longer = λ c n low. grows.longer c n low; same_key = λ c n low. grows.same_key c n low },
+        field_state seat h low,
       )
 
--- ---- the way
-
-grown_all : (steps : List Step) (old new : Numbered) → Grows old new → CanGoBack steps old → CanGoBack steps new × Grows (apply_back steps old) (apply_back steps new)
-grown_all [] old new grows can = (tt, grows)
-grown_all (step ∷ steps) old new grows can =
-    let rest = grown_all steps old new grows can.0 in
-    let here = grown_step (apply_back steps old) (apply_back steps new) rest.1 step can.1 in
-    ((rest.0, here.0), here.1)
-
-pub grown_back : (steps : List Step) (old new : Numbered) → Grows old new → CanGoBack steps old
-    → CanGoBack steps new × ((apply_back steps new).state ≡ (apply_back steps old).state)
-grown_back steps old new grows can = let all = grown_all steps old new grows can in (all.0, all.1.state)
+-- a number is a key's still where its record was exchanged
+pub number_stays : (class : Class) (number : ℕ) (r : Option KeptRecord) (old new : Numbered) → new ≡ with_record class number r old → IsNumber class number old → IsNumber class number new
+number_stays class number r old new is low = subst (λ s. IsNumber class number s) (sym is) low

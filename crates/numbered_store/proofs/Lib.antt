@@ -2,7 +2,6 @@ pub mod Ordered
 pub mod Slotted
 pub mod Fielded
 pub mod Shelving
-pub mod Back
 pub mod Growing
 pub mod Listed
 pub mod Keeping

@@ -1,7 +1,8 @@
 ghost use Rattle.std.specs.Prelude.{◌≡◌, ℕ, ◌+◌, ◌-◌, ◌<◌, ◌≤◌, ◌↔◌, length, max, IfOk, IsErr, OnOk, OnErr};
 ghost use Rattle.outside.specs.Disk.{longest_disk, Elapses, SameSyncs, Unchanged};
-ghost use Rattle.outside.specs.Fault.{HasCause, counted};
+ghost use Rattle.outside.specs.Fault.{HasCause, Rose, count_sum, counted};
 
+use crate::cause::Cause;
 use crate::count::raised;
 use outside::{Disk, Failed, LONGEST_DISK};
 use std::fs::File;
@@ -14,12 +15,13 @@ pub struct FileDisk {
     file: File,
     len: u64,
     faults: u64,
+    cause: Option<Cause>,
     ghost short: { len ≤ longest_disk },
 }
 
 impl FileDisk {
     /// Fails where the file's length can't be had, or is greater than [`LONGEST_DISK`].
-    pub fn new(file: File) -> Result<Self, Failed>
+    pub fn new(file: File) -> Result<Self, Cause>
         ensures fresh { IfOk result (λ disk. (⟦<FileDisk as Disk>⟧.seen disk).faults ≡ 0) }
     {
         match file.metadata() {
@@ -27,8 +29,10 @@ impl FileDisk {
                 len: found.len(),
                 file,
                 faults: 0,
+                cause: None,
             }),
-            _ => Err(Failed),
+            Ok(_) => Err(Cause::TooLong),
+            Err(error) => Err(Cause::of(&error)),
         }
     }
 
@@ -37,6 +41,23 @@ impl FileDisk {
         ensures { result ≡ (⟦<FileDisk as Disk>⟧.seen self.now).faults }
     {
         self.faults
+    }
+
+    /// Why the last call that failed did.
+    pub fn cause(&self) -> Option<Cause> {
+        self.cause
+    }
+
+    // A fault more, which had that cause.
+    fn fail(&mut self, cause: Cause) -> Failed
+        ensures faults { self.new.faults ≡ count_sum self.old.faults 1 }
+        ensures rose { Rose self.old.faults self.new.faults }
+        ensures later { self.old.faults ≤ self.new.faults }
+        ensures len { self.new.len ≡ self.old.len }
+    {
+        self.cause = Some(cause);
+        self.faults = raised(self.faults);
+        Failed
     }
 }
 
@@ -90,10 +111,8 @@ impl Disk for FileDisk {
         let most = (self.len - at).min(buf.len() as u64) as usize;
         match self.file.read_at(&mut buf[..most], at) {
             Ok(count) if count > 0 => Ok(count),
-            _ => {
-                self.faults = raised(self.faults);
-                Err(Failed)
-            }
+            Ok(_) => Err(self.fail(Cause::Other)),
+            Err(error) => Err(self.fail(Cause::of(&error))),
         }
     }
 
@@ -110,9 +129,11 @@ impl Disk for FileDisk {
         ensures counts { self.new.faults ≡ counted result self.old.faults }
     {
         let count = bytes.len() as u64;
-        if count > LONGEST_DISK - at || self.file.write_all_at(bytes, at).is_err() {
-            self.faults = raised(self.faults);
-            return Err(Failed);
+        if count > LONGEST_DISK - at {
+            return Err(self.fail(Cause::NoSpace));
+        }
+        if let Err(error) = self.file.write_all_at(bytes, at) {
+            return Err(self.fail(Cause::of(&error)));
         }
         self.len = self.len.max(at + count);
         Ok(())
@@ -129,9 +150,8 @@ impl Disk for FileDisk {
         ensures failed { OnErr result (self.new.len ≡ self.old.len) }
         ensures counts { self.new.faults ≡ counted result self.old.faults }
     {
-        if self.file.set_len(len).is_err() {
-            self.faults = raised(self.faults);
-            return Err(Failed);
+        if let Err(error) = self.file.set_len(len) {
+            return Err(self.fail(Cause::of(&error)));
         }
         self.len = len;
         Ok(())
@@ -146,10 +166,9 @@ impl Disk for FileDisk {
         // A fault counts once.
         ensures counts { self.new.faults ≡ counted result self.old.faults }
     {
-        if self.file.sync_data().is_err() {
-            self.faults = raised(self.faults);
-            return Err(Failed);
+        match self.file.sync_data() {
+            Ok(()) => Ok(()),
+            Err(error) => Err(self.fail(Cause::of(&error))),
         }
-        Ok(())
     }
 }

@@ -1,8 +1,8 @@
 ghost use Rattle.std.specs.Prelude.{◌≡◌, ◌≢◌, ℕ, List, false};
 ghost use Rattle.outside_real.specs.Held.{has_file, Holds};
 
+use crate::cause::Cause;
 use crate::opening::{OpenedAs, opened};
-use outside::Failed;
 use std::alloc::Global;
 use std::collections::BTreeMap;
 use std::fs::File;
@@ -31,7 +31,7 @@ impl HeldFiles {
         rt: &R,
         name: &str,
         sort: OpenedAs,
-    ) -> Result<File, Failed>
+    ) -> Result<File, Cause>
         ensures holds { Holds self.old self.new name.now result }
     {
         self.let_go(name);
@@ -41,18 +41,18 @@ impl HeldFiles {
     }
 
     // A second handle of one opening holds the file as long as the first.
-    fn keep(&mut self, alloc: Global, name: &str, file: &File) -> Result<(), Failed>
+    fn keep(&mut self, alloc: Global, name: &str, file: &File) -> Result<(), Cause>
         ensures holds { Holds self.old self.new name.now result }
     {
         let Ok(key) = String::from_str(alloc, name) else {
-            return Err(Failed);
+            return Err(Cause::NoMemory);
         };
         let Ok(again) = file.try_clone() else {
-            return Err(Failed);
+            return Err(Cause::Other);
         };
         match self.files.insert(key, again) {
             Ok(_) => Ok(()),
-            Err(_) => Err(Failed),
+            Err(_) => Err(Cause::NoMemory),
         }
     }
 

@@ -2,6 +2,7 @@
 //! are proved against the traits for their counts of faults alone.
 #![tactic(auto)]
 
+mod cause;
 mod count;
 mod disk;
 mod folder;
@@ -12,14 +13,16 @@ mod opening;
 mod progress;
 mod room;
 mod sink;
+mod slips;
 mod source;
 mod target;
 mod writing;
 
+pub use cause::Cause;
 pub use disk::FileDisk;
 pub use gate::OpenGate;
 pub use progress::ProgressGate;
-pub use room::FileRoom;
+pub use room::{FileRoom, Intent};
 pub use sink::FileSink;
 pub use source::{FileSource, LONGEST_INPUT};
 pub use target::{Keep, Target};

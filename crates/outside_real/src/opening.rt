@@ -4,39 +4,81 @@ ghost use Rattle.std.specs.Fs.{asks_truncate, new_options, with_read};
 ghost use Rattle.std.specs.declared.fs.locks.TryLockError.TheVariants.{WouldBlock};
 ghost use Rattle.outside_real.specs.declared.opening.OpenedAs.TheVariants.{Input};
 
-use outside::Failed;
+use crate::cause::Cause;
+use crate::slips::{begins_a_journal, is_library_word};
+use std::fs;
 use std::fs::{File, OpenOptions, TryLockError};
+use std::io::{ErrorKind, Read};
 use std::rt::Files;
 
 /// What a file is opened as.
-#[derive(Clone, Copy, Debug)]
+#[derive(Clone, Copy, Debug, PartialEq, Eq)]
 pub enum OpenedAs {
     Input,
     Output,
     Log,
 }
 
-/// Opens the file of that name and holds it: an input shared, others alone. It has the bytes that it had.
-pub fn opened<R: Files<File = File>>(rt: &R, name: &str, sort: OpenedAs) -> Result<File, Failed> {
+/// How many bytes a journal's format line has.
+const LINE: usize = 16;
+
+/// Opens the file of that name and holds it: an input shared, others alone. It has the bytes that it had. A new file isn't made
+/// under a name that has the form of a library's word.
+pub fn opened<R: Files<File = File>>(rt: &R, name: &str, sort: OpenedAs) -> Result<File, Cause> {
+    if sort != OpenedAs::Input && is_library_word(name) && is_missing(rt, name) {
+        return Err(Cause::LibraryWord);
+    }
     let file = opened_with(rt, name, sort, &options(sort))?;
     hold(&file, sort)?;
     Ok(file)
 }
 
-/// Takes the bytes of a held output off. A file that isn't regular has none to be taken.
-pub fn emptied(file: &File) -> Result<(), Failed> {
-    if is_regular(file)? && file.set_len(0).is_err() {
-        return Err(Failed);
+/// Whether there is no file of that name.
+pub fn is_missing<R: Files<File = File>>(rt: &R, name: &str) -> bool {
+    matches!(fs::exists(rt, name), Ok(false))
+}
+
+/// Whether a regular file of that name begins with a journal's format line. It is read by an opening of its own; one that can't be read is
+/// refused, since it may be a journal.
+pub fn is_journal<R: Files<File = File>>(rt: &R, name: &str) -> Result<bool, Cause> {
+    match fs::metadata(rt, name) {
+        Ok(found) if found.is_file() && found.len() >= LINE as u64 => {}
+        _ => return Ok(false),
     }
-    Ok(())
+    let mut file = opened_with(rt, name, OpenedAs::Input, &options(OpenedAs::Input))?;
+    let line = first_line(&mut file)?;
+    Ok(begins_a_journal(&line))
+}
+
+// The first bytes of a file, as many as a format line has.
+fn first_line(file: &mut File) -> Result<[u8; LINE], Cause> {
+    let mut line = [0; LINE];
+    match file.read_exact(&mut line) {
+        Ok(()) => Ok(line),
+        Err(error) => Err(Cause::of(&error)),
+    }
+}
+
+/// Takes the bytes of a held output off. A file that isn't regular has none to be taken.
+pub fn emptied(file: &File) -> Result<(), Cause> {
+    if !is_regular(file)? {
+        return Ok(());
+    }
+    match file.set_len(0) {
+        Ok(()) => Ok(()),
+        Err(error) => Err(Cause::of(&error)),
+    }
 }
 
 /// Has the system keep what a file was given. A file that isn't regular keeps nothing.
-pub fn synced(file: &File) -> Result<(), Failed> {
-    if is_regular(file)? && file.sync_all().is_err() {
-        return Err(Failed);
+pub fn synced(file: &File) -> Result<(), Cause> {
+    if !is_regular(file)? {
+        return Ok(());
     }
-    Ok(())
+    match file.sync_all() {
+        Ok(()) => Ok(()),
+        Err(error) => Err(Cause::of(&error)),
+    }
 }
 
 // The one call of the system that opens an input, an output or a log.
@@ -45,14 +87,18 @@ fn opened_with<R: Files<File = File>>(
     name: &str,
     sort: OpenedAs,
     how: &OpenOptions,
-) -> Result<File, Failed>
+) -> Result<File, Cause>
     // No opening cuts a file, since another may hold it. An input is opened to be read, so it is neither made nor written.
     requires uncut { asks_truncate how.now ≡ false }
     requires only_read { sort ≡ Input → how.now ≡ with_read new_options true }
 {
     match how.open(rt, name) {
         Ok(file) => Ok(file),
-        Err(_) => Err(Failed),
+        // A file that can be made is missing only where its folder is.
+        Err(error) if error.kind() == ErrorKind::NotFound && sort != OpenedAs::Input => {
+            Err(Cause::NoSuchFolder)
+        }
+        Err(error) => Err(Cause::of(&error)),
     }
 }
 
@@ -70,7 +116,7 @@ fn options(sort: OpenedAs) -> OpenOptions
 }
 
 // A pipe or a device is held by nobody.
-fn hold(file: &File, sort: OpenedAs) -> Result<(), Failed> {
+fn hold(file: &File, sort: OpenedAs) -> Result<(), Cause> {
     if !is_regular(file)? {
         return Ok(());
     }
@@ -80,19 +126,19 @@ fn hold(file: &File, sort: OpenedAs) -> Result<(), Failed> {
     })
 }
 
-fn is_regular(file: &File) -> Result<bool, Failed> {
+fn is_regular(file: &File) -> Result<bool, Cause> {
     match file.metadata() {
         Ok(found) => Ok(found.is_file()),
-        Err(_) => Err(Failed),
+        Err(error) => Err(Cause::of(&error)),
     }
 }
 
 // A file is refused exactly where another has it. Where the system can't hold it for another reason, it is used unheld.
-fn judged(answer: Result<(), TryLockError>) -> Result<(), Failed>
+fn judged(answer: Result<(), TryLockError>) -> Result<(), Cause>
     ensures { IsErr result ↔ (answer ≡ Err WouldBlock) }
 {
     match answer {
-        Err(TryLockError::WouldBlock) => Err(Failed),
+        Err(TryLockError::WouldBlock) => Err(Cause::InUse),
         Ok(()) | Err(TryLockError::Error(_)) => Ok(()),
     }
 }

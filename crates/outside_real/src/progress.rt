@@ -8,14 +8,14 @@ const STRIDE: u64 = 100_000;
 
 /// A gate that holds nobody back, and tells on standard error how many pieces of a long file have been read.
 #[derive(Drop)]
-pub struct ProgressGate<'a, R> {
+pub struct ProgressGate<R> {
     rt: R,
-    files: Vec<&'a str>,
+    files: Vec<String>,
 }
 
-impl<'a, R: Eprint> ProgressGate<'a, R> {
-    /// The names of the files stand at their loaders' numbers.
-    pub fn new(rt: R, files: Vec<&'a str>) -> Self {
+impl<R: Eprint> ProgressGate<R> {
+    /// The names of the files stand at their loaders' numbers; nothing is told of a file that has none.
+    pub fn new(rt: R, files: Vec<String>) -> Self {
         ProgressGate { rt, files }
     }
 
@@ -27,7 +27,7 @@ impl<'a, R: Eprint> ProgressGate<'a, R> {
     }
 }
 
-impl<R: Eprint> Gate for ProgressGate<'_, R> {
+impl<R: Eprint> Gate for ProgressGate<R> {
     fn before(&self, _rt: &impl Wait, loader: u32, ordinal: u64) {
         let pieces = ordinal.saturating_sub(1);
         if pieces >= STRIDE && pieces % STRIDE == 0 {

@@ -4,13 +4,15 @@ ghost use Rattle.outside.specs.Room.{AsOutput, AsLog, SameBut};
 ghost use Rattle.outside_real.specs.Held.{has_file, Holds};
 ghost use Rattle.outside_real.specs.View.{file_room_view, HasCounts};
 
+use crate::cause::Cause;
 use crate::count::{added, raised};
 use crate::disk::FileDisk;
 use crate::folder::folder_of;
 use crate::held::HeldFiles;
 use crate::names::Names;
-use crate::opening::{OpenedAs, emptied};
+use crate::opening::{OpenedAs, emptied, is_journal, is_missing};
 use crate::sink::FileSink;
+use crate::slips::is_library_word;
 use crate::source::FileSource;
 use crate::target::Target;
 use outside::{Disk, Failed, GivenUp, Room, Sink, Source};
@@ -33,9 +35,19 @@ pub struct FileRoom<R: Files> {
     outs: u64,
     logs: u64,
     closed: GivenUp<FileSource<File>>,
+    intent: Intent,
 }
 
-impl<R: Files<File = File> + Print + Clone + Drop> FileRoom<R> {
+/// What a command is about to do with its files, so that a slip of the hand is found before anything is loaded.
+#[derive(Drop)]
+pub struct Intent {
+    /// The names of the command's outputs.
+    pub outputs: Vec<String>,
+    /// Whether the command only reads its journal, so that one that isn't there is told.
+    pub reads: bool,
+}
+
+impl<R: Files<File = File> + Print + Eprint + Clone + Drop> FileRoom<R> {
     pub fn new(rt: R, alloc: Global) -> Self
         ensures closed { (n : List ℕ) → (file_room_view result).open_as n ≡ None }
         ensures counts { HasCounts result 0 0 0 }
@@ -51,11 +63,25 @@ impl<R: Files<File = File> + Print + Clone + Drop> FileRoom<R> {
             outs: 0,
             logs: 0,
             closed: GivenUp::none(),
+            intent: Intent {
+                outputs: Vec::new(alloc),
+                reads: false,
+            },
         }
     }
 
+    /// The command that uses the room next is of that intent.
+    pub fn intend(&mut self, intent: Intent)
+        ensures names { (n : List ℕ) → (file_room_view self.new).open_as n ≡ (file_room_view self.old).open_as n }
+        ensures counts { HasCounts self.new self.old.ins self.old.outs self.old.logs }
+        ensures held { self.new.held ≡ self.old.held }
+        ensures lefts { self.new.closed ≡ self.old.closed }
+    {
+        self.intent = intent;
+    }
+
     // The disk over a log's file.
-    fn disk_of(&self, name: &str, file: File) -> Result<FileDisk, Failed>
+    fn disk_of(&self, name: &str, file: File) -> Result<FileDisk, Cause>
         ensures fresh { IfOk result (λ disk. (⟦<FileDisk as Disk>⟧.seen disk).faults ≡ 0) }
     {
         let disk = FileDisk::new(file)?;
@@ -68,11 +94,66 @@ impl<R: Files<File = File> + Print + Clone + Drop> FileRoom<R> {
     }
 
     // Without this a crash of the machine may lose the name of a new file.
-    fn sync_folder(&self, name: &str) -> Result<(), Failed> {
+    fn sync_folder(&self, name: &str) -> Result<(), Cause> {
         match File::open(&self.rt, folder_of(name)) {
-            Ok(folder) if folder.sync_all().is_ok() => Ok(()),
-            _ => Err(Failed),
+            Ok(folder) => match folder.sync_all() {
+                Ok(()) => Ok(()),
+                Err(error) => Err(Cause::of(&error)),
+            },
+            Err(error) => Err(Cause::of(&error)),
         }
+    }
+
+    // Tells of which file a fault is, and why. A line that can't be written is no fault of the command.
+    fn tell(&self, name: &str, cause: Cause) {
+        let _told = eprintln!(self.rt; "union_cat: {name}{cause}");
+    }
+
+    fn tell_some(&self, name: &str, cause: Option<Cause>) {
+        if let Some(cause) = cause {
+            self.tell(name, cause);
+        }
+    }
+
+    // A command that only reads its journal was given none, and goes on as if it were empty.
+    fn tell_empty(&self, name: &str, is_new: bool) {
+        if is_new {
+            let _told = eprintln!(self.rt; "union_cat: {name} wasn't there: an empty catalogue");
+        }
+    }
+
+    // Why no output may come under that name: it would take a journal's place, or it is a library's word.
+    fn slip_of(&self, name: &str) -> Option<Cause> {
+        match is_journal(&self.rt, name) {
+            Ok(true) => Some(Cause::IsJournal),
+            Ok(false) if is_library_word(name) && is_missing(&self.rt, name) => {
+                Some(Cause::LibraryWord)
+            }
+            Ok(false) => None,
+            Err(cause) => Some(cause),
+        }
+    }
+
+    // Whether an output of the command is a slip, which is told then.
+    fn has_slip(&self) -> bool {
+        for name in &self.intent.outputs {
+            if let Some(cause) = self.slip_of(name.as_str()) {
+                self.tell(name.as_str(), cause);
+                return true;
+            }
+        }
+        false
+    }
+
+    // An output that is held and empty.
+    fn output_of(&self, name: &str, file: File) -> Result<FileSink<Target<R>>, Cause>
+        ensures fresh { IfOk result (λ object. ⟦<FileSink<Target<R>> as Sink>⟧.faults object ≡ 0) }
+    {
+        if is_journal(&self.rt, name)? {
+            return Err(Cause::IsJournal);
+        }
+        emptied(&file)?;
+        Ok(FileSink::gathering(self.alloc, Target::File(file)))
     }
 
     // The name is open in no way any more.
@@ -89,7 +170,7 @@ impl<R: Files<File = File> + Print + Clone + Drop> FileRoom<R> {
     }
 }
 
-impl<R: Files<File = File> + Print + Clone + Drop> Room for FileRoom<R> {
+impl<R: Files<File = File> + Print + Eprint + Clone + Drop> Room for FileRoom<R> {
     ghost use Rattle.std.proofs.Common.{refl};
 
     type In = FileSource<File>;
@@ -119,7 +200,8 @@ impl<R: Files<File = File> + Print + Clone + Drop> Room for FileRoom<R> {
     {
         match self.held.open(self.alloc, &self.rt, name, OpenedAs::Input) {
             Ok(file) => Ok(FileSource::new(file)),
-            Err(_) => {
+            Err(cause) => {
+                self.tell(name, cause);
                 self.ins = raised(self.ins);
                 Err(Failed)
             }
@@ -141,12 +223,16 @@ impl<R: Files<File = File> + Print + Clone + Drop> Room for FileRoom<R> {
     {
         // The name first, so that want of memory leaves the file as it was.
         if self.outputs.add(self.alloc, name).is_ok() {
-            if let Ok(file) = self.held.open(self.alloc, &self.rt, name, OpenedAs::Output) {
-                if emptied(&file).is_ok() {
-                    return Ok(FileSink::gathering(self.alloc, Target::File(file)));
-                }
+            match self.held.open(self.alloc, &self.rt, name, OpenedAs::Output) {
+                Ok(file) => match self.output_of(name, file) {
+                    Ok(sink) => return Ok(sink),
+                    Err(cause) => self.tell(name, cause),
+                },
+                Err(cause) => self.tell(name, cause),
             }
             self.outputs.remove(name);
+        } else {
+            self.tell(name, Cause::NoMemory);
         }
         self.outs = raised(self.outs);
         Err(Failed)
@@ -165,11 +251,17 @@ impl<R: Files<File = File> + Print + Clone + Drop> Room for FileRoom<R> {
         ensures holds { Holds self.old.held self.new.held name.now result }
         ensures lefts { self.new.closed ≡ self.old.closed }
     {
-        if self.open_logs.add(self.alloc, name).is_ok() {
-            if let Ok(file) = self.held.open(self.alloc, &self.rt, name, OpenedAs::Log) {
-                if let Ok(disk) = self.disk_of(name, file) {
-                    return Ok(disk);
-                }
+        if !self.has_slip() && self.open_logs.add(self.alloc, name).is_ok() {
+            let is_new = self.intent.reads && is_missing(&self.rt, name);
+            match self.held.open(self.alloc, &self.rt, name, OpenedAs::Log) {
+                Ok(file) => match self.disk_of(name, file) {
+                    Ok(disk) => {
+                        self.tell_empty(name, is_new);
+                        return Ok(disk);
+                    }
+                    Err(cause) => self.tell(name, cause),
+                },
+                Err(cause) => self.tell(name, cause),
             }
             self.open_logs.remove(name);
         }
@@ -177,12 +269,13 @@ impl<R: Files<File = File> + Print + Clone + Drop> Room for FileRoom<R> {
         Err(Failed)
     }
 
-    fn close_in(&mut self, _name: &str, object: FileSource<File>)
+    fn close_in(&mut self, name: &str, object: FileSource<File>)
         ensures stays { SameBut (file_room_view self.old) (file_room_view self.new) [] }
         ensures counts { HasCounts self.new (count_sum self.old.ins (⟦<FileSource<File> as Source>⟧.faults object)) self.old.outs self.old.logs }
         ensures held { self.new.held ≡ self.old.held }
         ensures left { self.new.closed ≡ ⟦<FileSource<File> as Source>⟧.left object ∷ self.old.closed }
     {
+        self.tell_some(name, object.cause());
         self.ins = added(self.ins, object.faults());
         self.closed.give_up(&object);
     }
@@ -200,6 +293,7 @@ impl<R: Files<File = File> + Print + Clone + Drop> Room for FileRoom<R> {
         ensures lefts { self.new.closed ≡ self.old.closed }
     {
         let finished = object.finish();
+        self.tell_some(name, object.cause());
         self.outs = added(self.outs, object.faults());
         self.forget(name);
         finished
@@ -214,6 +308,7 @@ impl<R: Files<File = File> + Print + Clone + Drop> Room for FileRoom<R> {
         ensures held { self.new.held ≡ self.old.held }
         ensures lefts { self.new.closed ≡ self.old.closed }
     {
+        self.tell_some(name, object.cause());
         self.logs = added(self.logs, object.faults());
         self.forget(name);
     }

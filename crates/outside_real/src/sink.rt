@@ -4,6 +4,7 @@ ghost use Rattle.outside.specs.Fault.{HasCause, counted};
 ghost use Rattle.outside.specs.Sink.{WritesFront};
 ghost use Rattle.outside_real.specs.Gathering.{GathersNothing};
 
+use crate::cause::Cause;
 use crate::count::raised;
 use crate::target::Keep;
 use crate::writing::{pass_on, write_whole};
@@ -21,6 +22,7 @@ pub struct FileSink<W: Write + Drop> {
     to: W,
     gathered: Vec<u8>,
     faults: u64,
+    cause: Option<Cause>,
 }
 
 impl<W: Write + Drop> FileSink<W> {
@@ -35,6 +37,7 @@ impl<W: Write + Drop> FileSink<W> {
             to,
             gathered,
             faults: 0,
+            cause: None,
         }
     }
 
@@ -49,6 +52,7 @@ impl<W: Write + Drop> FileSink<W> {
             to,
             gathered: Vec::new(alloc),
             faults: 0,
+            cause: None,
         }
     }
 
@@ -57,6 +61,11 @@ impl<W: Write + Drop> FileSink<W> {
         ensures { result ≡ ⟦<FileSink<W> as Sink>⟧.faults self.now }
     {
         self.faults
+    }
+
+    /// Why the first call that failed did.
+    pub fn cause(&self) -> Option<Cause> {
+        self.cause
     }
 
     /// Writes what was gathered. Where a call failed before, some of that may be lost: then this fails too, and writes nothing.
@@ -78,11 +87,11 @@ impl<W: Write + Drop> FileSink<W> {
     {
         if self.faults > 0 {
             self.gathered.clear();
-            return self.counted(false);
+            return self.counted(Err(Cause::Other));
         }
         let written = pass_on(&mut self.to, self.gathered.as_slice());
         self.gathered.clear();
-        self.counted(written.is_ok())
+        self.counted(written)
     }
 
     // Takes a piece in, for which there is place.
@@ -92,19 +101,25 @@ impl<W: Write + Drop> FileSink<W> {
         ensures counts { self.new.faults ≡ counted result self.old.faults }
         ensures cause { HasCause (⟦<FileSink<W> as Sink>⟧.faults self.old) (⟦<FileSink<W> as Sink>⟧.faults self.new) result }
     {
-        let taken = self.gathered.extend_from_slice(piece);
-        self.counted(taken.is_ok())
+        match self.gathered.extend_from_slice(piece) {
+            Ok(()) => self.counted(Ok(())),
+            Err(_) => self.counted(Err(Cause::NoMemory)),
+        }
     }
 
-    fn counted(&mut self, done: bool) -> Result<(), Failed>
-        ensures answer { is_ok result ≡ done }
+    // A fault counts, and the first is the one that is told.
+    fn counted(&mut self, done: Result<(), Cause>) -> Result<(), Failed>
+        ensures answer { is_ok result ≡ is_ok done }
         ensures to { self.new.to ≡ self.old.to }
         ensures gathered { self.new.gathered ≡ self.old.gathered }
         ensures counts { self.new.faults ≡ counted result self.old.faults }
         ensures cause { HasCause (⟦<FileSink<W> as Sink>⟧.faults self.old) (⟦<FileSink<W> as Sink>⟧.faults self.new) result }
     {
-        if done {
+        let Err(cause) = done else {
             return Ok(());
+        };
+        if self.cause.is_none() {
+            self.cause = Some(cause);
         }
         self.faults = raised(self.faults);
         Err(Failed)
@@ -130,7 +145,7 @@ impl<W: Write + Keep + Drop> FileSink<W> {
     {
         self.flush()?;
         let kept = self.to.keep();
-        self.counted(kept.is_ok())
+        self.counted(kept)
     }
 }
 
@@ -160,7 +175,7 @@ impl<W: Write + Drop> Sink for FileSink<W> {
     {
         // What was gathered may be lost, so nothing may come behind it.
         if self.faults != 0 {
-            return self.counted(false);
+            return self.counted(Err(Cause::Other));
         }
         if piece.len() < self.gathered.capacity() - self.gathered.len() {
             return self.gather(piece);
@@ -170,6 +185,6 @@ impl<W: Write + Drop> Sink for FileSink<W> {
             return self.gather(piece);
         }
         let written = write_whole(&mut self.to, piece);
-        self.counted(written.is_ok())
+        self.counted(written)
     }
 }

@@ -3,8 +3,10 @@ ghost use Rattle.std.specs.Io.{ReadsAtMost};
 ghost use Rattle.std.specs.Io.KnownBytes.{Consumes, IsAtEnd};
 ghost use Rattle.outside.specs.Fault.{HasCause, counted};
 
+use crate::cause::Cause;
 use crate::count::raised;
 use outside::{Failed, Source};
+use std::io;
 use std::io::Read;
 
 /// The longest input: one gibibyte.
@@ -16,6 +18,7 @@ pub struct FileSource<F: Read> {
     file: F,
     remaining: u64,
     faults: u64,
+    cause: Option<Cause>,
 }
 
 impl<F: Read> FileSource<F> {
@@ -29,6 +32,7 @@ impl<F: Read> FileSource<F> {
             file,
             remaining: LONGEST_INPUT,
             faults: 0,
+            cause: None,
         }
     }
 
@@ -37,6 +41,11 @@ impl<F: Read> FileSource<F> {
         ensures { result ≡ ⟦<FileSource<F> as Source>⟧.faults self.now }
     {
         self.faults
+    }
+
+    /// Why the last call that failed did.
+    pub fn cause(&self) -> Option<Cause> {
+        self.cause
     }
 }
 
@@ -72,10 +81,19 @@ impl<F: Read> Source for FileSource<F> {
                 self.remaining -= count as u64;
                 Ok(count)
             }
-            _ => {
+            answer => {
+                self.cause = Some(cause_of(&answer));
                 self.faults = raised(self.faults);
                 Err(Failed)
             }
         }
+    }
+}
+
+// A read that gives bytes is a fault only behind the longest input.
+fn cause_of(answer: &io::Result<usize>) -> Cause {
+    match answer {
+        Ok(_) => Cause::TooLong,
+        Err(error) => Cause::of(error),
     }
 }

@@ -1,7 +1,7 @@
 ghost use Rattle.std.specs.Prelude.{◌≤◌, length, IfOk, OnOk, ⊤};
 
+use crate::cause::Cause;
 use crate::opening::synced;
-use outside::Failed;
 use std::fs::File;
 use std::io;
 use std::io::Write;
@@ -12,7 +12,7 @@ pub trait Keep {
     ghost keeps: { Self → Type 0 };
 
     /// Has the system keep what was written. Some systems tell only then that they couldn't.
-    fn keep(&self) -> Result<(), Failed>
+    fn keep(&self) -> Result<(), Cause>
         ensures { OnOk result (keeps self.now) };
 }
 
@@ -27,7 +27,7 @@ impl<R> Keep for Target<R> {
     // What the system does isn't known.
     ghost keeps = { λ _. ⊤ };
 
-    fn keep(&self) -> Result<(), Failed> {
+    fn keep(&self) -> Result<(), Cause> {
         match self {
             Target::File(file) => synced(file),
             Target::Console(_) => Ok(()),

@@ -36,8 +36,8 @@ fn load_under<H: Threads + Wait + Sync, D: Disk + Send, S: Source + Send, G: Gat
     requires proper { All (λ file. IsTrue (is_code file.code)) files }
     requires whole { mark_of lock.opened.mark ≡ None }
     requires run { lock.opened.run ≡ next_run lock.opened.core.history }
-    requires limits { lock.opened.limits.entries ≤ most_entries }
-    ensures loaded { IfOk result.2 (λ results. AreLoaded S.left S.faults lock.opened.limits lock.opened.core.history files result.1 results
+    requires limits { lock.opened.core.limits.entries ≤ most_entries }
+    ensures loaded { IfOk result.2 (λ results. AreLoaded S.left S.faults lock.opened.core.limits lock.opened.core.history files result.1 results
         result.0.core.history (mark_of result.0.mark)) }
     ensures unbegun { OnErr result.2 (result.0.core.history ≡ lock.opened.core.history) }
     ensures unmarked { OnErr result.2 (mark_of result.0.mark ≡ None) }
@@ -73,10 +73,10 @@ pub fn load_files<H: Threads + Wait + Sync, D: Disk + Send, S: Source + Send, G:
     requires proper { All (λ file. IsTrue (is_code file.code)) files }
     requires whole { mark_of durable.mark ≡ None }
     requires run { durable.run ≡ next_run durable.core.history }
-    requires limits { durable.limits.entries ≤ most_entries }
+    requires limits { durable.core.limits.entries ≤ most_entries }
 
     // What is committed of each file, counted and refused, and why its loading ended.
-    ensures loaded { IfOk result.2 (λ results. AreLoaded S.left S.faults durable.limits durable.core.history files result.1 results
+    ensures loaded { IfOk result.2 (λ results. AreLoaded S.left S.faults durable.core.limits durable.core.history files result.1 results
         result.0.core.history (mark_of result.0.mark)) }
 
     // Without memory to begin, all is as it was.

@@ -1,3 +1,8 @@
+pub mod Lengths
+pub mod Taken
+pub mod Drafts
+pub mod Given
+pub mod Limits
 pub mod Summed
 pub mod Loads
 pub mod Passes

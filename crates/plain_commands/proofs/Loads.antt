@@ -1,26 +1,14 @@
 -- How the loading of a file ends.
-use Rattle.std.proofs.Common.{◌≡◌, ◌∙◌, ℕ, ◌≤◌, Bool, true, false, List, ◌++◌, Option, Some, None, Ok, Err, ap, arith, refl, subst, sym, cond}
-use Rattle.std.specs.Option.{option_map}
+use Rattle.std.proofs.Common.{◌≡◌, ◌∙◌, ℕ, ◌≤◌, Bool, true, false, List, ◌++◌, Option, Some, None, Err, ap, arith, refl, subst, sym, cond}
 use Rattle.marc_types.specs.declared.entry.Entry.{Entry}
 use Rattle.outside.specs.Fault.{Rose}
 use Rattle.marc_stream.specs.Pieces.{Item, items}
-use Rattle.marc_stream.specs.Stream.{opened}
 use Rattle.file_entries.specs.Files.{IsEntryOf, IsJudged}
-use Rattle.file_entries.specs.Entries.{FileView, IsSameFile, GivesEntry, IsEnd, IsFault, IsAnswered}
-use Rattle.file_entries.proofs.Judged.{answered_all, answered_entry, answered_refused}
+use Rattle.file_entries.specs.Entries.{FileView, IsSameFile, GivesEntry, IsFault, IsAnswered}
+use Rattle.file_entries.proofs.Judged.{answered_entry, answered_refused}
 use Rattle.console_lines.specs.declared.fault.Fault.{Fault}
 use Rattle.console_lines.specs.declared.fault.Fault.TheVariants.{Usage, Input, Device, NotAJournal, Full, Memory, OldVersion, OtherHistory}
-use Rattle.plain_commands.specs.Totals.{IsWithinLimits}
-use Rattle.plain_commands.specs.Loading.{LoadedView, lacks_room, IsLoaded, IsFullAt, IsTakenUp, TakenAsEntry, TakenAsRefused, IsOverfull, TakesNext, LoadsItems, told_items}
-
--- no item is left
-pub loaded_all : (start now end : FileView) (loaded : LoadedView) → start.loader ≡ 0 → IsAnswered start now loaded.accepted loaded.refused
-    → IsEnd now end → IsWithinLimits loaded.accepted → start.stream.tells ≡ true → IsLoaded start.library start.stream.coming loaded
-loaded_all start now end loaded loader so_far ended within told = record {
-  judged = subst (λ (n : ℕ). IsJudged start.library n start.stream.coming loaded.accepted loaded.refused) loader
-      (answered_all start now end loaded.accepted loaded.refused so_far ended told);
-  within = within;
-}
+use Rattle.plain_commands.specs.Loading.{LoadedView, lacks_room, IsFullAt, IsTakenUp, TakenAsEntry, TakenAsRefused, IsOverfull, TakesNext, LoadsItems, told_items}
 
 -- the next entry doesn't fit
 pub full_here : (start now next : FileView) (loaded : LoadedView) (e : Entry) → start.loader ≡ 0 → IsAnswered start now loaded.accepted loaded.refused
@@ -58,26 +46,6 @@ answered_taken start now next before after so_far same (TakenAsRefused item give
 known_is : (tells : Bool) (coming items : List Item) → cond tells (Some coming) None ≡ Some items → (tells ≡ true) × (coming ≡ items)
 known_is true coming items is = (refl, cc)
 known_is false coming items is = cc
-
-pub known_opened : (left : Option (List ℕ)) (bound faults : ℕ) → told_items (opened left bound faults) ≡ option_map items left
-known_opened None bound faults = refl
-known_opened (Some bytes) bound faults = refl
-
--- all items were taken up
-pub loads_all : (start now end : FileView) (before loaded : LoadedView) → start.loader ≡ 0 → IsAnswered start now before.accepted before.refused
-    → TakesNext now before (Ok false) end loaded → IsWithinLimits loaded.accepted
-    → LoadsItems start.library (told_items start.stream) start.stream.faults end.stream.faults (Ok loaded)
-loads_all start now end before loaded loader so_far (ended, same) within =
-    let so : IsAnswered start now loaded.accepted loaded.refused =
-    subst (λ (l : LoadedView). IsAnswered start now l.accepted l.refused) (sym same) so_far in
-    record {
-      loaded = λ all told. let known = known_is start.stream.tells start.stream.coming all told in
-          subst (λ l. IsLoaded start.library l loaded) known.1 (loaded_all start now end loaded loader so ended within known.0);
-      full = tt;
-      faults = omega (arith, so_far.faults, ended.ends.reads.faults);
-      cause = tt;
-      kind = tt;
-    }
 
 module _ (start now next : FileView) (before : LoadedView) (so_far : IsAnswered start now before.accepted before.refused) where
   -- the next entry didn't fit

@@ -1,3 +1,4 @@
+pub mod Entries
 pub mod Totals
 pub mod Loading
 pub mod Passing

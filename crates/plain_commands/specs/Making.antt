@@ -5,7 +5,7 @@ use Rattle.outside.specs.Fault.{Rose}
 use Rattle.outside.specs.Sink.{WritesFront}
 use Rattle.catalogue_rules.specs.Receipts.{receipts_behind}
 use Rattle.workload.specs.Workload.{workload_bytes}
-use Rattle.workload_entries.specs.Entries.{workload_entries}
+use Rattle.plain_commands.specs.Entries.{workload_entries}
 use Rattle.console_lines.specs.Ends.{Outcome, IsTold, IsSilent, out_unwritten, console_unwritten}
 use Rattle.console_lines.specs.Lines.{made_line}
 use Rattle.console_lines.specs.declared.end.End.{End}

@@ -1,9 +1,12 @@
 //! The commands without a journal: a file through an empty catalogue, and a workload.
 #![tactic(auto)]
 
+pub use entries::Entries;
 pub use making::make;
 pub use passing::pass;
 
+mod entries;
+pub mod laws;
 mod loaded;
 mod loading;
 mod making;

@@ -3,6 +3,8 @@ ghost use Rattle.std.specs.Prelude.{◌≡◌, ◌<◌, ◌≤◌, false, OnOk, 
 ghost use Rattle.plain_commands.specs.Loading.{lacks_room, with_accepted};
 ghost use Rattle.plain_commands.specs.Making.{workload_sums, workload_line};
 
+use crate::entries::Entries;
+use crate::laws::workloads_are_within_limits;
 use crate::loaded::Loaded;
 use catalogue_core::CoreFault;
 use console_lines::{Sums, made_line};
@@ -12,8 +14,6 @@ use record_store::Steps;
 use std::alloc::Global;
 use std::marker::Brand;
 use std::sync::ledger::{Blank, Ledger};
-use workload_entries::Entries;
-use workload_entries::laws::workloads_are_within_limits;
 
 /// Commits an entry that there is room for.
 fn commit<L: Ledger>(

@@ -7,7 +7,7 @@ use console_lines::{End, tell_result};
 use outside::Sink;
 
 /// The text of a topic.
-fn text_of(topic: Topic) -> &'static str
+pub(crate) fn text_of(topic: Topic) -> &'static str
     ensures { result.now ≡ help_text topic }
 {
     match topic {

@@ -138,7 +138,7 @@ Status: 0 it is told; 2 wrong words; 4 the console couldn't be written.
 Example: union_cat version
 ";
 
-/// `version`: the program's version, and the kit that proved it.
+/// `version`: the program's version, and the kit that it is proved with. A program can't tell how it was built.
 pub const THIS_VERSION: &str = "union_cat 1.0
-proved with rattle-kit-13f logic dac8208d650f15bf
+proved with rattle-kit-13f logic dac8208d650f15bf, where `rt run` or `rt ci` built it
 ";

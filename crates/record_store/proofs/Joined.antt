@@ -1,23 +1,23 @@
 -- Fields and ties, joined in turn: reading and changing one place.
-use Rattle.std.proofs.Common.{◌≡◌, ℕ, zero, suc, ◌<◌, ◌≤◌, true, List, [], ◌∷◌, length, map, Option, Some, None, IfSome, refl, sym, ap, ◌∙◌, subst, arith}
+use Rattle.std.proofs.Common.{◌≡◌, ℕ, zero, suc, ◌<◌, true, List, [], ◌∷◌, length, map, Option, Some, None, IfSome, refl, sym, ap, ◌∙◌, subst, arith}
 use mathlib.Core.Bool.{false≢true}
 use Rattle.std.specs.Prelude.{slice_get, slice_set}
-use Rattle.std.specs.Option.{is_some, option_map, option_and_then}
+use Rattle.std.specs.Option.{is_some, option_map}
 use Rattle.marc_types.specs.Valid.{is_record}
 use Rattle.marc_types.specs.declared.field.Field.{Field}
 use Rattle.marc_types.specs.declared.entry.Tie.{Tie}
 use Rattle.marc_types.specs.declared.entry.Kept.{Kept}
 use Rattle.catalogue_rules.specs.State.{KeptField, kept_field, tied, kept_record}
-use Rattle.record_store.specs.Store.{StaysRecord, field_at, with_field}
+use Rattle.record_store.specs.Store.{StaysRecord, with_field}
 
-pub joined_set : (fields : List Field) (ties : List Tie) (i : ℕ) (field : Field) (tie : Tie) → length ties ≡ length fields
+joined_set : (fields : List Field) (ties : List Tie) (i : ℕ) (field : Field) (tie : Tie) → length ties ≡ length fields
     → tied (slice_set fields i field) (slice_set ties i tie) ≡ slice_set (tied fields ties) i (kept_field field tie)
 joined_set [] ties i field tie same = refl
 joined_set (f ∷ fields) [] i field tie same = absurd (omega (arith, same))
 joined_set (f ∷ fields) (t ∷ ties) zero field tie same = refl
 joined_set (f ∷ fields) (t ∷ ties) (suc i) field tie same = ap (λ l. kept_field f t ∷ l) (joined_set fields ties i field tie (omega (arith, same)))
 
-pub joined_get : (fields : List Field) (ties : List Tie) (i : ℕ) (field : Field) (tie : Tie) → slice_get fields i ≡ Some field → slice_get ties i ≡ Some tie
+joined_get : (fields : List Field) (ties : List Tie) (i : ℕ) (field : Field) (tie : Tie) → slice_get fields i ≡ Some field → slice_get ties i ≡ Some tie
     → slice_get (tied fields ties) i ≡ Some (kept_field field tie)
 joined_get [] ties i field tie f t = absurd (false≢true (ap is_some f))
 joined_get (x ∷ fields) [] i field tie f t = absurd (false≢true (ap is_some t))
@@ -89,19 +89,7 @@ pub tie_at : (kept : Kept) (i : ℕ) → option_map (λ (h : KeptField). h.tie) 
 unfolding kept_record
 tie_at kept i = joined_tie kept.rec.fields kept.links i kept.tied
 
--- ---- kept records without a place, and with one
-
-no_place : (h : List KeptField) (i : ℕ) → length h ≤ i → slice_get h i ≡ None
-no_place [] i beyond = refl
-no_place (h ∷ hs) zero beyond = absurd (omega (arith, beyond))
-no_place (h ∷ hs) (suc i) beyond = no_place hs i (omega (arith, beyond))
-
-pub no_field : (kept : Kept) (i : ℕ) (slot : Option Kept) → Some kept ≡ slot → length kept.rec.fields ≤ i
-    → option_and_then (field_at i) (option_map kept_record slot) ≡ None
-unfolding kept_record
-no_field kept i slot is beyond =
-    subst (λ o. option_and_then (field_at i) (option_map kept_record o) ≡ None) is
-    (no_place (kept_record kept).fields i (omega (arith, joined_length kept.rec.fields kept.links kept.tied, beyond)))
+-- ---- a kept record with another field
 
 pub valid_field : (kept : Kept) (i : ℕ) (field : Field) (slot : Option Kept) → Some kept ≡ slot → IfSome (option_map kept_record slot) (StaysRecord i field)
     → i < length kept.rec.fields → is_record kept.rec.leader (slice_set kept.rec.fields i field) ≡ true

@@ -1,4 +1,2 @@
-pub mod Exchanged
 pub mod Joined
-pub mod Mapped
 pub mod Places

@@ -1,7 +1,6 @@
--- What clauses see of a store: the state of a catalogue, and the keys that have a place for a record.
-use Rattle.std.specs.Prelude.{◌≡◌, ℕ, ◌<◌, Bool, true, List, [], ◌∷◌, map, length, slice_get, slice_set, if◌then◌else◌, Option}
+-- A field at a place of a state, and a record, rows and a state with another in its place.
+use Rattle.std.specs.Prelude.{◌≡◌, ℕ, ◌<◌, true, List, map, length, slice_get, slice_set, if◌then◌else◌, Option}
 use Rattle.std.specs.Borrow.{Bor}
-use Rattle.std.specs.List.{list_any}
 use Rattle.std.specs.Option.{option_and_then}
 use Rattle.marc_types.specs.Valid.{is_record}
 use Rattle.marc_types.specs.declared.field.Field.{Field}
@@ -9,47 +8,14 @@ use Rattle.marc_types.specs.declared.key.Class.{Class}
 use Rattle.marc_types.specs.declared.key.Class.TheVariants.{Authority, Bibliographic}
 use Rattle.marc_types.specs.declared.key.Key.{Key}
 use Rattle.marc_types.specs.declared.key.Place.{Place}
-use Rattle.marc_types.specs.declared.entry.Tie.{Tie}
 use Rattle.marc_types.specs.declared.entry.Kept.{Kept}
 use Rattle.marc_types.specs.Order.{same_key}
 use Rattle.catalogue_rules.specs.State.{KeptField, KeptRecord, Row, State, fields_of, kept_record}
 use Rattle.catalogue_rules.specs.Receipt.{kept_under}
-use Rattle.record_store.specs.Shelf.{Shelved}
-
--- the keys that have a place, by class
-pub record Places : Type 0 where
-  pub authorities : List Key
-  pub bibliographic : List Key
-
--- the state, and the places that were taken for records
-pub record Stored : Type 0 where
-  pub state : State
-  pub places : Places
-
-abbrev pub places_of : Class → Places → List Key
-places_of Authority p = p.authorities
-places_of Bibliographic p = p.bibliographic
-
--- the key has a place in its class, with a record or without
-abbrev pub has_room : Class → Key → Stored → Bool
-has_room class key stored = list_any (same_key key) (places_of class stored.places)
-
-abbrev pub kept_row : Key × Kept → Row
-kept_row row = (row.0, kept_record row.1)
 
 -- a row as it is lent
 abbrev pub shown_row : Bor Key × Bor Kept → Row
 shown_row row = (row.0.now, kept_record row.1.now)
-
--- the rows of a shelf, each record as fields with their ties
-abbrev pub kept_rows : List (Key × Kept) → List Row
-kept_rows rows = map kept_row rows
-
-abbrev pub stored : Shelved Kept → Shelved Kept → Stored
-stored authorities bibliographic = record {
-  state = record { authorities = kept_rows authorities.rows; bibliographic = kept_rows bibliographic.rows };
-  places = record { authorities = authorities.places; bibliographic = bibliographic.places };
-}
 
 -- the state with other rows of one class
 abbrev pub with_rows : Class → List Row → State → State

@@ -8,7 +8,7 @@ use Rattle.outside.specs.Room.{RoomView, bytes_or_none}
 use Rattle.commit_journal.specs.declared.format.TheConstants.{BLANK_LENGTH}
 use Rattle.command_words.specs.declared.library.Library.{Library}
 use Rattle.entry_record.specs.History.{in_run}
-use Rattle.entry_record.proofs.Readings.{length-payload}
+use Rattle.entry_history.proofs.Format.{length-payload}
 use Rattle.file_entries.specs.declared.refused.RefusedItem.{RefusedItem}
 use Rattle.durable_catalogue.specs.Durables.{marked}
 use Rattle.durable_catalogue.specs.Images.{framed_length, framed_lengths}

@@ -1,5 +1,8 @@
-use commit_journal::{Frames, Journal, JournalFault, LARGEST_PAYLOAD};
-use outside::Disk;
+ghost use Rattle.std.specs.Prelude.{All};
+ghost use Rattle.commit_journal.specs.Journal.{IsPayload};
+
+use commit_journal::{FoundLog, Frames, Journal, JournalFault, LARGEST_PAYLOAD};
+use outside::{Bytes, Disk};
 use outside_mem::MemDisk;
 use std::alloc::Global;
 use std::process::Abort;
@@ -177,6 +180,114 @@ fn keeps_the_frame(alloc: Global, call: u64) -> Result<bool, Fail> {
 fn each_call_may_fail(rt: HostRuntime) -> Result<(), Fail> {
     for call in 0..16 {
         assert!(rt; keeps_the_frame(rt.alloc(), call)?);
+    }
+    Ok(())
+}
+
+/// The same for finding alone.
+fn looked_at(
+    alloc: Global,
+    disk: MemDisk,
+) -> Result<(FoundLog<MemDisk>, Frames), (MemDisk, JournalFault)> {
+    FoundLog::find(alloc, disk)
+}
+
+fn find(alloc: Global, bytes: &[u8]) -> Result<(FoundLog<MemDisk>, Frames), Fail> {
+    match looked_at(alloc, disk_of(alloc, bytes, &[])?) {
+        Ok(found) => Ok(found),
+        Err((_disk, fault)) => Err(Fail::from(fault)),
+    }
+}
+
+#[test]
+fn a_log_that_is_left_keeps_every_byte(rt: HostRuntime) -> Result<(), Fail> {
+    for log in &[TORN, b"UNIONCAT".as_slice()] {
+        let (found, frames) = find(rt.alloc(), log)?;
+        assert_eq!(rt; found.version(), 2);
+        assert!(rt; frames.len() <= 1);
+        let disk = found.leave();
+        assert!(rt; disk.bytes() == *log);
+        // The start, and a sync.
+        assert_eq!(rt; disk.moments(), 2);
+    }
+    Ok(())
+}
+
+#[test]
+fn a_log_that_is_settled_ends_with_its_closed_gate(rt: HostRuntime) -> Result<(), Fail> {
+    let (found, frames) = find(rt.alloc(), TORN)?;
+    assert!(rt; is_one_frame(&frames, 16, b"one"));
+    match found.settle() {
+        Ok(journal) => {
+            let disk = journal.close();
+            assert_eq!(rt;
+                disk.bytes(),
+                b"UNIONCAT JNL 02\nO\0\0\0\x03oneC".as_slice()
+            );
+        }
+        Err((_disk, fault)) => return Err(Fail::from(fault)),
+    }
+    Ok(())
+}
+
+fn two_and_three(alloc: Global) -> Result<[Bytes; 2], Fail> {
+    Ok([
+        Bytes::from_vec(b"two".to_vec(alloc)?),
+        Bytes::from_vec(b"three".to_vec(alloc)?),
+    ])
+}
+
+fn is_payload(rt: &impl Abort, payload: &Bytes)
+    ensures { IsPayload payload.now }
+{
+    assert!(rt; !payload.is_empty());
+    assert!(rt; payload.len() <= LARGEST_PAYLOAD);
+}
+
+fn are_payloads(rt: &impl Abort, payloads: &[Bytes])
+    ensures { All IsPayload payloads.now }
+{
+    for payload in payloads {
+        is_payload(rt, payload);
+    }
+}
+
+// Appends payloads, all or none; not to a journal that is broken or of version 1.
+fn append_all(rt: &impl Abort, journal: &mut Journal<MemDisk>, payloads: &[Bytes]) -> bool {
+    if journal.is_broken() || journal.version() != 2 {
+        return false;
+    }
+    are_payloads(rt, payloads);
+    journal.append_all(payloads).is_ok()
+}
+
+/// Whether two payloads were appended together.
+fn append_both(
+    rt: &impl Abort,
+    alloc: Global,
+    journal: &mut Journal<MemDisk>,
+) -> Result<bool, Fail> {
+    let payloads = two_and_three(alloc)?;
+    Ok(append_all(rt, journal, &payloads))
+}
+
+#[test]
+fn a_crash_leaves_all_of_several_payloads_or_none(rt: HostRuntime) -> Result<(), Fail> {
+    let (mut journal, _frames) = open(rt.alloc(), TORN)?;
+    assert!(rt; append_both(&rt, rt.alloc(), &mut journal)?);
+    let disk = journal.close();
+    assert!(rt;
+        disk.bytes()
+            .ends_with(b"oneO\0\0\0\x03twoO\0\0\0\x05threeC")
+    );
+    // The opening's first sync is moment 1. The last moments are those after two frames, a sync, the open gate, a sync.
+    assert_eq!(rt; disk.moments(), 9);
+    for moment in 5..9 {
+        for choice in 0..3 {
+            let found = left(&rt, rt.alloc(), &disk, moment, choice)?;
+            assert!(rt; found == 3 || (found == 1 && moment < 8));
+            assert!(rt; found == 1 || moment > 6);
+        }
     }
     Ok(())
 }

@@ -13,6 +13,7 @@ use std::test::Fail;
 use std::{env, fs, process};
 
 mod holding;
+mod slips;
 
 // Each of these stands behind a function without a clause, so that a test's proof needn't know what the system's calls say.
 fn joined(alloc: Global, parts: &[&str]) -> Result<String, Fail> {

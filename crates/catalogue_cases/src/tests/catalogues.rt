@@ -31,7 +31,7 @@ fn item_by(alloc: Global, library: &Text, bytes: &[u8]) -> Result<Prepared, Reco
     prepare(alloc, bytes, library, 0, 1)
 }
 
-fn take<L: Ledger>(
+pub(crate) fn take<L: Ledger>(
     alloc: Global,
     core: &mut Catalogue,
     item: Prepared,

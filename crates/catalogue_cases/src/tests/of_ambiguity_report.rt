@@ -1,7 +1,7 @@
 ghost use Rattle.std.specs.Prelude.{◌≡◌, []};
 
 use super::catalogues::{Piece, catalogue_of};
-use ambiguity_report::write_report;
+use ambiguity_report::{write_report, write_state_report};
 use catalogue_core::Catalogue;
 use outside::WriteFault;
 use outside_mem::MemSink;
@@ -51,11 +51,18 @@ fn write(alloc: Global, core: &Catalogue, out: &mut MemSink) -> Result<(), Write
     write_report(alloc, core, out)
 }
 
-fn report(alloc: Global, core: &Catalogue) -> Result<Vec<u8>, Fail>
+pub(crate) fn report(alloc: Global, core: &Catalogue) -> Result<Vec<u8>, Fail>
     requires { core.now.staged ≡ [] }
 {
     let mut out = MemSink::new(alloc, Vec::new(alloc));
     write(alloc, core, &mut out)?;
+    Ok(out.into_bytes())
+}
+
+/// The report over the history and what is staged.
+pub(crate) fn state_report(alloc: Global, core: &Catalogue) -> Result<Vec<u8>, Fail> {
+    let mut out = MemSink::new(alloc, Vec::new(alloc));
+    write_state_report(alloc, core.engine(), &mut out)?;
     Ok(out.into_bytes())
 }
 

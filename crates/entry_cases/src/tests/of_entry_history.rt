@@ -6,7 +6,11 @@ use std::test::Fail;
 
 fn batch_of_one(rt: &impl Abort, alloc: Global) -> Result<Batch, Fail> {
     let mut batch = Batch::new(alloc);
-    assert!(rt; batch.push(prepared(rt, alloc, "ULIB", TWAIN)?).is_ok());
+    assert!(rt;
+        batch
+            .push(alloc, prepared(rt, alloc, "ULIB", TWAIN)?)
+            .is_ok()
+    );
     Ok(batch)
 }
 

@@ -26,7 +26,7 @@ fn batch_of(alloc: Global, library: &Text, count: u32) -> Result<Batch, RecordFa
     'copies: while batch.len() < count.min(LARGEST_BATCH) {
         let ordinal = u64::from(batch.len()) + 1;
         let copy = prepare(alloc, ZOOLOGY, library, 0, ordinal)?;
-        match batch.push(copy) {
+        match batch.push(alloc, copy) {
             Ok(()) => {}
             Err(_) => return Err(RecordFault::NoMemory),
         }

@@ -7,7 +7,7 @@ use Rattle.commit_stages.proofs.stages.carry_heading.Goals as goal
 
 pub carry-requires-clause-heading : goal.carry-requires-clause-heading
 carry-requires-clause-heading g c =
-    can_carry c.args.item.now c.key.result.now c.args.number c.args.store.now _ c.key.ensures c.was_admitted.ensures c.requires.key c.requires.middle c.requires.own c.in-Some.ensures
+    can_carry c.args.item.now c.key.result.now c.args.number c.args.store.now _ c.key.ensures c.requires.admitted c.requires.key c.requires.middle c.requires.own c.in-Some.ensures
 
 pub returns-in-Some-clause-noted : goal.returns-in-Some-clause-noted
 returns-in-Some-clause-noted g c =

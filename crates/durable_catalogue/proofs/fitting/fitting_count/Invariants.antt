@@ -4,4 +4,4 @@ use Rattle.durable_catalogue.proofs.Fits.{IsFitting}
 use Rattle.durable_catalogue.proofs.fitting.fitting_count.Given as goal
 
 abbrev pub invariant-loop-item : goal.invariant-loop-item
-invariant-loop-item l = (l.count ≡ l.item-index) × IsFitting l.limits (all_entries l.core) l.items l.item-index l.entries l.bytes
+invariant-loop-item l = (l.count ≡ l.item-index) × IsFitting l.core.limits (all_entries l.core) l.items l.item-index l.entries l.bytes

@@ -1,8 +1,8 @@
 //! What the definitions give for some records, to be read by eye.
 
 use crate::tests::pieces::{TWAIN, prepared};
-use entry_record::Prepared;
-use marc_types::{Class, Form, Item, Key, Kind, RecordFault};
+use entry_record::{Preparation, Prepared};
+use marc_types::{Class, Form, Item, Key, Kind, RecordFault, TryCopy};
 use std::alloc::Global;
 use std::process::Abort;
 use std::test::Fail;
@@ -14,7 +14,7 @@ type Formed = (Kind, &'static [(u8, &'static str)]);
 struct Meaning {
     class: Class,
     key: (&'static str, &'static str),
-    payload: usize,
+    size: u64,
     deletes: bool,
     established: &'static [Formed],
     see_from: &'static [Formed],
@@ -48,7 +48,7 @@ const RECORDS: [(&[u8], Meaning); 5] = [
         Meaning {
             class: Class::Authority,
             key: ("DLC", "n79021164"),
-            payload: 188,
+            size: 170,
             deletes: false,
             established: &[(
                 Kind::Personal,
@@ -65,7 +65,7 @@ const RECORDS: [(&[u8], Meaning); 5] = [
         Meaning {
             class: Class::Bibliographic,
             key: ("ULIB", "b1"),
-            payload: 164,
+            size: 146,
             deletes: false,
             established: &[],
             see_from: &[],
@@ -79,7 +79,7 @@ const RECORDS: [(&[u8], Meaning); 5] = [
         Meaning {
             class: Class::Authority,
             key: ("DLC", "sh3"),
-            payload: 119,
+            size: 101,
             deletes: false,
             established: &[HISTORY],
             see_from: &[],
@@ -93,7 +93,7 @@ const RECORDS: [(&[u8], Meaning); 5] = [
         Meaning {
             class: Class::Bibliographic,
             key: ("ULIB", "b10"),
-            payload: 103,
+            size: 85,
             deletes: false,
             established: &[],
             see_from: &[],
@@ -107,7 +107,7 @@ const RECORDS: [(&[u8], Meaning); 5] = [
         Meaning {
             class: Class::Authority,
             key: ("DLC", "n5"),
-            payload: 124,
+            size: 106,
             deletes: true,
             established: &[],
             see_from: &[],
@@ -147,21 +147,21 @@ fn is_entry(made: &Prepared, meaning: &Meaning) -> bool {
     let entry = made.entry();
     entry.class == meaning.class
         && parts_of(&entry.key) == meaning.key
-        && made.payload().len() == meaning.payload
-        && made.is_deletion() == meaning.deletes
+        && made.size() == meaning.size
 }
 
-fn is_authority(made: &Prepared, meaning: &Meaning) -> bool {
-    is_at_most(made.established(), meaning.established)
+fn is_authority(made: &Preparation, meaning: &Meaning) -> bool {
+    made.is_deletion() == meaning.deletes
+        && is_at_most(made.established(), meaning.established)
         && are_forms(made.see_from().as_slice(), meaning.see_from)
         && made.successor().map(parts_of) == meaning.successor
 }
 
-fn has_forms(made: &Prepared, field: u32, base: &[Formed], full: &[Formed]) -> bool {
+fn has_forms(made: &Preparation, field: u32, base: &[Formed], full: &[Formed]) -> bool {
     is_at_most(made.field_form(field), base) && is_at_most(made.full_form(field), full)
 }
 
-fn has_headings(made: &Prepared, meaning: &Meaning) -> bool {
+fn has_headings(made: &Preparation, meaning: &Meaning) -> bool {
     has_forms(made, 0, &[], &[])
         && has_forms(made, 1, meaning.base, meaning.full)
         && has_forms(made, 2, &[], &[])
@@ -175,7 +175,17 @@ fn means(
     meaning: &Meaning,
 ) -> Result<bool, RecordFault> {
     let made = prepared(rt, alloc, "ULIB", piece)?;
-    Ok(is_entry(&made, meaning) && is_authority(&made, meaning) && has_headings(&made, meaning))
+    let is_its_entry = is_entry(&made, meaning);
+    let (rec, rest) = made.into_parts();
+    let is_prepared = is_authority(&rest, meaning) && has_headings(&rest, meaning);
+    let key = rest.key().copy(alloc)?;
+    let (_rec, again) = Preparation::of_record(alloc, rest.class(), key, rec)?;
+    Ok(
+        is_its_entry
+            && is_prepared
+            && is_authority(&again, meaning)
+            && has_headings(&again, meaning),
+    )
 }
 
 #[test]

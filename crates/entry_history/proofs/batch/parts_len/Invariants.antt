@@ -1,6 +1,6 @@
 use Rattle.std.proofs.Common.{◌≡◌, ◌*◌, ◌≤◌, length, take}
 use Rattle.std.specs.List.{flat_map}
-use Rattle.entry_record.specs.Payload.{entry_bytes}
+use Rattle.entry_history.specs.Format.{entry_bytes}
 use Rattle.entry_history.proofs.batch.parts_len.Given as goal
 
 abbrev pub invariant-loop-item : goal.invariant-loop-item

@@ -1,4 +1,4 @@
-use Rattle.std.proofs.Common.{ap}
+use Rattle.std.proofs.Common.{ap, ◌∙◌}
 use Rattle.std.proofs.lemmas.Result.{err_from_is_err_and}
 use Rattle.marc_types.specs.declared.entry.Entry.{Entry}
 use Rattle.entry_history.proofs.ReadEntries.{not_begun, begun, not_written}
@@ -12,7 +12,7 @@ returns-in_err-item-clause-bad c =
 pub returns-in_default-strip_prefix-clause-bad : goal.returns-in_default-strip_prefix-clause-bad
 returns-in_default-strip_prefix-clause-bad c =
     let made = c.in_ok-item.item in
-    let part = c.entry_part.ensures.value in
+    let part = c.as_slice.ensures.value ∙ c.in_ok-part.ensures in
     let differs = rw part at c.in_default-strip_prefix.ensures.cases in
     not_begun c.args.run c.args.loader c.args.library.now c.args.bytes.now c.in-Some.written.now c.in-Some.ordinal made c.in-Some.ensures.head
     c.in_ok-item.ensures.read (ap (λ (e : Entry). e.ordinal) c.in_ok-item.ensures.entry) differs
@@ -20,7 +20,7 @@ returns-in_default-strip_prefix-clause-bad c =
 pub returns-clause-read : goal.returns-clause-read
 returns-clause-read c =
     let made = c.in_ok-item.item in
-    let part = c.entry_part.ensures.value in
+    let part = c.as_slice.ensures.value ∙ c.in_ok-part.ensures in
     let same = rw part at c.in-Some-strip_prefix.ensures.cases in
     let e = c.set_run.ensures in
     rw e

@@ -19,14 +19,14 @@ returns-in_err-item-clause-bad c =
     rw (p.1, p.2)
     (no_old_written c.args.bytes.now head.library.now head.written.now head.rest.now head.loader head.ordinal _ c.in-Some.ensures.head none)
 
-pub returns-then-not-is_old_item-clause-bad : goal.returns-then-not-is_old_item-clause-bad
-returns-then-not-is_old_item-clause-bad c =
+pub returns-then-not-is_old-clause-bad : goal.returns-then-not-is_old-clause-bad
+returns-then-not-is_old-clause-bad c =
     let head = c.in-Some.head in
     let made = c.in_ok-item.item in
-    let no : c.is_old_item.result ≡ false = search rules in
+    let no : c.in_ok-is_old.is_old ≡ false = search rules in
     let is = rw c.in_ok-library.ensures.library at c.in_ok-item.ensures.entry in
     no_old_item c.args.bytes.now head.library.now head.written.now head.rest.now head.loader head.ordinal made c.in-Some.ensures.head c.in_ok-item.ensures.read is
-    (λ item. both_ways _ no (c.is_old_item.ensures.1 item))
+    (λ item. both_ways _ no (c.in_ok-is_old.ensures.1 item))
 
 pub returns-clause-read : goal.returns-clause-read
 returns-clause-read c =
@@ -35,4 +35,4 @@ returns-clause-read c =
     let is = rw c.in_ok-library.ensures.library at c.in_ok-item.ensures.entry in
     let taken = rw c.in_ok-library.ensures.library at c.in_ok-item.ensures.taken in
     old_begun c.args.bytes.now head.library.now head.written.now head.rest.now head.loader head.ordinal made c.in-Some.ensures.head c.in_ok-library.ensures.code
-    c.in_ok-item.ensures.ordinal c.in_ok-item.ensures.read taken is (c.is_old_item.ensures.0 (search rules))
+    c.in_ok-item.ensures.ordinal c.in_ok-item.ensures.read taken is (c.in_ok-is_old.ensures.0 (search rules))

@@ -56,7 +56,7 @@ close_inputs-requires-after_bounds g c κs within =
     let d = c.in-Ok.begun.0 in
     let files = c.in-Ok.begun.1 in
     let (now, after, results) = c.load_files-durable.result in
-    let same = same_count g.R.In.Source.left g.R.In.Source.faults (g.R.Room.seen c.args.room.now) files after d.limits d.core.history now.core.history (mark_of now.mark) results
+    let same = same_count g.R.In.Source.left g.R.In.Source.faults (g.R.Room.seen c.args.room.now) files after d.core.limits d.core.history now.core.history (mark_of now.mark) results
     c.load_files-durable.ensures.loaded c.load_files-durable.ensures.files in
     let count = inputs_count g.R.In.Source.left g.R.In.Source.faults (g.R.Room.seen c.args.room.now) c.args.libraries.now files c.in-Ok.ensures.begun.inputs_are in
     omega (arith, same, count)

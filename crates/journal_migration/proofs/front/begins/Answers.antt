@@ -4,11 +4,11 @@ use Rattle.journal_migration.proofs.front.begins.Goals as goal
 
 pub loop-at-preserved : goal.loop-at-preserved
 loop-at-preserved c =
-    let same : c.is_of.result ≡ true = let test = c.if-not-is_of.false in grind arith in
+    let same : c.in_ok-same.same ≡ true = let test = c.if-not-same.false in grind arith in
     let e = c.in-Some.entry.now in
     let item = c.index-items-at.result in
     let found = c.in-Some.ensures.lookup in
-    let there = there_is c.args.history.now c.loop-at.at e item found.3.0 found.1 (c.is_of.ensures.0 same) in
+    let there = there_is c.args.history.now c.loop-at.at e item found.3.0 found.1 (c.in_ok-same.ensures.0 same) in
     one_same c.args.history.now c.args.items.now c.loop-at.at c.loop-at.invariant item c.loop-at-test.true c.index-items-at.is there
 
 pub returns : goal.returns

@@ -15,5 +15,5 @@ returns c =
     chars_of _ _ c.as_str.utf8 (c.as_str.ensures.value ∙ c.in_ok-folded.ensures) in
     let decomposed : chars c.as_str-2.result.now ≡ nfd (default_case_fold (chars c.args.text.now)) =
     chars_of _ _ c.as_str-2.utf8 (c.as_str-2.ensures.value ∙ c.in_ok-decomposed.ensures) ∙ ap nfd folded in
-    let written = c.in_ok-write_without_marks.ensures ∙ c.in_ok-pen.ensures.text _ ∙ ap (λ l. squeezed (commas (keeps_first_comma c.args.code) (by_table (without_marks l)))) decomposed in
+    let written = c.in_ok-write_without_marks.ensures ∙ c.in_ok-pen.ensures _ ∙ ap (λ l. squeezed (commas (keeps_first_comma c.args.code) (by_table (without_marks l)))) decomposed in
     c.finish.ensures ∙ ap (λ l. encode_utf8_all (without_last_comma l)) written

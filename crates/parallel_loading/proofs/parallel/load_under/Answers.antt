@@ -21,7 +21,7 @@ load_all-requires-clause-can g c κs within =
 
 pub load_all-requires-clause-catalogue : goal.load_all-requires-clause-catalogue
 load_all-requires-clause-catalogue g c κs within =
-    record { origin = record { limits = c.args.lock.opened.limits; run = c.args.lock.opened.run }; commits = λ before batch reply added is. is; few = c.requires.limits }
+    record { origin = record { limits = c.args.lock.opened.core.limits; run = c.args.lock.opened.run }; commits = λ before batch reply added is. is; few = c.requires.limits }
 
 pub take_apart-passes-requires-clause-passes_room :
     goal.take_apart-passes-requires-clause-passes_room
@@ -45,14 +45,14 @@ pub close-requires-clause-own : goal.close-requires-clause-own
 close-requires-clause-own g c =
     own_passes _ _ _ _ _ _ _ _
     (dealt _ _ _ _ _ _ _ _ c.requires.passes c.requires.whole c.requires.callers c.into_vec-passes.ensures c.into_vec-files.ensures c.deal-jobs.ensures.jobs)
-    g.S.Source.left g.S.Source.bound g.S.Source.faults c.args.lock.opened.limits c.args.lock.opened.run c.requires.run _ _ _ _ _
+    g.S.Source.left g.S.Source.bound g.S.Source.faults c.args.lock.opened.core.limits c.args.lock.opened.run c.requires.run _ _ _ _ _
     c.in-Ok.ensures.each c.take_apart-passes.ensures.passes c.take_apart-passes.ensures.files refl
 
 pub close-requires-clause-all : goal.close-requires-clause-all
 close-requires-clause-all g c =
     all_passes _ _ _ _ _ _ _ _
     (dealt _ _ _ _ _ _ _ _ c.requires.passes c.requires.whole c.requires.callers c.into_vec-passes.ensures c.into_vec-files.ensures c.deal-jobs.ensures.jobs)
-    g.S.Source.left g.S.Source.bound g.S.Source.faults c.args.lock.opened.limits c.args.lock.opened.run c.requires.run _ _ _ _ _
+    g.S.Source.left g.S.Source.bound g.S.Source.faults c.args.lock.opened.core.limits c.args.lock.opened.run c.requires.run _ _ _ _ _
     c.in-Ok.ensures.each c.take_apart-passes.ensures.passes c.take_apart-passes.ensures.files refl
 
 pub take_apart-passes-requires-in-Err-clause-passes_room :
@@ -89,7 +89,7 @@ pub returns-in-Ok-clause-loaded : goal.returns-in-Ok-clause-loaded
 returns-in-Ok-clause-loaded g c =
     loaded_under _ _ _ _ _ _ _ _
     (dealt _ _ _ _ _ _ _ _ c.requires.passes c.requires.whole c.requires.callers c.into_vec-passes.ensures c.into_vec-files.ensures c.deal-jobs.ensures.jobs)
-    g.S.Source.left g.S.Source.bound g.S.Source.faults c.args.lock.opened.limits c.args.lock.opened.run c.requires.run _ _ _ _ _
+    g.S.Source.left g.S.Source.bound g.S.Source.faults c.args.lock.opened.core.limits c.args.lock.opened.run c.requires.run _ _ _ _ _
     c.in-Ok.ensures.each c.take_apart-passes.ensures.passes c.take_apart-passes.ensures.files c.turn_round.ensures
     c.requires.some _ _ c.close.ensures.history c.close.result.few
 

@@ -1,5 +1,5 @@
 use Rattle.std.proofs.Common.{arith, subst}
-use Rattle.workload_entries.specs.Entries.{GivesNextEntry}
+use Rattle.plain_commands.specs.Entries.{GivesNextEntry}
 use Rattle.plain_commands.proofs.Committed.{room_for_next}
 use Rattle.plain_commands.proofs.summing.sum_counted.Goals as goal
 

@@ -1,5 +1,5 @@
 use Rattle.std.proofs.Common.{◌≡◌, ◌++◌, length}
-use Rattle.workload_entries.specs.Entries.{workload_entries}
+use Rattle.plain_commands.specs.Entries.{workload_entries}
 use Rattle.plain_commands.proofs.summing.sum_counted.Given as goal
 
 abbrev pub invariant-entries : goal.invariant-entries

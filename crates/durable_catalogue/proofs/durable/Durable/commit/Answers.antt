@@ -21,14 +21,14 @@ returns-then-is_broken-clause-reply g c =
     let self = c.args.self.now in
     let reply = c.nothing.ensures in
     let marked = sym self.broken ∙ sym c.is_broken.ensures ∙ c.if-is_broken.true in
-    let o : Origin = record { limits = self.limits; run = self.run } in
+    let o : Origin = record { limits = self.core.limits; run = self.run } in
     broken_reply o self.core.history c.args.batch self.mark c.nothing.result marked reply.receipts reply.end
 
 pub returns-in_default-clause-reply : goal.returns-in_default-clause-reply
 returns-in_default-clause-reply g c =
     let self = c.args.self.now in
     let whole = sym self.broken ∙ sym c.is_broken.ensures ∙ c.if-is_broken.false in
-    let o : Origin = record { limits = self.limits; run = self.run } in
+    let o : Origin = record { limits = self.core.limits; run = self.run } in
     let reply = c.nothing-in_default.ensures in
     let none = no_mark self.mark whole in
     let is = part_is o self.core c.args.batch c.set_run.new.self [] self.unstaged c.set_run.ensures (sym c.in_default.ensures.none) in
@@ -41,7 +41,7 @@ returns-in_default-clause-crash g c log whole told =
     let seen = g.D.Disk.seen in
     let kept = subst (λ es. IsKept self.opened self.core.history es (seen self.before.value) (seen self.first.value.disk) (seen self.journal.disk)) (none_marked self.mark whole) self.kept in
     let disk : IsDisk (seen self.journal.disk) = record { content_is_image = g.met.D.Disk.content_is_image self.journal.disk; only_now = g.met.D.Disk.only_now self.journal.disk } in
-    still_only self.opened self.core.history (seen self.before.value) (seen self.first.value.disk) (seen self.journal.disk) kept disk log (fitting self.limits self.core.history (with_run self.run c.args.batch))
+    still_only self.opened self.core.history (seen self.before.value) (seen self.first.value.disk) (seen self.journal.disk) kept disk log (fitting self.core.limits self.core.history (with_run self.run c.args.batch))
     (self.journal.settled (self.broken ∙ whole)).only told
 
 pub returns-in_default-clause-all : goal.returns-in_default-clause-all
@@ -55,13 +55,13 @@ pub commit_frame-requires-clause-run : goal.commit_frame-requires-clause-run
 commit_frame-requires-clause-run g c =
     let self = c.args.self.now in
     let runs = subst (All (λ e. e.run ≡ self.run)) (sym c.set_run.ensures) (with_run_runs self.run c.args.batch) in
-    subst (All (λ e. e.run ≡ self.run)) (sym c.in-Some.ensures.part) (runs_fit self.limits self.run (all_entries self.core) c.set_run.new.self runs)
+    subst (All (λ e. e.run ≡ self.run)) (sym c.in-Some.ensures.part) (runs_fit self.core.limits self.run (all_entries self.core) c.set_run.new.self runs)
 
 pub commit_frame-requires-clause-within : goal.commit_frame-requires-clause-within
 commit_frame-requires-clause-within g c =
     let self = c.args.self.now in
     let whole = sym self.broken ∙ sym c.is_broken.ensures ∙ c.if-is_broken.false in
-    frame_within self.limits self.core (marked (mark_of self.mark)) c.set_run.new.self c.in-Some.frame self.unstaged (none_marked self.mark whole) self.within c.in-Some.ensures.part
+    frame_within self.core.limits self.core (marked (mark_of self.mark)) c.set_run.new.self c.in-Some.frame self.unstaged (none_marked self.mark whole) self.within c.in-Some.ensures.part
 
 pub returns-in-Ok-clause-reply : goal.returns-in-Ok-clause-reply
 returns-in-Ok-clause-reply g c =
@@ -69,7 +69,7 @@ returns-in-Ok-clause-reply g c =
     let now = c.commit_frame.new.self in
     let done = c.in-Ok.ensures in
     let whole = sym self.broken ∙ sym c.is_broken.ensures ∙ c.if-is_broken.false in
-    let o : Origin = record { limits = self.limits; run = self.run } in
+    let o : Origin = record { limits = self.core.limits; run = self.run } in
     let frame = c.in-Some.frame in
     let fits = c.in-Some.ensures in
     let reply : BatchReply = record { receipts = c.in-Ok.receipts; end = c.if-len.end } in
@@ -101,7 +101,7 @@ returns-in-Err-clause-reply g c =
     let self = c.args.self.now in
     let now = c.commit_frame.new.self in
     let whole = sym self.broken ∙ sym c.is_broken.ensures ∙ c.if-is_broken.false in
-    let o : Origin = record { limits = self.limits; run = self.run } in
+    let o : Origin = record { limits = self.core.limits; run = self.run } in
     let frame = c.in-Some.frame in
     lost_reply o self.core.history now.core.history c.args.batch frame (mark_of self.mark) (mark_of now.mark) c.in-Err.fault c.nothing-in-Err.result (no_mark self.mark whole) c.in-Err.ensures.nothing
     (part_is o self.core c.args.batch c.set_run.new.self frame self.unstaged c.set_run.ensures c.in-Some.ensures.part) c.in-Some.ensures.some c.in-Err.ensures.fault c.nothing-in-Err.ensures.receipts c.nothing-in-Err.ensures.end
@@ -158,14 +158,14 @@ returns-then-is_broken-clause-taken g c taken = let no : false ≡ true = sym (a
 pub returns-in_default-clause-taken : goal.returns-in_default-clause-taken
 returns-in_default-clause-taken g c taken =
     let self = c.args.self.now in
-    let o : Origin = record { limits = self.limits; run = self.run } in
+    let o : Origin = record { limits = self.core.limits; run = self.run } in
     sym (append-nil self.core.history)
     ∙ ap (λ es. self.core.history ++ es) (part_fits o self.core c.args.batch c.set_run.new.self [] self.unstaged c.set_run.ensures (sym c.in_default.ensures.none))
 
 pub returns-in-Ok-clause-taken : goal.returns-in-Ok-clause-taken
 returns-in-Ok-clause-taken g c taken =
     let self = c.args.self.now in
-    let o : Origin = record { limits = self.limits; run = self.run } in
+    let o : Origin = record { limits = self.core.limits; run = self.run } in
     c.in-Ok.ensures.added
     ∙ ap (λ es. self.core.history ++ es) (part_fits o self.core c.args.batch c.set_run.new.self c.in-Some.frame self.unstaged c.set_run.ensures c.in-Some.ensures.part)
 

@@ -1,6 +1,7 @@
 use Rattle.std.proofs.Common.{◌≤◌, [], ◌++◌, length, sym, ap, subst, ◌∙◌, arith, append-nil}
 use Rattle.commit_journal.specs.declared.frame.Frame.{Frame}
 use Rattle.entry_record.specs.History.{IsWithin}
+use Rattle.catalogue_core.specs.Catalogues.{Catalogued}
 use Rattle.entry_history.specs.Payloads.{CanFollow}
 use Rattle.durable_catalogue.specs.Durables.{IsKept}
 use Rattle.durable_catalogue.proofs.Frames.{none_marked, kept_now, undone_now, finds_frame, frame_left}
@@ -33,7 +34,6 @@ invariant_of-self-in-Ok-appended g c =
     c.append-appended.new.self.place c.in-Ok-appended.ensures.settled c.in-Ok-appended.ensures.appended in
     record {
       unstaged = ap (λ core. core.staged) now;
-      limited = ap (λ core. core.limits) now ∙ self.limited;
       newest = appended.version ∙ self.newest;
       broken = c.in-Ok-appended.ensures.whole ∙ sym c.requires.whole;
       follows = subst (λ es. CanFollow es self.run) (sym (ap (λ core. core.history) now)) (follows_more self.core.history c.args.frame self.run self.follows c.requires.run);
@@ -41,9 +41,9 @@ invariant_of-self-in-Ok-appended g c =
           (subst (λ es. IsKept self.opened es [] before first (seen c.append-appended.new.self.disk)) (sym (ap (λ core. core.history) now)) committed);
       rose = λ marked. let whole = c.requires.whole in cc;
       few = self.few;
-      within = subst (λ more. IsWithin self.limits (c.keep.new.self.history ++ more)) (sym (none_marked self.mark c.requires.whole))
-          (subst (λ es. IsWithin self.limits es) (sym (append-nil c.keep.new.self.history))
-          (subst (λ es. IsWithin self.limits es) (sym (ap (λ core. core.history) now)) c.requires.within));
+      within = subst (λ more. IsWithin c.keep.new.self.limits (c.keep.new.self.history ++ more)) (sym (none_marked self.mark c.requires.whole))
+          (subst (λ es. IsWithin c.keep.new.self.limits es) (sym (append-nil c.keep.new.self.history))
+          (subst (λ (core : Catalogued). IsWithin core.limits core.history) (sym now) c.requires.within));
     }
 
 pub invariant_of-self-in-Err : goal.invariant_of-self-in-Err
@@ -64,7 +64,6 @@ invariant_of-self-in-Err g c =
     let earlier = finds.kept.faults in
     record {
       unstaged = ap (λ core. core.staged) now ∙ self.unstaged;
-      limited = ap (λ core. core.limits) now ∙ self.limited;
       newest = appended.version ∙ self.newest;
       broken = c.in-Err.ensures.broken;
       follows = subst (λ es. CanFollow es self.run) (sym (ap (λ core. core.history) now)) self.follows;
@@ -72,8 +71,8 @@ invariant_of-self-in-Err g c =
           (subst (λ es. IsKept self.opened es c.args.frame before first (seen c.append-appended.new.self.disk)) (sym (ap (λ core. core.history) now)) marked);
       rose = λ marked. omega (arith, rose, earlier);
       few = subst (λ es. length es ≤ 32) (sym c.of-mark.ensures) c.into_parts-items.ensures.batch.few;
-      within = subst (λ more. IsWithin self.limits (c.undo.new.self.history ++ more)) (sym c.of-mark.ensures)
-          (subst (λ es. IsWithin self.limits (es ++ c.args.frame)) (sym (ap (λ core. core.history) now)) c.requires.within);
+      within = subst (λ more. IsWithin c.undo.new.self.limits (c.undo.new.self.history ++ more)) (sym c.of-mark.ensures)
+          (subst (λ (core : Catalogued). IsWithin core.limits (core.history ++ c.args.frame)) (sym now) c.requires.within);
     }
 
 pub returns-in-Ok-appended-clause-crash : goal.returns-in-Ok-appended-clause-crash
@@ -97,3 +96,8 @@ returns-in-Ok-appended-clause-later g c = c.append-appended.ensures.continues.la
 
 pub returns-in-Err-clause-later : goal.returns-in-Err-clause-later
 returns-in-Err-clause-later g c = c.append-appended.ensures.continues.later
+
+pub stage_all-requires-clause-within : goal.stage_all-requires-clause-within
+stage_all-requires-clause-within g c =
+    let core = c.args.self.now.core in
+    subst (λ es. IsWithin core.limits (core.history ++ es)) (sym c.into_parts-items.ensures.items) c.requires.within

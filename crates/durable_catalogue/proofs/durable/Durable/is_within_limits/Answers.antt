@@ -8,5 +8,5 @@ pub returns : goal.returns
 returns g c =
     let d = c.args.self.now in
     let is = c.core.ensures.value in
-    within_limits d.core d.limits d.unstaged d.limited (subst (λ core. length (all_entries core) ≤ core.limits.entries) is c.is_within_limits.ensures.count)
+    within_limits d.core d.unstaged (subst (λ core. length (all_entries core) ≤ core.limits.entries) is c.is_within_limits.ensures.count)
     (subst (λ core. entries_size (all_entries core) ≤ core.limits.bytes) is c.is_within_limits.ensures.size)

@@ -23,7 +23,6 @@ invariant_of-result g c =
     let kept = opened_kept c.in-Ok.frames journal.place (seen c.args.disk) (seen journal.disk) history recovered c.in-Ok.ensures.crash holds c.in-Ok.ensures.later in
     record {
       unstaged = unstaged;
-      limited = ap (λ core. core.limits) done.core;
       newest = two;
       broken = c.in-Ok.ensures.whole;
       follows = subst (CanFollow history) (sym done.run) (next_follows history (payloads_of c.in-Ok.frames) holds);
@@ -32,7 +31,8 @@ invariant_of-result g c =
           (subst (λ j. IsKept (length history) history [] (seen c.args.disk) (seen j.disk) (seen journal.disk)) (sym c.of-first.ensures) kept));
       rose = λ none. cc;
       few = omega arith;
-      within = subst (λ es. IsWithin c.args.limits es) (sym (append-nil history)) done.within;
+      within = subst (λ limits. IsWithin limits (history ++ [])) (sym (ap (λ core. core.limits) done.core))
+          (subst (λ es. IsWithin c.args.limits es) (sym (append-nil history)) done.within);
     }
 
 pub returns-in-Ok-load-clause-history : goal.returns-in-Ok-load-clause-history

@@ -1,6 +1,6 @@
 use Rattle.std.proofs.Common.{rules, ◌≡◌, ◌≤◌, ◌+◌, length, take, get_or, vec_len, arith}
 use Rattle.std.specs.List.{flat_map}
-use Rattle.entry_record.specs.Payload.{entry_bytes}
+use Rattle.entry_history.specs.Format.{entry_bytes}
 use Rattle.entry_history.proofs.Batches.{cut_laid, cut_within}
 use Rattle.entry_history.proofs.batch.Batch.cut.Goals as goal
 

@@ -1,4 +1,4 @@
-use Rattle.std.proofs.Common.{length, length-append, sym, arith}
+use Rattle.std.proofs.Common.{length-append, sym, arith}
 use Rattle.entry_history.proofs.extent.Extent.with.Goals as goal
 
 pub returns-clause-extent : goal.returns-clause-extent

@@ -1,5 +1,4 @@
-use Rattle.std.proofs.Common.{◌++◌, string_bytes, encode_utf8, ap, ◌∙◌}
-use Rattle.std.proofs.lemmas.Str.{IsUtf8-string_bytes}
+use Rattle.std.proofs.Common.{◌++◌, encode_utf8, IsUtf8, ap, subst, ◌∙◌}
 use Rattle.naco_form.specs.Pen.{written_and_still}
 use Rattle.naco_form.specs.declared.pen.Pen.{Pen}
 use Rattle.naco_form.proofs.PenLemmas.{write_free, write_held}
@@ -9,9 +8,8 @@ use Rattle.naco_form.proofs.pen.Pen.write.Goals.{in-Blank+in_ok-push, in_default
 pub returns-clause-text : goal.returns-clause-text
 unfolding written_and_still
 returns-clause-text c cs =
-    let text = IsUtf8-string_bytes c.args.self.now.out in
     let scalar = c.ranges.c.0 in
     elim c.match-self.branch [
-      | in-Blank+in_ok-push w ↦ write_held _ _ _ c.args.c cs text scalar c.requires w.in-Blank.is (c.in_ok-push-2.ensures.bytes ∙ ap (λ (p : Pen). string_bytes p.out ++ encode_utf8 c.args.c) w.self-is ∙ ap (λ l. l ++ encode_utf8 c.args.c) w.in_ok-push.ensures.bytes)
-      | in_default w ↦ write_free _ _ _ c.args.c cs text scalar c.requires w.in_default.not-Blank (c.in_ok-push-2.ensures.bytes ∙ ap (λ (p : Pen). string_bytes p.out ++ encode_utf8 c.args.c) w.self-is)
+      | in-Blank+in_ok-push w ↦ write_held _ _ _ c.args.c cs w.in_ok-push.ensures.utf8 scalar c.requires w.in-Blank.is (c.in_ok-push-2.ensures.text ∙ ap (λ (p : Pen). p.out ++ encode_utf8 c.args.c) w.self-is ∙ ap (λ l. l ++ encode_utf8 c.args.c) w.in_ok-push.ensures.text)
+      | in_default w ↦ write_free _ _ _ c.args.c cs (subst (λ (p : Pen). IsUtf8 p.out) w.self-is c.in_ok-push-2.ensures.utf8) scalar c.requires w.in_default.not-Blank (c.in_ok-push-2.ensures.text ∙ ap (λ (p : Pen). p.out ++ encode_utf8 c.args.c) w.self-is)
     ]

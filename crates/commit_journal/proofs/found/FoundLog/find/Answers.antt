@@ -1,0 +1,11 @@
+use Rattle.commit_journal.proofs.Recoveries.{read_at}
+use Rattle.commit_journal.proofs.found.FoundLog.find.Goals as goal
+
+pub invariant_of-found : goal.invariant_of-found
+invariant_of-found g c =
+    let found = c.in-Ok.ensures.found in
+    record {
+      room = c.in-Ok.ensures.room;
+      only = found.only;
+      read = read_at c.in-Ok.log.frames.items c.in-Ok.log.place c.in-Ok.log.version (g.D.Disk.seen c.look.new.disk) found.read;
+    }

@@ -1,0 +1,129 @@
+//! A log that was found on a disk, before anything is written to it.
+ghost use Rattle.std.specs.Prelude.{◌≡◌, ◌≤◌, false, List, vec_len, IfOk, IfErr, MatchResult};
+ghost use Rattle.outside.specs.Disk.{OnlyContent};
+ghost use Rattle.outside.specs.Fault.{Rose};
+ghost use Rattle.commit_journal.specs.declared.format.TheConstants.{FRAME_ROOM};
+ghost use Rattle.commit_journal.specs.declared.frame.Frame.{Frame};
+ghost use Rattle.commit_journal.specs.Journal.{IsFound, IsRecovered, IsSettling, Opens, HasOpenCause, Unwritten};
+ghost use Rattle.commit_journal.specs.Reading.{IsReadAt};
+
+use crate::format::FRAME_ROOM;
+use crate::frame::Frames;
+use crate::journal::Journal;
+use crate::reading::{Log, read_log, zeros};
+use crate::settling::bring_into_order;
+use crate::{DeviceFault, JournalFault};
+use outside::Disk;
+use std::alloc::Global;
+
+/// Takes the room for one frame, syncs, and reads the log.
+fn look<D: Disk>(alloc: Global, disk: &mut D) -> Result<(Vec<u8>, Log), JournalFault>
+    ensures room { IfOk result (λ r. vec_len r.0 ≡ FRAME_ROOM) }
+    ensures found { IfOk result (λ r. IsFound r.1.frames.items r.1.place r.1.version (D.seen disk.old) (D.seen disk.new)) }
+    ensures unwritten { Unwritten (D.seen disk.old) (D.seen disk.new) }
+    ensures opens { Opens (D.seen disk.old) (D.seen disk.new) }
+    ensures later { (D.seen disk.old).faults ≤ (D.seen disk.new).faults }
+    ensures fault { IfErr result (HasOpenCause (D.seen disk.old) (D.seen disk.new)) }
+{
+    let buffer = zeros(alloc, FRAME_ROOM)?;
+    disk.sync()?;
+    let log = read_log(alloc, disk)?;
+    Ok((buffer, log))
+}
+
+/// A log that was found on a disk, which was synced and read. Nothing was written to it, so it can be left as it was; once it is settled
+/// it is a journal.
+#[derive(Drop)]
+pub struct FoundLog<D: Disk> {
+    disk: D,
+    // Room for one frame and the gate behind it.
+    buffer: Vec<u8>,
+    // The place of the first closed gate.
+    place: u64,
+    version: u8,
+    ghost room: { vec_len buffer ≡ FRAME_ROOM },
+    ghost only: { OnlyContent (D.seen disk) },
+    ghost read: { IsReadAt place version (D.seen disk) },
+}
+
+impl<D: Disk> FoundLog<D> {
+    /// Finds a log that a crash may have left, and answers its frames up to the first closed gate. It syncs and reads, and writes nothing.
+    /// A fault hands the disk back.
+    pub fn find(alloc: Global, disk: D) -> Result<(Self, Frames), (D, JournalFault)>
+        // The frames are the log's.
+        ensures found { IfOk result (λ r. IsFound r.1 r.0.place r.0.version (D.seen disk) (D.seen r.0.disk)) }
+
+        // Whatever it answers, every byte is as it was, and so is each image since a first sync that succeeded.
+        ensures unwritten { MatchResult result (λ r. Unwritten (D.seen disk) (D.seen r.0.disk)) (λ e. Unwritten (D.seen disk) (D.seen e.0)) }
+        ensures crash { MatchResult result (λ r. Opens (D.seen disk) (D.seen r.0.disk)) (λ e. Opens (D.seen disk) (D.seen e.0)) }
+        ensures later { MatchResult result (λ r. (D.seen disk).faults ≤ (D.seen r.0.disk).faults) (λ e. (D.seen disk).faults ≤ (D.seen e.0).faults) }
+        ensures fault { IfErr result (λ e. HasOpenCause (D.seen disk) (D.seen e.0) e.1) }
+    {
+        let mut disk = disk;
+        match look(alloc, &mut disk) {
+            Ok((buffer, log)) => {
+                let found = FoundLog {
+                    disk,
+                    buffer,
+                    place: log.place,
+                    version: log.version,
+                };
+                Ok((found, Frames::from_vec(log.frames)))
+            }
+            Err(fault) => Err((disk, fault)),
+        }
+    }
+
+    /// The version of the log, 1 or 2; 2 where it is blank.
+    pub fn version(&self) -> u8
+        ensures { result ≡ self.now.version }
+    {
+        self.version
+    }
+
+    /// Gives the disk back, with every byte as it was.
+    pub fn leave(self) -> D
+        ensures { result ≡ self.disk }
+    {
+        let found = self;
+        found.disk
+    }
+
+    /// Brings the log into order: it cuts off what stands behind the first closed gate, and syncs; a log of 17 bytes or fewer is written
+    /// anew. A crash meanwhile leaves the same log. A fault hands the disk back.
+    pub fn settle(self) -> Result<Journal<D>, (D, DeviceFault)>
+        // The frames are those that were found on the disk as it was before, and the log is settled.
+        ensures recovered { IfOk result (λ j. (before : D) (frames : List Frame) → IsFound frames self.place self.version (D.seen before) (D.seen self.disk)
+            → IsRecovered frames j.place j.version (D.seen before) (D.seen j.disk)) }
+        ensures whole { IfOk result (λ j. j.broken ≡ false) }
+        ensures version { IfOk result (λ j. j.version ≡ self.version) }
+
+        // Each image since the first sync is the same log, and so is the content, whatever it answers.
+        ensures crash { (before : D) (frames : List Frame) → IsFound frames self.place self.version (D.seen before) (D.seen self.disk)
+            → MatchResult result (λ j. IsSettling (D.seen before) (D.seen j.disk)) (λ e. IsSettling (D.seen before) (D.seen e.0)) }
+
+        // It fails only where the count of faults rose.
+        ensures later { MatchResult result (λ j. (D.seen self.disk).faults ≤ (D.seen j.disk).faults) (λ e. (D.seen self.disk).faults ≤ (D.seen e.0).faults) }
+        ensures cause { IfErr result (λ e. Rose (D.seen self.disk).faults (D.seen e.0).faults) }
+    {
+        let FoundLog {
+            disk,
+            buffer,
+            place,
+            version,
+            ..
+        } = self;
+        let mut disk = disk;
+        let settled = bring_into_order(&mut disk, place);
+        match settled {
+            Ok(()) => Ok(Journal {
+                disk,
+                buffer,
+                place,
+                version,
+                broken: false,
+            }),
+            Err(_) => Err((disk, DeviceFault)),
+        }
+    }
+}

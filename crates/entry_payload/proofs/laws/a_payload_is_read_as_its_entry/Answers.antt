@@ -1,5 +1,0 @@
-use Rattle.entry_payload.proofs.Payloads.{read_back}
-use Rattle.entry_payload.proofs.laws.a_payload_is_read_as_its_entry.Goals as goal
-
-pub returns-clause-alone : goal.returns-clause-alone
-returns-clause-alone c before entries e h follows holds = read_back before entries e h follows holds

@@ -1,0 +1,66 @@
+//! Why a call on a file failed, for a reader of standard error.
+use std::fmt;
+use std::io::{Error, ErrorKind};
+
+/// Why a call on a file failed, as standard error tells it.
+#[derive(Clone, Copy, Debug, PartialEq, Eq)]
+pub enum Cause {
+    /// Another command, or this one under another name, has the file.
+    InUse,
+    NoSuchFile,
+    /// The folder in which a new file would stand isn't there.
+    NoSuchFolder,
+    PermissionDenied,
+    IsFolder,
+    ReadOnly,
+    NoSpace,
+    /// An input has more bytes than [`crate::LONGEST_INPUT`].
+    TooLong,
+    /// The file is a journal, and an output would take its place.
+    IsJournal,
+    /// There is no such file, and its name has the form of a library's word.
+    LibraryWord,
+    NoMemory,
+    Other,
+}
+
+impl Cause {
+    /// The cause of the system's answer.
+    pub fn of(error: &Error) -> Cause {
+        match error.kind() {
+            ErrorKind::NotFound => Cause::NoSuchFile,
+            ErrorKind::PermissionDenied => Cause::PermissionDenied,
+            ErrorKind::IsADirectory => Cause::IsFolder,
+            ErrorKind::ReadOnlyFilesystem => Cause::ReadOnly,
+            ErrorKind::StorageFull | ErrorKind::QuotaExceeded => Cause::NoSpace,
+            ErrorKind::OutOfMemory => Cause::NoMemory,
+            _ => Cause::Other,
+        }
+    }
+
+    /// The words behind the name of the file.
+    pub fn words(self) -> &'static str {
+        match self {
+            Cause::InUse => ": in use by another command, or under another name",
+            Cause::NoSuchFile => ": no such file",
+            Cause::NoSuchFolder => ": no such folder",
+            Cause::PermissionDenied => ": permission denied",
+            Cause::IsFolder => ": is a folder",
+            Cause::ReadOnly => ": on a read-only file system",
+            Cause::NoSpace => ": no space left",
+            Cause::TooLong => ": longer than 1 GiB",
+            Cause::IsJournal => " is a journal; no output is written over it",
+            Cause::LibraryWord => {
+                " looks like CODE=FILE, and there is no such file: is a word missing? ./NAME makes it"
+            }
+            Cause::NoMemory => ": out of memory",
+            Cause::Other => ": the system failed",
+        }
+    }
+}
+
+impl fmt::Display for Cause {
+    fn fmt<W: fmt::Write>(&self, f: &mut fmt::Formatter<W>) -> fmt::Result {
+        f.write_str(self.words())
+    }
+}

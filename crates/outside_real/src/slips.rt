@@ -1,0 +1,27 @@
+//! What a slip of the hand looks like: the name of an output that is a journal, and a library's word in the place of a file.
+const FIRST_VERSION: &[u8] = b"UNIONCAT JNL 01\n";
+
+const SECOND_VERSION: &[u8] = b"UNIONCAT JNL 02\n";
+
+/// The most bytes of a library's code.
+const LONGEST_CODE: usize = 16;
+
+/// Whether a file that begins so is a journal, or a point, of either version.
+pub fn begins_a_journal(front: &[u8]) -> bool {
+    front == FIRST_VERSION || front == SECOND_VERSION
+}
+
+/// Whether a name has the form `CODE=FILE`, with no folder in front of it.
+pub fn is_library_word(name: &str) -> bool {
+    match name.split_once('=') {
+        Some((code, _)) => {
+            !code.is_empty() && code.len() <= LONGEST_CODE && code.bytes().all(can_stand_in_code)
+        }
+        None => false,
+    }
+}
+
+// A slash is no sign of a code here, so that `./A=b` is the way to such a name.
+fn can_stand_in_code(byte: u8) -> bool {
+    matches!(byte, b'!'..=b'~') && byte != b'(' && byte != b')' && byte != b'/'
+}

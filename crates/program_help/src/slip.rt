@@ -1,0 +1,338 @@
+//! What is wrong with words that are no command, told so that the next try is right.
+
+ghost use Rattle.std.specs.Prelude.{◌≤◌};
+
+use crate::telling::text_of;
+use command_words::{Topic, named_topic};
+use marc_types::{NoMemory, Text, can_be_code};
+use std::alloc::Global;
+use std::fmt;
+use strsim::levenshtein;
+
+/// The most files that one command loads.
+const MOST_FILES: usize = 64;
+
+/// The most that a mistyped command may differ from the one that was meant: letters put in, left out or changed.
+const NEAR: usize = 2;
+
+/// What is wrong with words that are no command.
+#[derive(Clone, Copy, Debug, PartialEq, Eq)]
+pub enum Slip<'a> {
+    NoCommand,
+    /// No command has this name; another's is near.
+    Unknown {
+        word: &'a str,
+        nearest: Option<&'static str>,
+    },
+    TooFew {
+        topic: Topic,
+    },
+    TooMany {
+        topic: Topic,
+        first: &'a str,
+    },
+    TooManyFiles {
+        topic: Topic,
+        files: usize,
+    },
+    /// A word is empty.
+    Empty {
+        topic: Topic,
+    },
+    /// A word stands where `CODE=FILE` is wanted, and has no `=`, or no file behind it.
+    NoFile {
+        topic: Topic,
+        word: &'a str,
+    },
+    BadCode {
+        topic: Topic,
+        code: &'a str,
+    },
+    /// One file is to be two things.
+    Twice {
+        topic: Topic,
+        name: &'a str,
+    },
+    NoNumber {
+        topic: Topic,
+        word: &'a str,
+    },
+}
+
+/// How the words behind a command's name go: so many names of files, so many words `CODE=FILE`, and maybe a code.
+#[derive(Drop)]
+struct Form {
+    topic: Topic,
+    names: usize,
+    files: Files,
+    may_have_code: bool,
+    ghost few: { names ≤ 3 },
+}
+
+#[derive(Clone, Copy, PartialEq, Eq)]
+enum Files {
+    None,
+    One,
+    Many,
+}
+
+const VERBS: [&str; 12] = [
+    "pass", "run", "load", "export", "report", "make", "verify", "migrate", "matches", "holdings",
+    "help", "version",
+];
+
+/// What is wrong with words that are no command.
+pub fn slip_in<'a>(alloc: Global, words: &'a [Text]) -> Result<Slip<'a>, NoMemory> {
+    let Some((verb, behind)) = words.split_first() else {
+        return Ok(Slip::NoCommand);
+    };
+    match named_topic(verb.as_str()) {
+        Some(topic) => slip_behind(alloc, topic, behind),
+        None => Ok(Slip::Unknown {
+            word: verb.as_str(),
+            nearest: nearest(alloc, verb.as_str())?,
+        }),
+    }
+}
+
+/// The command whose name is near a word, if there is one.
+fn nearest(alloc: Global, word: &str) -> Result<Option<&'static str>, NoMemory> {
+    let mut least = NEAR + 1;
+    let mut found = None;
+    for verb in VERBS {
+        let edits = levenshtein(alloc, word, verb)?;
+        if edits < least {
+            least = edits;
+            found = Some(verb);
+        }
+    }
+    Ok(found)
+}
+
+fn form_of(topic: Topic) -> Form {
+    let (names, files, may_have_code) = match topic {
+        Topic::Pass => (1, Files::One, false),
+        Topic::Run => (3, Files::Many, false),
+        Topic::Load => (1, Files::Many, false),
+        Topic::Export => (2, Files::None, true),
+        Topic::Report | Topic::Matches | Topic::Migrate => (2, Files::None, false),
+        Topic::Make => (3, Files::None, false),
+        Topic::Verify => (1, Files::None, false),
+        Topic::Holdings => (3, Files::One, true),
+        Topic::Help | Topic::All | Topic::Version => (0, Files::None, false),
+    };
+    Form {
+        topic,
+        names,
+        files,
+        may_have_code,
+    }
+}
+
+/// What is wrong with the words behind a command's name.
+fn slip_behind<'a>(alloc: Global, topic: Topic, behind: &'a [Text]) -> Result<Slip<'a>, NoMemory> {
+    if topic == Topic::Help {
+        return slip_of_help(alloc, behind);
+    }
+    let form = form_of(topic);
+    Ok(
+        slip_of_count(&form, behind)
+            .or(slip_of_names(&form, behind))
+            .or(slip_of_files(&form, behind))
+            .or(slip_of_code(&form, behind))
+            .unwrap_or(Slip::TooFew { topic }),
+    )
+}
+
+fn slip_of_help<'a>(alloc: Global, behind: &'a [Text]) -> Result<Slip<'a>, NoMemory> {
+    match behind {
+        [word] => Ok(Slip::Unknown {
+            word: word.as_str(),
+            nearest: nearest(alloc, word.as_str())?,
+        }),
+        [_, second, ..] => Ok(Slip::TooMany {
+            topic: Topic::Help,
+            first: second.as_str(),
+        }),
+        [] => Ok(Slip::NoCommand),
+    }
+}
+
+/// Too few words, or more than there can be.
+fn slip_of_count<'a>(form: &Form, behind: &'a [Text]) -> Option<Slip<'a>> {
+    let (least, most) = match form.files {
+        Files::None => (form.names, form.names),
+        Files::One => (form.names + 1, form.names + 1),
+        Files::Many => (form.names + 1, form.names + MOST_FILES),
+    };
+    let most = if form.may_have_code { most + 1 } else { most };
+    if behind.len() < least {
+        return Some(Slip::TooFew { topic: form.topic });
+    }
+    let first = behind.get(most)?;
+    if form.files == Files::Many {
+        Some(Slip::TooManyFiles {
+            topic: form.topic,
+            files: behind.len() - form.names,
+        })
+    } else {
+        Some(Slip::TooMany {
+            topic: form.topic,
+            first: first.as_str(),
+        })
+    }
+}
+
+/// A name that is empty or no number where one is wanted, or one that stands twice.
+fn slip_of_names<'a>(form: &Form, behind: &'a [Text]) -> Option<Slip<'a>> {
+    let topic = form.topic;
+    let (names, files) = behind.split_at_checked(form.names)?;
+    if names.iter().any(|name| name.is_empty()) {
+        return Some(Slip::Empty { topic });
+    }
+    if topic == Topic::Make {
+        return slip_of_numbers(names);
+    }
+    for (place, name) in names.iter().enumerate() {
+        let later = &names[place + 1..];
+        if later.contains(name)
+            || files
+                .iter()
+                .any(|word| file_of(word) == Some(name.as_str()))
+        {
+            return Some(Slip::Twice {
+                topic,
+                name: name.as_str(),
+            });
+        }
+    }
+    None
+}
+
+/// The first of SEED and COUNT, else COUNT.
+fn slip_of_numbers(names: &[Text]) -> Option<Slip<'_>> {
+    let is_number = |word: &Text| word.as_bytes().iter().all(|byte| byte.is_ascii_digit());
+    let numbers = names.get(..2)?;
+    let word = numbers
+        .iter()
+        .find(|word| !is_number(word))
+        .or(numbers.last())?;
+    Some(Slip::NoNumber {
+        topic: Topic::Make,
+        word: word.as_str(),
+    })
+}
+
+/// A word where a library's file is wanted that is no `CODE=FILE`.
+fn slip_of_files<'a>(form: &Form, behind: &'a [Text]) -> Option<Slip<'a>> {
+    let files = match form.files {
+        Files::None => 0,
+        Files::One => 1,
+        Files::Many => MOST_FILES,
+    };
+    behind
+        .iter()
+        .skip(form.names)
+        .take(files)
+        .find_map(|word| slip_of_file(form.topic, word))
+}
+
+fn slip_of_file(topic: Topic, word: &Text) -> Option<Slip<'_>> {
+    match word.as_str().split_once('=') {
+        Some((_, "")) | None => Some(Slip::NoFile {
+            topic,
+            word: word.as_str(),
+        }),
+        Some((code, _)) if !can_be_code(code.as_bytes()) => Some(Slip::BadCode { topic, code }),
+        Some(_) => None,
+    }
+}
+
+/// The file of a word `CODE=FILE`.
+fn file_of(word: &Text) -> Option<&str> {
+    let (_, file) = word.as_str().split_once('=')?;
+    Some(file)
+}
+
+/// A bad code behind the names and the file.
+fn slip_of_code<'a>(form: &Form, behind: &'a [Text]) -> Option<Slip<'a>> {
+    let place = match form.files {
+        Files::One => form.names + 1,
+        Files::None | Files::Many => form.names,
+    };
+    let code = behind.get(place)?;
+    if form.may_have_code && !can_be_code(code.as_bytes()) {
+        Some(Slip::BadCode {
+            topic: form.topic,
+            code: code.as_str(),
+        })
+    } else {
+        None
+    }
+}
+
+/// How a command goes: the first lines of its help.
+fn usage_of(topic: Topic) -> &'static str {
+    let text = text_of(topic);
+    match text.split_once("\n\n") {
+        Some((usage, _)) => usage,
+        None => text,
+    }
+}
+
+impl Slip<'_> {
+    /// The command that was meant, as far as its name tells.
+    fn topic(&self) -> Option<Topic> {
+        match *self {
+            Slip::NoCommand | Slip::Unknown { .. } => None,
+            Slip::TooFew { topic }
+            | Slip::TooMany { topic, .. }
+            | Slip::TooManyFiles { topic, .. }
+            | Slip::Empty { topic }
+            | Slip::NoFile { topic, .. }
+            | Slip::BadCode { topic, .. }
+            | Slip::Twice { topic, .. }
+            | Slip::NoNumber { topic, .. } => Some(topic),
+        }
+    }
+
+    fn write_reason<W: fmt::Write>(&self, f: &mut fmt::Formatter<W>) -> fmt::Result {
+        match *self {
+            Slip::NoCommand => f.write_str("no command is given"),
+            Slip::Unknown {
+                word,
+                nearest: None,
+            } => write!(f, "there is no command {word}"),
+            Slip::Unknown {
+                word,
+                nearest: Some(nearest),
+            } => write!(f, "there is no command {word}: did you mean {nearest}?"),
+            Slip::TooFew { .. } => f.write_str("a word is missing"),
+            Slip::TooMany { first, .. } => write!(f, "one word too many: {first}"),
+            Slip::TooManyFiles { files, .. } => {
+                write!(f, "{files} files, and one command takes {MOST_FILES}")
+            }
+            Slip::Empty { .. } => f.write_str("a file's name is empty"),
+            Slip::NoFile { word, .. } => write!(f, "{word} isn't CODE=FILE"),
+            Slip::BadCode { code, .. } => write!(
+                f,
+                "{code} is no code: 1 to 16 signs of ASCII, no blanks, no parentheses"
+            ),
+            Slip::Twice { name, .. } => write!(f, "{name} is named twice"),
+            Slip::NoNumber { word, .. } => write!(
+                f,
+                "{word} is no such number: SEED below 2^64, COUNT at most 1048576"
+            ),
+        }
+    }
+}
+
+impl fmt::Display for Slip<'_> {
+    fn fmt<W: fmt::Write>(&self, f: &mut fmt::Formatter<W>) -> fmt::Result {
+        self.write_reason(f)?;
+        match self.topic() {
+            Some(topic) => write!(f, "\n{}", usage_of(topic)),
+            None => f.write_str("\nunion_cat help tells the commands"),
+        }
+    }
+}

@@ -1,5 +1,0 @@
-pub mod Drafts
-pub mod Given
-pub mod Lengths
-pub mod Limits
-pub mod Taken
