@@ -11,9 +11,9 @@ from pathlib import Path
 
 
 def names_of_words():
-    """The verbs that are commands, without the options."""
+    """The verbs that are commands, without the options and the topic `statuses`."""
     source = Path("crates/command_words/src/topic.rt").read_text()
-    return re.findall(r'^ {8}"(\w+)" => Some\(Topic::', source, re.M)
+    return [name for name in re.findall(r'^ {8}"(\w+)" => Some\(Topic::', source, re.M) if name != "statuses"]
 
 
 def names_of_help():
@@ -21,7 +21,7 @@ def names_of_help():
     source = Path("crates/program_help/src/texts.rt").read_text()
     whole = re.search(r'pub const ALL: &str = "[^\n]*\n\n(.*?)";', source, re.S).group(1)
     lines = [line.split()[0] for line in whole.splitlines()]
-    topics = re.findall(r'pub const [A-Z]+: &str = "union_cat (\w+)', source)
+    topics = re.findall(r'pub const [A-Z]+: &str = "union_cat (\w+)\b(?! statuses)', source)
     return lines, topics
 
 

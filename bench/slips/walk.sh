@@ -68,6 +68,12 @@ slip 2 'a code that is far too long is no code' load u.jnl 'a code that is far t
 slip 2 'u.jnl is named twice' export u.jnl u.jnl
 slip 2 'made.mrc is named twice' load made.mrc A=made.mrc
 slip 2 '2000000 is no such number' make 1 2000000 x
+slip 2 '99999999999999999999 is no such number' make 99999999999999999999 5 x
+slip 0 '' load --help
+slip 0 '' help --version
+slip 0 '' -V
+slip 0 '' help statuses
+slip 3 '' verify --help
 slip 2 'no command is given'
 [ $wrong -eq 0 ] && echo 'all slips as they are due'
 exit $wrong

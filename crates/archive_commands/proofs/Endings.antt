@@ -43,14 +43,18 @@ module _ (journal out : List ℕ) (due : List Entry → List ℕ) (o : Outcome) 
       → SameBut o.old o.new (journal ∷ []) → reason ≢ opening.OldVersion
       → (o.old.tells ≡ true → IsUnopened journal_limits (log_bytes o.old journal) reason)
       → (o.old.tells ≡ true → KeepsHistory (reason ≡ opening.DeviceFault) o.old o.new journal)
+      → (o.old.tells ≡ true → reason ≢ opening.DeviceFault → reason ≢ opening.NoMemory → log_bytes o.new journal ≡ log_bytes o.old journal)
       → (reason ≡ opening.DeviceFault → Rose (o.old.log_faults journal) (o.new.log_faults journal)) → ReadsJournal journal out due o
-  reads_fault reason is told apart current so keeps cause = record {
+  reads_fault reason is told apart current so keeps kept cause = record {
     ends = subst EndsReading (sym is) (ends_unopened reason current);
     keeps = λ tells.
         keeps_where (reason ≡ opening.DeviceFault) (o.end ≡ Told Device) o.old o.new journal (λ device. is ∙ ap (λ r. Told (fault_of_opening r)) device) (keeps tells);
     told = λ why also. subst (λ w. IsTold w o × WhyUnopened o.old journal w) (told_once o.end (fault_of_opening reason) why is also)
         (told, record { reason = reason; is = refl; so = so });
     untouched = λ why also. apart;
+    kept = λ why also other more tells.
+        let same = told_once o.end (fault_of_opening reason) why is also in
+        kept tells (λ device. other (sym same ∙ ap fault_of_opening device)) (λ memory. more (sym same ∙ ap fault_of_opening memory));
     silent = λ untold. absurd (never_told o.end (fault_of_opening reason) untold is);
     device = λ also. cause (opening_device reason (told_once o.end (fault_of_opening reason) Device is also));
     out_cause = λ also. absurd (told_not_unwritten o.end (fault_of_opening reason) Out is also);
@@ -65,8 +69,10 @@ module _ (journal out : List ℕ) (due : List Entry → List ℕ) (o : Outcome) 
       → SameBut o.old o.new (journal ∷ []) → reason ≢ opening.OldVersion
       → (o.old.tells ≡ true → IsUnopened journal_limits (log_bytes o.old journal) reason)
       → (o.old.tells ≡ true → KeepsHistory (reason ≡ opening.DeviceFault) o.old o.new journal)
+      → (o.old.tells ≡ true → reason ≢ opening.DeviceFault → log_bytes o.new journal ≡ log_bytes o.old journal)
       → (reason ≡ opening.DeviceFault → Rose (o.old.log_faults journal) (o.new.log_faults journal)) → ReadsJournal journal out due o
-  reads_unopened reason fault words is told = reads_fault reason (is ∙ ap Told words) (subst (λ f. IsTold f o) words told)
+  reads_unopened reason fault words is told apart current so keeps kept =
+      reads_fault reason (is ∙ ap Told words) (subst (λ f. IsTold f o) words told) apart current so keeps (λ tells other more. kept tells other)
 
   -- what is due of the history of a journal that was opened, written so far as it could be
   pub record WasRead (history : List Entry) : Type 1 where
@@ -102,6 +108,7 @@ module _ (journal out : List ℕ) (due : List Entry → List ℕ) (o : Outcome) 
       keeps = r.keeps (o.end ≡ Told Device);
       told = λ why also. absurd (told_not_done o.end why also is);
       untouched = λ why also. absurd (told_not_done o.end why also is);
+      kept = λ why also. absurd (told_not_done o.end why also is);
       silent = λ untold. silent;
       device = λ also. absurd (told_not_done o.end Device also is);
       out_cause = λ also. absurd (done_not_unwritten o.end Out is also);
@@ -119,6 +126,7 @@ module _ (journal out : List ℕ) (due : List Entry → List ℕ) (o : Outcome) 
       keeps = r.keeps (o.end ≡ Told Device);
       told = λ why also. absurd (told_not_unwritten o.end why Out also is);
       untouched = λ why also. absurd (told_not_unwritten o.end why Out also is);
+      kept = λ why also. absurd (told_not_unwritten o.end why Out also is);
       silent = λ untold. silent;
       device = λ also. absurd (told_not_unwritten o.end Device Out also is);
       out_cause = λ also. rose;
@@ -131,7 +139,8 @@ module _ (journal out : List ℕ) (due : List Entry → List ℕ) (o : Outcome) 
     -- memory ran out before the output was begun
     pub reads_no_memory : o.end ≡ Told Memory → IsTold Memory o → SameBut o.old o.new (journal ∷ []) → ReadsJournal journal out due o
     reads_no_memory is told apart =
-        reads_fault opening.NoMemory is told apart (λ e. cc) (λ tells. tt) (r.keeps (opening.NoMemory ≡ opening.DeviceFault)) (λ e. cc)
+        reads_fault opening.NoMemory is told apart (λ e. cc) (λ tells. tt) (r.keeps (opening.NoMemory ≡ opening.DeviceFault))
+        (λ tells other more. absurd (more refl)) (λ e. cc)
 
   -- the output was written, or it could not be, or memory ran out before it was begun
   pub reads_output : {T : Type 0} → (mid : RoomView) (disk : DiskView) (history : List Entry) (written : Result T WriteFault) → journal ≢ out

@@ -1,5 +1,5 @@
 -- How a command ends that reads a journal.
-use Rattle.std.specs.Prelude.{◌≡◌, ℕ, true, List, [], ◌∷◌, Option, Some}
+use Rattle.std.specs.Prelude.{◌≡◌, ◌≢◌, ℕ, true, List, [], ◌∷◌, Option, Some}
 use Rattle.std.specs.Option.{option_copied}
 use Rattle.marc_types.specs.declared.entry.Entry.{Entry}
 use Rattle.outside.specs.Fault.{Rose}
@@ -56,6 +56,8 @@ pub record ReadsJournal (journal out : List ℕ) (due : List Entry → List ℕ)
   -- a fault is told for its reason, and the output is untouched
   pub told : (why : Fault) → o.end ≡ Told why → IsTold why o × WhyUnopened o.old journal why
   pub untouched : (why : Fault) → o.end ≡ Told why → SameBut o.old o.new (journal ∷ [])
+  -- a journal that is refused for what it holds keeps every byte
+  pub kept : (why : Fault) → o.end ≡ Told why → why ≢ Device → why ≢ Memory → o.old.tells ≡ true → log_bytes o.new journal ≡ log_bytes o.old journal
   -- without one the console is as it was
   pub silent : TellsNoFault o.end → IsSilent o
   -- the outside's faults have their cause

@@ -1,5 +1,5 @@
 -- What every command has that words ask for.
-use Rattle.std.proofs.Common.{◌≡◌, ◌≢◌, ℕ, ◌≤◌, Bool, true, false, ◌&&◌, List, [], ◌∷◌, length, Option, Some, None, refl, sym, ap, subst, ◌∙◌, arith, codes, get_or, take, drop, ◌-◌, if◌then◌else◌}
+use Rattle.std.proofs.Common.{◌≡◌, ◌≢◌, ℕ, ◌<◌, ◌≤◌, Bool, true, false, ◌&&◌, List, [], ◌∷◌, length, Option, Some, None, refl, sym, ap, subst, ◌∙◌, arith, codes, get_or, take, drop, ◌-◌, if◌then◌else◌}
 use Rattle.std.specs.Prelude.{is_some, option_and_then, option_map, nat_le, All, map}
 use Rattle.std.specs.Str.Parse.{digits_value}
 use Rattle.std.proofs.lemmas.Bool.Decides.{nat_tests}
@@ -16,7 +16,7 @@ use Rattle.command_words.specs.declared.library.Library.{Library}
 use Rattle.command_words.specs.declared.topic.Topic.{Topic}
 use Rattle.command_words.specs.declared.topic.Topic.TheVariants as topic
 use Rattle.command_words.specs.Topics.{topic_of}
-use Rattle.command_words.specs.Command.{Command, Pass, Run, Load, Export, Report, Make, Verify, Migrate, Matches, Holdings, Help, Version, is_name, differ, split_at_equals, library_of, are_libraries, is_free, number_upto, greatest_seed, are_two_names, are_three_names, as_pass, as_run, as_load, as_export, as_report, as_make, as_verify, as_migrate, as_matches, as_holdings, as_help, alone, only_telling, over_journal, command_of, words_of_files, libraries_of, file_count, names_of, AreNames, IsBounded}
+use Rattle.command_words.specs.Command.{Command, Pass, Run, Load, Export, Report, Make, Verify, Migrate, Matches, Holdings, Help, Version, is_name, differ, split_at_equals, library_of, are_libraries, is_free, number_upto, greatest_seed, are_two_names, are_three_names, as_pass, as_run, as_load, as_export, as_report, as_make, as_verify, as_migrate, as_matches, as_holdings, as_help, alone, is_version_flag, is_help_flag, only_telling, over_journal, behind_verb, asks_how, command_of, words_of_files, libraries_of, file_count, names_of, AreNames, IsBounded}
 
 -- a test and what it lets through
 if_some : {A : Type 0} (good : Bool) (a b : A) → (if good then Some a else None) ≡ Some b → (good ≡ true) × (a ≡ b)
@@ -256,24 +256,28 @@ alone_is verb (word ∷ words) one c good is = cc
 a_help : (words : List (List ℕ)) (topic : Topic) → IsCommand words (Help topic)
 a_help words topic = without_files words (Help topic) refl refl tt tt
 
-mapped_help : (words : List (List ℕ)) (o : Option Topic) (c : Command) → option_map Help o ≡ Some c → IsCommand words c
-mapped_help words None c is = cc
-mapped_help words (Some topic) c is = let same : Help topic ≡ c = cc in subst (IsCommand words) same (a_help words topic)
-
-help_is : (verb : List ℕ) (words : List (List ℕ)) (c : Command) → as_help words ≡ Some c → IsCommand (verb ∷ words) c
-help_is verb [] c is = let same : Help topic.All ≡ c = cc in subst (IsCommand (verb ∷ [])) same (a_help (verb ∷ []) topic.All)
-help_is verb (word ∷ []) c is = mapped_help (verb ∷ word ∷ []) (topic_of word) c is
-help_is verb (word ∷ other ∷ rest) c is = cc
+a_version : (words : List (List ℕ)) → IsCommand words Version
+a_version words = without_files words Version refl refl tt tt
 
 -- one of two
 chosen : {P : Type 0} (test : Bool) (x y : Option Command) (c : Command) → (x ≡ Some c → P) → (y ≡ Some c → P) → (if test then x else y) ≡ Some c → P
 chosen true x y c f g is = f is
 chosen false x y c f g is = g is
 
-command_is : (words : List (List ℕ)) (c : Command) → command_of words ≡ Some c → IsCommand words c
-unfolding command_of over_journal only_telling
-command_is [] c is = cc
-command_is (verb ∷ words) c is =
+mapped_help : (words : List (List ℕ)) (o : Option Topic) (c : Command) → option_map Help o ≡ Some c → IsCommand words c
+mapped_help words None c is = cc
+mapped_help words (Some topic) c is = let same : Help topic ≡ c = cc in subst (IsCommand words) same (a_help words topic)
+
+help_is : (verb : List ℕ) (words : List (List ℕ)) (c : Command) → as_help words ≡ Some c → IsCommand (verb ∷ words) c
+help_is verb [] c is = let same : Help topic.All ≡ c = cc in subst (IsCommand (verb ∷ [])) same (a_help (verb ∷ []) topic.All)
+help_is verb (word ∷ []) c is =
+    chosen (is_version_flag word) (Some Version) (option_map Help (topic_of word)) c (λ is. let same : Version ≡ c = cc in subst (IsCommand (verb ∷ word ∷ [])) same (a_version (verb ∷ word ∷ [])))
+    (mapped_help (verb ∷ word ∷ []) (topic_of word) c) is
+help_is verb (word ∷ other ∷ rest) c is = cc
+
+behind_is : (verb : List ℕ) (words : List (List ℕ)) (c : Command) → behind_verb verb words ≡ Some c → IsCommand (verb ∷ words) c
+unfolding behind_verb over_journal only_telling
+behind_is verb words c is =
     chosen (bytes_eq verb (codes "pass")) (as_pass words) _ c (pass_is verb words c) (
     chosen (bytes_eq verb (codes "run")) (as_run words) _ c (run_is verb words c) (
     chosen (bytes_eq verb (codes "load")) (as_load words) _ c (load_is verb words c) (
@@ -285,16 +289,15 @@ command_is (verb ∷ words) c is =
     chosen (bytes_eq verb (codes "holdings")) (as_holdings words) _ c (holdings_is verb words c) (
     chosen (bytes_eq verb (codes "migrate")) (as_migrate words) _ c (migrate_is verb words c) (
     chosen (bytes_eq verb (codes "help")) (as_help words) _ c (help_is verb words c) (
-    chosen (bytes_eq verb (codes "--help")) (alone (Help topic.All) words) _ c (alone_is verb words (Help topic.All) c helped) (
-    chosen (bytes_eq verb (codes "-h")) (alone (Help topic.All) words) _ c (alone_is verb words (Help topic.All) c helped) (
-    chosen (bytes_eq verb (codes "version")) (alone Version words) _ c (alone_is verb words Version c versioned) (
-    chosen (bytes_eq verb (codes "--version")) (alone Version words) None c (alone_is verb words Version c versioned) (λ none. cc))))))))))))))) is
-  where
-    helped : IsCommand (verb ∷ words) (Help topic.All)
-    helped = a_help (verb ∷ words) topic.All
+    chosen (is_help_flag verb) (alone (Help topic.All) words) _ c (alone_is verb words (Help topic.All) c (a_help (verb ∷ words) topic.All)) (
+    chosen (bytes_eq verb (codes "version")) (alone Version words) _ c (alone_is verb words Version c (a_version (verb ∷ words))) (
+    chosen (is_version_flag verb) (alone Version words) None c (alone_is verb words Version c (a_version (verb ∷ words))) (λ none. cc)))))))))))))) is
 
-    versioned : IsCommand (verb ∷ words) Version
-    versioned = without_files (verb ∷ words) Version refl refl tt tt
+command_is : (words : List (List ℕ)) (c : Command) → command_of words ≡ Some c → IsCommand words c
+unfolding command_of
+command_is [] c is = cc
+command_is (verb ∷ words) c is =
+    chosen (asks_how verb words) (option_map Help (topic_of verb)) (behind_verb verb words) c (mapped_help (verb ∷ words) (topic_of verb) c) (behind_is verb words c) is
 
 -- a command has a library for each of its files
 pub libraries_are_counted : (words : List (List ℕ)) (c : Command) → command_of words ≡ Some c → length (libraries_of words) ≡ file_count c
@@ -332,15 +335,21 @@ isnt verb word differ = at (bytes_eq verb word) refl
     at false same = refl
 
 -- a command with another verb is one over a journal, or only tells something
-only_over_journal : (verb : List ℕ) (rest : List (List ℕ)) → verb ≢ codes "pass" → verb ≢ codes "run" → verb ≢ codes "load" → verb ≢ codes "make"
-    → command_of (verb ∷ rest) ≡ over_journal verb rest
-unfolding command_of
+pub only_over_journal : (verb : List ℕ) (rest : List (List ℕ)) → verb ≢ codes "pass" → verb ≢ codes "run" → verb ≢ codes "load" → verb ≢ codes "make"
+    → behind_verb verb rest ≡ over_journal verb rest
+unfolding behind_verb
 only_over_journal verb rest pass run load make = rw (isnt verb _ pass, isnt verb _ run, isnt verb _ load, isnt verb _ make) refl
 
-pub over_journal_asked : (words : List (List ℕ)) (verb other : List ℕ) → 1 ≤ length words → verb ≡ get_or words 0 other
-    → verb ≢ codes "pass" → verb ≢ codes "run" → verb ≢ codes "load" → verb ≢ codes "make"
-    → command_of words ≡ over_journal verb (take (length words - 1) (drop 1 words))
-over_journal_asked [] verb other some is pass run load make = absurd (omega (arith, some))
-over_journal_asked (first ∷ rest) verb other some is pass run load make =
+-- words of which the first is this one
+pub words_are : (words : List (List ℕ)) (verb other : List ℕ) → 1 ≤ length words → verb ≡ get_or words 0 other
+    → words ≡ verb ∷ take (length words - 1) (drop 1 words)
+words_are [] verb other some is = absurd (omega (arith, some))
+words_are (first ∷ rest) verb other some is =
     let all : take (length (first ∷ rest) - 1) rest ≡ rest = take_all (length (first ∷ rest) - 1) rest (omega arith) in
-    ap (λ w. command_of (w ∷ rest)) (sym is) ∙ only_over_journal verb rest pass run load make ∙ ap (over_journal verb) (sym all)
+    ap (λ w. w ∷ rest) (sym is) ∙ ap (λ words. verb ∷ words) (sym all)
+
+-- no words are no command
+pub no_words : (words : List (List ℕ)) → length words < 1 → command_of words ≡ None
+unfolding command_of
+no_words [] none = refl
+no_words (first ∷ rest) none = absurd (omega (arith, none))

@@ -1,25 +1,96 @@
 -- What a request of the program asks for.
-use Rattle.std.specs.Prelude.{◌≡◌, Option, Some, None, MatchOption}
+use Rattle.std.specs.Prelude.{◌≡◌, ℕ, List, [], ◌∷◌, length, map, Option, Some, None, IsSomeAnd, MatchOption, Result, MatchResult}
 use Rattle.std.specs.Option.{option_copied}
-use Rattle.command_words.specs.Command.{Command}
+use Rattle.command_words.specs.Command.{Command, command_of, libraries_of, words_of_files, split_at_equals, ReadsFiles}
 use Rattle.command_words.specs.Command as command
+use Rattle.command_words.specs.declared.library.Library.{Library}
+use Rattle.command_words.specs.declared.asked.AloneRequest.{AloneRequest}
+use Rattle.command_words.specs.declared.asked.AloneRequest.TheVariants.{Pass, Export, Report, Make, Verify, Migrate, Matches, Holdings, Help, Version}
+use Rattle.command_words.specs.declared.asked.LoadRequest.{LoadRequest}
+use Rattle.command_words.specs.declared.asked.Outputs.{Outputs}
 use Rattle.command_words.specs.declared.asked.Request.{Request}
-use Rattle.command_words.specs.declared.asked.Request.TheVariants.{Pass, Run, Load, Export, Report, Make, Verify, Migrate, Matches, Holdings, Help, Version}
+use Rattle.command_words.specs.declared.asked.Request.TheVariants.{Alone, Load}
+use Rattle.command_words.specs.declared.asked.Unasked.{Unasked}
+use Rattle.command_words.specs.declared.asked.Unasked.TheVariants.{Usage, NoMemory}
 
+-- the command that a request is which starts no threads
+abbrev pub alone_asked : AloneRequest → Command
+alone_asked (Pass library out) = command.Pass out.now
+alone_asked (Export journal out code) = command.Export journal.now out.now (option_copied code)
+alone_asked (Report journal out) = command.Report journal.now out.now
+alone_asked (Make seed count out) = command.Make seed count out.now
+alone_asked (Verify journal) = command.Verify journal.now
+alone_asked (Matches journal out) = command.Matches journal.now out.now
+alone_asked (Holdings journal out rest library code) = command.Holdings journal.now out.now rest.now (option_copied code)
+alone_asked (Migrate old new) = command.Migrate old.now new.now
+alone_asked (Help topic) = command.Help topic
+alone_asked Version = command.Version
+
+-- a loading of so many files into a journal, with outputs or with none
+abbrev pub loading_of : List ℕ → ℕ → Option Outputs → Command
+loading_of journal files None = command.Load journal files
+loading_of journal files (Some outputs) = command.Run journal outputs.out.now outputs.report.now files
+
+-- the command that a request is which loads files
+abbrev pub load_asked : LoadRequest → Command
+load_asked r = loading_of r.journal.now (length r.libraries) r.outputs
+
+-- the command that a request is
 abbrev pub command_asked : Request → Command
-command_asked (Pass out) = command.Pass out.now
-command_asked (Run journal out report files) = command.Run journal.now out.now report.now files
-command_asked (Load journal files) = command.Load journal.now files
-command_asked (Export journal out code) = command.Export journal.now out.now (option_copied code)
-command_asked (Report journal out) = command.Report journal.now out.now
-command_asked (Make seed count out) = command.Make seed count out.now
-command_asked (Verify journal) = command.Verify journal.now
-command_asked (Matches journal out) = command.Matches journal.now out.now
-command_asked (Holdings journal out rest code) = command.Holdings journal.now out.now rest.now (option_copied code)
-command_asked (Migrate old new) = command.Migrate old.now new.now
-command_asked (Help topic) = command.Help topic
-command_asked Version = command.Version
+command_asked (Alone r) = alone_asked r
+command_asked (Load r) = load_asked r
 
--- the request is that command; there is none where there is no command
-abbrev pub AsksFor : Option Request → Option Command → Type 0
-AsksFor answer asked = MatchOption answer (asked ≡ None) (λ request. asked ≡ Some (command_asked request))
+-- the libraries that a request which starts no threads has of its file
+abbrev pub alone_libraries : AloneRequest → List Library
+alone_libraries (Pass library out) = library ∷ []
+alone_libraries (Export journal out code) = []
+alone_libraries (Report journal out) = []
+alone_libraries (Make seed count out) = []
+alone_libraries (Verify journal) = []
+alone_libraries (Matches journal out) = []
+alone_libraries (Holdings journal out rest library code) = library ∷ []
+alone_libraries (Migrate old new) = []
+alone_libraries (Help topic) = []
+alone_libraries Version = []
+
+-- the libraries that a request has of its files
+abbrev pub libraries_asked : Request → List Library
+libraries_asked (Alone r) = alone_libraries r
+libraries_asked (Load r) = r.libraries
+
+-- Some words ask for this: it is their command, and its libraries are those of their files.
+pub record AsksFor (words : List (List ℕ)) (request : Request) : Type 0 where
+  pub command : command_of words ≡ Some (command_asked request)
+  pub libraries : libraries_asked request ≡ libraries_of words
+
+-- why nothing is asked for: there is no command, or it reads files
+abbrev pub IsUnasked : Unasked → Option Command → Type 0
+IsUnasked Usage asked = asked ≡ None
+IsUnasked NoMemory asked = IsSomeAnd asked ReadsFiles
+
+-- The words behind a verb, whose command is `asked`, ask for this: it is that command, and its libraries are those of their words
+-- `CODE=FILE`.
+pub record IsFor (words : List (List ℕ)) (asked : Option Command) (request : Request) : Type 0 where
+  pub command : asked ≡ Some (command_asked request)
+  pub libraries : (verb : List ℕ) → libraries_asked request ≡ map split_at_equals (words_of_files (verb ∷ words) (Some (command_asked request)))
+
+-- what these words come to
+abbrev pub IsAskedBy : Result Request Unasked → List (List ℕ) → Option Command → Type 0
+IsAskedBy answer words asked = MatchResult answer (IsFor words asked) (λ why. IsUnasked why asked)
+
+-- the request is of a command that reads no file but a journal
+abbrev pub IsFileless : AloneRequest → Type 0
+IsFileless (Pass library out) = ⊥
+IsFileless (Export journal out code) = Unit {0}
+IsFileless (Report journal out) = Unit {0}
+IsFileless (Make seed count out) = Unit {0}
+IsFileless (Verify journal) = Unit {0}
+IsFileless (Matches journal out) = Unit {0}
+IsFileless (Holdings journal out rest library code) = ⊥
+IsFileless (Migrate old new) = Unit {0}
+IsFileless (Help topic) = Unit {0}
+IsFileless Version = Unit {0}
+
+-- such a request is that command; there is none where there is no command
+abbrev pub AsksAlone : Option AloneRequest → Option Command → Type 0
+AsksAlone answer asked = MatchOption answer (asked ≡ None) (λ request. (asked ≡ Some (alone_asked request)) × IsFileless request)

@@ -1,5 +1,5 @@
 -- The words of the command line, without the program's name, and what they ask for. The rules are this project's own.
-use Rattle.std.specs.Prelude.{◌≢◌, ◌≤◌, ℕ, ◌^◌, ◌-◌, Bool, ◌&&◌, ◌==◌, not, nat_le, nat_lt, List, [], ◌∷◌, length, Option, Some, None, is_some, codes, drop, take, map, if◌then◌else◌, option_and_then, option_map}
+use Rattle.std.specs.Prelude.{◌≢◌, ◌≤◌, ℕ, ◌^◌, ◌-◌, Bool, false, ◌&&◌, ◌||◌, ◌==◌, not, nat_le, nat_lt, List, [], ◌∷◌, length, Option, Some, None, is_some, codes, drop, take, map, if◌then◌else◌, option_and_then, option_map}
 use Rattle.std.specs.List.{before_first, after_first, position_or_len, list_all}
 use Rattle.std.specs.Str.{bytes_eq}
 use Rattle.std.specs.Str.Parse.{digits_value}
@@ -148,9 +148,17 @@ abbrev pub as_migrate : List (List ℕ) → Option Command
 as_migrate (old ∷ new ∷ []) = command_if (are_two_names old new) (Migrate old new)
 as_migrate words = None
 
+-- a word that asks for the version, as it does in other programs
+abbrev pub is_version_flag : List ℕ → Bool
+is_version_flag word = bytes_eq word (codes "--version") || bytes_eq word (codes "-V")
+
+-- a word that asks for help, as it does in other programs
+abbrev pub is_help_flag : List ℕ → Bool
+is_help_flag word = bytes_eq word (codes "--help") || bytes_eq word (codes "-h")
+
 abbrev pub as_help : List (List ℕ) → Option Command
 as_help [] = Some (Help All)
-as_help (word ∷ []) = option_map Help (topic_of word)
+as_help (word ∷ []) = if is_version_flag word then Some Version else option_map Help (topic_of word)
 as_help words = None
 
 -- a command without words
@@ -162,10 +170,9 @@ alone command words = None
 unfoldable pub only_telling : List ℕ → List (List ℕ) → Option Command
 only_telling verb words =
     if bytes_eq verb (codes "help") then as_help words
-    else if bytes_eq verb (codes "--help") then alone (Help All) words
-    else if bytes_eq verb (codes "-h") then alone (Help All) words
+    else if is_help_flag verb then alone (Help All) words
     else if bytes_eq verb (codes "version") then alone Version words
-    else if bytes_eq verb (codes "--version") then alone Version words
+    else if is_version_flag verb then alone Version words
     else None
 
 -- the commands over a journal that load nothing
@@ -179,15 +186,24 @@ over_journal verb words =
     else if bytes_eq verb (codes "migrate") then as_migrate words
     else only_telling verb words
 
--- the command of some words, if they are one
-unfoldable pub command_of : List (List ℕ) → Option Command
-command_of [] = None
-command_of (verb ∷ words) =
+-- the command of a verb and the words behind it
+unfoldable pub behind_verb : List ℕ → List (List ℕ) → Option Command
+behind_verb verb words =
     if bytes_eq verb (codes "pass") then as_pass words
     else if bytes_eq verb (codes "run") then as_run words
     else if bytes_eq verb (codes "load") then as_load words
     else if bytes_eq verb (codes "make") then as_make words
     else over_journal verb words
+
+-- words that ask how their command is used: `load --help`. Behind `verify` such a word is the name of a journal.
+unfoldable pub asks_how : List ℕ → List (List ℕ) → Bool
+asks_how verb (word ∷ []) = is_help_flag word && not (bytes_eq verb (codes "verify"))
+asks_how verb words = false
+
+-- the command of some words, if they are one
+unfoldable pub command_of : List (List ℕ) → Option Command
+command_of [] = None
+command_of (verb ∷ words) = if asks_how verb words then option_map Help (topic_of verb) else behind_verb verb words
 
 -- the words `CODE=FILE` of a command, which stand behind its names; none where there is no command
 abbrev pub words_of_files : List (List ℕ) → Option Command → List (List ℕ)
@@ -223,6 +239,21 @@ file_count (Holdings journal out rest code) = 1
 file_count (Migrate old new) = 0
 file_count (Help topic) = 0
 file_count Version = 0
+
+-- a command reads other files than a journal
+abbrev pub ReadsFiles : Command → Type 0
+ReadsFiles (Pass out) = Unit {0}
+ReadsFiles (Run journal out report files) = Unit {0}
+ReadsFiles (Load journal files) = Unit {0}
+ReadsFiles (Export journal out code) = ⊥
+ReadsFiles (Report journal out) = ⊥
+ReadsFiles (Make seed count out) = ⊥
+ReadsFiles (Verify journal) = ⊥
+ReadsFiles (Matches journal out) = ⊥
+ReadsFiles (Holdings journal out rest code) = Unit {0}
+ReadsFiles (Migrate old new) = ⊥
+ReadsFiles (Help topic) = ⊥
+ReadsFiles Version = ⊥
 
 -- the names of a command's log and outputs: of a journal that is only looked at none
 abbrev pub names_of : Command → List (List ℕ)

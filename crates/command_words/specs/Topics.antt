@@ -2,9 +2,9 @@
 use Rattle.std.specs.Prelude.{ℕ, List, Option, Some, None, codes, if◌then◌else◌}
 use Rattle.std.specs.Str.{bytes_eq}
 use Rattle.command_words.specs.declared.topic.Topic.{Topic}
-use Rattle.command_words.specs.declared.topic.Topic.TheVariants.{Pass, Run, Load, Export, Report, Make, Verify, Migrate, Matches, Holdings, Help, Version}
+use Rattle.command_words.specs.declared.topic.Topic.TheVariants.{Pass, Run, Load, Export, Report, Make, Verify, Migrate, Matches, Holdings, Help, Version, Statuses}
 
--- the command that a word names
+-- the command that a word names, or another topic
 unfoldable pub topic_of : List ℕ → Option Topic
 topic_of word =
     if bytes_eq word (codes "pass") then Some Pass
@@ -19,4 +19,5 @@ topic_of word =
     else if bytes_eq word (codes "holdings") then Some Holdings
     else if bytes_eq word (codes "help") then Some Help
     else if bytes_eq word (codes "version") then Some Version
+    else if bytes_eq word (codes "statuses") then Some Statuses
     else None

@@ -1,23 +1,23 @@
+use crate::library::{Libraries, Library};
 use crate::topic::Topic;
+use marc_types::NoMemory;
 
-/// What a command asks for. Names of files are those of the words; `files` is the number of words `CODE=FILE`.
-#[derive(Clone, Copy, Debug, PartialEq, Eq)]
+/// What the words of a command ask for. Names of files are those of the words.
+#[derive(Drop)]
 pub enum Request<'a> {
-    /// Pass the records of one file through an empty catalogue, into the file `out`.
+    /// A command that starts no threads.
+    Alone(AloneRequest<'a>),
+    /// One that loads files side by side.
+    Load(LoadRequest<'a>),
+}
+
+/// What a command asks for that starts no threads.
+#[derive(Drop)]
+pub enum AloneRequest<'a> {
+    /// Pass the records of a library's file through an empty catalogue, into the file `out`.
     Pass {
+        library: Library,
         out: &'a str,
-    },
-    /// Load 1 to 64 files into the journal; then write the export into `out` and the report into `report`.
-    Run {
-        journal: &'a str,
-        out: &'a str,
-        report: &'a str,
-        files: u32,
-    },
-    /// Load 1 to 64 files into the journal.
-    Load {
-        journal: &'a str,
-        files: u32,
     },
     /// Write the journal's records into the file `out`: those under keys with that code, or all.
     Export {
@@ -45,12 +45,13 @@ pub enum Request<'a> {
         journal: &'a str,
         out: &'a str,
     },
-    /// Write the journal's records with the holdings of a file behind them into the file `out`, those under keys with that code or
-    /// all, and the holdings whose record it doesn't have into the file `rest`.
+    /// Write the journal's records with the holdings of a library's file behind them into the file `out`, those under keys with that
+    /// code or all, and the holdings whose record it doesn't have into the file `rest`.
     Holdings {
         journal: &'a str,
         out: &'a str,
         rest: &'a str,
+        library: Library,
         code: Option<&'a str>,
     },
     /// Bring the history of the journal `old` into the journal `new`.
@@ -64,4 +65,39 @@ pub enum Request<'a> {
     },
     /// Tell which version of the program this is.
     Version,
+}
+
+/// Load the files of 1 to 64 libraries into the journal; and then, where there are outputs, write them.
+#[derive(Drop)]
+pub struct LoadRequest<'a> {
+    pub journal: &'a str,
+    pub libraries: Libraries,
+    pub outputs: Option<Outputs<'a>>,
+}
+
+/// The files into which the export and the report of the journal are written.
+#[derive(Clone, Copy, Debug, PartialEq, Eq)]
+pub struct Outputs<'a> {
+    pub out: &'a str,
+    pub report: &'a str,
+}
+
+/// Why words ask for nothing that can be done.
+#[derive(Clone, Copy, Debug, PartialEq, Eq)]
+pub enum Unasked {
+    /// They are no command.
+    Usage,
+    /// There is no memory for the libraries of their files.
+    NoMemory,
+}
+
+impl From<NoMemory> for Unasked {
+    ghost use Rattle.std.specs.Prelude.{◌≡◌};
+    ghost use Rattle.command_words.specs.declared.asked.Unasked.{Unasked};
+
+    ghost from_gives = { λ _ why. why ≡ Unasked.NoMemory };
+
+    fn from(_error: NoMemory) -> Unasked {
+        Unasked::NoMemory
+    }
 }

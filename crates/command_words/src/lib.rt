@@ -1,10 +1,10 @@
 //! The words of the command line, and what they ask for.
 #![tactic(auto)]
 
-pub use asked::Request;
-pub use library::Library;
+pub use asked::{AloneRequest, LoadRequest, Outputs, Request, Unasked};
+pub use library::{Libraries, Library};
 pub use topic::{Topic, named_topic};
-pub use words::{Words, libraries, request};
+pub use words::{Words, request};
 
 mod asked;
 pub mod laws;

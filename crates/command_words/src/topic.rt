@@ -18,9 +18,11 @@ pub enum Topic {
     Holdings,
     Help,
     Version,
+    /// The exit statuses of all commands.
+    Statuses,
 }
 
-/// The command that a word names.
+/// The command that a word names, or another topic.
 #[tactic(auto, unfolding(crate::specs::Topics::topic_of))]
 pub fn named_topic(word: &str) -> Option<Topic>
     ensures { result ≡ topic_of word.now }
@@ -38,6 +40,7 @@ pub fn named_topic(word: &str) -> Option<Topic>
         "holdings" => Some(Topic::Holdings),
         "help" => Some(Topic::Help),
         "version" => Some(Topic::Version),
+        "statuses" => Some(Topic::Statuses),
         _ => None,
     }
 }

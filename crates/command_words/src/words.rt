@@ -1,11 +1,12 @@
-ghost use Rattle.std.specs.Prelude.{◌≡◌, ℕ, true, false, length, List, Option, Some, None, IfSome, IfOk, MatchOption, drop, take, is_some};
+ghost use Rattle.std.specs.Prelude.{◌≡◌, ◌∷◌, ℕ, true, List, Option, None, Some, map, IfSome, IfOk, IfErr, MatchOption, is_some, option_map};
 ghost use Rattle.std.specs.List.{list_all};
 ghost use Rattle.marc_types.specs.Valid.{is_code, is_digit};
-ghost use Rattle.command_words.specs.Command.{library_of, are_libraries, is_free, differ, split_at_equals, number_upto, as_pass, as_run, as_load, as_export, as_report, as_make, as_verify, as_migrate, as_matches, as_holdings, as_help, alone, only_telling, over_journal, are_two_names, are_three_names, command_of, words_of_files, libraries_of};
-ghost use Rattle.command_words.specs.Asked.{command_asked, AsksFor};
+ghost use Rattle.command_words.specs.Command.{Command, library_of, are_libraries, is_free, differ, split_at_equals, number_upto, as_pass, as_run, as_load, as_export, as_report, as_make, as_verify, as_migrate, as_matches, as_holdings, as_help, alone, only_telling, over_journal, behind_verb, asks_how, is_help_flag, is_version_flag, are_two_names, are_three_names, command_of, Help};
+ghost use Rattle.command_words.specs.Topics.{topic_of};
+ghost use Rattle.command_words.specs.Asked.{alone_asked, AsksAlone, AsksFor, IsAskedBy, IsFileless, IsUnasked};
 
-use crate::asked::Request;
-use crate::library::Library;
+use crate::asked::{AloneRequest, LoadRequest, Outputs, Request, Unasked};
+use crate::library::{Libraries, Library};
 use crate::topic::{Topic, named_topic};
 use marc_types::{Limits, NoMemory, Sequence, Text, can_be_code};
 use std::alloc::Global;
@@ -46,16 +47,12 @@ fn all_libraries(words: &[Text]) -> bool
     words.iter().all(is_library)
 }
 
-/// The number of these words, if they are 1 to 64 words `CODE=FILE`.
+/// Whether these are 1 to 64 words `CODE=FILE`.
 #[tactic(auto, unfolding(crate::specs::Command::are_libraries))]
-fn library_count(words: &[Text]) -> Option<u32>
-    ensures { MatchOption result (are_libraries words.now ≡ false)
-        (λ count. (are_libraries words.now ≡ true) × (count ≡ length words.now)) }
+fn are_libraries(words: &[Text]) -> bool
+    ensures { result ≡ are_libraries words.now }
 {
-    if words.is_empty() || words.len() > MOST_FILES || !all_libraries(words) {
-        return None;
-    }
-    Some(words.len() as u32)
+    !words.is_empty() && words.len() <= MOST_FILES && all_libraries(words)
 }
 
 /// What stands behind the first `=`.
@@ -103,264 +100,7 @@ fn number_upto(limit: u64, word: &str) -> Option<u64>
     }
 }
 
-fn pass(words: &[Text]) -> Option<Request<'_>>
-    ensures { AsksFor result (as_pass words.now) }
-{
-    let [out, files @ ..] = words else {
-        return None;
-    };
-    let out = out.as_str();
-    let free = library_count(files)? == 1 && is_free(out, files);
-    free.then_some(Request::Pass { out })
-}
-
-fn run(words: &[Text]) -> Option<Request<'_>>
-    ensures { AsksFor result (as_run words.now) }
-{
-    let [journal, out, report, words @ ..] = words else {
-        return None;
-    };
-    let (journal, out, report) = (journal.as_str(), out.as_str(), report.as_str());
-    let files = library_count(words)?;
-    let free = is_free(journal, words)
-        && is_free(out, words)
-        && is_free(report, words)
-        && journal != out
-        && journal != report
-        && out != report;
-    free.then_some(Request::Run {
-        journal,
-        out,
-        report,
-        files,
-    })
-}
-
-fn load(words: &[Text]) -> Option<Request<'_>>
-    ensures { AsksFor result (as_load words.now) }
-{
-    let [journal, words @ ..] = words else {
-        return None;
-    };
-    let journal = journal.as_str();
-    let files = library_count(words)?;
-    is_free(journal, words).then_some(Request::Load { journal, files })
-}
-
-/// Whether a log and an output may have these names, where the command reads no file.
-fn are_two_names(journal: &str, out: &str) -> bool
-    ensures { result ≡ are_two_names journal.now out.now }
-{
-    !journal.is_empty() && !out.is_empty() && journal != out
-}
-
-fn export(words: &[Text]) -> Option<Request<'_>>
-    ensures { AsksFor result (as_export words.now) }
-{
-    let (journal, out, code) = match words {
-        [journal, out] => (journal, out, None),
-        [journal, out, code] if can_be_code(code.as_bytes()) => (journal, out, Some(code.as_str())),
-        _ => return None,
-    };
-    let (journal, out) = (journal.as_str(), out.as_str());
-    are_two_names(journal, out).then_some(Request::Export { journal, out, code })
-}
-
-fn report(words: &[Text]) -> Option<Request<'_>>
-    ensures { AsksFor result (as_report words.now) }
-{
-    match words {
-        [journal, out] if are_two_names(journal.as_str(), out.as_str()) => Some(Request::Report {
-            journal: journal.as_str(),
-            out: out.as_str(),
-        }),
-        _ => None,
-    }
-}
-
-fn make(words: &[Text]) -> Option<Request<'_>>
-    ensures { AsksFor result (as_make words.now) }
-{
-    let [seed, count, out] = words else {
-        return None;
-    };
-    let seed = number_upto(u64::MAX, seed.as_str())?;
-    let count = number_upto(MOST_COUNT, count.as_str())?;
-    if out.is_empty() {
-        return None;
-    }
-    Some(Request::Make {
-        seed,
-        count,
-        out: out.as_str(),
-    })
-}
-
-fn verify(words: &[Text]) -> Option<Request<'_>>
-    ensures { AsksFor result (as_verify words.now) }
-{
-    match words {
-        [journal] if !journal.as_str().is_empty() => Some(Request::Verify {
-            journal: journal.as_str(),
-        }),
-        _ => None,
-    }
-}
-
-fn matches(words: &[Text]) -> Option<Request<'_>>
-    ensures { AsksFor result (as_matches words.now) }
-{
-    match words {
-        [journal, out] if are_two_names(journal.as_str(), out.as_str()) => Some(Request::Matches {
-            journal: journal.as_str(),
-            out: out.as_str(),
-        }),
-        _ => None,
-    }
-}
-
-/// Whether a log and two outputs may have these names, where the command reads these files.
-fn are_three_names(files: &[Text], journal: &str, out: &str, rest: &str) -> bool
-    ensures { result ≡ are_three_names files.now journal.now out.now rest.now }
-{
-    library_count(files).is_some()
-        && is_free(journal, files)
-        && is_free(out, files)
-        && is_free(rest, files)
-        && journal != out
-        && journal != rest
-        && out != rest
-}
-
-fn holdings(words: &[Text]) -> Option<Request<'_>>
-    ensures { AsksFor result (as_holdings words.now) }
-{
-    let [journal, out, rest, words @ ..] = words else {
-        return None;
-    };
-    let code = match words {
-        [_] => None,
-        [_, code] if can_be_code(code.as_bytes()) => Some(code.as_str()),
-        _ => return None,
-    };
-    let file = &words[..1];
-    let (journal, out, rest) = (journal.as_str(), out.as_str(), rest.as_str());
-    are_three_names(file, journal, out, rest).then_some(Request::Holdings {
-        journal,
-        out,
-        rest,
-        code,
-    })
-}
-
-fn migrate(words: &[Text]) -> Option<Request<'_>>
-    ensures { AsksFor result (as_migrate words.now) }
-{
-    match words {
-        [old, new] if are_two_names(old.as_str(), new.as_str()) => Some(Request::Migrate {
-            old: old.as_str(),
-            new: new.as_str(),
-        }),
-        _ => None,
-    }
-}
-
-fn help(words: &[Text]) -> Option<Request<'_>>
-    ensures { AsksFor result (as_help words.now) }
-{
-    match words {
-        [] => Some(Request::Help { topic: Topic::All }),
-        [word] => Some(Request::Help {
-            topic: named_topic(word.as_str())?,
-        }),
-        _ => None,
-    }
-}
-
-/// A request that takes no words.
-fn alone<'a>(asked: Request<'a>, words: &[Text]) -> Option<Request<'a>>
-    ensures { AsksFor result (alone (command_asked asked.entry) words.now) }
-{
-    words.is_empty().then_some(asked)
-}
-
-/// What the words of a command that only tells something ask for.
-#[tactic(auto, unfolding(crate::specs::Command::only_telling))]
-fn told<'a>(verb: &str, rest: &'a [Text]) -> Option<Request<'a>>
-    ensures { AsksFor result (only_telling verb.now rest.now) }
-{
-    match verb {
-        "help" => help(rest),
-        "--help" | "-h" => alone(Request::Help { topic: Topic::All }, rest),
-        "version" | "--version" => alone(Request::Version, rest),
-        _ => None,
-    }
-}
-
-/// What the words of a command over a journal that loads nothing ask for.
-#[tactic(auto, unfolding(crate::specs::Command::over_journal))]
-fn over_journal<'a>(verb: &str, rest: &'a [Text]) -> Option<Request<'a>>
-    ensures { AsksFor result (over_journal verb.now rest.now) }
-{
-    match verb {
-        "export" => export(rest),
-        "report" => report(rest),
-        "verify" => verify(rest),
-        "matches" => matches(rest),
-        "holdings" => holdings(rest),
-        "migrate" => migrate(rest),
-        verb => told(verb, rest),
-    }
-}
-
-/// What the words ask for; `None` exactly where they are no command.
-#[tactic(auto, unfolding(crate::specs::Command::command_of))]
-pub fn request(words: &Words) -> Option<Request<'_>>
-    ensures { AsksFor result (command_of words.now) }
-{
-    let [verb, rest @ ..] = words.as_slice() else {
-        return None;
-    };
-    match verb.as_str() {
-        "pass" => pass(rest),
-        "run" => run(rest),
-        "load" => load(rest),
-        "make" => make(rest),
-        verb => over_journal(verb, rest),
-    }
-}
-
-fn behind(words: &[Text], first: usize) -> &[Text]
-    ensures { result.now ≡ drop first words.now }
-{
-    if first > words.len() {
-        return &[];
-    }
-    &words[first..]
-}
-
-fn first_behind(words: &[Text], first: usize) -> &[Text]
-    ensures { result.now ≡ take 1 (drop first words.now) }
-{
-    let behind = behind(words, first);
-    if behind.is_empty() {
-        return behind;
-    }
-    &behind[..1]
-}
-
-/// The words `CODE=FILE` of the words' command.
-fn words_of_files(words: &Words) -> &[Text]
-    ensures { result.now ≡ words_of_files words.now (command_of words.now) }
-{
-    match request(words) {
-        Some(Request::Pass { .. } | Request::Load { .. }) => behind(words.as_slice(), 2),
-        Some(Request::Run { .. }) => behind(words.as_slice(), 4),
-        Some(Request::Holdings { .. }) => first_behind(words.as_slice(), 4),
-        _ => &[],
-    }
-}
-
+/// The library of a word `CODE=FILE`.
 fn library_in(alloc: Global, word: &Text) -> Result<Library, NoMemory>
     ensures { IfOk result (λ library. library ≡ split_at_equals word.now) }
 {
@@ -373,15 +113,325 @@ fn library_in(alloc: Global, word: &Text) -> Result<Library, NoMemory>
     Ok(Library { code, file })
 }
 
-/// The libraries of the files of the words' command, in their order; none where the words are no command.
-#[tactic(auto, unfolding(crate::specs::Command::libraries_of))]
-pub fn libraries(alloc: Global, words: &Words) -> Result<Vec<Library>, NoMemory>
-    ensures { IfOk result (λ libraries. libraries.items ≡ libraries_of words.now) }
+/// The libraries of words `CODE=FILE`, in their order.
+fn libraries_in(alloc: Global, words: &[Text]) -> Result<Libraries, NoMemory>
+    ensures { IfOk result (λ libraries. libraries ≡ map split_at_equals words.now) }
 {
-    let mut libraries = Vec::new(alloc);
-    let files = words_of_files(words);
-    for word in files {
+    let mut libraries = Vec::with_capacity(alloc, words.len())?;
+    for word in words {
         libraries.push(library_in(alloc, word)?)?;
     }
-    Ok(libraries)
+    Ok(Libraries::from_vec(libraries))
+}
+
+fn pass<'a>(alloc: Global, words: &'a [Text]) -> Result<Request<'a>, Unasked>
+    ensures { IsAskedBy result words.now (as_pass words.now) }
+{
+    let [out, files @ ..] = words else {
+        return Err(Unasked::Usage);
+    };
+    let [file] = files else {
+        return Err(Unasked::Usage);
+    };
+    let out = out.as_str();
+    if !are_libraries(files) || !is_free(out, files) {
+        return Err(Unasked::Usage);
+    }
+    let library = library_in(alloc, file)?;
+    Ok(Request::Alone(AloneRequest::Pass { library, out }))
+}
+
+/// Whether a log and two outputs may have these names, where the command reads these files.
+fn are_three_names(files: &[Text], journal: &str, out: &str, rest: &str) -> bool
+    ensures { result ≡ are_three_names files.now journal.now out.now rest.now }
+{
+    are_libraries(files)
+        && is_free(journal, files)
+        && is_free(out, files)
+        && is_free(rest, files)
+        && journal != out
+        && journal != rest
+        && out != rest
+}
+
+fn run<'a>(alloc: Global, words: &'a [Text]) -> Result<Request<'a>, Unasked>
+    ensures { IsAskedBy result words.now (as_run words.now) }
+{
+    let [journal, out, report, files @ ..] = words else {
+        return Err(Unasked::Usage);
+    };
+    let (journal, out, report) = (journal.as_str(), out.as_str(), report.as_str());
+    if !are_three_names(files, journal, out, report) {
+        return Err(Unasked::Usage);
+    }
+    let libraries = libraries_in(alloc, files)?;
+    Ok(Request::Load(LoadRequest {
+        journal,
+        libraries,
+        outputs: Some(Outputs { out, report }),
+    }))
+}
+
+fn load<'a>(alloc: Global, words: &'a [Text]) -> Result<Request<'a>, Unasked>
+    ensures { IsAskedBy result words.now (as_load words.now) }
+{
+    let [journal, files @ ..] = words else {
+        return Err(Unasked::Usage);
+    };
+    let journal = journal.as_str();
+    if !are_libraries(files) || !is_free(journal, files) {
+        return Err(Unasked::Usage);
+    }
+    let libraries = libraries_in(alloc, files)?;
+    Ok(Request::Load(LoadRequest {
+        journal,
+        libraries,
+        outputs: None,
+    }))
+}
+
+/// Whether a log and an output may have these names, where the command reads no file.
+fn are_two_names(journal: &str, out: &str) -> bool
+    ensures { result ≡ are_two_names journal.now out.now }
+{
+    !journal.is_empty() && !out.is_empty() && journal != out
+}
+
+fn export(words: &[Text]) -> Option<AloneRequest<'_>>
+    ensures { AsksAlone result (as_export words.now) }
+{
+    let (journal, out, code) = match words {
+        [journal, out] => (journal, out, None),
+        [journal, out, code] if can_be_code(code.as_bytes()) => (journal, out, Some(code.as_str())),
+        _ => return None,
+    };
+    let (journal, out) = (journal.as_str(), out.as_str());
+    are_two_names(journal, out).then_some(AloneRequest::Export { journal, out, code })
+}
+
+fn report(words: &[Text]) -> Option<AloneRequest<'_>>
+    ensures { AsksAlone result (as_report words.now) }
+{
+    match words {
+        [journal, out] if are_two_names(journal.as_str(), out.as_str()) => Some(
+            AloneRequest::Report {
+                journal: journal.as_str(),
+                out: out.as_str(),
+            },
+        ),
+        _ => None,
+    }
+}
+
+fn make(words: &[Text]) -> Option<AloneRequest<'_>>
+    ensures { AsksAlone result (as_make words.now) }
+{
+    let [seed, count, out] = words else {
+        return None;
+    };
+    let seed = number_upto(u64::MAX, seed.as_str())?;
+    let count = number_upto(MOST_COUNT, count.as_str())?;
+    if out.is_empty() {
+        return None;
+    }
+    Some(AloneRequest::Make {
+        seed,
+        count,
+        out: out.as_str(),
+    })
+}
+
+fn verify(words: &[Text]) -> Option<AloneRequest<'_>>
+    ensures { AsksAlone result (as_verify words.now) }
+{
+    match words {
+        [journal] if !journal.as_str().is_empty() => Some(AloneRequest::Verify {
+            journal: journal.as_str(),
+        }),
+        _ => None,
+    }
+}
+
+fn matches(words: &[Text]) -> Option<AloneRequest<'_>>
+    ensures { AsksAlone result (as_matches words.now) }
+{
+    match words {
+        [journal, out] if are_two_names(journal.as_str(), out.as_str()) => Some(
+            AloneRequest::Matches {
+                journal: journal.as_str(),
+                out: out.as_str(),
+            },
+        ),
+        _ => None,
+    }
+}
+
+fn holdings<'a>(alloc: Global, words: &'a [Text]) -> Result<Request<'a>, Unasked>
+    ensures { IsAskedBy result words.now (as_holdings words.now) }
+{
+    let [journal, out, rest, words @ ..] = words else {
+        return Err(Unasked::Usage);
+    };
+    let code = match words {
+        [_] => None,
+        [_, code] if can_be_code(code.as_bytes()) => Some(code.as_str()),
+        _ => return Err(Unasked::Usage),
+    };
+    let (journal, out, rest) = (journal.as_str(), out.as_str(), rest.as_str());
+    if !are_three_names(&words[..1], journal, out, rest) {
+        return Err(Unasked::Usage);
+    }
+    let library = library_in(alloc, &words[0])?;
+    Ok(Request::Alone(AloneRequest::Holdings {
+        journal,
+        out,
+        rest,
+        library,
+        code,
+    }))
+}
+
+fn migrate(words: &[Text]) -> Option<AloneRequest<'_>>
+    ensures { AsksAlone result (as_migrate words.now) }
+{
+    match words {
+        [old, new] if are_two_names(old.as_str(), new.as_str()) => Some(AloneRequest::Migrate {
+            old: old.as_str(),
+            new: new.as_str(),
+        }),
+        _ => None,
+    }
+}
+
+/// Whether a word asks for the version, as it does in other programs.
+fn is_version_flag(word: &str) -> bool
+    ensures { result ≡ is_version_flag word.now }
+{
+    word == "--version" || word == "-V"
+}
+
+/// Whether a word asks for help, as it does in other programs.
+fn is_help_flag(word: &str) -> bool
+    ensures { result ≡ is_help_flag word.now }
+{
+    word == "--help" || word == "-h"
+}
+
+fn help(words: &[Text]) -> Option<AloneRequest<'_>>
+    ensures { AsksAlone result (as_help words.now) }
+{
+    match words {
+        [] => Some(AloneRequest::Help { topic: Topic::All }),
+        [word] if is_version_flag(word.as_str()) => Some(AloneRequest::Version),
+        [word] => Some(AloneRequest::Help {
+            topic: named_topic(word.as_str())?,
+        }),
+        _ => None,
+    }
+}
+
+/// A request that takes no words.
+fn wordless<'a>(asked: AloneRequest<'a>, words: &[Text]) -> Option<AloneRequest<'a>>
+    requires { IsFileless asked }
+    ensures { AsksAlone result (alone (alone_asked asked.entry) words.now) }
+{
+    words.is_empty().then_some(asked)
+}
+
+/// What the words of a command that only tells something ask for.
+#[tactic(auto, unfolding(crate::specs::Command::only_telling))]
+fn told<'a>(verb: &str, rest: &'a [Text]) -> Option<AloneRequest<'a>>
+    ensures { AsksAlone result (only_telling verb.now rest.now) }
+{
+    match verb {
+        "help" => help(rest),
+        flag if is_help_flag(flag) => wordless(AloneRequest::Help { topic: Topic::All }, rest),
+        "version" => wordless(AloneRequest::Version, rest),
+        flag if is_version_flag(flag) => wordless(AloneRequest::Version, rest),
+        _ => None,
+    }
+}
+
+/// What is asked for by a request that reads no file but a journal, or by none.
+fn alone<'a>(asked: Option<AloneRequest<'a>>) -> Result<Request<'a>, Unasked>
+    ensures { (words : List (List ℕ)) (command : Option Command) → AsksAlone asked.entry command → IsAskedBy result words command }
+{
+    match asked {
+        Some(asked) => Ok(Request::Alone(asked)),
+        None => Err(Unasked::Usage),
+    }
+}
+
+/// What the words of a command over a journal that loads nothing ask for.
+#[tactic(auto, unfolding(crate::specs::Command::over_journal))]
+fn over_journal<'a>(alloc: Global, verb: &str, rest: &'a [Text]) -> Result<Request<'a>, Unasked>
+    ensures { IsAskedBy result rest.now (over_journal verb.now rest.now) }
+{
+    match verb {
+        "export" => alone(export(rest)),
+        "report" => alone(report(rest)),
+        "verify" => alone(verify(rest)),
+        "matches" => alone(matches(rest)),
+        "holdings" => holdings(alloc, rest),
+        "migrate" => alone(migrate(rest)),
+        verb => alone(told(verb, rest)),
+    }
+}
+
+/// What a verb and the words behind it ask for.
+#[tactic(auto, unfolding(crate::specs::Command::behind_verb))]
+fn behind_verb<'a>(alloc: Global, verb: &str, rest: &'a [Text]) -> Result<Request<'a>, Unasked>
+    ensures { IsAskedBy result rest.now (behind_verb verb.now rest.now) }
+{
+    match verb {
+        "pass" => pass(alloc, rest),
+        "run" => run(alloc, rest),
+        "load" => load(alloc, rest),
+        "make" => alone(make(rest)),
+        verb => over_journal(alloc, verb, rest),
+    }
+}
+
+/// Whether the words ask how their command is used, as `load --help` does.
+#[tactic(auto, unfolding(crate::specs::Command::asks_how))]
+fn asks_how(verb: &str, rest: &[Text]) -> bool
+    ensures { result ≡ asks_how verb.now rest.now }
+{
+    match rest {
+        [word] => is_help_flag(word.as_str()) && verb != "verify",
+        _ => false,
+    }
+}
+
+/// How a command is used.
+fn how(verb: &str) -> Option<AloneRequest<'static>>
+    ensures { AsksAlone result (option_map Help (topic_of verb.now)) }
+{
+    Some(AloneRequest::Help {
+        topic: named_topic(verb)?,
+    })
+}
+
+/// What some words ask for, the first of which is the verb.
+#[tactic(auto, unfolding(crate::specs::Command::command_of))]
+fn asked<'a>(alloc: Global, verb: &str, rest: &'a [Text]) -> Result<Request<'a>, Unasked>
+    ensures { IsAskedBy result rest.now (command_of (verb.now ∷ rest.now)) }
+{
+    if asks_how(verb, rest) {
+        return alone(how(verb));
+    }
+    behind_verb(alloc, verb, rest)
+}
+
+/// What the words ask for, with the libraries of their files.
+pub fn request(alloc: Global, words: &Words) -> Result<Request<'_>, Unasked>
+    ensures asked { IfOk result (AsksFor words.now) }
+
+    // They ask for nothing exactly where they are no command; or there is no memory for libraries that they name.
+    ensures unasked { IfErr result (λ why. IsUnasked why (command_of words.now)) }
+{
+    let [verb, rest @ ..] = words.as_slice() else {
+        return Err(Unasked::Usage);
+    };
+    asked(alloc, verb.as_str(), rest)
 }

@@ -1,3 +1,4 @@
 pub mod Log
+pub mod Versions
 pub mod Journal
 pub mod Reading

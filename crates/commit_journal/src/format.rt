@@ -1,5 +1,8 @@
-ghost use Rattle.std.specs.Prelude.{◌≡◌, length};
+ghost use Rattle.std.specs.Prelude.{◌≡◌, length, Some, None, IfOk, IfErr, OnOk};
 ghost use Rattle.commit_journal.specs.Log.{first_differing, version_of_header};
+ghost use Rattle.commit_journal.specs.Versions.{number_of};
+
+use crate::Version;
 
 /// The header of a log of version 1.
 pub const HEADER_1: [u8; 16] = *b"UNIONCAT JNL 01\n";
@@ -28,6 +31,9 @@ pub const OPEN_GATE: u8 = b'O';
 /// The place of the first gate.
 pub const FIRST_GATE: u64 = 16;
 
+/// How many bytes a header has.
+pub const HEADER_BYTES: usize = 16;
+
 /// The most bytes that a payload has.
 pub const LARGEST_PAYLOAD: usize = 3_201_025;
 
@@ -42,7 +48,7 @@ pub const FRAME_ROOM: usize = 3_201_030;
 
 /// The place of the first byte of a header that is wrong in either version.
 #[tactic(auto, unfolding(crate::specs::Log::first_differing))]
-pub fn wrong_place(header: &[u8; 16]) -> Option<usize>
+fn wrong_place(header: &[u8; 16]) -> Option<usize>
     ensures { result ≡ first_differing 0 HEADER_1 HEADER_2 header.now }
 {
     for (place, byte) in header.iter().enumerate() {
@@ -55,12 +61,24 @@ pub fn wrong_place(header: &[u8; 16]) -> Option<usize>
 
 /// The version that a right header names.
 #[tactic(auto, unfolding(crate::specs::Log::version_of_header))]
-pub fn version_of(header: &[u8; 16]) -> u8
-    ensures { result ≡ version_of_header header.now }
+fn version_of(header: &[u8; 16]) -> Version
+    ensures { number_of result ≡ version_of_header header.now }
 {
     if header[VERSION_PLACE] == DIGIT_1 {
-        1
+        Version::One
     } else {
-        2
+        Version::Two
+    }
+}
+
+/// The version that a header names, or the place of its first byte that is wrong in either version.
+pub fn header_version(header: &[u8; 16]) -> Result<Version, u64>
+    ensures right { OnOk result (first_differing 0 HEADER_1 HEADER_2 header.now ≡ None) }
+    ensures version { IfOk result (λ version. number_of version ≡ version_of_header header.now) }
+    ensures wrong { IfErr result (λ place. first_differing 0 HEADER_1 HEADER_2 header.now ≡ Some place) }
+{
+    match wrong_place(header) {
+        Some(place) => Err(place as u64),
+        None => Ok(version_of(header)),
     }
 }

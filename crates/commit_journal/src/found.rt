@@ -6,20 +6,21 @@ ghost use Rattle.commit_journal.specs.declared.format.TheConstants.{FRAME_ROOM};
 ghost use Rattle.commit_journal.specs.declared.frame.Frame.{Frame};
 ghost use Rattle.commit_journal.specs.Journal.{IsFound, IsRecovered, IsSettling, Opens, HasOpenCause, Unwritten};
 ghost use Rattle.commit_journal.specs.Reading.{IsReadAt};
+ghost use Rattle.commit_journal.specs.Versions.{number_of};
 
 use crate::format::FRAME_ROOM;
 use crate::frame::Frames;
 use crate::journal::Journal;
 use crate::reading::{Log, read_log, zeros};
 use crate::settling::bring_into_order;
-use crate::{DeviceFault, JournalFault};
+use crate::{DeviceFault, JournalFault, Version};
 use outside::Disk;
 use std::alloc::Global;
 
 /// Takes the room for one frame, syncs, and reads the log.
 fn look<D: Disk>(alloc: Global, disk: &mut D) -> Result<(Vec<u8>, Log), JournalFault>
     ensures room { IfOk result (λ r. vec_len r.0 ≡ FRAME_ROOM) }
-    ensures found { IfOk result (λ r. IsFound r.1.frames.items r.1.place r.1.version (D.seen disk.old) (D.seen disk.new)) }
+    ensures found { IfOk result (λ r. IsFound r.1.frames.items r.1.place (number_of r.1.version) (D.seen disk.old) (D.seen disk.new)) }
     ensures unwritten { Unwritten (D.seen disk.old) (D.seen disk.new) }
     ensures opens { Opens (D.seen disk.old) (D.seen disk.new) }
     ensures later { (D.seen disk.old).faults ≤ (D.seen disk.new).faults }
@@ -40,10 +41,10 @@ pub struct FoundLog<D: Disk> {
     buffer: Vec<u8>,
     // The place of the first closed gate.
     place: u64,
-    version: u8,
+    version: Version,
     ghost room: { vec_len buffer ≡ FRAME_ROOM },
     ghost only: { OnlyContent (D.seen disk) },
-    ghost read: { IsReadAt place version (D.seen disk) },
+    ghost read: { IsReadAt place (number_of version) (D.seen disk) },
 }
 
 impl<D: Disk> FoundLog<D> {
@@ -51,7 +52,7 @@ impl<D: Disk> FoundLog<D> {
     /// A fault hands the disk back.
     pub fn find(alloc: Global, disk: D) -> Result<(Self, Frames), (D, JournalFault)>
         // The frames are the log's.
-        ensures found { IfOk result (λ r. IsFound r.1 r.0.place r.0.version (D.seen disk) (D.seen r.0.disk)) }
+        ensures found { IfOk result (λ r. IsFound r.1 r.0.place (number_of r.0.version) (D.seen disk) (D.seen r.0.disk)) }
 
         // Whatever it answers, every byte is as it was, and so is each image since a first sync that succeeded.
         ensures unwritten { MatchResult result (λ r. Unwritten (D.seen disk) (D.seen r.0.disk)) (λ e. Unwritten (D.seen disk) (D.seen e.0)) }
@@ -74,8 +75,8 @@ impl<D: Disk> FoundLog<D> {
         }
     }
 
-    /// The version of the log, 1 or 2; 2 where it is blank.
-    pub fn version(&self) -> u8
+    /// The version of the log, the newest where it is blank.
+    pub fn version(&self) -> Version
         ensures { result ≡ self.now.version }
     {
         self.version
@@ -93,13 +94,13 @@ impl<D: Disk> FoundLog<D> {
     /// anew. A crash meanwhile leaves the same log. A fault hands the disk back.
     pub fn settle(self) -> Result<Journal<D>, (D, DeviceFault)>
         // The frames are those that were found on the disk as it was before, and the log is settled.
-        ensures recovered { IfOk result (λ j. (before : D) (frames : List Frame) → IsFound frames self.place self.version (D.seen before) (D.seen self.disk)
-            → IsRecovered frames j.place j.version (D.seen before) (D.seen j.disk)) }
+        ensures recovered { IfOk result (λ j. (before : D) (frames : List Frame) → IsFound frames self.place (number_of self.version) (D.seen before) (D.seen self.disk)
+            → IsRecovered frames j.place (number_of j.version) (D.seen before) (D.seen j.disk)) }
         ensures whole { IfOk result (λ j. j.broken ≡ false) }
         ensures version { IfOk result (λ j. j.version ≡ self.version) }
 
         // Each image since the first sync is the same log, and so is the content, whatever it answers.
-        ensures crash { (before : D) (frames : List Frame) → IsFound frames self.place self.version (D.seen before) (D.seen self.disk)
+        ensures crash { (before : D) (frames : List Frame) → IsFound frames self.place (number_of self.version) (D.seen before) (D.seen self.disk)
             → MatchResult result (λ j. IsSettling (D.seen before) (D.seen j.disk)) (λ e. IsSettling (D.seen before) (D.seen e.0)) }
 
         // It fails only where the count of faults rose.

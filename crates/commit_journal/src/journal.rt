@@ -1,4 +1,4 @@
-ghost use Rattle.std.specs.Prelude.{◌≡◌, ℕ, ◌+◌, ◌≤◌, All, List, [], ◌∷◌, ◌++◌, length, take, max, vec_len, true, false, Some, is_some, IfOk, IfErr, OnOk, OnErr, MatchResult};
+ghost use Rattle.std.specs.Prelude.{◌≡◌, ℕ, ◌+◌, ◌≤◌, All, List, [], ◌∷◌, ◌++◌, length, take, max, vec_len, true, false, Some, is_some, IsOk, IfOk, IfErr, OnOk, OnErr, MatchResult};
 ghost use Rattle.std.specs.List.{flat_map};
 ghost use Rattle.std.specs.Option.{option_map};
 ghost use Rattle.outside.specs.Disk.{OnlyContent, LeavesOnly, patch, Torn};
@@ -6,11 +6,12 @@ ghost use Rattle.outside.specs.Fault.{HasCause};
 ghost use Rattle.commit_journal.specs.declared.format.TheConstants.{FRAME_ROOM};
 ghost use Rattle.commit_journal.specs.Log.{frames_of};
 ghost use Rattle.commit_journal.specs.Journal.{gated, frame_text, chain_text, frames_from, frames_len, IsPayload, and_frame, and_frames, IsDurableLog, HasFrameOrNot, HasAllOrNone, Steps, Continues, IsRecovered, LeavesContent, Opens, HasOpenCause};
+ghost use Rattle.commit_journal.specs.Versions.{number_of};
 
 use crate::format::{CLOSED_GATE, FRAME_ROOM, LARGEST_PAYLOAD, LENGTH_BYTES, OPEN_GATE};
 use crate::found::FoundLog;
 use crate::frame::Frames;
-use crate::{DeviceFault, JournalFault, calls};
+use crate::{DeviceFault, JournalFault, Version, calls};
 use outside::{Bytes, Disk, Failed};
 use std::alloc::Global;
 
@@ -111,10 +112,10 @@ pub struct Journal<D: Disk> {
     pub(crate) buffer: Vec<u8>,
     // The place of the closed gate, which is the log's last byte.
     pub(crate) place: u64,
-    pub(crate) version: u8,
+    pub(crate) version: Version,
     pub(crate) broken: bool,
     ghost room: { vec_len buffer ≡ FRAME_ROOM },
-    ghost settled: { broken ≡ false → IsDurableLog place version (D.seen disk) },
+    ghost settled: { broken ≡ false → IsDurableLog place (number_of version) (D.seen disk) },
 }
 
 impl<D: Disk> Journal<D> {
@@ -123,7 +124,7 @@ impl<D: Disk> Journal<D> {
     /// has synced leaves the same log. A fault hands the disk back.
     pub fn open(alloc: Global, disk: D) -> Result<(Self, Frames), (D, JournalFault)>
         // The frames are the log's, before and after, and the log is settled.
-        ensures recovered { IfOk result (λ r. IsRecovered r.1 r.0.place r.0.version (D.seen disk) (D.seen r.0.disk)) }
+        ensures recovered { IfOk result (λ r. IsRecovered r.1 r.0.place (number_of r.0.version) (D.seen disk) (D.seen r.0.disk)) }
         ensures whole { IfOk result (λ r. r.0.broken ≡ false) }
 
         // Each image since the first sync is the same log, and one that is no journal is as it was, byte for byte; where that
@@ -148,8 +149,8 @@ impl<D: Disk> Journal<D> {
         }
     }
 
-    /// The version of the log, 1 or 2.
-    pub fn version(&self) -> u8
+    /// The version of the log.
+    pub fn version(&self) -> Version
         ensures { result ≡ self.now.version }
     {
         self.version
@@ -175,7 +176,7 @@ impl<D: Disk> Journal<D> {
     /// it or not, and the journal is broken.
     pub fn append(&mut self, payload: &[u8]) -> Result<(), DeviceFault>
         requires whole { self.old.broken ≡ false }
-        requires newest { self.old.version ≡ 2 }
+        requires newest { self.old.version ≡ Version.Two }
         requires some { 1 ≤ length payload.now }
         requires most { length payload.now ≤ LARGEST_PAYLOAD }
 
@@ -204,7 +205,7 @@ impl<D: Disk> Journal<D> {
     /// leaves them all or none, and the journal is broken. Where there are none it makes no call on the disk.
     pub fn append_all(&mut self, payloads: &[Bytes]) -> Result<(), DeviceFault>
         requires whole { self.old.broken ≡ false }
-        requires newest { self.old.version ≡ 2 }
+        requires newest { self.old.version ≡ Version.Two }
         requires fit { All IsPayload payloads.now }
 
         // After Ok the log has the frames at its end, and is all that a crash may leave.
@@ -223,6 +224,9 @@ impl<D: Disk> Journal<D> {
         ensures whole { OnOk result (self.new.broken ≡ false) }
         ensures broken { OnErr result (self.new.broken ≡ true) }
         ensures version { self.new.version ≡ self.old.version }
+
+        // Where there are none the disk is as it was.
+        ensures none { payloads.now ≡ [] → IsOk result × (self.new ≡ self.old) }
     {
         match payloads.split_last() {
             Some((last, front)) => self.append_chain(front, last.as_slice()),
@@ -233,7 +237,7 @@ impl<D: Disk> Journal<D> {
     /// Appends payloads and a last one, all or none.
     fn append_chain(&mut self, front: &[Bytes], last: &[u8]) -> Result<(), DeviceFault>
         requires whole { self.old.broken ≡ false }
-        requires newest { self.old.version ≡ 2 }
+        requires newest { self.old.version ≡ Version.Two }
         requires fit { All IsPayload front.now }
         requires last { IsPayload last.now }
         ensures appended { OnOk result ((b c : List ℕ) → (D.seen self.old.disk).content ≡ Some b → (D.seen self.new.disk).content ≡ Some c

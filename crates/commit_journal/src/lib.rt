@@ -14,11 +14,14 @@ mod frame;
 mod journal;
 mod reading;
 mod settling;
+mod version;
 
 pub use fault::{DeviceFault, JournalFault};
 pub use format::{
-    BLANK_LENGTH, CLOSED_GATE, FIRST_GATE, HEAD_BYTES, LARGEST_PAYLOAD, LENGTH_BYTES,
+    BLANK_LENGTH, CLOSED_GATE, FIRST_GATE, HEAD_BYTES, HEADER_BYTES, LARGEST_PAYLOAD, LENGTH_BYTES,
+    header_version,
 };
 pub use found::FoundLog;
 pub use frame::{Frame, Frames};
 pub use journal::Journal;
+pub use version::Version;

@@ -3,12 +3,13 @@ ghost use Rattle.outside.specs.Disk.{Unchanged};
 ghost use Rattle.outside.specs.Fault.{HasCause, Rose};
 ghost use Rattle.commit_journal.specs.Log.{header_fault, frames_of, version_of_header, walk, walk_of, closed_at, lost_at, behind};
 ghost use Rattle.commit_journal.specs.Reading.{HasRead, HeadSays, IsHead, HeadFits, IsStep, IsWalk, IsLog, IsReadFrom};
+ghost use Rattle.commit_journal.specs.Versions.{number_of};
 
 use crate::format::{
-    BLANK_LENGTH, CLOSED_GATE, FIRST_GATE, HEAD_BYTES, LARGEST_PAYLOAD, version_of, wrong_place,
+    BLANK_LENGTH, CLOSED_GATE, FIRST_GATE, HEAD_BYTES, LARGEST_PAYLOAD, header_version,
 };
 use crate::frame::Frame;
-use crate::{JournalFault, calls};
+use crate::{JournalFault, Version, calls};
 use outside::{Bytes, Disk, Failed};
 use std::alloc::{AllocError, Global};
 
@@ -18,7 +19,7 @@ pub struct Log {
     pub frames: Vec<Frame>,
     /// The place of the first closed gate.
     pub place: u64,
-    pub version: u8,
+    pub version: Version,
 }
 
 /// So many bytes of no meaning yet.
@@ -148,26 +149,26 @@ fn read_frames<D: Disk>(alloc: Global, disk: &mut D) -> Result<(Vec<Frame>, u64)
 }
 
 /// A right header's version.
-fn read_header<D: Disk>(disk: &mut D) -> Result<u8, JournalFault>
+fn read_header<D: Disk>(disk: &mut D) -> Result<Version, JournalFault>
     requires { FIRST_GATE ≤ (D.seen disk.old).len }
     ensures right { OnOk result ((b : List ℕ) → (D.seen disk.old).content ≡ Some b → header_fault b ≡ None) }
-    ensures version { IfOk result (λ version. (b : List ℕ) → (D.seen disk.old).content ≡ Some b → version_of_header b ≡ version) }
+    ensures version { IfOk result (λ version. (b : List ℕ) → (D.seen disk.old).content ≡ Some b → version_of_header b ≡ number_of version) }
     ensures wrong { (wrong : ℕ) → IsErrOf result (JournalFault.NotAJournal wrong) → (b : List ℕ) → (D.seen disk.old).content ≡ Some b
         → header_fault b ≡ Some wrong }
     ensures read { HasRead (D.seen disk.old) (D.seen disk.new) result }
 {
     let mut header = [0; 16];
     calls::read_exactly(disk, 0, &mut header)?;
-    match wrong_place(&header) {
-        Some(place) => Err(JournalFault::NotAJournal(place as u64)),
-        None => Ok(version_of(&header)),
+    match header_version(&header) {
+        Ok(version) => Ok(version),
+        Err(place) => Err(JournalFault::NotAJournal(place)),
     }
 }
 
 /// What stands in a log that isn't blank, up to its first closed gate.
 fn read_journal<D: Disk>(alloc: Global, disk: &mut D) -> Result<Log, JournalFault>
     requires { BLANK_LENGTH < (D.seen disk.old).len }
-    ensures log { IfOk result (λ log. (b : List ℕ) → (D.seen disk.old).content ≡ Some b → IsLog log.frames.items log.place log.version b) }
+    ensures log { IfOk result (λ log. (b : List ℕ) → (D.seen disk.old).content ≡ Some b → IsLog log.frames.items log.place (number_of log.version) b) }
     ensures within { IfOk result (λ log. log.place < (D.seen disk.old).len) }
     ensures lost { (wrong : ℕ) → IsErrOf result (JournalFault.NotAJournal wrong) → (b : List ℕ) → (D.seen disk.old).content ≡ Some b
         → frames_of b ≡ Err wrong }
@@ -184,7 +185,7 @@ fn read_journal<D: Disk>(alloc: Global, disk: &mut D) -> Result<Log, JournalFaul
 
 /// What stands in a log, up to its first closed gate. A blank one has no frames.
 pub fn read_log<D: Disk>(alloc: Global, disk: &mut D) -> Result<Log, JournalFault>
-    ensures log { IfOk result (λ log. IsReadFrom log.frames.items log.place log.version (D.seen disk.old)) }
+    ensures log { IfOk result (λ log. IsReadFrom log.frames.items log.place (number_of log.version) (D.seen disk.old)) }
     ensures lost { (wrong : ℕ) → IsErrOf result (JournalFault.NotAJournal wrong) → (b : List ℕ) → (D.seen disk.old).content ≡ Some b
         → frames_of b ≡ Err wrong }
     ensures read { HasRead (D.seen disk.old) (D.seen disk.new) result }
@@ -193,7 +194,7 @@ pub fn read_log<D: Disk>(alloc: Global, disk: &mut D) -> Result<Log, JournalFaul
         return Ok(Log {
             frames: Vec::new(alloc),
             place: FIRST_GATE,
-            version: 2,
+            version: Version::Two,
         });
     }
     read_journal(alloc, disk)

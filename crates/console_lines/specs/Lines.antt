@@ -5,10 +5,10 @@ use Rattle.std.specs.Fmt.{decimal}
 use Rattle.marc_types.specs.Refusals.{number_of}
 use Rattle.marc_types.specs.declared.refusal.Set.{Set}
 use Rattle.marc_types.specs.declared.refusal.Set.TheVariants.{Eacc, BasicHebrew, BasicArabic, ExtendedArabic, BasicCyrillic, ExtendedCyrillic, BasicGreek, GreekSymbols, Subscripts, Superscripts, Unknown}
+use Rattle.marc_types.specs.declared.sums.Sums.{Sums}
 use Rattle.marc_types.specs.declared.refusal.Refusal.{Refusal}
 use Rattle.marc_types.specs.declared.refusal.Refusal.TheVariants.{Overlong, Unfinished, BadLength, BadLeader, BadDirectory, BadField, UnknownCoding, BadText, OtherType, NoNumber, BadCode, NoHeading, HeadingTooLong, NoRoom, OtherSet}
 use Rattle.file_entries.specs.declared.refused.RefusedItem.{RefusedItem}
-use Rattle.console_lines.specs.declared.totals.Sums.{Sums}
 use Rattle.console_lines.specs.declared.totals.Totals.{Totals}
 
 abbrev pub set_name : Set → List ℕ

@@ -1,30 +1,11 @@
--- What a command counts.
-use Rattle.std.specs.Prelude.{ℕ, ◌+◌, ◌^◌, ◌<◌, List}
-use Rattle.std.specs.List.{sum_by}
+-- What the totals line tells of a file.
+use Rattle.std.specs.Prelude.{List, length}
+use Rattle.marc_types.specs.declared.entry.Entry.{Entry}
 use Rattle.marc_types.specs.declared.entry.Receipt.{Receipt}
-use Rattle.console_lines.specs.declared.totals.Sums.{Sums}
+use Rattle.marc_types.specs.Sums.{sums_of}
+use Rattle.file_entries.specs.declared.refused.RefusedItem.{RefusedItem}
+use Rattle.console_lines.specs.declared.totals.Totals.{Totals}
 
--- the sums over some receipts
-abbrev pub sums_of : List Receipt → Sums
-sums_of receipts = record {
-  linked = sum_by (λ r. r.linked) receipts;
-  ambiguous = sum_by (λ r. r.ambiguous) receipts;
-  unlinked = sum_by (λ r. r.unlinked) receipts;
-  changed = sum_by (λ r. r.changed_records) receipts;
-}
-
--- the sums with one more receipt
-abbrev pub with_receipt : Sums → Receipt → Sums
-with_receipt s r = record {
-  linked = s.linked + r.linked;
-  ambiguous = s.ambiguous + r.ambiguous;
-  unlinked = s.unlinked + r.unlinked;
-  changed = s.changed + r.changed_records;
-}
-
--- one more receipt can be added without passing 64 bits
-pub record HasRoom (s : Sums) (changed : ℕ) : Type 0 where
-  pub linked : s.linked < 2 ^ 63
-  pub ambiguous : s.ambiguous < 2 ^ 63
-  pub unlinked : s.unlinked < 2 ^ 63
-  pub changed_fits : s.changed + changed < 2 ^ 64
+-- what is counted of a file: its accepted entries, its refused items, and the sums over its entries' receipts
+abbrev pub totals_of : List Entry → List RefusedItem → List Receipt → Totals
+totals_of accepted refused receipts = record { accepted = length accepted; refused = length refused; sums = sums_of receipts }

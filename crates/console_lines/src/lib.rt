@@ -6,7 +6,7 @@ pub use ending::{end_of_output, end_of_outputs, tell_result};
 pub use fault::{Fault, tell};
 pub use numbered::write_numbered;
 pub use results::{made_line, refused_lines, results_text, totals_line};
-pub use totals::{Sums, Totals};
+pub use totals::Totals;
 
 mod end;
 mod ending;

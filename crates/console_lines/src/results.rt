@@ -2,9 +2,9 @@ ghost use Rattle.std.specs.Prelude.{◌≡◌, ◌++◌, IfOk, string_bytes};
 ghost use Rattle.console_lines.specs.Lines.{refused_lines, sums_text, totals_line, made_line};
 
 use crate::lines::refused_line;
-use crate::totals::{Sums, Totals};
+use crate::totals::Totals;
 use file_entries::RefusedItem;
-use marc_types::NoMemory;
+use marc_types::{NoMemory, Sums};
 use std::alloc::Global;
 
 /// The sums over the receipts, as they end a line.

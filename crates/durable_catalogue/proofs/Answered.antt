@@ -1,19 +1,22 @@
 -- What an opening answers of a disk.
-use Rattle.std.proofs.Common.{◌≡◌, ◌≤◌, ℕ, true, List, is_some, sym, subst}
+use Rattle.std.proofs.Common.{◌≡◌, inl, ◌≤◌, ℕ, true, List, Some, is_some, refl, sym, ap, subst, arith}
 use Rattle.std.specs.Prelude.{◌≢◌}
 use Rattle.marc_types.specs.declared.entry.Limits.{Limits}
 use Rattle.outside.specs.Disk.{DiskView}
+use Rattle.outside.specs.Fault.{Rose}
+use Rattle.outside.proofs.Counts.{rose_since}
 use Rattle.commit_journal.specs.declared.frame.Frame.{Frame}
 use Rattle.commit_journal.specs.declared.fault.JournalFault.{JournalFault}
-use Rattle.commit_journal.specs.Journal.{IsRecovered, Opens, HasOpenCause, LeavesContent}
-use Rattle.entry_history.specs.Readers.{IsVersion}
+use Rattle.commit_journal.specs.declared.version.Version.{Version}
+use Rattle.commit_journal.specs.Versions.{number_of}
+use Rattle.commit_journal.specs.Journal.{IsFound, IsRecovered, IsSettling, Opens, HasOpenCause, LeavesContent}
 use Rattle.durable_catalogue.specs.declared.fault.OpenFault.{OpenFault}
 use Rattle.durable_catalogue.specs.declared.fault.OpenFault.TheVariants.{DeviceFault}
 use Rattle.durable_catalogue.specs.Faults.{open_fault}
-use Rattle.durable_catalogue.specs.Openings.{IsUnloaded}
-use Rattle.durable_catalogue.specs.Opened.{IsOpenedDisk, IsRefusedDisk}
-use Rattle.durable_catalogue.proofs.Opened.{opening_of, either_version, unloaded, unopened, device_fault}
-use Rattle.durable_catalogue.proofs.Refused.{leaves_history, recovered_order, recovered_alone, unwritten_alone, recovered_settled, refused_settled}
+use Rattle.durable_catalogue.specs.Openings.{IsUnloaded, IsUnopened}
+use Rattle.durable_catalogue.specs.Opened.{IsOpenedDisk, IsTakenLog, IsRefusedDisk}
+use Rattle.durable_catalogue.proofs.Opened.{opening_of, unloaded, unopened, device_fault}
+use Rattle.durable_catalogue.proofs.Refused.{leaves_history, same_leaves, recovered_order, unwritten_alone, refused_settled}
 
 module _ (old new : DiskView) (opens : Opens old new) (leaves : LeavesContent old new) (later : old.faults ≤ new.faults) where
   module _ (frames : List Frame) (place version : ℕ) (recovered : IsRecovered frames place version old new) where
@@ -27,31 +30,63 @@ module _ (old new : DiskView) (opens : Opens old new) (leaves : LeavesContent ol
       later = later;
     }
 
-    -- a log whose frames are not loaded, of which they were handed on with their version, and whose disk is handed back
-    pub unloaded_disk : (named : ℕ) (handed : List Frame) (closed : DiskView) (limits : Limits) (why : OpenFault) → named ≡ version → handed ≡ frames → closed ≡ new
-        → (IsVersion named → IsUnloaded named handed limits why) → why ≢ DeviceFault → IsRefusedDisk limits old closed why
-    unloaded_disk named handed closed limits why name hands closes unloads other =
-        let reason : IsVersion version → IsUnloaded version frames limits why =
-        λ is. subst (λ v. IsUnloaded v frames limits why) name (subst (λ fs. IsUnloaded named fs limits why) hands (unloads (subst IsVersion (sym name) is))) in
-        subst (λ d. IsRefusedDisk limits old d why) (sym closes) (record {
-          crash = opening_of old new opens;
-          content = leaves_history old new leaves;
-          left_alone = recovered_alone old new leaves frames place version recovered (why ≡ DeviceFault);
-          settled = recovered_settled frames place version old new why recovered;
-          so = λ log told.
-              unloaded frames place version old new limits why recovered (reason (subst IsVersion (recovered.named log told) (either_version log))) log told;
-          later = later;
-          failed = λ device. absurd (other device);
-        })
-
-  -- a log that the journal doesn't open
+  -- a log that the journal doesn't find
   pub unopened_disk : (limits : Limits) (fault : JournalFault) (why : OpenFault) → why ≡ open_fault fault → HasOpenCause old new fault → IsRefusedDisk limits old new why
   unopened_disk limits fault why is cause = subst (IsRefusedDisk limits old new) (sym is) (record {
     crash = opening_of old new opens;
     content = leaves_history old new leaves;
     left_alone = unwritten_alone old new leaves (open_fault fault ≡ DeviceFault) fault cause (λ device. device);
     settled = refused_settled old new fault cause;
+    kept = λ other. cause.unwritten (λ device. other (ap open_fault device));
     so = unopened old new limits fault cause;
     later = later;
     failed = device_fault old new fault cause;
   })
+
+-- frames that were handed on with their version
+pub unloads_of : (named version : Version) (handed frames : List Frame) (limits : Limits) (why : OpenFault) → named ≡ version → handed ≡ frames
+    → IsUnloaded (number_of named) handed limits why → IsUnloaded (number_of version) frames limits why
+unloads_of named version handed frames limits why name hands unloads =
+    subst (λ v. IsUnloaded (number_of v) frames limits why) name (subst (λ fs. IsUnloaded (number_of named) fs limits why) hands unloads)
+
+-- a log that was found, and whose frames are not loaded
+module _ (frames : List Frame) (place version : ℕ) (old mid : DiskView) (limits : Limits) (why : OpenFault) (found : IsFound frames place version old mid)
+    (unloads : IsUnloaded version frames limits why) (other : why ≢ DeviceFault) where
+  reason : (log : List ℕ) → old.content ≡ Some log → IsUnopened limits log why
+  reason log told = unloaded frames version limits why log (found.was log told) (found.named log told) unloads
+
+  -- it is left as it was
+  pub left_disk : IsRefusedDisk limits old mid why
+  left_disk = record {
+    crash = opening_of old mid found.opens;
+    content = leaves_history old mid (same_leaves old mid found.unwritten.content);
+    left_alone = λ log now was is. record { leaves = same_leaves old mid found.unwritten.content log now was is; bytes = λ told. (let same = found.unwritten.content in inl cc) };
+    settled = λ device. inl found.only;
+    kept = λ device. found.unwritten;
+    so = reason;
+    later = found.later;
+    failed = λ device. absurd (other device);
+  }
+
+-- a log that was found, and is taken
+pub taken_log : (frames : List Frame) (place version end now : ℕ) (old mid new : DiskView) → IsFound frames place version old mid → IsSettling old new → IsRecovered frames end now old new
+    → mid.faults ≤ new.faults → IsTakenLog frames end now old new
+taken_log frames place version end now old mid new found settling recovered later = record {
+  recovered = recovered;
+  settling = settling;
+  opened = opened_disk old new settling.opens settling.content (let first = found.later in omega (arith, first, later)) frames end now recovered settling.synced;
+}
+
+-- a device failed as a log that was found was brought into order
+pub faulted_disk : (frames : List Frame) (place version : ℕ) (old mid new : DiskView) (limits : Limits) → IsFound frames place version old mid → IsSettling old new → mid.faults ≤ new.faults
+    → Rose mid.faults new.faults → IsRefusedDisk limits old new DeviceFault
+faulted_disk frames place version old mid new limits found settling later rose = record {
+  crash = opening_of old new settling.opens;
+  content = leaves_history old new settling.content;
+  left_alone = λ log now was is. record { leaves = settling.content log now was is; bytes = λ other. absurd (other refl) };
+  settled = λ other. absurd (other refl);
+  kept = λ other. absurd (other refl);
+  so = λ log told. tt;
+  later = (let first = found.later in omega (arith, first, later));
+  failed = λ is. rose_since old.faults mid.faults new.faults found.later rose;
+}

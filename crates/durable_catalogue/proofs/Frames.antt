@@ -4,6 +4,9 @@ use Rattle.std.specs.List.{All}
 use Rattle.std.specs.declared.snapshot.Snapshot.{Snapshot}
 use Rattle.marc_types.specs.declared.entry.Entry.{Entry}
 use Rattle.outside.specs.Disk.{DiskView, LeavesOnly}
+use Rattle.commit_journal.specs.declared.version.Version.{Version}
+use Rattle.commit_journal.specs.declared.version.Version.TheVariants.{Two}
+use Rattle.commit_journal.specs.Versions.{number_of}
 use Rattle.commit_journal.specs.declared.frame.Frame.{Frame}
 use Rattle.commit_journal.specs.Journal as journal
 use Rattle.commit_journal.specs.Journal.{IsDurableLog}
@@ -55,16 +58,16 @@ pub record FindsFrame (opened : ℕ) (entries more : List Entry) (before first o
   pub payload_is : frame.payload ≡ batch_payload more
   pub held : Holds 2 entries more frame.payload
 
-pub finds_frame : (opened : ℕ) (entries more given : List Entry) (mark : Option (Snapshot (List Entry))) (run place version : ℕ) (payload : List ℕ)
+pub finds_frame : (opened : ℕ) (entries more given : List Entry) (mark : Option (Snapshot (List Entry))) (run place : ℕ) (version : Version) (payload : List ℕ)
     (before first old : DiskView) → is_some mark ≡ false → IsKept opened entries (marked (mark_of mark)) before first old
     → ((b : List ℕ) → old.content ≡ Some b → old.image b) → ((c : List ℕ) → old.left old.moment c → old.image c)
-    → IsDurableLog place version old → version ≡ 2 → CanFollow entries run → more ≢ [] → IsBatch more → given ≡ more → All IsEntry given
+    → IsDurableLog place (number_of version) old → version ≡ Two → CanFollow entries run → more ≢ [] → IsBatch more → given ≡ more → All IsEntry given
     → All (λ e. e.run ≡ run) more → payload ≡ batch_payload more
     → FindsFrame opened entries more before first old (record { gate = place; payload = payload })
 finds_frame opened entries more given mark run place version payload before first old whole kept image only settled newest follows some batch same each runs is = record {
   kept = subst (λ es. IsKept opened entries es before first old) (none_marked mark whole) kept;
   disk = record { content_is_image = image; only_now = only };
-  settled = subst (λ v. IsDurableLog place v old) newest settled;
+  settled = subst (λ v. IsDurableLog place (number_of v) old) newest settled;
   payload_is = is;
   held = frame_held entries more payload run follows some batch (subst (All IsEntry) same each) runs is;
 }

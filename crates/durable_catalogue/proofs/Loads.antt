@@ -12,7 +12,7 @@ use Rattle.catalogue_core.specs.Catalogues.{Catalogued, is_full, IsDue, with_ent
 use Rattle.catalogue_core.specs.declared.catalogue.CoreFault.{CoreFault}
 use Rattle.catalogue_core.specs.declared.catalogue.CoreFault.TheVariants as commit
 use Rattle.entry_history.specs.Payloads.{Holds, IsHistory, NoMore}
-use Rattle.entry_history.specs.Readers.{Taken, Takes, Counted, HasExtent, CountsEntries, IsVersion}
+use Rattle.entry_history.specs.Readers.{Taken, Takes, Counted, HasExtent, CountsEntries}
 use Rattle.durable_catalogue.specs.declared.fault.OpenFault.{OpenFault}
 use Rattle.durable_catalogue.specs.declared.fault.OpenFault.TheVariants.{DeviceFault, NotAJournal, OldVersion, Full, NoMemory}
 use Rattle.durable_catalogue.specs.Loading.{IsUnreadFrame, IsUncommitted, IsBuilt, IsLoaded}
@@ -166,9 +166,8 @@ all_built version frames limits count counter core whole b = record {
 }
 
 -- the runs of a history that was loaded are no greater than the number of its entries
-pub bounded_built : (version : ℕ) (payloads : List (List ℕ)) (limits : Limits) (made : Option Catalogued) (core : Catalogued) (run : ℕ) → version ≡ 2 → made ≡ Some core
-    → IsLoaded (λ entries. IsVersion version → IsHistory version [] payloads entries) limits made run → last_run core.history ≤ length core.history
-bounded_built version payloads limits made core run two is loaded =
-    let either : IsVersion version = record { first = omega (arith, two); last = omega (arith, two) } in
+pub bounded_built : (payloads : List (List ℕ)) (limits : Limits) (made : Option Catalogued) (core : Catalogued) (run : ℕ) → made ≡ Some core
+    → IsLoaded (IsHistory 2 [] payloads) limits made run → last_run core.history ≤ length core.history
+bounded_built payloads limits made core run is loaded =
     let built : IsBuilt limits loaded.entries (Some core) = subst (IsBuilt limits loaded.entries) is loaded.built in
-    subst (λ es. last_run es ≤ length es) (sym (ap (λ c. c.history) built.0)) (bounded_behind_none version payloads loaded.entries two (loaded.history either))
+    subst (λ es. last_run es ≤ length es) (sym (ap (λ c. c.history) built.0)) (bounded_behind_none 2 payloads loaded.entries refl loaded.history)

@@ -115,15 +115,13 @@ either_version log = decided (nat_eq (version_of log) 2) refl
     decided false is = let one : version_of log ≡ 1 = old_version log (λ two. grind (arith, nat_tests)) in record { first = omega arith; last = omega arith }
 
 -- why a log is not opened, from its frames
-pub unloaded : (frames : List Frame) (place version : ℕ) (old new : DiskView) (limits : Limits) (fault : OpenFault) → IsRecovered frames place version old new
-    → IsUnloaded version frames limits fault → (log : List ℕ) → old.content ≡ Some log → IsUnopened limits log fault
-unloaded frames place version old new limits DeviceFault r why log told = absurd why
-unloaded frames place version old new limits (NotAJournal at) r why log told =
-    NoPayload frames (r.was log told) (subst (λ v. IsBadFrame v frames at) (sym (r.named log told)) why)
-unloaded frames place version old new limits OldVersion r why log told =
-    (old_version log (λ two. why.0 (sym (r.named log told) ∙ two)), (why.1.0, reading log frames version why.1.0 (r.was log told) (r.named log told) why.1.1))
-unloaded frames place version old new limits Full r why log told = (why.0, reading log frames version why.0 (r.was log told) (r.named log told) why.1, why.2)
-unloaded frames place version old new limits NoMemory r why log told = tt
+pub unloaded : (frames : List Frame) (version : ℕ) (limits : Limits) (fault : OpenFault) (log : List ℕ) → frames_of log ≡ Ok frames → version_of log ≡ version
+    → IsUnloaded version frames limits fault → IsUnopened limits log fault
+unloaded frames version limits DeviceFault log was named why = absurd why
+unloaded frames version limits (NotAJournal at) log was named why = NoPayload frames was (subst (λ v. IsBadFrame v frames at) (sym named) why)
+unloaded frames version limits OldVersion log was named why = (old_version log (λ two. why.0 (sym named ∙ two)), (why.1.0, reading log frames version why.1.0 was named why.1.1))
+unloaded frames version limits Full log was named why = (why.0, reading log frames version why.0 was named why.1, why.2)
+unloaded frames version limits NoMemory log was named why = tt
 
 -- why it is not opened, from the journal
 pub unopened : (old new : DiskView) (limits : Limits) (fault : JournalFault) → HasOpenCause old new fault → (log : List ℕ) → old.content ≡ Some log → IsUnopened limits log (open_fault fault)

@@ -1,16 +1,17 @@
 //! A log of either version, read.
 ghost use Rattle.std.specs.Prelude.{◌≡◌, ◌≢◌, ℕ, List, [], Some, IfOk, IfErr};
 ghost use Rattle.commit_journal.specs.Log.{version_of};
+ghost use Rattle.commit_journal.specs.Versions.{number_of};
 ghost use Rattle.durable_catalogue.specs.declared.fault.OpenFault.TheVariants.{OldVersion};
 ghost use Rattle.durable_catalogue.specs.Logs.{HasHistory};
 ghost use Rattle.durable_catalogue.specs.Opened.{IsOpenedDisk, IsRefusedDisk};
 ghost use Rattle.entry_record.specs.History.{IsWithin};
 
-use crate::fault::open_fault;
 use crate::loading::load_either;
+use crate::opening::{find_log, refuse_log, take_log};
 use crate::{Memory, OpenFault};
 use catalogue_core::Catalogue;
-use commit_journal::Journal;
+use commit_journal::{Journal, Version};
 use marc_types::Limits;
 use outside::Disk;
 use std::alloc::Global;
@@ -28,7 +29,7 @@ impl<D: Disk> Archive<D> {
     /// blank it writes no gate. A fault hands the disk back.
     pub fn open(alloc: Global, disk: D, limits: Limits) -> Result<Self, (D, OpenFault)>
         ensures history { IfOk result (λ a. (log : List ℕ) → (D.seen disk).content ≡ Some log → HasHistory a.core.history log) }
-        ensures version { IfOk result (λ a. (log : List ℕ) → (D.seen disk).content ≡ Some log → version_of log ≡ a.journal.version) }
+        ensures version { IfOk result (λ a. (log : List ℕ) → (D.seen disk).content ≡ Some log → version_of log ≡ number_of a.journal.version) }
         ensures within { IfOk result (λ a. IsWithin limits a.core.history) }
 
         // The log is in order, and what was read of it is durable; or it was refused, and is left alone.
@@ -36,17 +37,13 @@ impl<D: Disk> Archive<D> {
         ensures refused { IfErr result (λ e. IsRefusedDisk limits (D.seen disk) (D.seen e.0) e.1) }
         ensures current { IfErr result (λ e. e.1 ≢ OldVersion) }
     {
-        match Journal::open(alloc, disk) {
-            Ok((journal, frames)) => {
-                match load_either(alloc, journal.version(), frames.into_vec(), limits) {
-                    Ok(core) => Ok(Archive { core, journal }),
-                    Err(fault) => Err((journal.close(), fault)),
-                }
+        let (found, frames) = find_log(alloc, disk)?;
+        match load_either(alloc, found.version(), frames.into_vec(), limits) {
+            Ok(core) => {
+                let journal = take_log(found)?;
+                Ok(Archive { core, journal })
             }
-            Err(failed) => {
-                let (disk, fault) = failed;
-                Err((disk, open_fault(fault)))
-            }
+            Err(fault) => Err(refuse_log(found, fault)),
         }
     }
 
@@ -58,8 +55,8 @@ impl<D: Disk> Archive<D> {
         &self.core
     }
 
-    /// The version of the log; 2 where it was blank.
-    pub fn version(&self) -> u8
+    /// The version of the log, the newest where it was blank.
+    pub fn version(&self) -> Version
         ensures { result ≡ self.now.journal.version }
     {
         self.journal.version()

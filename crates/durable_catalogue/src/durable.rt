@@ -6,6 +6,7 @@ ghost use Rattle.outside.specs.Disk.{LeavesOnly};
 ghost use Rattle.outside.specs.Fault.{Rose};
 ghost use Rattle.commit_journal.specs.Journal.{IsDurableLog};
 ghost use Rattle.commit_journal.specs.Log.{version_of};
+ghost use Rattle.commit_journal.specs.declared.version.Version.TheVariants.{Two};
 ghost use Rattle.entry_record.specs.History.{with_run, next_run, IsWithin};
 ghost use Rattle.catalogue_rules.specs.Receipts.{receipts_behind};
 ghost use Rattle.entry_history.specs.Commits.{fitting, frame_of, IsCommit};
@@ -18,9 +19,9 @@ ghost use Rattle.durable_catalogue.specs.Images.{HoldsEntries, HasCommitOrNot};
 ghost use Rattle.durable_catalogue.specs.Lasting.{GoesOn};
 ghost use Rattle.durable_catalogue.specs.Durables.{mark_of, marked, events, is_taken, TookNothing, opening, IsKept, IsLeft, IsLostBy, IsSameOpening};
 
-use crate::fault::open_fault;
 use crate::fitting::fitting_part;
 use crate::loading::{Loaded, load};
+use crate::opening::{find_log, refuse_log, take_log};
 use crate::seen::{Seen, look_at};
 use crate::staging::stage_all;
 use crate::{Memory, OpenFault};
@@ -52,7 +53,7 @@ pub struct Durable<D: Disk> {
     before: Snapshot<D>,
     first: Snapshot<Journal<D>>,
     ghost unstaged: { core.staged ≡ [] },
-    ghost newest: { journal.version ≡ 2 },
+    ghost newest: { journal.version ≡ Two },
     ghost broken: { journal.broken ≡ is_some mark },
     ghost follows: { CanFollow core.history run },
     ghost kept: { IsKept opened core.history (marked (mark_of mark)) (D.seen before.value) (D.seen first.value.disk) (D.seen journal.disk) },
@@ -95,31 +96,25 @@ impl<D: Disk> Durable<D> {
         ensures old_first { IfErr result (λ e. e.1 ≡ OpenFault.Full → (log : List ℕ) → (D.seen disk).content ≡ Some log → version_of log ≡ 2) }
     {
         let before = Snapshot::of(&disk);
-        match Journal::open(alloc, disk) {
-            Ok((journal, frames)) => {
+        let (found, frames) = find_log(alloc, disk)?;
+        match load(alloc, found.version(), frames.into_vec(), limits) {
+            Ok(loaded) => {
+                let journal = take_log(found)?;
                 let first = Snapshot::of(&journal);
-                match load(alloc, journal.version(), frames.into_vec(), limits) {
-                    Ok(loaded) => {
-                        let Loaded { core, run } = loaded;
-                        let opened = core.history_len();
-                        Ok(Durable {
-                            alloc,
-                            core,
-                            journal,
-                            run,
-                            opened,
-                            mark: None,
-                            before,
-                            first,
-                        })
-                    }
-                    Err(fault) => Err((journal.close(), fault)),
-                }
+                let Loaded { core, run } = loaded;
+                let opened = core.history_len();
+                Ok(Durable {
+                    alloc,
+                    core,
+                    journal,
+                    run,
+                    opened,
+                    mark: None,
+                    before,
+                    first,
+                })
             }
-            Err(failed) => {
-                let (disk, fault) = failed;
-                Err((disk, open_fault(fault)))
-            }
+            Err(fault) => Err(refuse_log(found, fault)),
         }
     }
 
@@ -137,6 +132,14 @@ impl<D: Disk> Durable<D> {
     {
         self.core().is_within_limits();
     }
+
+    /// What a crash may leave of the log, whenever this is asked: each image has all that was committed, and each since the opening's first
+    /// sync has all that was there at the opening. This is a law for proofs; the call does nothing.
+    #[tactic(auto, using(crate::proofs::Keeping::left_of))]
+    pub fn is_kept(&self)
+        ensures { IsLeft (opening self.now.core.limits self.now.run self.now.opened (D.seen self.now.before.value) (D.seen self.now.first.value.disk))
+            self.now.core.history (marked (mark_of self.now.mark)) (D.seen self.now.journal.disk) }
+    {}
 
     /// Gives the disk back, with all that was committed.
     #[tactic(auto, using(crate::proofs::Keeping::left_of))]

@@ -4,8 +4,9 @@
 pub use archive::Archive;
 pub use durable::Durable;
 pub use fault::{OpenFault, open_fault};
-pub use loading::read_frame;
+pub use loading::{counter_of, read_frame};
 pub use memory::Memory;
+pub use opening::{find_log, refuse_log, take_log};
 pub use seen::Seen;
 
 mod archive;
@@ -15,5 +16,6 @@ mod fitting;
 pub mod laws;
 mod loading;
 mod memory;
+mod opening;
 mod seen;
 mod staging;

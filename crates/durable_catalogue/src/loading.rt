@@ -1,9 +1,10 @@
 //! The catalogue that a journal's frames hold.
 ghost use Rattle.std.specs.Prelude.{◌≡◌, ◌≢◌, ◌<◌, ◌≤◌, ◌++◌, List, [], length, IfSome, IfOk, IfErr, OnOk};
 ghost use Rattle.marc_types.specs.declared.entry.Entry.{Entry as AnyEntry};
+ghost use Rattle.commit_journal.specs.Versions.{number_of};
 ghost use Rattle.entry_record.specs.History.{last_run, next_run, IsWithin};
 ghost use Rattle.entry_history.specs.Payloads.{IsHistory};
-ghost use Rattle.entry_history.specs.Readers.{IsVersion, HasExtent, CountsEntries};
+ghost use Rattle.entry_history.specs.Readers.{HasExtent, CountsEntries};
 ghost use Rattle.durable_catalogue.specs.declared.fault.OpenFault.TheVariants.{DeviceFault, OldVersion, Full};
 ghost use Rattle.durable_catalogue.specs.Loading.{IsUnreadFrame, IsUncommitted, IsBuilt, IsLoaded};
 ghost use Rattle.durable_catalogue.specs.Logs.{payloads_of};
@@ -11,7 +12,7 @@ ghost use Rattle.durable_catalogue.specs.Openings.{IsUnloaded, IsUnread, catalog
 
 use crate::OpenFault;
 use catalogue_core::{Catalogue, CoreFault};
-use commit_journal::Frame;
+use commit_journal::{Frame, Version};
 use entry_history::{EntryFault, HistoryCounter};
 use entry_record::Prepared;
 use marc_types::{Limits, NoMemory};
@@ -25,6 +26,15 @@ use std::sync::ledger::{Blank, Ledger};
 pub struct Loaded {
     pub core: Catalogue,
     pub run: u64,
+}
+
+/// A counter of a journal's entries, of which none was read.
+pub fn counter_of(version: Version) -> HistoryCounter
+    ensures version { result.version ≡ number_of version }
+    ensures none { HasExtent [] result.extent }
+    ensures count { result.extent.count ≡ 0 }
+{
+    HistoryCounter::new(version.number())
 }
 
 /// The entries of a journal's next frame, behind those of the frames before it.
@@ -121,21 +131,20 @@ struct Built {
 
 /// Makes a catalogue of a journal's frames. A frame's entries are committed, and it is let go, before the next is read. Once the limits
 /// are passed the others are still read: a bad one decides first.
-fn build<L: Ledger>(
+fn build_in<L: Ledger>(
     alloc: Global,
-    version: u8,
+    version: Version,
     frames: Vec<Frame>,
     limits: Limits,
     blank: Blank,
 ) -> Result<Built, OpenFault>
-    requires version { IsVersion version }
     requires name { blank.name ≡ L.name }
     requires parts { blank.parts ≡ L.parts }
     requires shared { 0 < blank.parts }
-    ensures loaded { IfOk result (λ built. IsLoaded (IsHistory version [] (payloads_of frames.items)) limits built.core built.last_run) }
-    ensures fault { IfErr result (IsUnread version frames.items) }
+    ensures loaded { IfOk result (λ built. IsLoaded (IsHistory (number_of version) [] (payloads_of frames.items)) limits built.core built.last_run) }
+    ensures fault { IfErr result (IsUnread (number_of version) frames.items) }
 {
-    let mut counter = HistoryCounter::new(version);
+    let mut counter = counter_of(version);
     let mut building = Building::new(alloc, limits);
     let mut steps = Steps::<L>::new(blank);
     for frame in frames {
@@ -151,38 +160,37 @@ fn build<L: Ledger>(
     })
 }
 
-/// The same of frames whose version is 1 or 2.
-fn build_either(
+/// The same, with its steps counted in a ledger of its own.
+fn build(
     alloc: Global,
-    version: u8,
+    version: Version,
     frames: Vec<Frame>,
     limits: Limits,
 ) -> Result<Built, OpenFault>
-    ensures loaded { IfOk result (λ built. IsLoaded (λ entries. IsVersion version → IsHistory version [] (payloads_of frames.items) entries)
-        limits built.core built.last_run) }
-    ensures fault { IsVersion version → IfErr result (IsUnread version frames.items) }
+    ensures loaded { IfOk result (λ built. IsLoaded (IsHistory (number_of version) [] (payloads_of frames.items)) limits built.core built.last_run) }
+    ensures fault { IfErr result (IsUnread (number_of version) frames.items) }
     ensures current { IfErr result (λ fault. fault ≢ OldVersion) }
     ensures unbuilt { IfErr result (λ fault. fault ≢ Full) }
     ensures no_device { IfErr result (λ fault. fault ≢ DeviceFault) }
 {
-    build::<Brand>(alloc, version.max(1).min(2), frames, limits, Blank::new(1))
+    build_in::<Brand>(alloc, version, frames, limits, Blank::new(1))
 }
 
 /// The catalogue whose history the frames of a journal of either version hold.
 pub fn load_either(
     alloc: Global,
-    version: u8,
+    version: Version,
     frames: Vec<Frame>,
     limits: Limits,
 ) -> Result<Catalogue, OpenFault>
-    ensures history { IsVersion version → IfOk result (λ core. IsHistory version [] (payloads_of frames.items) core.history) }
+    ensures history { IfOk result (λ core. IsHistory (number_of version) [] (payloads_of frames.items) core.history) }
     ensures core { IfOk result (λ core. core ≡ catalogue_of limits core.history) }
     ensures within { IfOk result (λ core. IsWithin limits core.history) }
-    ensures fault { IsVersion version → IfErr result (IsUnloaded version frames.items limits) }
+    ensures fault { IfErr result (IsUnloaded (number_of version) frames.items limits) }
     ensures no_device { IfErr result (λ fault. fault ≢ DeviceFault) }
     ensures current { IfErr result (λ fault. fault ≢ OldVersion) }
 {
-    let Built { core, .. } = build_either(alloc, version, frames, limits)?;
+    let Built { core, .. } = build(alloc, version, frames, limits)?;
     match core {
         Some(core) => Ok(core),
         None => Err(OpenFault::Full),
@@ -201,37 +209,51 @@ fn run_behind(core: &Catalogue, last: u64) -> u64
     last + 1
 }
 
-/// The catalogue whose history the frames of a journal of version 2 hold. An old version is answered before a full one.
-pub fn load(
-    alloc: Global,
-    version: u8,
-    frames: Vec<Frame>,
-    limits: Limits,
-) -> Result<Loaded, OpenFault>
+/// The catalogue whose history the frames of a journal of the newest version hold.
+fn load_newest(alloc: Global, frames: Vec<Frame>, limits: Limits) -> Result<Loaded, OpenFault>
     ensures history { IfOk result (λ l. IsHistory 2 [] (payloads_of frames.items) l.core.history) }
-    ensures version { OnOk result (version ≡ 2) }
     ensures core { IfOk result (λ l. l.core ≡ catalogue_of limits l.core.history) }
     ensures within { IfOk result (λ l. IsWithin limits l.core.history) }
     ensures run { IfOk result (λ l. l.run ≡ next_run l.core.history) }
-    ensures fault { IsVersion version → IfErr result (IsUnloaded version frames.items limits) }
-    ensures old_first { IfErr result (λ fault. fault ≡ Full → version ≡ 2) }
+    ensures fault { IfErr result (IsUnloaded 2 frames.items limits) }
     ensures no_device { IfErr result (λ fault. fault ≢ DeviceFault) }
 {
-    if version != 2 {
-        // all payloads are read first; no entry fits these limits, so none is committed
-        let none = Limits {
-            entries: 0,
-            bytes: 0,
-        };
-        build_either(alloc, version, frames, none)?;
-        return Err(OpenFault::OldVersion);
-    }
-    let Built { core, last_run } = build_either(alloc, version, frames, limits)?;
+    let Built { core, last_run } = build(alloc, Version::Two, frames, limits)?;
     match core {
         Some(core) => {
             let run = run_behind(&core, last_run);
             Ok(Loaded { core, run })
         }
         None => Err(OpenFault::Full),
+    }
+}
+
+/// The catalogue whose history the frames of a journal of the newest version hold. An old version is answered before a full one.
+pub fn load(
+    alloc: Global,
+    version: Version,
+    frames: Vec<Frame>,
+    limits: Limits,
+) -> Result<Loaded, OpenFault>
+    ensures history { IfOk result (λ l. IsHistory 2 [] (payloads_of frames.items) l.core.history) }
+    ensures version { OnOk result (version ≡ Version.Two) }
+    ensures core { IfOk result (λ l. l.core ≡ catalogue_of limits l.core.history) }
+    ensures within { IfOk result (λ l. IsWithin limits l.core.history) }
+    ensures run { IfOk result (λ l. l.run ≡ next_run l.core.history) }
+    ensures fault { IfErr result (IsUnloaded (number_of version) frames.items limits) }
+    ensures old_first { IfErr result (λ fault. fault ≡ Full → version ≡ Version.Two) }
+    ensures no_device { IfErr result (λ fault. fault ≢ DeviceFault) }
+{
+    match version {
+        Version::One => {
+            // all payloads are read first; no entry fits these limits, so none is committed
+            let none = Limits {
+                entries: 0,
+                bytes: 0,
+            };
+            build(alloc, version, frames, none)?;
+            Err(OpenFault::OldVersion)
+        }
+        Version::Two => load_newest(alloc, frames, limits),
     }
 }

@@ -1,18 +1,17 @@
 //! The entries of a journal's frames.
 ghost use Rattle.std.specs.Prelude.{◌≡◌, ◌≢◌, ◌↔◌, ◌++◌, ◌∷◌, ℕ, List, [], length, IsTrue, IfOk, IfErr, OnOk};
 ghost use Rattle.marc_types.specs.declared.entry.Entry.{Entry as AnyEntry};
+ghost use Rattle.commit_journal.specs.Versions.{number_of};
 ghost use Rattle.entry_record.specs.History.{IsWithin};
 ghost use Rattle.entry_history.specs.Payloads.{IsHistory};
-ghost use Rattle.entry_history.specs.Readers.{IsVersion};
 ghost use Rattle.durable_catalogue.specs.declared.fault.OpenFault.TheVariants.{DeviceFault, OldVersion, Full};
 ghost use Rattle.durable_catalogue.specs.Logs.{payloads_of};
 ghost use Rattle.durable_catalogue.specs.Openings.{IsUnloaded, IsUnread};
 ghost use Rattle.history_logs.specs.Taking.{IsHandedOn, AreHandedOn, HasLeft};
 
 use crate::taker::EntryTaker;
-use commit_journal::Frame;
-use durable_catalogue::{OpenFault, read_frame};
-use entry_history::HistoryCounter;
+use commit_journal::{Frame, Version};
+use durable_catalogue::{OpenFault, counter_of, read_frame};
 use entry_record::Prepared;
 use marc_types::{Limits, NoMemory};
 use std::alloc::Global;
@@ -58,17 +57,16 @@ fn are_within(limits: Limits, count: u64, left: Option<u64>) -> bool
 /// before the next is read.
 fn take_frames<T: EntryTaker>(
     alloc: Global,
-    version: u8,
+    version: Version,
     frames: Vec<Frame>,
     limits: Limits,
     taker: &mut T,
 ) -> Result<bool, OpenFault>
-    requires version { IsVersion version }
     requires none { T.has taker.old [] }
-    ensures taken { IfOk result (λ fits. AreHandedOn (T.has taker.new) (IsHistory version [] (payloads_of frames.items)) limits fits) }
-    ensures fault { IfErr result (IsUnread version frames.items) }
+    ensures taken { IfOk result (λ fits. AreHandedOn (T.has taker.new) (IsHistory (number_of version) [] (payloads_of frames.items)) limits fits) }
+    ensures fault { IfErr result (IsUnread (number_of version) frames.items) }
 {
-    let mut counter = HistoryCounter::new(version);
+    let mut counter = counter_of(version);
     let mut left = Some(limits.bytes);
     for frame in frames {
         let items = read_frame(alloc, &mut counter, &frame)?;
@@ -79,41 +77,39 @@ fn take_frames<T: EntryTaker>(
     Ok(are_within(limits, counter.count(), left))
 }
 
-/// The same of frames whose version is 1 or 2.
-fn take_either<T: EntryTaker>(
+/// The same, with what its faults are not.
+fn take_all<T: EntryTaker>(
     alloc: Global,
-    version: u8,
+    version: Version,
     frames: Vec<Frame>,
     limits: Limits,
     taker: &mut T,
 ) -> Result<bool, OpenFault>
     requires none { T.has taker.old [] }
-    ensures taken { IfOk result (λ fits. AreHandedOn (T.has taker.new)
-        (λ entries. IsVersion version → IsHistory version [] (payloads_of frames.items) entries) limits fits) }
-    ensures fault { IsVersion version → IfErr result (IsUnread version frames.items) }
+    ensures taken { IfOk result (λ fits. AreHandedOn (T.has taker.new) (IsHistory (number_of version) [] (payloads_of frames.items)) limits fits) }
+    ensures fault { IfErr result (IsUnread (number_of version) frames.items) }
     ensures current { IfErr result (λ fault. fault ≢ OldVersion) }
     ensures unbuilt { IfErr result (λ fault. fault ≢ Full) }
     ensures no_device { IfErr result (λ fault. fault ≢ DeviceFault) }
 {
-    take_frames(alloc, version.max(1).min(2), frames, limits, taker)
+    take_frames(alloc, version, frames, limits, taker)
 }
 
 /// Hands on the entries of a journal's frames, where they are within the limits.
 pub(crate) fn take_within<T: EntryTaker>(
     alloc: Global,
-    version: u8,
+    version: Version,
     frames: Vec<Frame>,
     limits: Limits,
     taker: &mut T,
 ) -> Result<(), OpenFault>
     requires none { T.has taker.old [] }
-    ensures taken { OnOk result (IsHandedOn (T.has taker.new)
-        (λ entries. IsVersion version → IsHistory version [] (payloads_of frames.items) entries) limits) }
-    ensures fault { IsVersion version → IfErr result (IsUnloaded version frames.items limits) }
+    ensures taken { OnOk result (IsHandedOn (T.has taker.new) (IsHistory (number_of version) [] (payloads_of frames.items)) limits) }
+    ensures fault { IfErr result (IsUnloaded (number_of version) frames.items limits) }
     ensures no_device { IfErr result (λ fault. fault ≢ DeviceFault) }
     ensures current { IfErr result (λ fault. fault ≢ OldVersion) }
 {
-    if take_either(alloc, version, frames, limits, taker)? {
+    if take_all(alloc, version, frames, limits, taker)? {
         Ok(())
     } else {
         Err(OpenFault::Full)

@@ -1,6 +1,7 @@
 //! The history of a log of either version.
 ghost use Rattle.std.specs.Prelude.{◌≡◌, ◌≢◌, ℕ, List, [], Some, IfOk, IfErr, OnOk};
 ghost use Rattle.commit_journal.specs.Log.{version_of};
+ghost use Rattle.commit_journal.specs.Versions.{number_of};
 ghost use Rattle.durable_catalogue.specs.declared.fault.OpenFault.TheVariants.{OldVersion};
 ghost use Rattle.durable_catalogue.specs.Logs.{HasHistory};
 ghost use Rattle.durable_catalogue.specs.Opened.{IsOpenedDisk, IsRefusedDisk};
@@ -8,8 +9,8 @@ ghost use Rattle.history_logs.specs.Taking.{IsHandedOn};
 
 use crate::frames::take_within;
 use crate::taker::EntryTaker;
-use commit_journal::Journal;
-use durable_catalogue::{OpenFault, open_fault};
+use commit_journal::{Journal, Version};
+use durable_catalogue::{OpenFault, find_log, refuse_log, take_log};
 use marc_types::Limits;
 use outside::Disk;
 use std::alloc::Global;
@@ -32,29 +33,25 @@ impl<D: Disk> HistoryLog<D> {
         requires none { T.has taker.old [] }
         ensures taken { OnOk result (IsHandedOn (T.has taker.new)
             (λ entries. (log : List ℕ) → (D.seen disk).content ≡ Some log → HasHistory entries log) limits) }
-        ensures version { IfOk result (λ h. (log : List ℕ) → (D.seen disk).content ≡ Some log → version_of log ≡ h.journal.version) }
+        ensures version { IfOk result (λ h. (log : List ℕ) → (D.seen disk).content ≡ Some log → version_of log ≡ number_of h.journal.version) }
 
         // The log is in order, and what was read of it is durable; or it was refused, and is left alone.
         ensures opened { IfOk result (λ h. IsOpenedDisk (D.seen disk) (D.seen h.journal.disk)) }
         ensures refused { IfErr result (λ e. IsRefusedDisk limits (D.seen disk) (D.seen e.0) e.1) }
         ensures current { IfErr result (λ e. e.1 ≢ OldVersion) }
     {
-        match Journal::open(alloc, disk) {
-            Ok((journal, frames)) => {
-                match take_within(alloc, journal.version(), frames.into_vec(), limits, taker) {
-                    Ok(()) => Ok(HistoryLog { journal }),
-                    Err(fault) => Err((journal.close(), fault)),
-                }
+        let (found, frames) = find_log(alloc, disk)?;
+        match take_within(alloc, found.version(), frames.into_vec(), limits, taker) {
+            Ok(()) => {
+                let journal = take_log(found)?;
+                Ok(HistoryLog { journal })
             }
-            Err(failed) => {
-                let (disk, fault) = failed;
-                Err((disk, open_fault(fault)))
-            }
+            Err(fault) => Err(refuse_log(found, fault)),
         }
     }
 
-    /// The version of the log; 2 where it was blank.
-    pub fn version(&self) -> u8
+    /// The version of the log, the newest where it was blank.
+    pub fn version(&self) -> Version
         ensures { result ≡ self.now.journal.version }
     {
         self.journal.version()

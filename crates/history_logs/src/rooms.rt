@@ -1,6 +1,7 @@
 //! The histories of journals in a room.
 ghost use Rattle.std.specs.Prelude.{◌≡◌, ◌≢◌, true, Some, None, IfOk, IfErr, OnOk, ◌∷◌, []};
 ghost use Rattle.outside.specs.Room.{AsLog, SameBut};
+ghost use Rattle.commit_journal.specs.Versions.{number_of};
 ghost use Rattle.durable_catalogue.specs.declared.fault.OpenFault.TheVariants.{OldVersion};
 ghost use Rattle.durable_catalogue.specs.Logs.{HasHistory};
 ghost use Rattle.room_files.specs.Journals.{journal_limits, log_bytes, IsClosedDisk, IsOpenLog, IsRefusedLog};
@@ -29,7 +30,7 @@ pub fn open_history<R: Room, T: EntryTaker>(
     // All entries of the log's history were handed on; they are within the limits, and the log keeps them.
     ensures taken { OnOk result (IsHandedOn (T.has taker.new)
         (λ entries. (R.seen room.old).tells ≡ true → HasHistory entries (log_bytes (R.seen room.old) name.now)) journal_limits) }
-    ensures log { IfOk result (λ h. IsOpenLog (R.seen room.old) (R.seen room.new) name.now h.journal.version (R.Log.seen h.journal.disk)) }
+    ensures log { IfOk result (λ h. IsOpenLog (R.seen room.old) (R.seen room.new) name.now (number_of h.journal.version) (R.Log.seen h.journal.disk)) }
 
     // A log that is refused keeps its history.
     ensures refused { IfErr result (IsRefusedLog (R.seen room.old) (R.seen room.new) name.now) }

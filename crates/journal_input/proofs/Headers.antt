@@ -1,20 +1,10 @@
 -- A header, and what stands for it in the front of a log.
-use Rattle.std.proofs.Common.{◌≡◌, ◌∙◌, ℕ, ◌<◌, ◌≤◌, List, ◌++◌, length, take, drop, get_or, Option, None, refl, sym, ap, arith}
+use Rattle.std.proofs.Common.{◌≡◌, ◌∙◌, ℕ, ◌<◌, ◌≤◌, List, ◌++◌, length, take, get_or, Option, refl, ap, arith}
 use Rattle.std.proofs.lemmas.List.{take-append-le}
 use Rattle.std.proofs.lemmas.Grind.{common_steps}
 use Rattle.commit_journal.specs.declared.format.TheConstants.{VERSION_PLACE, FIRST_GATE}
-use Rattle.commit_journal.specs.Log.{first_differing, header_fault, version_of_header}
-use Rattle.journal_input.specs.declared.header.TheConstants.{HEADER_1, HEADER_2}
+use Rattle.commit_journal.specs.Log.{header_fault, version_of_header}
 use Rattle.journal_input.specs.Coming.{Comes}
-
--- no byte of a whole header is wrong
-pub none_differs : (place : ℕ) (header : List ℕ) → place ≡ 16
-    → first_differing place (drop place HEADER_1) (drop place HEADER_2) (drop place header) ≡ first_differing 0 HEADER_1 HEADER_2 header
-    → None ≡ first_differing 0 HEADER_1 HEADER_2 header
-unfolding first_differing
-none_differs place header is same =
-    let none : first_differing place (drop place HEADER_1) (drop place HEADER_2) (drop place header) ≡ None = rw is refl in
-    sym none ∙ same
 
 front_there : (window rest : List ℕ) (i : ℕ) → i < length window → get_or (window ++ rest) i 0 ≡ get_or window i 0
 front_there window rest i within = grind (arith, common_steps)

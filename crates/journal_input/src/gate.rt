@@ -6,14 +6,8 @@ ghost use Rattle.journal_input.specs.Gates.{GateSays, GateIn};
 
 use crate::coming::Coming;
 use crate::fault::ReadFault;
-use commit_journal::LARGEST_PAYLOAD;
+use commit_journal::{CLOSED_GATE, HEAD_BYTES, LARGEST_PAYLOAD};
 use outside::Source;
-
-/// What a closed gate is.
-const CLOSED: u8 = b'C';
-
-/// How many bytes a gate and a payload's length take.
-pub const HEAD_BYTES: usize = 5;
 
 /// What stands at a gate's place.
 #[derive(Clone, Copy, Debug, PartialEq, Eq)]
@@ -48,7 +42,7 @@ pub fn next_gate<S: Source>(coming: &mut Coming<S>) -> Result<Gate, ReadFault>
     if !coming.fill(1)? {
         return Ok(Gate::Lost);
     }
-    if coming.window()[0] == CLOSED {
+    if coming.window()[0] == CLOSED_GATE {
         return Ok(Gate::Closed);
     }
     if !coming.fill(HEAD_BYTES)? {

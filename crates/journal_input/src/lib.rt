@@ -7,6 +7,5 @@ pub use verified::{Verified, verify_source};
 mod coming;
 mod fault;
 mod gate;
-mod header;
 mod verified;
 mod walking;

@@ -1,16 +1,15 @@
-ghost use Rattle.std.specs.Prelude.{◌≡◌, ℕ, List, Some, None, IfOk, IsErrOf};
+ghost use Rattle.std.specs.Prelude.{◌≡◌, ◌≤◌, ℕ, List, length, Some, None, IfOk, IfErr, OnOk, IsErrOf};
+ghost use Rattle.commit_journal.specs.Log.{header_fault, version_of_header};
+ghost use Rattle.commit_journal.specs.Versions.{number_of};
 ghost use Rattle.journal_input.specs.Coming.{Comes, HasVerifyCause};
 ghost use Rattle.journal_input.specs.Contents.{torn_behind, IsVerified, IsNoJournal};
 
 use crate::coming::Coming;
 use crate::fault::VerifyFault;
-use crate::header::{HEADER_BYTES, read_header};
 use crate::walking::take_frames;
+use commit_journal::{BLANK_LENGTH, HEADER_BYTES, Version, header_version};
 use outside::Source;
 use std::alloc::Global;
-
-/// A log of at most so many bytes is blank, whatever they are.
-const BLANK_BYTES: usize = 17;
 
 /// What a journal has.
 #[derive(Clone, Copy, Debug, PartialEq, Eq)]
@@ -47,6 +46,19 @@ fn torn_at(place: u64, bytes: u64) -> Option<u64>
     }
 }
 
+/// The version that a journal's first bytes name, or the place of the first byte of its header that is wrong.
+#[tactic(auto, using(commit_journal::proofs::Logs::says_front))]
+fn version_in(bytes: &[u8]) -> Result<Version, u64>
+    requires { 16 ≤ length bytes.now }
+    ensures right { OnOk result (header_fault bytes.now ≡ None) }
+    ensures version { IfOk result (λ version. number_of version ≡ version_of_header bytes.now) }
+    ensures wrong { IfErr result (λ place. header_fault bytes.now ≡ Some place) }
+{
+    let mut header = [0; HEADER_BYTES];
+    header.copy_from_slice(&bytes[..HEADER_BYTES]);
+    header_version(&header)
+}
+
 /// What the journal has whose bytes come.
 fn verify_coming<S: Source>(alloc: Global, coming: &mut Coming<S>) -> Result<Verified, VerifyFault>
     requires { coming.old.place ≡ 0 }
@@ -55,10 +67,10 @@ fn verify_coming<S: Source>(alloc: Global, coming: &mut Coming<S>) -> Result<Ver
         Comes coming.old.window.items (S.left coming.old.source) log → IsNoJournal log wrong }
     ensures cause { HasVerifyCause (S.faults coming.old.source) (S.faults coming.new.source) result }
 {
-    if !coming.fill(BLANK_BYTES + 1)? {
+    if !coming.fill(BLANK_LENGTH as usize + 1)? {
         return Ok(blank(coming.window().len()));
     }
-    let version = match read_header(coming.window()) {
+    let version = match version_in(coming.window()) {
         Ok(version) => version,
         Err(place) => return Err(VerifyFault::NotAJournal(place)),
     };
@@ -70,7 +82,7 @@ fn verify_coming<S: Source>(alloc: Global, coming: &mut Coming<S>) -> Result<Ver
     let place = coming.place();
     let bytes = coming.total()?;
     Ok(Verified {
-        version,
+        version: version.number(),
         entries: found.entries,
         frames: found.frames,
         bytes,

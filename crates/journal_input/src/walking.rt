@@ -1,13 +1,14 @@
 //! The walk over a journal's gates and frames.
 ghost use Rattle.std.specs.Prelude.{◌≡◌, ℕ, ◌+◌, ◌<◌, ◌≤◌, List, take, drop, length, true, IfOk, OnOk, IsErrOf};
 ghost use Rattle.commit_journal.specs.Log.{walk};
-ghost use Rattle.entry_history.specs.Readers.{IsVersion};
+ghost use Rattle.commit_journal.specs.Versions.{number_of};
 ghost use Rattle.journal_input.specs.Coming.{Comes, ComesOn, HasVerifyCause};
 ghost use Rattle.journal_input.specs.Walking.{IsLostAt, IsRead, IsUnread};
 
 use crate::coming::Coming;
 use crate::fault::VerifyFault;
-use crate::gate::{Gate, HEAD_BYTES, next_gate};
+use crate::gate::{Gate, next_gate};
+use commit_journal::{HEAD_BYTES, Version};
 use entry_history::{EntryFault, HistoryCounter};
 use outside::Source;
 use std::alloc::Global;
@@ -47,19 +48,18 @@ fn skip_frames<S: Source>(coming: &mut Coming<S>) -> Result<(), VerifyFault>
 /// Takes all frames up to the first closed gate.
 pub fn take_frames<S: Source>(
     alloc: Global,
-    version: u8,
+    version: Version,
     coming: &mut Coming<S>,
 ) -> Result<Found, VerifyFault>
-    requires { IsVersion version }
     ensures read { IfOk result (λ found. (b : List ℕ) → Comes coming.old.window.items (S.left coming.old.source) b
-        → IsRead version coming.old.place b found.entries found.frames coming.new.place) }
+        → IsRead (number_of version) coming.old.place b found.entries found.frames coming.new.place) }
     ensures on { OnOk result ((b : List ℕ) → Comes coming.old.window.items (S.left coming.old.source) b
         → ComesOn coming.old.place b coming.new.place coming.new.window.items (S.left coming.new.source)) }
     ensures unread { (wrong : ℕ) → IsErrOf result (VerifyFault.NotAJournal wrong) → (b : List ℕ) → Comes coming.old.window.items (S.left coming.old.source) b
-        → IsUnread version (walk coming.old.place 0 b) wrong }
+        → IsUnread (number_of version) (walk coming.old.place 0 b) wrong }
     ensures cause { HasVerifyCause (S.faults coming.old.source) (S.faults coming.new.source) result }
 {
-    let mut counter = HistoryCounter::new(version);
+    let mut counter = HistoryCounter::new(version.number());
     let mut frames = 0;
     'gates: loop {
         let place = coming.place();

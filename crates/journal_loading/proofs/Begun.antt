@@ -14,13 +14,13 @@ use Rattle.durable_catalogue.specs.declared.fault.OpenFault.{OpenFault}
 use Rattle.durable_catalogue.specs.declared.fault.OpenFault.TheVariants as opening
 use Rattle.loader_workers.specs.declared.file_end.FileEnd.TheVariants as end
 use Rattle.loader_workers.specs.declared.result.FileResult.{FileResult}
-use Rattle.parallel_loading.specs.declared.input.InputFile.{InputFile}
-use Rattle.parallel_loading.specs.Files.{EachLoaded, AreOfOneFile, AreLoaded}
+use Rattle.loader_workers.specs.declared.input.InputFile.{InputFile}
+use Rattle.loader_workers.specs.Files.{EachLoaded, AreOfOneFile, AreLoaded}
 use Rattle.room_files.specs.Faults.{fault_of_opening}
 use Rattle.room_files.specs.Journals.{journal_limits, IsOpenedFrom, IsClosedTo}
 use Rattle.journal_loading.specs.Inputs.{AreInputs, IsFresh, RisesFrom, lefts_of_inputs}
 use Rattle.journal_loading.specs.Outcomes.{any_ends, loading_fault, AreLoadedBehind, IsLoadedWhole, AreUnread, IsUnbegun, Unbegun, IsLoadingFault, NotBegun, InPart, IsFinished, IsStopped, Unloaded, Faulty}
-use Rattle.journal_loading.proofs.Loaded.{inputs_count, libraries_loaded, libraries_read, none_failed, results_count, after_count, has_mark, had_fault, each_failed, HadFault}
+use Rattle.journal_loading.proofs.LoadedFiles.{inputs_count, libraries_loaded, libraries_read, none_failed, results_count, after_count, has_mark, had_fault, each_failed, HadFault}
 use Rattle.journal_loading.proofs.Opened.{unread, take_all}
 
 -- a fault of opening an input is its own or want of memory

@@ -1,5 +1,5 @@
 mod Opened
-mod Loaded
+mod LoadedFiles
 mod Begun
 mod Ended
 pub mod Kept

@@ -7,7 +7,7 @@ use Rattle.outside.specs.Fault.{Rose}
 use Rattle.outside.specs.Room.{RoomView, SameBut}
 use Rattle.command_words.specs.declared.library.Library.{Library}
 use Rattle.console_lines.specs.declared.fault.Fault.{Fault}
-use Rattle.parallel_loading.specs.declared.input.InputFile.{InputFile}
+use Rattle.loader_workers.specs.declared.input.InputFile.{InputFile}
 use Rattle.journal_loading.specs.Inputs.{IsInputFault, IsInputOf, AreInputs, NoInput, OneInput, AreOpened, IsFresh, RisesFrom, lefts_of_inputs}
 
 some_same : {A : Type 0} {x y : A} → Some x ≡ Some y → x ≡ y

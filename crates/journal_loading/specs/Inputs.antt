@@ -4,8 +4,11 @@ use Rattle.marc_types.specs.Valid.{is_code}
 use Rattle.outside.specs.Room.{RoomView}
 use Rattle.outside.specs.Fault.{Rose}
 use Rattle.command_words.specs.declared.library.Library.{Library}
+use Rattle.command_words.specs.declared.asked.LoadRequest.{LoadRequest}
+use Rattle.command_words.specs.Command.{names_of, AreNames}
+use Rattle.command_words.specs.Asked.{load_asked}
 use Rattle.console_lines.specs.declared.fault.Fault.{Fault}
-use Rattle.parallel_loading.specs.declared.input.InputFile.{InputFile}
+use Rattle.loader_workers.specs.declared.input.InputFile.{InputFile}
 
 -- the codes of these libraries obey the rule of codes
 abbrev pub AreProper : List Library → Type 0
@@ -17,6 +20,11 @@ pub record AreLoadable (journal : List ℕ) (libraries : List Library) : Type 0 
   pub few : length libraries ≤ 64
   pub proper : AreProper libraries
   pub apart : All (λ library. library.file ≢ journal) libraries
+
+-- a request whose files can be loaded into its journal, and none of its names of a log and outputs is another one
+pub record IsProper (asked : LoadRequest) : Type 0 where
+  pub loadable : AreLoadable asked.journal.now asked.libraries
+  pub names : AreNames (names_of (load_asked asked))
 
 -- a fault of the input of some library's file
 pub record IsInputFault (libraries : List Library) (old new : RoomView) : Type 0 where

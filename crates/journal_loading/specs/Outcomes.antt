@@ -1,13 +1,14 @@
 -- What loading a command's files into a journal comes to. The rules are this project's own.
-use Rattle.std.specs.Prelude.{◌≡◌, ◌≢◌, ◌⊎◌, ℕ, ◌+◌, ◌<◌, Bool, true, false, List, [], ◌∷◌, ◌++◌, length, map, take, All, Option, Some, None, is_some, Result, Ok, Err, slice_get, if◌then◌else◌}
+use Rattle.std.specs.Prelude.{◌≡◌, ◌≢◌, ◌⊎◌, ℕ, ◌+◌, ◌<◌, Bool, true, false, List, [], ◌∷◌, ◌++◌, length, map, take, All, Option, Some, None, is_some, Result, Ok, Err, slice_get, if◌then◌else◌, IfOk, OnErr}
 use Rattle.std.specs.List.{list_any}
 use Rattle.marc_types.specs.declared.entry.Entry.{Entry}
 use Rattle.marc_types.specs.declared.copying.NoMemory.{NoMemory}
 use Rattle.outside.specs.Fault.{Rose}
-use Rattle.outside.specs.Room.{RoomView, AsLog}
+use Rattle.outside.specs.Room.{RoomView, AsLog, SameBut}
 use Rattle.commit_journal.specs.Log.{version_of}
 use Rattle.entry_record.specs.History.{IsWithin}
 use Rattle.command_words.specs.declared.library.Library.{Library}
+use Rattle.command_words.specs.declared.asked.LoadRequest.{LoadRequest}
 use Rattle.console_lines.specs.declared.fault.Fault.{Fault}
 use Rattle.console_lines.specs.declared.fault.Fault.TheVariants as fault
 use Rattle.durable_catalogue.specs.Durables.{Opening, marked}
@@ -20,11 +21,11 @@ use Rattle.loader_workers.specs.Loading.{IsCutShort}
 use Rattle.loader_workers.specs.declared.file_end.FileEnd.{FileEnd}
 use Rattle.loader_workers.specs.declared.file_end.FileEnd.TheVariants as end
 use Rattle.loader_workers.specs.declared.result.FileResult.{FileResult}
-use Rattle.parallel_loading.specs.Files.{IsFileLoaded, AreOfOneFile}
-use Rattle.parallel_loading.specs.declared.input.InputFile.{InputFile}
+use Rattle.loader_workers.specs.Files.{IsFileLoaded, AreOfOneFile, AreLoaded}
+use Rattle.loader_workers.specs.declared.input.InputFile.{InputFile}
 use Rattle.room_files.specs.Faults.{fault_of_opening}
 use Rattle.room_files.specs.Journals.{journal_limits, log_bytes, IsOpenedFrom, IsOpenedAs, IsClosedTo, IsClosedAs, KeepsHistory}
-use Rattle.journal_loading.specs.Inputs.{IsInputFault, AreInputs, IsFresh}
+use Rattle.journal_loading.specs.Inputs.{IsProper, IsInputFault, AreInputs, IsFresh}
 
 -- the file of a library was loaded by the loader with that number
 pub record IsLibraryLoaded (room : RoomView) (before added : List Entry) (mark : Option (List Entry)) (library : Library) (loader : ℕ) (result : FileResult) : Type 0 where
@@ -140,13 +141,40 @@ pub record IsFileMissing (libraries : List Library) (room : RoomView) : Type 0 w
 abbrev pub HasSameHistory : RoomView → RoomView → List ℕ → Type 0
 HasSameHistory old new journal = (entries : List Entry) → HasHistory entries (log_bytes old journal) → HasHistory entries (log_bytes new journal)
 
--- The journal and all files are opened.
-pub record HasBegun {S : Type 0} (left : S → Option (List ℕ)) (faults : S → ℕ) (old new : RoomView) (journal : List ℕ) (libraries : List Library)
-    (d : DurableView) (inputs : List (InputFile S)) : Type 0 where
-  pub is_open : new.open_as journal ≡ Some AsLog
-  pub catalogue : IsOpenedAs old journal d
-  pub inputs_are : AreInputs left old libraries inputs
+-- The journal and all files of a request were opened, when the room was so: the catalogue has the journal's history, and the inputs have
+-- the files' bytes to come.
+pub record HasBegun {S : Type 0} (left : S → Option (List ℕ)) (faults : S → ℕ) (old : RoomView) (asked : LoadRequest) (d : DurableView)
+    (inputs : List (InputFile S)) : Type 0 where
+  pub proper : IsProper asked
+  pub catalogue : IsOpenedAs old asked.journal.now d
+  pub inputs_are : AreInputs left old asked.libraries inputs
   pub fresh : All (IsFresh faults) inputs
+
+-- The room while files are loaded into a journal: the journal is open, and since the room was so, with no open name, nothing else has
+-- changed.
+pub record IsWaiting (old now : RoomView) (journal : List ℕ) : Type 0 where
+  pub free : (name : List ℕ) → old.open_as name ≡ None
+  pub is_open : now.open_as journal ≡ Some AsLog
+  pub apart : SameBut old now (journal ∷ [])
+  pub lefts : now.lefts ≡ old.lefts
+
+-- What was so begun, over the catalogue `d` and of these inputs, was loaded, and came to these results; without memory to load anything
+-- all is as it was.
+pub record Reads {S : Type 0} (left : S → Option (List ℕ)) (faults : S → ℕ) (old : RoomView) (asked : LoadRequest) (d : DurableView)
+    (inputs : List (InputFile S)) (now : DurableView) (after : List (InputFile S)) (results : Result (List FileResult) NoMemory) : Type 0 where
+  pub begun : HasBegun left faults old asked d inputs
+  pub origin : now.opened ≡ d.opened
+  pub loaded : IfOk results (λ rs. AreLoaded left faults d.opened.origin.limits d.entries inputs after rs now.entries now.mark)
+  pub unbegun : OnErr results (now.entries ≡ d.entries)
+  pub unmarked : OnErr results (now.mark ≡ None)
+  pub unread : OnErr results (after ≡ inputs)
+
+-- the same of what a loading holds that was loaded: it was begun over some catalogue, and of some inputs
+pub record HasRead {S : Type 0} (left : S → Option (List ℕ)) (faults : S → ℕ) (old : RoomView) (asked : LoadRequest) (now : DurableView)
+    (after : List (InputFile S)) (results : Result (List FileResult) NoMemory) : Type 0 where
+  pub d : DurableView
+  pub inputs : List (InputFile S)
+  pub reads : Reads left faults old asked d inputs now after results
 
 -- The files were not loaded whole, for that reason: the journal is closed, and a fault of the outside has its cause. What there is
 -- then, where the room tells its files, is `so`.

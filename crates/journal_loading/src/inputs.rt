@@ -7,9 +7,9 @@ ghost use Rattle.journal_loading.specs.Inputs.{AreProper, IsInputFault, IsInputO
 
 use command_words::Library;
 use console_lines::Fault;
+use loader_workers::{InputFile, InputFiles};
 use marc_types::TryCopy;
 use outside::Room;
-use parallel_loading::{InputFile, InputFiles};
 use std::alloc::Global;
 
 /// Opens the file of a library.

@@ -1,5 +1,6 @@
 -- The entries with which a history begins, one after the other.
 use Rattle.std.proofs.Common.{◌≡◌, ℕ, ◌+◌, ◌-◌, ◌<◌, ◌≤◌, List, [], ◌∷◌, ◌++◌, length, take, drop, get_or, slice_get, Some, None, refl, sym, ap, subst, ◌∙◌, arith, length-append, take-append-drop}
+use Rattle.std.specs.Prelude.{◌≢◌}
 use Rattle.std.proofs.Math.Seq.{take-append_seam}
 use Rattle.std.proofs.lemmas.List.{take_more, take_all, get_or_append_left, get_or-drop, length-drop}
 use Rattle.std.proofs.lemmas.List.Sums.{sum_by-append, sum_by-cons, sum_by-take-le}
@@ -7,6 +8,9 @@ use Rattle.std.proofs.lemmas.Option.{get_or_from_slice_get, slice_get_within, sl
 use Rattle.marc_types.specs.declared.entry.Entry.{Entry}
 use Rattle.marc_types.specs.declared.entry.Limits.{Limits}
 use Rattle.commit_journal.specs.declared.frame.Frame.{Frame}
+use Rattle.commit_journal.specs.declared.version.Version.{Version}
+use Rattle.commit_journal.specs.declared.version.Version.TheVariants.{One, Two}
+use Rattle.commit_journal.specs.Versions.{number_of}
 use Rattle.entry_record.specs.History.{entry_size, entries_size, IsWithin}
 use Rattle.entry_history.specs.Payloads.{IsHistory}
 use Rattle.entry_history.proofs.Histories.{history_once}
@@ -114,3 +118,8 @@ may_gain version frames limits history count entries newest front held = record 
     ap (λ xs. xs ++ drop count history) (sym (front_is version frames limits history count entries front held)) ∙ take-append-drop count history,
   );
 }
+
+-- a version that isn't the newest
+pub not_newest : (version : Version) → version ≢ Two → number_of version ≢ 2
+not_newest One other two = cc
+not_newest Two other two = absurd (other refl)

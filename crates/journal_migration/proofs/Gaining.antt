@@ -8,6 +8,9 @@ use Rattle.outside.specs.Disk.{DiskView, OnlyContent, LeavesOnly}
 use Rattle.outside.specs.Fault.{HasCause, Rose}
 use Rattle.commit_journal.specs.declared.format.TheConstants.{LENGTH_BYTES}
 use Rattle.commit_journal.specs.declared.frame.Frame.{Frame}
+use Rattle.commit_journal.specs.declared.version.Version.{Version}
+use Rattle.commit_journal.specs.declared.version.Version.TheVariants.{Two}
+use Rattle.commit_journal.specs.Versions.{number_of}
 use Rattle.commit_journal.specs.Log.{frames_of, version_of}
 use Rattle.commit_journal.specs.Journal as journal
 use Rattle.commit_journal.specs.Journal.{and_frame, Continues, IsDurableLog}
@@ -57,8 +60,8 @@ continues_self disk = record {
 abbrev pub IsNewest : DiskView → Type 0
 IsNewest disk = (log : List ℕ) → disk.content ≡ Some log → version_of log ≡ 2
 
-pub settled_newest : (place version : ℕ) (disk : DiskView) → IsDurableLog place version disk → version ≡ 2 → IsNewest disk
-settled_newest place version disk settled two log told = version_two log (settled.header log told ∙ two)
+pub settled_newest : (place : ℕ) (version : Version) (disk : DiskView) → IsDurableLog place (number_of version) disk → version ≡ Two → IsNewest disk
+settled_newest place version disk settled two log told = version_two log (settled.header log told ∙ ap number_of two)
 
 module _ (disk : DiskView) (only : OnlyContent disk) (last : (c : List ℕ) → disk.left disk.moment c → disk.image c) where
   pub tries_none : IsNewest disk → (e : Entry) → TriesEntry e disk disk
@@ -171,18 +174,18 @@ has_first history count disk log now told has each is =
     }
 
 -- so many entries of a history are in the journal, more than at first or as many
-pub record IsBringing (history : List Entry) (count at : ℕ) (old now : DiskView) (broken : Bool) (version : ℕ) : Type 0 where
+pub record IsBringing (history : List Entry) (count at : ℕ) (old now : DiskView) (broken : Bool) (version : Version) : Type 0 where
   pub least : count ≤ at
   pub most : at ≤ length history
   pub whole : broken ≡ false
-  pub newest : version ≡ 2
+  pub newest : version ≡ Two
   pub continues : Continues old now
   pub brings : BringsRest history count old now
   pub has : HasBrought history (take count history) (take at history) old now
   pub later : old.faults ≤ now.faults
 
-pub bringing_first : (history : List Entry) (count : ℕ) (disk : DiskView) (broken : Bool) (version : ℕ) → OnlyContent disk
-    → ((c : List ℕ) → disk.left disk.moment c → disk.image c) → IsNewest disk → count ≤ length history → broken ≡ false → version ≡ 2
+pub bringing_first : (history : List Entry) (count : ℕ) (disk : DiskView) (broken : Bool) (version : Version) → OnlyContent disk
+    → ((c : List ℕ) → disk.left disk.moment c → disk.image c) → IsNewest disk → count ≤ length history → broken ≡ false → version ≡ Two
     → IsBringing history count count disk disk broken version
 bringing_first history count disk broken version only last two within whole newest = record {
   least = omega arith;
@@ -195,9 +198,9 @@ bringing_first history count disk broken version only last two within whole newe
   later = omega arith;
 }
 
-pub bringing_more : (history : List Entry) (count at : ℕ) (e : Entry) (old mid new : DiskView) (broken now_broken : Bool) (version now_version : ℕ)
+pub bringing_more : (history : List Entry) (count at : ℕ) (e : Entry) (old mid new : DiskView) (broken now_broken : Bool) (version now_version : Version)
     → IsBringing history count at old mid broken version → slice_get history at ≡ Some e → Continues mid new → TriesEntry e mid new → AddsEntry e mid new
-    → mid.faults ≤ new.faults → now_broken ≡ false → now_version ≡ 2 → IsBringing history count (at + 1) old new now_broken now_version
+    → mid.faults ≤ new.faults → now_broken ≡ false → now_version ≡ Two → IsBringing history count (at + 1) old new now_broken now_version
 bringing_more history count at e old mid new broken now_broken version now_version so_far there continues tries adds later whole newest = record {
   least = omega (arith, so_far.least);
   most = let within = entry_within history at e there in omega (arith, within);

@@ -1,5 +1,5 @@
 -- What a migration leaves, from the opening of the journal and what was brought into it.
-use Rattle.std.proofs.Common.{◌≡◌, ◌⊎◌, inl, inr, ⊎_elim, ℕ, ◌≤◌, max, true, List, [], ◌++◌, length, Some, None, is_some, refl, sym, ap, subst, ◌∙◌, arith, drop, Bool, false, take-append-drop}
+use Rattle.std.proofs.Common.{◌≡◌, ◌⊎◌, inl, inr, ⊎_elim, ℕ, ◌≤◌, max, true, List, [], ◌++◌, length, Some, None, Ok, is_some, refl, sym, ap, subst, ◌∙◌, arith, take, drop, Bool, false, take-append-drop}
 use Rattle.std.specs.Prelude.{◌≢◌}
 use Rattle.std.proofs.lemmas.Option.{none-some}
 use Rattle.std.proofs.Math.Logic.{∥∥₁_map, ∥∥₁_elim, ∥∥₁_prop}
@@ -11,25 +11,29 @@ use Rattle.commit_journal.specs.declared.frame.Frame.{Frame}
 use Rattle.commit_journal.specs.declared.fault.JournalFault.{JournalFault}
 use Rattle.commit_journal.specs.declared.fault.JournalFault.TheVariants as journal
 use Rattle.commit_journal.specs.declared.format.TheConstants.{BLANK_LENGTH}
-use Rattle.commit_journal.specs.Log.{version_of}
-use Rattle.commit_journal.specs.Journal.{Continues, IsRecovered, IsDurableLog, EndsAt, SameLog, Opens, HasOpenCause, LeavesContent}
+use Rattle.commit_journal.specs.declared.version.Version.{Version}
+use Rattle.commit_journal.specs.declared.version.Version.TheVariants.{Two}
+use Rattle.commit_journal.specs.Versions.{number_of}
+use Rattle.commit_journal.specs.Log.{frames_of, version_of}
+use Rattle.commit_journal.specs.Journal.{Continues, IsFound, IsRecovered, IsSettling, IsDurableLog, EndsAt, SameLog, Opens, HasOpenCause, LeavesContent}
 use Rattle.commit_journal.proofs.Logs.{version_two}
-use Rattle.entry_history.specs.Readers.{IsVersion}
 use Rattle.entry_history.specs.Payloads.{IsHistory}
 use Rattle.durable_catalogue.specs.Logs.{payloads_of, IsLogOf, HasHistory}
 use Rattle.durable_catalogue.specs.Openings.{IsBadFrame, NoGate, NoPayload, IsOpening}
 use Rattle.durable_catalogue.proofs.Keeping.{some_of}
 use Rattle.durable_catalogue.proofs.Opened.{reading, opening_of, either_version}
 use Rattle.durable_catalogue.proofs.Readings.{same_log, same_newest}
-use Rattle.durable_catalogue.proofs.Refused.{recovered_alone, unwritten_alone}
+use Rattle.durable_catalogue.proofs.Refused.{same_leaves, unwritten_alone}
 use Rattle.journal_migration.specs.declared.fault.MigrateFault.{MigrateFault}
 use Rattle.journal_migration.specs.declared.fault.MigrateFault.TheVariants.{DeviceFault, NotAJournal, OldVersion, Full, NotPrefix, NoMemory}
 use Rattle.durable_catalogue.specs.Faults.{open_fault}
 use Rattle.durable_catalogue.specs.declared.fault.OpenFault.TheVariants as opening
 use Rattle.journal_migration.specs.Faults.{migrate_fault}
 use Rattle.journal_migration.specs.Migrations.{IsFit, IsUnfit, LeavesRefused, IsUnmigrated, IsBrought, IsMigration, IsAmid, Before}
-use Rattle.journal_migration.specs.Fronts.{HoldsFront, HoldNoFront, MayGain, MayNotGain, Extends, Brings, HasBrought}
+use Rattle.journal_migration.specs.Fronts.{HoldsFront, HoldNoFront, FindsFront, MayGain, Extends, Brings, BringsRest, HasBrought}
 use Rattle.journal_migration.proofs.Amid.{amid_where}
+use Rattle.journal_migration.proofs.Fronts.{front_is, may_gain}
+use Rattle.journal_migration.proofs.Gaining.{brings_where}
 use Rattle.journal_migration.proofs.Following.{log_follows}
 
 -- it has what that had, where nothing was brought
@@ -57,16 +61,58 @@ opened_alone limits history old new opens leaves =
       tells = opening.tells;
     }
 
+-- a log that was found with a front of the history is one into which that is brought
+pub fit : (limits : Limits) (history : List Entry) (count place version : ℕ) (old mid : DiskView) → FindsFront limits history count place version old mid
+    → (log : List ℕ) → old.content ≡ Some log → (entries : List Entry) × IsFit limits history entries log
+fit limits history count place version old mid finds log told =
+    let found = finds.found in
+    let front = finds.front in (
+      front.entries,
+      record {
+        version = found.named log told ∙ finds.newest;
+        has = reading log finds.frames version front.entries (found.was log told) (found.named log told) front.holds;
+        within = front.within;
+        begins = (drop count history, ap (λ xs. xs ++ drop count history) front.front ∙ take-append-drop count history);
+      },
+    )
+
+-- a log that was found is left as it was
+pub left_found : (frames : List Frame) (place version : ℕ) (old mid : DiskView) → IsFound frames place version old mid → (fault : MigrateFault) (log : List ℕ) → old.content ≡ Some log
+    → LeavesRefused fault log old mid
+left_found frames place version old mid found fault log told = record {
+  content = λ now is. record { leaves = same_leaves old mid found.unwritten.content log now told is; bytes = λ other. (let same = found.unwritten.content in inl cc) };
+  images = λ s c synced left. found.opens.crash s log c synced told left;
+  settled = λ other. inl found.only;
+}
+
+-- a device failed as it was brought into order
+pub left_faulted : (old new : DiskView) → IsSettling old new → (log : List ℕ) → old.content ≡ Some log → LeavesRefused DeviceFault log old new
+left_faulted old new settling log told = record {
+  content = λ now is. record { leaves = settling.content log now told is; bytes = λ other. absurd (other refl) };
+  images = λ s c synced left. settling.opens.crash s log c synced told left;
+  settled = λ other. absurd (other refl);
+}
+
+-- what was brought behind the first entries of a history is brought behind those of the frames
+module _ (limits : Limits) (history : List Entry) (count version : ℕ) (frames : List Frame) (newest : version ≡ 2) (front : HoldsFront version frames limits history count)
+    (mid new : DiskView) where
+  pub brings_behind : BringsRest history count mid new → (entries : List Entry) → IsHistory version [] (payloads_of frames) entries
+      → Brings (MayGain version limits history entries) history entries mid new
+  brings_behind brings entries held =
+      brings_where (MayGain version limits history entries) history entries mid new (may_gain version frames limits history count entries newest front held)
+      (subst (λ es. Brings (Unit {0}) history es mid new) (front_is version frames limits history count entries front held) brings)
+
+  pub brought_behind : HasBrought history (take count history) history mid new → (entries : List Entry) → IsHistory version [] (payloads_of frames) entries
+      → HasBrought history entries history mid new
+  brought_behind brought entries held = subst (λ es. HasBrought history es history mid new) (front_is version frames limits history count entries front held) brought
+
 module _ (history : List Entry) (frames : List Frame) (place version : ℕ) (old mid : DiskView) (recovered : IsRecovered frames place version old mid)
     (opens : Opens old mid) where
   -- the log's entries are those of the frames
-  pub of_frames : (log : List ℕ) (entries : List Entry) → old.content ≡ Some log → IsLogOf entries log → IsHistory version [] (payloads_of frames) entries
+  of_frames : (log : List ℕ) (entries : List Entry) → old.content ≡ Some log → IsLogOf entries log → IsHistory version [] (payloads_of frames) entries
   of_frames log entries told is =
       let same : is.frames ≡ frames = cc (is.found, recovered.was log told) in
       subst (λ v. IsHistory v [] (payloads_of frames) entries) (recovered.named log told) (subst (λ fs. IsHistory (version_of log) [] (payloads_of fs) entries) same is.holds)
-
-  pub is_version : (log : List ℕ) → old.content ≡ Some log → IsVersion version
-  is_version log told = subst IsVersion (recovered.named log told) (either_version log)
 
   -- the disk tells the log that was brought into order, with the same history, and no longer
   told_mid : (leaves : LeavesContent old mid) (log : List ℕ) (entries : List Entry) → old.content ≡ Some log → IsLogOf entries log
@@ -76,67 +122,38 @@ module _ (history : List Entry) (frames : List Frame) (place version : ℕ) (old
       let same = (leaves log now.0 told now.1).same in
       (now.0, now.1, ∣ same_log entries log now.0 same is ∣₁, same.no_longer)
 
-  -- the log is one into which the history is brought
-  pub fit : (limits : Limits) → version ≡ 2 → (IsVersion version → (count : ℕ) × HoldsFront version frames limits history count)
-      → (log : List ℕ) → old.content ≡ Some log → (entries : List Entry) × IsFit limits history entries log
-  fit limits two holds log told =
-      let front = (holds (is_version log told)).1 in (
-        front.entries,
-        record {
-          version = recovered.named log told ∙ two;
-          has = reading log frames version front.entries (recovered.was log told) (recovered.named log told) front.holds;
-          within = front.within;
-          begins = (
-            drop (holds (is_version log told)).0 history,
-            ap (λ xs. xs ++ drop (holds (is_version log told)).0 history) front.front ∙ take-append-drop (holds (is_version log told)).0 history,
-          );
-        },
-      )
-
-  -- into a log that is not fit for a history, the frames may not gain it
-  pub unfit : (limits : Limits) (log : List ℕ) → old.content ≡ Some log → IsUnfit limits history log → MayNotGain version frames limits history
-  unfit limits log told none count two holds = let front = fit limits two (λ is. (count, holds)) log told in none front.0 front.1
-
-  -- and its opening leaves it so, where nothing is brought
-  pub left_unfit : LeavesContent old mid → (fault : MigrateFault) (log : List ℕ) → old.content ≡ Some log → LeavesRefused fault log old mid
-  left_unfit leaves fault log told = record {
-    content = λ now is. recovered_alone old mid leaves frames place version recovered (fault ≡ DeviceFault) log now told is;
-    images = λ s c synced left. opens.crash s log c synced told left;
-    settled = λ other. inl recovered.settled.only;
-  }
-
   module _ (leaves : LeavesContent old mid) (new : DiskView) (continues : Continues mid new) (was : List ℕ) (is_history : HasHistory history was)
       (images : (c : List ℕ) → new.content ≡ Some c → new.image c) where
     tells_now : is_some new.content ≡ is_some old.content
     tells_now = continues.tells ∙ opens.continues.tells
 
     -- after all was brought
-    pub brought_all : (limits : Limits) → version ≡ 2 → (IsVersion version → (count : ℕ) × HoldsFront version frames limits history count)
-        → ((entries : List Entry) → IsVersion version → IsHistory version [] (payloads_of frames) entries → HasBrought history entries history mid new)
+    pub brought_all : (entries : List Entry) → IsHistory version [] (payloads_of frames) entries
+        → ((entries : List Entry) → IsHistory version [] (payloads_of frames) entries → HasBrought history entries history mid new)
         → (at number : ℕ) → IsDurableLog at number new → number ≡ 2 → (now : List ℕ) → new.content ≡ Some now → IsBrought history now
-    brought_all limits two holds brought at number settled newest now is_now =
+    brought_all entries held brought at number settled newest now is_now =
         let log = some_of old.content (sym tells_now ∙ ap is_some is_now) in
-        let front = fit limits two holds log.0 log.1 in
-        let ordered = told_mid leaves log.0 front.0 log.1 front.1.has in
+        let has = reading log.0 frames version entries (recovered.was log.0 log.1) (recovered.named log.0 log.1) held in
+        let ordered = told_mid leaves log.0 entries log.1 has in
         brought_settled history at number new settled newest now is_now
         (∥∥₁_elim is_history ∥∥₁_prop (λ (reads : IsLogOf history was).
-        (brought front.0 (is_version log.0 log.1) (of_frames log.0 front.0 log.1 front.1.has) ordered.0 now ordered.1 ordered.2 (log_follows history was reads) is_now).has))
+        (brought entries held ordered.0 now ordered.1 ordered.2 (log_follows history was reads) is_now).has))
 
-    pub images_all : (limits : Limits) → version ≡ 2 → (IsVersion version → (count : ℕ) × HoldsFront version frames limits history count)
-        → ((entries : List Entry) → IsVersion version → IsHistory version [] (payloads_of frames) entries → HasBrought history entries history mid new)
+    pub images_all : (entries : List Entry) → IsHistory version [] (payloads_of frames) entries
+        → ((entries : List Entry) → IsHistory version [] (payloads_of frames) entries → HasBrought history entries history mid new)
         → (at number : ℕ) → IsDurableLog at number new → number ≡ 2 → (c : List ℕ) → is_some old.content ≡ true → new.image c → IsBrought history c
-    images_all limits two holds brought at number settled newest c told image =
+    images_all entries held brought at number settled newest c told image =
         let now = some_of new.content (tells_now ∙ told) in
-        subst (IsBrought history) (sym (settled.only now.0 c now.1 image)) (brought_all limits two holds brought at number settled newest now.0 now.1)
+        subst (IsBrought history) (sym (settled.only now.0 c now.1 image)) (brought_all entries held brought at number settled newest now.0 now.1)
 
     module _ (limits : Limits)
-        (brings : (entries : List Entry) → IsVersion version → IsHistory version [] (payloads_of frames) entries
+        (brings : (entries : List Entry) → IsHistory version [] (payloads_of frames) entries
         → Brings (MayGain version limits history entries) history entries mid new) where
       extended : (log : List ℕ) (entries : List Entry) (told : old.content ≡ Some log) (is : IsLogOf entries log) → IsLogOf history was
           → Extends (MayGain version limits history entries) history entries (told_mid leaves log entries told is).0 mid new
       extended log entries told is reads =
           let ordered = told_mid leaves log entries told is in
-          brings entries (is_version log told) (of_frames log entries told is) ordered.0 ordered.1 ordered.2 (log_follows history was reads)
+          brings entries (of_frames log entries told is) ordered.0 ordered.1 ordered.2 (log_follows history was reads)
 
       -- a log that may gain more is fit for the history
       gained : (log : List ℕ) (entries : List Entry) (c : List ℕ) (told : old.content ≡ Some log) (is : IsLogOf entries log)
@@ -189,22 +206,20 @@ module _ (history : List Entry) (frames : List Frame) (place version : ℕ) (old
             since_opened log entries c told is before (inr amid) = gained log entries c told is amid
 
 -- why a history is not brought into a log, from the log's frames
-pub unmigrated : (frames : List Frame) (place version : ℕ) (old new : DiskView) (limits : Limits) (history : List Entry) (fault : MigrateFault)
-    → IsRecovered frames place version old new → HoldNoFront version frames limits history fault → (log : List ℕ) → old.content ≡ Some log
-    → IsUnmigrated limits history log fault
-unmigrated frames place version old new limits history DeviceFault r why log told = tt
-unmigrated frames place version old new limits history (NotAJournal at) r why log told =
-    NoPayload frames (r.was log told) (subst (λ v. IsBadFrame v frames at) (sym (r.named log told)) why)
-unmigrated frames place version old new limits history OldVersion r why log told =
+pub unmigrated : (frames : List Frame) (version : ℕ) (limits : Limits) (history : List Entry) (fault : MigrateFault) (log : List ℕ) → frames_of log ≡ Ok frames
+    → version_of log ≡ version → HoldNoFront version frames limits history fault → IsUnmigrated limits history log fault
+unmigrated frames version limits history DeviceFault log was named why = tt
+unmigrated frames version limits history (NotAJournal at) log was named why =
+    NoPayload frames was (subst (λ v. IsBadFrame v frames at) (sym named) why)
+unmigrated frames version limits history OldVersion log was named why =
     let either = either_version log in
-    let named = r.named log told in
     let other : version_of log ≢ 2 = λ two. why.0 (sym named ∙ two) in
-    (omega (arith, either.first, either.last, other), (why.1.0, reading log frames version why.1.0 (r.was log told) named why.1.1))
-unmigrated frames place version old new limits history Full r why log told =
-    (r.named log told ∙ why.0, (why.1.0, reading log frames version why.1.0 (r.was log told) (r.named log told) why.1.1, why.1.2))
-unmigrated frames place version old new limits history NotPrefix r why log told =
-    (r.named log told ∙ why.0, (why.1.0, reading log frames version why.1.0 (r.was log told) (r.named log told) why.1.1, why.1.2, why.1.3))
-unmigrated frames place version old new limits history NoMemory r why log told = tt
+    (omega (arith, either.first, either.last, other), (why.1.0, reading log frames version why.1.0 was named why.1.1))
+unmigrated frames version limits history Full log was named why =
+    (named ∙ why.0, (why.1.0, reading log frames version why.1.0 was named why.1.1, why.1.2))
+unmigrated frames version limits history NotPrefix log was named why =
+    (named ∙ why.0, (why.1.0, reading log frames version why.1.0 was named why.1.1, why.1.2, why.1.3))
+unmigrated frames version limits history NoMemory log was named why = tt
 
 -- and from the journal's fault
 pub unopened : (old new : DiskView) (limits : Limits) (history : List Entry) (fault : JournalFault) → HasOpenCause old new fault → (log : List ℕ) → old.content ≡ Some log
@@ -231,3 +246,18 @@ left_unopened old new fault opens leaves cause log told = record {
   images = λ s c synced left. opens.crash s log c synced told left;
   settled = λ other. ⊎_elim (λ only. inl only) (λ same. inr (ap migrate_fault same.0, same.1)) (cause.settled (λ device. other (ap migrate_fault device)));
 }
+
+-- a log that was found, whose frames and version were handed on
+module _ (named version : Version) (handed frames : List Frame) (limits : Limits) (history : List Entry) (name : named ≡ version) (hands : handed ≡ frames) where
+  pub finds_of : (count place : ℕ) (old mid : DiskView) → IsFound frames place (number_of version) old mid → named ≡ Two
+      → HoldsFront (number_of named) handed limits history count → FindsFront limits history count place (number_of version) old mid
+  finds_of count place old mid found newest front = record {
+    frames = frames;
+    found = found;
+    newest = ap number_of (sym name ∙ newest);
+    front = subst (λ v. HoldsFront (number_of v) frames limits history count) name (subst (λ fs. HoldsFront (number_of named) fs limits history count) hands front);
+  }
+
+  pub no_front_of : (fault : MigrateFault) → HoldNoFront (number_of named) handed limits history fault → HoldNoFront (number_of version) frames limits history fault
+  no_front_of fault none =
+      subst (λ v. HoldNoFront (number_of v) frames limits history fault) name (subst (λ fs. HoldNoFront (number_of named) fs limits history fault) hands none)

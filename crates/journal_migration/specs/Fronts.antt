@@ -1,13 +1,12 @@
 -- What a journal has of a history already, and how it gains the rest.
-use Rattle.std.specs.Prelude.{◌≡◌, ◌≢◌, ◌⊎◌, ℕ, ◌+◌, ◌≤◌, Bool, false, List, [], ◌∷◌, ◌++◌, length, take, Some}
+use Rattle.std.specs.Prelude.{◌≡◌, ◌≢◌, ◌⊎◌, ℕ, ◌+◌, ◌≤◌, List, [], ◌∷◌, ◌++◌, length, take, Some}
 use Rattle.marc_types.specs.declared.entry.Entry.{Entry}
 use Rattle.marc_types.specs.declared.entry.Limits.{Limits}
 use Rattle.outside.specs.Disk.{DiskView, LeavesOnly}
-use Rattle.outside.specs.Fault.{Rose}
 use Rattle.commit_journal.specs.declared.frame.Frame.{Frame}
 use Rattle.commit_journal.specs.Log.{version_of}
+use Rattle.commit_journal.specs.Journal.{IsFound}
 use Rattle.entry_history.specs.Payloads.{CanFollow, IsHistory}
-use Rattle.entry_history.specs.Readers.{IsVersion}
 use Rattle.durable_catalogue.specs.Logs.{payloads_of, IsLogOf, HasHistory}
 use Rattle.durable_catalogue.specs.Images.{framed_length, framed_lengths}
 use Rattle.durable_catalogue.specs.Openings.{IsBadFrame}
@@ -28,6 +27,13 @@ pub record HoldsFront (version : ℕ) (frames : List Frame) (limits : Limits) (h
   pub front : entries ≡ take count history
   pub most : count ≤ length history
 
+-- A log of the newest version was found, and its frames hold the first entries of a history, so many.
+pub record FindsFront (limits : Limits) (history : List Entry) (count place version : ℕ) (old new : DiskView) : Type 0 where
+  pub frames : List Frame
+  pub found : IsFound frames place version old new
+  pub newest : version ≡ 2
+  pub front : HoldsFront version frames limits history count
+
 -- why frames are not read: a payload isn't valid
 abbrev pub IsUnread : ℕ → List Frame → MigrateFault → Type 0
 IsUnread version frames (NotAJournal place) = IsBadFrame version frames place
@@ -47,10 +53,6 @@ HoldNoFront version frames limits history NotPrefix =
     (version ≡ 2) × ((entries : List Entry) × IsHistory version [] (payloads_of frames) entries × AreWithin limits history entries × (Begins history entries → ⊥))
 HoldNoFront version frames limits history NoMemory = Unit {0}
 HoldNoFront version frames limits history DeviceFault = Unit {0}
-
--- the frames of a journal may not gain the rest of a history: it is of another version, or they hold no front of that
-abbrev pub MayNotGain : ℕ → List Frame → Limits → List Entry → Type 0
-MayNotGain version frames limits history = (count : ℕ) → version ≡ 2 → HoldsFront version frames limits history count → ⊥
 
 -- a journal of these entries may gain what the history has behind them
 pub record MayGain (version : ℕ) (limits : Limits) (history entries : List Entry) : Type 0 where
@@ -81,20 +83,6 @@ pub record HasGained (entries these : List Entry) (log now : List ℕ) : Type 0 
 abbrev pub HasBrought : List Entry → List Entry → List Entry → DiskView → DiskView → Type 0
 HasBrought history entries these old new = (log now : List ℕ) → old.content ≡ Some log → HasHistory entries log → EachFollows [] history
     → new.content ≡ Some now → HasGained entries these log now
-
--- A history was brought behind the entries of a journal's frames, a front of it in a journal of the newest version. The journal is
--- whole and of that version, and its disk tells all of the history.
-pub record HasBroughtRest (was : ℕ) (frames : List Frame) (limits : Limits) (history : List Entry) (old new : DiskView) (broken : Bool) (version : ℕ) : Type 0 where
-  pub front : IsVersion was → (count : ℕ) × HoldsFront was frames limits history count
-  pub was_newest : was ≡ 2
-  pub brought : (entries : List Entry) → IsVersion was → IsHistory was [] (payloads_of frames) entries → HasBrought history entries history old new
-  pub whole : broken ≡ false
-  pub newest : version ≡ 2
-
--- why a history was not brought behind the entries of a journal's frames, or not all of it
-pub record IsNotBrought (was : ℕ) (frames : List Frame) (limits : Limits) (history : List Entry) (old new : DiskView) (why : MigrateFault) : Type 0 where
-  pub so : IsVersion was → HoldNoFront was frames limits history why
-  pub failed : why ≡ DeviceFault → Rose old.faults new.faults
 
 -- an image has these entries, or these and one more, is of the newest version, and no longer than the log with a frame for that one
 pub record HasOneMoreOrNot (before : List Entry) (e : Entry) (log image : List ℕ) : Type 0 where

@@ -6,7 +6,7 @@ use Rattle.outside.specs.Disk.{DiskView, OnlyContent, SameDisk}
 use Rattle.outside.specs.Fault.{Rose}
 use Rattle.commit_journal.specs.declared.format.TheConstants.{BLANK_LENGTH}
 use Rattle.commit_journal.specs.Log.{walk_of, version_of}
-use Rattle.commit_journal.specs.Journal.{EndsAt, LeavesLog}
+use Rattle.commit_journal.specs.Journal.{EndsAt, LeavesLog, Unwritten}
 use Rattle.entry_record.specs.History.{IsWithin}
 use Rattle.durable_catalogue.specs.Logs.{IsLogOf, HasHistory}
 use Rattle.durable_catalogue.specs.Images.{framed_lengths}
@@ -90,9 +90,10 @@ pub record IsMigrated (limits : Limits) (history : List Entry) (old new : DiskVi
   pub all : (was c : List ℕ) → HasHistory history was → is_some old.content ≡ true → new.image c → IsBrought history c
   pub content : (was c : List ℕ) → HasHistory history was → new.content ≡ Some c → IsBrought history c
 
--- A history was refused for that reason, which comes only where the log is so, and a device's only where the count of faults rose. A log that
--- isn't fit for the history is left alone, whatever the reason is.
+-- A history was refused for that reason, which comes only where the log is so, and a device's only where the count of faults rose. Unless a
+-- device failed, every byte is as it was. A log that isn't fit for the history is left alone, whatever the reason is.
 pub record IsRefusedHistory (limits : Limits) (history : List Entry) (old new : DiskView) (why : MigrateFault) : Type 0 where
   pub so : (log : List ℕ) → old.content ≡ Some log → IsUnmigrated limits history log why
   pub left_alone : LeavesUnfitAlone limits history why old new
+  pub kept : why ≢ DeviceFault → Unwritten old new
   pub failed : why ≡ DeviceFault → Rose old.faults new.faults

@@ -1,22 +1,18 @@
 //! The rest of a history is appended to a journal.
-ghost use Rattle.std.specs.Prelude.{◌≡◌, ◌≤◌, [], false, length, take, List, ℕ, IfErr, OnOk};
+ghost use Rattle.std.specs.Prelude.{◌≡◌, ◌≤◌, false, length, take, List, ℕ, IfOk, IfErr, OnOk, MatchResult};
 ghost use Rattle.commit_journal.specs.Journal.{Continues};
-ghost use Rattle.marc_types.specs.declared.entry.Entry.{Entry};
+ghost use Rattle.commit_journal.specs.Versions.{number_of};
+ghost use Rattle.marc_types.specs.declared.entry.Limits.{Limits as AnyLimits};
 ghost use Rattle.outside.specs.Fault.{HasCause};
-ghost use Rattle.entry_record.specs.History.{IsWithin};
-ghost use Rattle.entry_history.specs.Payloads.{IsHistory};
-ghost use Rattle.entry_history.specs.Readers.{IsVersion};
-ghost use Rattle.durable_catalogue.specs.Logs.{payloads_of};
+ghost use Rattle.durable_catalogue.specs.Logs.{HasHistory};
 ghost use Rattle.journal_migration.specs.declared.fault.MigrateFault.TheVariants.{DeviceFault};
-ghost use Rattle.journal_migration.specs.Fronts.{Brings, BringsRest, MayGain, MayNotGain, HasBrought, HasBroughtRest, IsNotBrought, AddsEntry, TriesEntry};
+ghost use Rattle.journal_migration.specs.Fronts.{BringsRest, FindsFront, HasBrought, AddsEntry, TriesEntry};
+ghost use Rattle.journal_migration.specs.Migrations.{IsMigrated, IsMigration, IsRefusedHistory};
 
 use crate::MigrateFault;
-use crate::front::front_of;
-use commit_journal::{Frame, Journal};
+use commit_journal::{FoundLog, Journal, Version};
 use entry_history::EntryPayload;
-use marc_types::Limits;
 use outside::Disk;
-use std::alloc::Global;
 
 /// Appends an entry, in a frame of its own.
 fn append_entry<D: Disk>(
@@ -24,11 +20,11 @@ fn append_entry<D: Disk>(
     entry: &EntryPayload,
 ) -> Result<(), commit_journal::DeviceFault>
     requires whole { journal.old.broken ≡ false }
-    requires newest { journal.old.version ≡ 2 }
+    requires newest { journal.old.version ≡ Version.Two }
     ensures added { OnOk result (AddsEntry entry.now (D.seen journal.old.disk) (D.seen journal.new.disk)) }
     ensures tried { TriesEntry entry.now (D.seen journal.old.disk) (D.seen journal.new.disk) }
     ensures whole { OnOk result (journal.new.broken ≡ false) }
-    ensures version { journal.new.version ≡ 2 }
+    ensures version { journal.new.version ≡ Version.Two }
     ensures continues { Continues (D.seen journal.old.disk) (D.seen journal.new.disk) }
     ensures cause { HasCause (D.seen journal.old.disk).faults (D.seen journal.new.disk).faults result }
 {
@@ -42,11 +38,11 @@ fn bring_rest<D: Disk>(
     count: usize,
 ) -> Result<(), MigrateFault>
     requires whole { journal.old.broken ≡ false }
-    requires newest { journal.old.version ≡ 2 }
+    requires newest { journal.old.version ≡ Version.Two }
     requires within { count ≤ length history.now }
     ensures continues { Continues (D.seen journal.old.disk) (D.seen journal.new.disk) }
     ensures brings { BringsRest history.now count (D.seen journal.old.disk) (D.seen journal.new.disk) }
-    ensures whole { OnOk result ((journal.new.broken ≡ false) × (journal.new.version ≡ 2)) }
+    ensures whole { OnOk result ((journal.new.broken ≡ false) × (journal.new.version ≡ Version.Two)) }
     ensures brought { OnOk result (HasBrought history.now (take count history.now) history.now (D.seen journal.old.disk) (D.seen journal.new.disk)) }
     ensures device { IfErr result (λ fault. fault ≡ DeviceFault) }
     ensures cause { HasCause (D.seen journal.old.disk).faults (D.seen journal.new.disk).faults result }
@@ -57,30 +53,38 @@ fn bring_rest<D: Disk>(
     Ok(())
 }
 
-/// Brings what a journal of these frames lacks of a history into it.
-pub fn bring<D: Disk>(
-    alloc: Global,
-    journal: &mut Journal<D>,
-    frames: &[Frame],
+/// Brings the rest of a history into a log that was found, which has its first entries, so many. The log is settled, and the rest is
+/// appended. A fault hands the disk back.
+pub fn bring_into<D: Disk>(
+    found: FoundLog<D>,
     history: &[EntryPayload],
-    limits: &Limits,
-) -> Result<(), MigrateFault>
-    requires whole { journal.old.broken ≡ false }
-    requires within { IsWithin limits.now history.now }
-
-    // Each image has the entries of the frames, or, where the journal may gain it, more of the history.
-    ensures continues { Continues (D.seen journal.old.disk) (D.seen journal.new.disk) }
-    ensures brings { (entries : List Entry) → IsVersion journal.old.version → IsHistory journal.old.version [] (payloads_of frames.now) entries →
-        Brings (MayGain journal.old.version limits.now history.now entries) history.now entries (D.seen journal.old.disk) (D.seen journal.new.disk) }
-
-    // The history began with the entries of the frames, and they have all of it now, or there is a reason against it. A journal that
-    // may not gain it is as it was.
-    ensures brought { OnOk result (HasBroughtRest journal.old.version frames.now limits.now history.now (D.seen journal.old.disk) (D.seen journal.new.disk)
-        journal.new.broken journal.new.version) }
-    ensures refused { IfErr result (IsNotBrought journal.old.version frames.now limits.now history.now (D.seen journal.old.disk) (D.seen journal.new.disk)) }
-    ensures alone { IsVersion journal.old.version → MayNotGain journal.old.version frames.now limits.now history.now → journal.new ≡ journal.old }
-    ensures later { (D.seen journal.old.disk).faults ≤ (D.seen journal.new.disk).faults }
+    count: usize,
+) -> Result<D, (D, MigrateFault)>
+    requires newest { found.version ≡ Version.Two }
+    requires within { count ≤ length history.now }
+    ensures brought { (before : D) (limits : AnyLimits)
+        → FindsFront limits history.now count found.place (number_of found.version) (D.seen before) (D.seen found.disk)
+        → IfOk result (λ disk. IsMigrated limits history.now (D.seen before) (D.seen disk)) }
+    ensures crash { (was : List ℕ) (before : D) (limits : AnyLimits) → HasHistory history.now was
+        → FindsFront limits history.now count found.place (number_of found.version) (D.seen before) (D.seen found.disk)
+        → MatchResult result (λ disk. IsMigration limits history.now (D.seen before) (D.seen disk))
+        (λ e. IsMigration limits history.now (D.seen before) (D.seen e.0)) }
+    ensures refused { (before : D) (limits : AnyLimits)
+        → FindsFront limits history.now count found.place (number_of found.version) (D.seen before) (D.seen found.disk)
+        → IfErr result (λ e. IsRefusedHistory limits history.now (D.seen before) (D.seen e.0) e.1) }
+    ensures later { MatchResult result (λ disk. (D.seen found.disk).faults ≤ (D.seen disk).faults) (λ e. (D.seen found.disk).faults ≤ (D.seen e.0).faults) }
 {
-    let count = front_of(alloc, journal.version(), frames, history, limits)?;
-    bring_rest(journal, history, count)
+    match found.settle() {
+        Ok(journal) => {
+            let mut journal = journal;
+            match bring_rest(&mut journal, history, count) {
+                Ok(()) => Ok(journal.close()),
+                Err(fault) => Err((journal.close(), fault)),
+            }
+        }
+        Err(failed) => {
+            let (disk, _fault) = failed;
+            Err((disk, MigrateFault::DeviceFault))
+        }
+    }
 }

@@ -1,27 +1,31 @@
 //! What a journal has of a history already.
 ghost use Rattle.std.specs.Prelude.{◌≡◌, ◌≢◌, ◌≤◌, ◌↔◌, [], length, IsTrue, IfOk, IfErr, OnOk};
+ghost use Rattle.commit_journal.specs.Versions.{number_of};
 ghost use Rattle.entry_record.specs.History.{entries_size, IsWithin};
 ghost use Rattle.entry_history.specs.Payloads.{IsHistory};
-ghost use Rattle.entry_history.specs.Readers.{IsVersion};
 ghost use Rattle.durable_catalogue.specs.Logs.{payloads_of};
 ghost use Rattle.journal_migration.specs.Fronts.{HoldsFront, HoldNoFront, IsUnread};
 ghost use Rattle.journal_migration.specs.Migrations.{Begins};
 ghost use Rattle.journal_migration.specs.declared.fault.MigrateFault.TheVariants.{DeviceFault};
 
 use crate::MigrateFault;
-use commit_journal::Frame;
+use commit_journal::{Frame, Version};
 use entry_history::{EntryFault, EntryPayload, HistoryReader};
 use entry_record::Prepared;
 use marc_types::{Limits, NoMemory};
 use std::alloc::Global;
 
 /// The entries of a journal's frames, in their order.
-fn read_history(alloc: Global, version: u8, frames: &[Frame]) -> Result<Vec<Prepared>, MigrateFault>
-    requires { IsVersion version }
-    ensures history { IfOk result (λ items. IsHistory version [] (payloads_of frames.now) items.items) }
-    ensures fault { IfErr result (IsUnread version frames.now) }
+fn read_history(
+    alloc: Global,
+    version: Version,
+    frames: &[Frame],
+) -> Result<Vec<Prepared>, MigrateFault>
+    ensures history { IfOk result (λ items. IsHistory (number_of version) [] (payloads_of frames.now) items.items) }
+    ensures fault { IfErr result (IsUnread (number_of version) frames.now) }
+    ensures no_device { IfErr result (λ fault. fault ≢ DeviceFault) }
 {
-    let mut reader = HistoryReader::new(alloc, version);
+    let mut reader = HistoryReader::new(alloc, version.number());
     for frame in frames {
         match reader.take(alloc, frame.payload.as_slice()) {
             Ok(()) => {}
@@ -30,15 +34,6 @@ fn read_history(alloc: Global, version: u8, frames: &[Frame]) -> Result<Vec<Prep
         }
     }
     Ok(reader.into_items())
-}
-
-/// The entries of a journal's frames, whose version is 1 or 2.
-fn read_either(alloc: Global, version: u8, frames: &[Frame]) -> Result<Vec<Prepared>, MigrateFault>
-    ensures history { IsVersion version → IfOk result (λ items. IsHistory version [] (payloads_of frames.now) items.items) }
-    ensures fault { IsVersion version → IfErr result (IsUnread version frames.now) }
-    ensures no_device { IfErr result (λ fault. fault ≢ DeviceFault) }
-{
-    read_history(alloc, version.max(1).min(2), frames)
 }
 
 /// Whether entries have no more bytes than that.
@@ -81,20 +76,20 @@ fn begins(alloc: Global, history: &[EntryPayload], items: &[Prepared]) -> Result
 /// How many entries of a history the frames of a journal hold, which hold nothing else.
 pub fn front_of(
     alloc: Global,
-    version: u8,
+    version: Version,
     frames: &[Frame],
     history: &[EntryPayload],
     limits: &Limits,
 ) -> Result<usize, MigrateFault>
     requires { IsWithin limits.now history.now }
-    ensures front { IsVersion version → IfOk result (HoldsFront version frames.now limits.now history.now) }
+    ensures front { IfOk result (HoldsFront (number_of version) frames.now limits.now history.now) }
     ensures within { IfOk result (λ count. count ≤ length history.now) }
-    ensures version { OnOk result (version ≡ 2) }
-    ensures fault { IsVersion version → IfErr result (HoldNoFront version frames.now limits.now history.now) }
+    ensures version { OnOk result (version ≡ Version.Two) }
+    ensures fault { IfErr result (HoldNoFront (number_of version) frames.now limits.now history.now) }
     ensures no_device { IfErr result (λ fault. fault ≢ DeviceFault) }
 {
-    let items = read_either(alloc, version, frames)?;
-    if version != 2 {
+    let items = read_history(alloc, version, frames)?;
+    if version != Version::Two {
         return Err(MigrateFault::OldVersion);
     }
     if !are_within(items.as_slice(), limits) {

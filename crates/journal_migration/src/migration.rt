@@ -5,9 +5,10 @@ ghost use Rattle.durable_catalogue.specs.Logs.{HasHistory};
 ghost use Rattle.journal_migration.specs.Migrations.{IsMigrated, IsMigration, IsRefusedHistory};
 
 use crate::MigrateFault;
-use crate::bringing::bring;
+use crate::bringing::bring_into;
 use crate::fault::migrate_fault;
-use commit_journal::Journal;
+use crate::front::front_of;
+use commit_journal::FoundLog;
 use entry_history::EntryPayload;
 use marc_types::Limits;
 use outside::Disk;
@@ -37,12 +38,11 @@ pub fn migrate<D: Disk>(
     ensures refused { IfErr result (λ e. IsRefusedHistory limits history.now (D.seen new) (D.seen e.0) e.1) }
     ensures later { MatchResult result (λ disk. (D.seen new).faults ≤ (D.seen disk).faults) (λ e. (D.seen new).faults ≤ (D.seen e.0).faults) }
 {
-    match Journal::open(alloc, new) {
-        Ok((journal, frames)) => {
-            let mut journal = journal;
-            match bring(alloc, &mut journal, frames.as_slice(), history, &limits) {
-                Ok(()) => Ok(journal.close()),
-                Err(fault) => Err((journal.close(), fault)),
+    match FoundLog::find(alloc, new) {
+        Ok((found, frames)) => {
+            match front_of(alloc, found.version(), frames.as_slice(), history, &limits) {
+                Ok(count) => bring_into(found, history, count),
+                Err(fault) => Err((found.leave(), fault)),
             }
         }
         Err(failed) => {

@@ -15,10 +15,12 @@ use Rattle.entry_history.specs.declared.reply.BatchReply.{BatchReply}
 use Rattle.catalogue_lock.specs.History.{items, numbered}
 use Rattle.catalogue_lock.specs.Passes.{Pass, Turned}
 use Rattle.catalogue_lock.proofs.Numbers.{items-append, items-numbered}
-use Rattle.loader_workers.specs.Counts.{HasRoom, IsSummed}
+use Rattle.loader_workers.specs.Counts.{CanCount, HasCounted}
 use Rattle.marc_types.specs.Limits.{most_entries}
 use Rattle.loader_workers.specs.Turns.{Replies, AnswersAsCatalogue, IsCounted}
 use Rattle.loader_workers.specs.declared.counts.Counts.{Counts}
+use Rattle.marc_types.specs.Sums.{AreFew}
+use Rattle.marc_types.proofs.Adding.{still_few}
 use Rattle.catalogue_rules.proofs.FewRows.{few_changed}
 use Rattle.loader_workers.proofs.Frames.{IsWithin, NoEntry, Within, frame_within}
 use Rattle.loader_workers.proofs.Receipts.{receipts_length, entries_append, entries_committed}
@@ -95,6 +97,10 @@ grows origin before batch receipts added (Some NoMemory) le ended = grows_by_non
 grows origin before batch receipts added (Some DeviceFault) le ended = grows_by_none before added receipts ended.2.receipts_are
 grows origin before batch receipts added (Some Broken) le ended = grows_by_none before added receipts ended.1.receipts_are
 
+few_more : (before accepted n : ℕ) → (n ≡ 0) ⊎ (before + n ≤ most_entries) → accepted ≤ before → accepted ≤ most_entries → accepted + n ≤ most_entries
+few_more before accepted n (inl none) le few = omega arith
+few_more before accepted n (inr within) le few = omega arith
+
 module _ {O : Type 0} where
   -- what a turn adds to the entries that the pass has seen
   record Sees (receipts : List Receipt) (old new : Pass O Event) : Type 0 where
@@ -125,57 +131,25 @@ module _ {O : Type 0} where
       }
 
   pub room_for : (replies : Replies) (batch : List Entry) (reply : BatchReply) (counted : Counts) (old new : Pass O Event) → AnswersAsCatalogue replies
-      → Turned replies batch reply old new → IsCounted counted old.seen → HasRoom counted reply.receipts
-  room_for replies batch reply counted old new catalogue turned is =
-      let s = sees replies batch reply old new catalogue turned in
-      room s is
+      → Turned replies batch reply old new → IsCounted counted old.seen → CanCount counted reply.receipts
+  room_for replies batch reply counted old new catalogue turned is = room (sees replies batch reply old new catalogue turned)
     where
-      few_receipts : (before : ℕ) (n : ℕ) → (n ≡ 0) ⊎ (before + n ≤ most_entries) → n ≤ most_entries
-      few_receipts before n (inl none) = omega arith
-      few_receipts before n (inr within) = omega arith
-
-      room : Sees reply.receipts old new → IsCounted counted old.seen → HasRoom counted reply.receipts
-      room s is =
-          let few = few_receipts (length s.before) (length reply.receipts) s.few.within in
-          let a = is.few in
-          let l = is.linked in
-          let m = is.ambiguous in
-          let u = is.unlinked in
-          let c = is.changed in
-          let more = s.few.changed in
-          record { few = omega arith; accepted = omega arith; linked = omega arith; ambiguous = omega arith; unlinked = omega arith; changed = omega arith }
+      room : Sees reply.receipts old new → CanCount counted reply.receipts
+      room s = record {
+        few = is.sums;
+        within = few_more (length s.before) counted.accepted (length reply.receipts) s.few.within (omega (arith, is.entries, s.earlier)) is.few;
+        changed = s.few.changed;
+      }
 
   pub counted_more : (replies : Replies) (batch : List Entry) (reply : BatchReply) (counted now : Counts) (old new : Pass O Event) → AnswersAsCatalogue replies
-      → Turned replies batch reply old new → IsCounted counted old.seen → IsSummed counted now reply.receipts → IsCounted now new.seen
-  counted_more replies batch reply counted now old new catalogue turned is summed =
+      → Turned replies batch reply old new → IsCounted counted old.seen → HasCounted counted now reply.receipts → IsCounted now new.seen
+  counted_more replies batch reply counted now old new catalogue turned is counts =
       more (sees replies batch reply old new catalogue turned)
     where
-      few_more : (before accepted n : ℕ) → (n ≡ 0) ⊎ (before + n ≤ most_entries) → accepted ≤ before → accepted ≤ most_entries → accepted + n ≤ most_entries
-      few_more before accepted n (inl none) le few = omega arith
-      few_more before accepted n (inr within) le few = omega arith
-
       more : Sees reply.receipts old new → IsCounted now new.seen
-      more s =
-          let entries = is.entries in
-          let few = is.few in
-          let linked = is.linked in
-          let ambiguous = is.ambiguous in
-          let unlinked = is.unlinked in
-          let changed = is.changed in
-          let accepted_now = ap (λ (c : Counts). c.accepted) summed.added in
-          let changed_now = ap (λ (c : Counts). c.changed) summed.added in
-          let linked_now = summed.linked in
-          let ambiguous_now = summed.ambiguous in
-          let unlinked_now = summed.unlinked in
-          let changed_few = s.few.changed in
-          let earlier = s.earlier in
-          let later = s.later in
-          let all = few_more (length s.before) counted.accepted (length reply.receipts) s.few.within (omega arith) few in
-          record {
-            entries = omega arith;
-            few = omega arith;
-            linked = omega arith;
-            ambiguous = omega arith;
-            unlinked = omega arith;
-            changed = omega arith;
-          }
+      more s = record {
+        entries = omega (arith, counts.accepted, is.entries, s.earlier, s.later);
+        few = omega (arith, counts.accepted, few_more (length s.before) counted.accepted (length reply.receipts) s.few.within (omega (arith, is.entries, s.earlier)) is.few);
+        sums = subst (AreFew now.sums) (sym counts.accepted)
+            (still_few counted.sums now.sums reply.receipts counted.accepted is.sums counts.sums counts.few s.few.changed);
+      }

@@ -1,10 +1,7 @@
 -- What several turns commit, and what is taken of a file before and behind them.
-use Rattle.std.proofs.Common.{◌≡◌, ◌∙◌, ℕ, ◌+◌, Some, List, [], ◌∷◌, ◌++◌, length, append_assoc, append-nil, refl, sym, ap, subst, arith, length-append}
-use Rattle.std.specs.List.{sum_by}
-use Rattle.std.proofs.lemmas.List.Sums.{sum_by-append}
+use Rattle.std.proofs.Common.{◌≡◌, ◌∙◌, ℕ, Some, List, [], ◌∷◌, ◌++◌, append_assoc, append-nil, refl, sym, ap, subst, arith, length-append}
 use mathlib.Core.List.{map-append}
 use Rattle.marc_types.specs.declared.entry.Entry.{Entry}
-use Rattle.marc_types.specs.declared.entry.Receipt.{Receipt}
 use Rattle.marc_stream.specs.Pieces.{Item}
 use Rattle.entry_record.specs.History.{in_run, with_run}
 use Rattle.entry_history.specs.Commits.{Origin}
@@ -18,7 +15,9 @@ use Rattle.catalogue_lock.proofs.Numbers.{items_by-append, items-append}
 use Rattle.file_entries.specs.Files.{IsJudged, NoItem, Accepts, Refuses, listed}
 use Rattle.file_entries.specs.Entries.{FileView}
 use Rattle.file_entries.specs.declared.refused.RefusedItem.{RefusedItem}
-use Rattle.loader_workers.specs.Counts.{with_receipts}
+use Rattle.marc_types.specs.Sums.{with_receipts}
+use Rattle.marc_types.specs.declared.sums.Sums.{Sums}
+use Rattle.marc_types.proofs.Adding.{with_both}
 use Rattle.loader_workers.specs.Gathering.{IsGathered}
 use Rattle.loader_workers.specs.Turns.{receipts_by, HasCommitted}
 use Rattle.loader_workers.specs.declared.counts.Counts.{Counts}
@@ -64,18 +63,6 @@ taken_then start mid now begun accepted rs refused first second =
       reads = reads_then start.stream mid.stream now.stream first.reads second.reads;
     }
 
-receipts_then : (c : Counts) (rs qs : List Receipt) → with_receipts (with_receipts c rs) qs ≡ with_receipts c (rs ++ qs)
-receipts_then c rs qs =
-    let accepted : c.accepted + length rs + length qs ≡ c.accepted + length (rs ++ qs) = omega (arith, length-append rs qs) in
-    let linked = total (λ r. r.linked) c.linked in
-    let ambiguous = total (λ r. r.ambiguous) c.ambiguous in
-    let unlinked = total (λ r. r.unlinked) c.unlinked in
-    let changed = total (λ r. r.changed_records) c.changed in
-    λ i. record { accepted = accepted i; linked = linked i; ambiguous = ambiguous i; unlinked = unlinked i; changed = changed i }
-  where
-    total : (f : Receipt → ℕ) (n : ℕ) → n + sum_by f rs + sum_by f qs ≡ n + sum_by f (rs ++ qs)
-    total f n = omega (arith, sum_by-append f rs qs)
-
 in_run_then : (run : ℕ) (begun bs : List Entry) → committed (with_run run (begun ++ bs)) ≡ committed (with_run run begun) ++ committed (with_run run bs)
 in_run_then run begun bs = ap committed (map-append (in_run run) begun bs) ∙ map-append (λ (e : Entry). Committed e) (with_run run begun) (with_run run bs)
 
@@ -106,9 +93,9 @@ module _ {O : Type 0} where
         seen = q.seen ∙ (ap (λ l. l ++ q.later) p.seen ∙ append_assoc old.seen p.later q.later);
         own = items_by-append (Some old.number) p.later q.later
             ∙ (ap (λ l. l ++ by q.later) p.own ∙ (ap (λ l. (mine ++ []) ++ l) second ∙ (behind [] mine more marks ∙ ap (λ l. l ++ marks) (sym all))));
-        counts = q.counts ∙ (ap (with_receipts mid) receipts
-            ∙ (ap (λ (c : Counts). with_receipts c (receipts_by old.number (before ++ entries_of (items p.later)) q.later)) p.counts
-            ∙ (receipts_then first counted (receipts_by old.number (before ++ entries_of (items p.later)) q.later)
-            ∙ ap (with_receipts first) (sym (receipts_by_append old.number before p.later q.later)))));
+        sums = q.sums ∙ (ap (with_receipts mid.sums) receipts
+            ∙ (ap (λ (s : Sums). with_receipts s (receipts_by old.number (before ++ entries_of (items p.later)) q.later)) p.sums
+            ∙ (with_both first.sums counted (receipts_by old.number (before ++ entries_of (items p.later)) q.later)
+            ∙ ap (with_receipts first.sums) (sym (receipts_by_append old.number before p.later q.later)))));
         accepted = omega (arith, p.accepted, q.accepted, length-append begun bs);
       }

@@ -1,5 +1,5 @@
 -- How the loading of a file goes on, and how it ends.
-use Rattle.std.proofs.Common.{◌≡◌, ◌≢◌, ◌∙◌, ℕ, ◌+◌, ◌≤◌, Bool, false, List, [], ◌∷◌, ◌++◌, length, Option, Some, None, append_assoc, append-nil, refl, sym, ap, subst, arith}
+use Rattle.std.proofs.Common.{◌≡◌, ◌≢◌, ◌∙◌, ℕ, ◌+◌, ◌^◌, ◌≤◌, Bool, false, List, [], ◌∷◌, ◌++◌, length, Option, Some, None, append_assoc, append-nil, refl, sym, ap, subst, arith}
 use Rattle.outside.specs.Fault.{Rose}
 use Rattle.marc_types.specs.declared.entry.Entry.{Entry}
 use Rattle.marc_stream.specs.Pieces.{Item}
@@ -8,13 +8,14 @@ use Rattle.entry_history.specs.Commits.{Origin}
 use Rattle.entry_history.specs.declared.event.Event.{Event}
 use Rattle.catalogue_lock.specs.History.{items}
 use Rattle.catalogue_lock.specs.Passes.{Pass, HasSeenItsOwn}
+use Rattle.marc_types.proofs.Adding.{few_none}
 use Rattle.file_entries.specs.Files.{IsJudged, NoItem}
 use Rattle.file_entries.specs.Entries.{FileView}
 use Rattle.file_entries.specs.declared.refused.RefusedItem.{RefusedItem}
 use Rattle.loader_workers.specs.Counts.{no_counts, result_of}
 use Rattle.loader_workers.specs.Gathering.{IsGathered, StopsAt, HasGathered}
-use Rattle.loader_workers.specs.Turns.{Replies, CommitsAs, AnswersAsCatalogue, HasCommitted, CommitsFront, IsSamePass, IsCounted, IsEndOf, IsEndOfBatch}
-use Rattle.loader_workers.specs.Loading.{IsReadTo, LoadsOneFile, IsLoading}
+use Rattle.loader_workers.specs.Turns.{Replies, CommitsAs, AnswersAsCatalogue, HasCommitted, CommitsFront, IsSamePass, HasTurned, IsCounted, IsEndOf, IsEndOfBatch}
+use Rattle.loader_workers.specs.Loading.{CountsFaults, IsReadTo, LoadsOneFile, IsLoading}
 use Rattle.loader_workers.specs.declared.counts.Counts.{Counts}
 use Rattle.loader_workers.specs.declared.file_end.FileEnd.{FileEnd}
 use Rattle.loader_workers.specs.declared.file_end.FileEnd.TheVariants.{Done, ReadFault, Full, DeviceFault, NoMemory}
@@ -62,8 +63,19 @@ file_read_to Full start last now accepted refused fresh taken stops = absurd sto
 file_read_to DeviceFault start last now accepted refused fresh taken stops = absurd stops
 file_read_to NoMemory start last now accepted refused fresh taken stops = tt
 
-pub rose_since : (first before now : ℕ) → first ≤ before → Rose before now → Rose first now
+rose_since : (first before now : ℕ) → first ≤ before → Rose before now → Rose first now
 rose_since first before now le rose = omega arith
+
+-- the faults of a source whose file ends so, and of one whose file ends by a commit's fault
+pub faults_at_end : (first before now : ℕ) (over : Option FileEnd) (end : FileEnd) → first ≤ before → before ≤ now → (over ≡ Some ReadFault → Rose before now)
+    → over ≡ Some end → CountsFaults first now end
+faults_at_end first before now over end le later cause is = record {
+  later = omega (arith, le, later);
+  cause = λ same. rose_since first before now le (cause (is ∙ ap (λ (e : FileEnd). Some e) same));
+}
+
+pub faults_before : (first before now : ℕ) (end : FileEnd) → first ≤ before → before ≤ now → (end ≡ ReadFault → ⊥) → CountsFaults first now end
+faults_before first before now end le later other = record { later = omega (arith, le, later); cause = λ same. absurd (other same) }
 
 one_at_least : (es : List Entry) → es ≢ [] → 1 ≤ length es
 one_at_least [] some = absurd (some refl)
@@ -73,11 +85,23 @@ module _ {O : Type 0} where
   same_begun : (pass : Pass O Event) → IsSamePass pass pass
   same_begun pass = record { lock = refl; opened = refl; number = refl }
 
-  pub same_then : (old pass new : Pass O Event) → IsSamePass old pass → IsSamePass pass new → IsSamePass old new
+  same_then : (old pass new : Pass O Event) → IsSamePass old pass → IsSamePass pass new → IsSamePass old new
   same_then old pass new p q = record { lock = q.lock ∙ p.lock; opened = q.opened ∙ p.opened; number = q.number ∙ p.number }
 
+  -- no turn was made
+  pub turned_none : (pass : Pass O Event) (most : ℕ) → HasSeenItsOwn pass → HasTurned pass pass most
+  turned_none pass most own = record { same = same_begun pass; seen = own; turns = omega arith }
+
+  -- the turns before and behind
+  turned_then : (old pass new : Pass O Event) (begun more most : ℕ) → HasTurned old pass begun → HasTurned pass new more → begun + more ≤ most → HasTurned old new most
+  turned_then old pass new begun more most p q le = record {
+    same = same_then old pass new p.same q.same;
+    seen = q.seen;
+    turns = omega (arith, p.turns, q.turns, le);
+  }
+
   counted_none : (pass : Pass O Event) → IsCounted no_counts pass.seen
-  counted_none pass = record { entries = omega arith; few = omega arith; linked = omega arith; ambiguous = omega arith; unlinked = omega arith; changed = omega arith }
+  counted_none pass = record { entries = omega arith; few = omega arith; sums = few_none }
 
   pub loading_none : (replies : Replies) (start : FileView) (pass : Pass O Event) (counts : Counts) (refused : List RefusedItem)
       → start.over ≡ false → HasSeenItsOwn pass → counts ≡ no_counts → refused ≡ [] → IsLoading replies start start pass pass counts refused
@@ -87,10 +111,8 @@ module _ {O : Type 0} where
         accepted = [];
         taken = taken_none start going;
         committed_are = λ origin commits. nothing_yet origin no_counts pass;
-        same = same_begun pass;
-        own = own;
+        turned = turned_none pass 0 own;
         counted = counted_none pass;
-        turns = omega arith;
       }))
 
   -- how loading goes on from here: a batch is gathered, and a front of it committed
@@ -98,7 +120,7 @@ module _ {O : Type 0} where
       (counts counts' : Counts) (pass new : Pass O Event) : Type 0 where
     pub gathers : HasGathered mid now refused refused' batch over
     pub commits : (origin : Origin) → CommitsAs replies origin → CommitsFront origin batch fault counts counts' pass new
-    pub same : IsSamePass pass new
+    pub turned : HasTurned pass new 1
 
   loads_by : (origin : Origin) (start last : FileView) (left : Option (List ℕ)) (old pass new : Pass O Event) (batch begun : List Entry) (fault : Option FileEnd)
       (counts counts' : Counts) (refused refused' more : List RefusedItem) (end : FileEnd) → refused' ≡ refused ++ more → IsGathered start last (begun ++ batch) (refused ++ more)
@@ -130,7 +152,7 @@ module _ {O : Type 0} where
       let f = s.commits origin commits in
       let taken = taken_then start mid g.last l.accepted batch refused s.gathers.more l.taken g.taken in
       loads_by origin start g.last now.stream.left old pass new batch l.accepted (Some end) counts counts' refused refused' s.gathers.more end
-      s.gathers.refused_are taken l.same.number (l.committed_are origin commits) f
+      s.gathers.refused_are taken l.turned.same.number (l.committed_are origin commits) f
       (batch_end origin end f.rest f.marks (items new.seen) f.ends)
       (read_anyhow origin end f.rest f.marks (items new.seen) start.stream.tells start.stream.left now.stream.left g.last.stream.coming f.ends)
 
@@ -144,7 +166,7 @@ module _ {O : Type 0} where
       let f = s.commits origin commits in
       let taken = taken_then start mid g.last l.accepted batch refused s.gathers.more l.taken g.taken in
       loads_by origin start g.last now.stream.left old pass new batch l.accepted None counts counts' refused refused' s.gathers.more end
-      s.gathers.refused_are taken l.same.number (l.committed_are origin commits) f
+      s.gathers.refused_are taken l.turned.same.number (l.committed_are origin commits) f
       (file_end origin end g.last now f.rest f.marks (items new.seen) g.stops f.ends)
       (file_read_to end start g.last now (l.accepted ++ batch) (refused ++ s.gathers.more) fresh taken g.stops)
 
@@ -159,25 +181,28 @@ module _ {O : Type 0} where
   pub loads_on : (replies : Replies) (start mid now : FileView) (old pass new : Pass O Event) (counts counts' : Counts)
       (refused refused' : List RefusedItem) (batch : List Entry) → AnswersAsCatalogue replies
       → IsLoading replies start mid old pass counts refused → Steps replies mid now refused refused' batch None None counts counts' pass new
-      → HasSeenItsOwn new → IsCounted counts' new.seen → new.turns ≤ pass.turns + 1
+      → IsCounted counts' new.seen
       → IsLoading replies start now old new counts' refused'
-  loads_on replies start mid now old pass new counts counts' refused refused' batch catalogue l s own counted turned =
+  loads_on replies start mid now old pass new counts counts' refused refused' batch catalogue l s counted =
       let g = s.gathers.gathers in
       let taken = taken_then start mid g.last l.accepted batch refused s.gathers.more l.taken g.taken in
       let some = one_at_least batch (g.some refl).0 in
       let one = whole_batch catalogue.origin batch counts counts' pass new (s.commits catalogue.origin catalogue.commits) in
       let more = one.accepted in
-      let before = l.turns in
       subst (λ rs. IsLoading replies start now old new counts' rs) (sym s.gathers.refused_are) (record {
         accepted = l.accepted ++ batch;
         taken = subst (λ (file : FileView). IsGathered start file (l.accepted ++ batch) (refused ++ s.gathers.more)) (sym g.stops) taken;
-        committed_are = λ origin commits. committed_then origin l.accepted batch [] no_counts counts counts' old pass new l.same.number
+        committed_are = λ origin commits. committed_then origin l.accepted batch [] no_counts counts counts' old pass new l.turned.same.number
             (l.committed_are origin commits) (whole_batch origin batch counts counts' pass new (s.commits origin commits));
-        same = same_then old pass new l.same s.same;
-        own = own;
+        turned = turned_then old pass new counts.accepted 1 counts'.accepted l.turned s.turned (omega (arith, more, some));
         counted = counted;
-        turns = omega arith;
       })
+
+  -- a loader makes a turn for each entry at most, and a last one
+  pub turned_whole : (replies : Replies) (start mid : FileView) (old pass new : Pass O Event) (counts : Counts) (refused : List RefusedItem)
+      → IsLoading replies start mid old pass counts refused → HasTurned pass new 1 → HasTurned old new (2 ^ 20 + 1)
+  turned_whole replies start mid old pass new counts refused l turned =
+      turned_then old pass new counts.accepted 1 (2 ^ 20 + 1) l.turned turned (omega (arith, l.counted.few))
 
   -- a commit answers no fault of the source
   pub no_read_fault : (replies : Replies) (batch : List Entry) (fault : Option FileEnd) (counts counts' : Counts) (pass new : Pass O Event) → AnswersAsCatalogue replies

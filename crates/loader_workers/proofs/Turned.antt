@@ -1,5 +1,5 @@
 -- What one turn of a loader commits.
-use Rattle.std.proofs.Common.{◌≡◌, ◌∙◌, ℕ, ◌+◌, true, List, [], ◌∷◌, ◌++◌, length, Option, Some, None, ◌⊎◌, inl, inr, append_assoc, append-nil, refl, sym, ap, subst, arith, length-append}
+use Rattle.std.proofs.Common.{◌≡◌, ◌∙◌, ◌+◌, true, List, [], ◌∷◌, ◌++◌, length, Option, Some, None, ◌⊎◌, inl, inr, append_assoc, append-nil, refl, sym, ap, subst, arith, length-append}
 use Rattle.std.proofs.lemmas.List.{length-map}
 use mathlib.Core.List.{IsPrefix}
 use Rattle.marc_types.specs.declared.entry.Entry.{Entry}
@@ -17,7 +17,9 @@ use Rattle.catalogue_lock.specs.declared.view.Numbered.{Numbered}
 use Rattle.catalogue_lock.specs.History.{items, numbered, items_by}
 use Rattle.catalogue_lock.specs.Passes.{Pass, HasSeenItsOwn, Turned, having_turned}
 use Rattle.catalogue_lock.proofs.Numbers.{items_by-append, items_by-own, items-append, items-numbered}
-use Rattle.loader_workers.specs.Counts.{with_receipts}
+use Rattle.marc_types.specs.Sums.{with_receipts}
+use Rattle.marc_types.proofs.Adding.{with_none}
+use Rattle.loader_workers.specs.Counts.{HasCounted}
 use Rattle.loader_workers.specs.Ends.{end_of_commit}
 use Rattle.loader_workers.specs.Turns.{Replies, CommitsAs, receipts_by, HasCommitted, NoMark, OneMark, IsFullBehind, CommitsFront}
 use Rattle.loader_workers.specs.declared.counts.Counts.{Counts}
@@ -51,12 +53,6 @@ full_at origin history before front rest some (inr stops) same = record {
   passes = subst (λ es. passes_limits origin.limits es (in_run origin.run stops.next) ≡ true) (sym same) stops.passes;
 }
 
-with_none : (c : Counts) → with_receipts c [] ≡ c
-with_none c = λ i. record { accepted = plus_none c.accepted i; linked = plus_none c.linked i; ambiguous = plus_none c.ambiguous i; unlinked = plus_none c.unlinked i; changed = plus_none c.changed i }
-  where
-    plus_none : (n : ℕ) → n + 0 ≡ n
-    plus_none n = omega arith
-
 module _ {O : Type 0} where
   -- nothing between two turns of a pass has its number
   none_between : (old new : Pass O Event) (before others : List (Numbered Event)) (added : List Event) → old.seen ++ others ≡ before → HasSeenItsOwn old
@@ -81,7 +77,7 @@ module _ {O : Type 0} where
     pass : new ≡ having_turned old added (before ++ numbered (Some old.number) added)
     own_before : HasSeenItsOwn old
     own_now : HasSeenItsOwn new
-    counts : now ≡ with_receipts counted receipts
+    counts : HasCounted counted now receipts
 
   seen_items : (receipts : List Receipt) (counted now : Counts) (old new : Pass O Event) (before : List (Numbered Event)) (added : List Event)
       → IsTurn receipts counted now old new before added → items new.seen ≡ items before ++ added
@@ -113,8 +109,8 @@ module _ {O : Type 0} where
         later = others ++ mine;
         seen = ap (λ (p : Pass O Event). p.seen) turn.pass ∙ (ap (λ h. h ++ mine) (sym turn.begins.1) ∙ append_assoc old.seen others mine);
         own = items_by-append number others mine ∙ (ap (λ es. es ++ items_by number mine) none ∙ (items_by-own number added ∙ added_is));
-        counts = turn.counts ∙ ap (with_receipts counted) (receipts_are ∙ sym all);
-        accepted = ap (λ (c : Counts). c.accepted) turn.counts
+        sums = turn.counts.sums ∙ ap (with_receipts counted.sums) (receipts_are ∙ sym all);
+        accepted = turn.counts.accepted
             ∙ ap (λ n. counted.accepted + n) (ap (length {A = Receipt}) receipts_are ∙ (receipts_length (entries_of (items before)) (with_run origin.run entries) ∙ length-map entries (in_run origin.run)));
       }
 
@@ -200,7 +196,7 @@ module _ {O : Type 0} where
 
   -- a turn commits a front of its batch
   pub front_committed : (replies : Replies) (origin : Origin) (batch : List Entry) (reply : BatchReply) (result : Option FileEnd) (counted now : Counts)
-      (old new : Pass O Event) → CommitsAs replies origin → HasSeenItsOwn old → Turned replies batch reply old new → now ≡ with_receipts counted reply.receipts
+      (old new : Pass O Event) → CommitsAs replies origin → HasSeenItsOwn old → Turned replies batch reply old new → HasCounted counted now reply.receipts
       → result ≡ end_of_commit reply.end → CommitsFront origin batch result counted now old new
   front_committed replies origin batch reply result counted now old new commits own turned counts is =
       subst (λ (end : Option FileEnd). CommitsFront origin batch end counted now old new) (sym is)
@@ -215,7 +211,7 @@ module _ {O : Type 0} where
     later = [];
     seen = sym (append-nil pass.seen);
     own = refl;
-    counts = sym (ap (with_receipts counts) (receipts_by_none pass.number (entries_of (items pass.seen))) ∙ with_none counts);
+    sums = sym (ap (with_receipts counts.sums) (receipts_by_none pass.number (entries_of (items pass.seen))) ∙ with_none counts.sums);
     accepted = omega arith;
   }
 

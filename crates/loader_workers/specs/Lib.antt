@@ -4,3 +4,5 @@ pub mod Gathering
 pub mod Turns
 pub mod Loading
 pub mod SideBySide
+pub mod Tasks
+pub mod Files

@@ -1,6 +1,7 @@
 -- What a loader makes of its file. The rules are this project's own.
-use Rattle.std.specs.Prelude.{◌≡◌, ℕ, ◌+◌, ◌≤◌, Bool, true, false, List, [], ◌++◌, All, Option}
+use Rattle.std.specs.Prelude.{◌≡◌, ℕ, ◌≤◌, Bool, true, false, List, [], ◌++◌, All, Option}
 use Rattle.std.specs.Io.KnownBytes.{IsAtEnd}
+use Rattle.outside.specs.Fault.{Rose}
 use Rattle.marc_types.specs.declared.entry.Entry.{Entry}
 use Rattle.marc_stream.specs.Pieces.{Item}
 use Rattle.marc_stream.specs.Stream.{opened, EndsWithin}
@@ -8,13 +9,13 @@ use Rattle.marc_stream.specs.Window.{Gives}
 use Rattle.entry_history.specs.Commits.{Origin}
 use Rattle.entry_history.specs.declared.event.Event.{Event}
 use Rattle.catalogue_lock.specs.History.{items}
-use Rattle.catalogue_lock.specs.Passes.{Pass, HasSeenItsOwn}
+use Rattle.catalogue_lock.specs.Passes.{Pass}
 use Rattle.file_entries.specs.Files.{IsJudged}
 use Rattle.file_entries.specs.Entries.{FileView, view_of}
 use Rattle.file_entries.specs.declared.refused.RefusedItem.{RefusedItem}
 use Rattle.loader_workers.specs.Counts.{no_counts, counts_in}
 use Rattle.loader_workers.specs.Gathering.{IsGathered}
-use Rattle.loader_workers.specs.Turns.{Replies, CommitsAs, HasCommitted, IsSamePass, IsCounted, IsEndOf}
+use Rattle.loader_workers.specs.Turns.{Replies, CommitsAs, HasCommitted, HasTurned, IsCounted, IsEndOf}
 use Rattle.loader_workers.specs.declared.counts.Counts.{Counts}
 use Rattle.loader_workers.specs.declared.file_end.FileEnd.{FileEnd}
 use Rattle.loader_workers.specs.declared.file_end.FileEnd.TheVariants.{Done, ReadFault, Full, DeviceFault, NoMemory}
@@ -25,6 +26,11 @@ pub record IsCutShort (start left : Option (List ℕ)) (coming : List Item) : Ty
   pub given : ℕ
   pub gives : Gives start left 0 given
   pub unended : All (λ item. ¬ EndsWithin given item) coming
+
+-- the count of a source's faults before and now: it rose where the file ended by a read fault
+pub record CountsFaults (before now : ℕ) (end : FileEnd) : Type 0 where
+  pub later : before ≤ now
+  pub cause : end ≡ ReadFault → Rose before now
 
 -- Which items aren't judged at an end. Done: none, and the source was read to its end. ReadFault: only such as don't end within
 -- the bytes that the source gave.
@@ -58,7 +64,5 @@ pub record IsLoading {O : Type 0} (replies : Replies) (start now : FileView) (ol
   pub accepted : List Entry
   pub taken : IsGathered start now accepted refused
   pub committed_are : (origin : Origin) → CommitsAs replies origin → HasCommitted origin accepted [] no_counts counts old new
-  pub same : IsSamePass old new
-  pub own : HasSeenItsOwn new
+  pub turned : HasTurned old new counts.accepted
   pub counted : IsCounted counts new.seen
-  pub turns : new.turns ≤ old.turns + counts.accepted

@@ -1,61 +1,48 @@
 -- What loading many files side by side does. The rules are this project's own.
-use Rattle.std.specs.Prelude.{◌≡◌, ℕ, ◌+◌, ◌^◌, ◌<◌, ◌≤◌, List, [], ◌∷◌, ◌++◌, Option, Some, IsTrue}
-use Rattle.outside.specs.Fault.{Rose}
+use Rattle.std.specs.Prelude.{◌≡◌, ℕ, ◌+◌, ◌^◌, List, [], ◌∷◌, Option, Some, IsTrue}
 use Rattle.marc_types.specs.Valid.{is_code}
 use Rattle.entry_history.specs.Commits.{Origin}
 use Rattle.entry_history.specs.declared.event.Event.{Event}
-use Rattle.catalogue_lock.specs.Passes.{Lock, Pass, IsPassOf, HasSeenItsOwn}
-use Rattle.loader_workers.specs.Turns.{Replies, CommitsAs, IsSamePass}
-use Rattle.loader_workers.specs.Loading.{LoadsOneFile, unread}
-use Rattle.loader_workers.specs.declared.file_end.FileEnd.TheVariants.{ReadFault}
-use Rattle.loader_workers.specs.declared.job.Job.{Job}
+use Rattle.catalogue_lock.specs.Passes.{Lock, Pass}
+use Rattle.loader_workers.specs.Turns.{Replies, CommitsAs, CanTurn, HasTurned}
+use Rattle.loader_workers.specs.Loading.{CountsFaults, LoadsOneFile, unread}
 use Rattle.loader_workers.specs.declared.result.FileResult.{FileResult}
+use Rattle.loader_workers.specs.declared.task.FileTask.{FileTask}
 
--- the pass is one of this lock's, has seen its own items and has turns left, and the code is proper
+-- the pass can make a loader's turns at this lock, and the code is proper
 pub record CanLoad {O : Type 0} (lock : Lock O) (pass : Pass O Event) (code : List ℕ) : Type 0 where
-  pub own : IsPassOf lock pass
-  pub seen : HasSeenItsOwn pass
-  pub room : pass.turns < 2 ^ 30
+  pub turns : CanTurn lock pass (2 ^ 30)
   pub proper : IsTrue (is_code code)
 
--- what loading one job did
-pub record LoadsJob {O S C R Q A : Type 0} (replies : Replies) (left : S → Option (List ℕ)) (bound faults : S → ℕ) (old new : Job O S Event C R Q A) (result : FileResult) : Type 0 where
+-- What loading the file of a task did: it has a result, which says what of the file is committed, counted and refused, and what its
+-- end means. Its pass can be used again, its file comes back, and its source's count of faults rose where that failed.
+pub record LoadsTask {O S C R Q A : Type 0} (replies : Replies) (left : S → Option (List ℕ)) (bound faults : S → ℕ) (old new : FileTask O S Event C R Q A) : Type 0 where
+  pub result : FileResult
+  pub told : new.result ≡ Some result
   pub loads : (origin : Origin) → CommitsAs replies origin
-      → LoadsOneFile origin (unread (left old.source) (bound old.source) (faults old.source) old.code old.loader) (left new.source) old.pass new.pass result
-  pub same : IsSamePass old.pass new.pass
-  pub seen : HasSeenItsOwn new.pass
-  pub turns : new.pass.turns ≤ old.pass.turns + 2 ^ 20 + 1
-  pub code : new.code ≡ old.code
+      → LoadsOneFile origin (unread (left old.file.source) (bound old.file.source) (faults old.file.source) old.file.code old.loader) (left new.file.source)
+      old.pass new.pass result
+  pub pass : HasTurned old.pass new.pass (2 ^ 20 + 1)
+  pub code : new.file.code ≡ old.file.code
   pub loader : new.loader ≡ old.loader
-  pub later : faults old.source ≤ faults new.source
-  pub cause : result.end ≡ ReadFault → Rose (faults old.source) (faults new.source)
+  pub faults_are : CountsFaults (faults old.file.source) (faults new.file.source) result.end
 
 module _ {J : Type 0} where
-  -- a job is there, and can be done
-  pub record IsWaiting (Can : J → Type 0) (slot : Option J) : Type 0 where
-    pub job : J
-    pub there : slot ≡ Some job
-    pub can : Can job
+  -- such a task is at the place
+  pub record HasTask (Is : J → Type 0) (place : Option J) : Type 0 where
+    pub task : J
+    pub there : place ≡ Some task
+    pub is : Is task
 
-  -- the job was done, and is there again with its result
-  pub record IsDone (Did : J → J → FileResult → Type 0) (before after : Option J) (told : Option FileResult) : Type 0 where
-    pub job : J
+  -- the task was done, and is at its place again
+  pub record IsDone (Did : J → J → Type 0) (before after : Option J) : Type 0 where
+    pub task : J
     pub new : J
-    pub result : FileResult
-    pub was : before ≡ Some job
+    pub was : before ≡ Some task
     pub is : after ≡ Some new
-    pub tells : told ≡ Some result
-    pub did : Did job new result
+    pub did : Did task new
 
-  -- each job was done, and is there again at its place with its result
-  pub data Each (Did : J → J → FileResult → Type 0) : List J → List J → List FileResult → Type 0 where
-    NoJob : Each Did [] [] []
-    OneMore : (jobs after : List J) (results : List FileResult) (job new : J) (result : FileResult) → Each Did jobs after results → Did job new result
-        → Each Did (job ∷ jobs) (new ∷ after) (result ∷ results)
-
-  -- a job is there, and its result
-  pub record IsThere (slot : Option J) (told : Option FileResult) : Type 0 where
-    pub job : J
-    pub result : FileResult
-    pub is : slot ≡ Some job
-    pub tells : told ≡ Some result
+  -- each task was done, and is at its place
+  pub data Each (Did : J → J → Type 0) : List (Option J) → List (Option J) → Type 0 where
+    NoTask : Each Did [] []
+    NextTask : (before after : List (Option J)) (task new : J) → Did task new → Each Did before after → Each Did (Some task ∷ before) (Some new ∷ after)

@@ -1,5 +1,5 @@
 -- What the turns of a loader commit, and what its counts come to. The rules are this project's own.
-use Rattle.std.specs.Prelude.{◌≡◌, ◌≢◌, ℕ, ◌+◌, ◌*◌, ◌^◌, ◌≤◌, true, List, [], ◌∷◌, ◌++◌, length, Option, Some, None, if◌then◌else◌}
+use Rattle.std.specs.Prelude.{◌≡◌, ◌≢◌, ℕ, ◌+◌, ◌<◌, ◌≤◌, true, List, [], ◌∷◌, ◌++◌, length, Option, Some, None, if◌then◌else◌}
 use Rattle.marc_types.specs.declared.entry.Entry.{Entry}
 use Rattle.marc_types.specs.declared.entry.Limits.{Limits}
 use Rattle.marc_types.specs.declared.entry.Receipt.{Receipt}
@@ -13,8 +13,8 @@ use Rattle.entry_history.specs.declared.event.Event.TheVariants.{Broke}
 use Rattle.entry_history.specs.declared.reply.BatchReply.{BatchReply}
 use Rattle.catalogue_lock.specs.declared.view.Numbered.{Numbered}
 use Rattle.catalogue_lock.specs.History.{items, items_by, is_same_number}
-use Rattle.catalogue_lock.specs.Passes.{Pass}
-use Rattle.loader_workers.specs.Counts.{with_receipts}
+use Rattle.catalogue_lock.specs.Passes.{Lock, Pass, IsPassOf, HasSeenItsOwn}
+use Rattle.marc_types.specs.Sums.{with_receipts, AreFew}
 use Rattle.loader_workers.specs.declared.counts.Counts.{Counts}
 use Rattle.loader_workers.specs.declared.file_end.FileEnd.{FileEnd}
 use Rattle.loader_workers.specs.declared.file_end.FileEnd.TheVariants.{Done, ReadFault, Full, DeviceFault, NoMemory}
@@ -34,6 +34,11 @@ pub record AnswersAsCatalogue (replies : Replies) : Type 0 where
   pub commits : CommitsAs replies origin
   pub few : origin.limits.entries ≤ most_entries
 
+-- and it takes each batch with an entry
+pub record IsCatalogue (Takes : List Entry → Type 0) (replies : Replies) : Type 0 where
+  pub takes : (batch : List Entry) → batch ≢ [] → Takes batch
+  pub answers : AnswersAsCatalogue replies
+
 -- the entry of a history's item, where a pass of this number added it and it is no mark
 abbrev pub entries_at : ℕ → Numbered Event → List Entry
 entries_at number e = if is_same_number (Some number) e.by then committed_entries e.item else []
@@ -50,7 +55,7 @@ pub record HasCommitted {O : Type 0} (origin : Origin) (entries : List Entry) (m
   pub later : List (Numbered Event)
   pub seen : new.seen ≡ old.seen ++ later
   pub own : items_by (Some old.number) later ≡ committed (with_run origin.run entries) ++ marks
-  pub counts : now ≡ with_receipts counted (receipts_by old.number (entries_of (items old.seen)) later)
+  pub sums : now.sums ≡ with_receipts counted.sums (receipts_by old.number (entries_of (items old.seen)) later)
   pub accepted : now.accepted ≡ counted.accepted + length entries
 
 -- the pass is the same but for its turns, and for what it added and has seen
@@ -58,6 +63,18 @@ pub record IsSamePass {O : Type 0} (old new : Pass O Event) : Type 0 where
   pub lock : new.lock ≡ old.lock
   pub opened : new.opened ≡ old.opened
   pub number : new.number ≡ old.number
+
+-- the pass is one of this lock's, has seen its own items, and has made fewer than so many turns
+pub record CanTurn {O : Type 0} (lock : Lock O) (pass : Pass O Event) (most : ℕ) : Type 0 where
+  pub own : IsPassOf lock pass
+  pub seen : HasSeenItsOwn pass
+  pub room : pass.turns < most
+
+-- the pass made at most so many turns, and can be used again
+pub record HasTurned {O : Type 0} (old new : Pass O Event) (most : ℕ) : Type 0 where
+  pub same : IsSamePass old new
+  pub seen : HasSeenItsOwn new
+  pub turns : new.turns ≤ old.turns + most
 
 -- no mark, or one whose list is the next of the entries that are left
 pub data IsMarkOf (run : ℕ) (rest : List Entry) (marks : List Event) : Type 0 where
@@ -99,12 +116,8 @@ pub record CommitsFront {O : Type 0} (origin : Origin) (batch : List Entry) (end
   pub committed_is : HasCommitted origin front marks counted now old new
   pub ends : IsEndOfBatch origin end rest marks (items new.seen)
 
--- what keeps the counts within 64 bits: they count few entries of the history, each with few fields, and no commit changes more
--- records than there are entries
+-- what keeps the counts within 64 bits: they count few entries of the history, and the sums are over as many receipts
 pub record IsCounted (c : Counts) (seen : List (Numbered Event)) : Type 0 where
   pub entries : c.accepted ≤ length (entries_of (items seen))
   pub few : c.accepted ≤ most_entries
-  pub linked : c.linked ≤ c.accepted * 2 ^ 32
-  pub ambiguous : c.ambiguous ≤ c.accepted * 2 ^ 32
-  pub unlinked : c.unlinked ≤ c.accepted * 2 ^ 32
-  pub changed : c.changed ≤ c.accepted * most_entries
+  pub sums : AreFew c.sums c.accepted

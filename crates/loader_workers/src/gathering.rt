@@ -3,22 +3,22 @@ ghost use Rattle.outside.specs.Fault.{Rose};
 ghost use Rattle.loader_workers.specs.Gathering.{HasGathered};
 
 use crate::file_end::FileEnd;
+use crate::task::Shared;
+use catalogue_lock::Object;
 use entry_history::Batch;
 use file_entries::{FileEntries, NextEntry, RefusedItem};
 use outside::{Gate, Source};
-use std::alloc::Global;
 use std::sync::Wait;
 
 /// Gathers the entries of the next turn and lists the refused items on the way, up to the gate's size or until the file ends.
 /// `before` counts the entries that were accepted before.
-pub fn gather<R: Wait, S: Source, G: Gate>(
+pub fn gather<O: Object, R: Wait, S: Source, G: Gate>(
     rt: &R,
-    alloc: Global,
+    shared: &Shared<'_, O, G>,
     entries: &mut FileEntries<S>,
     refused: &mut Vec<RefusedItem>,
     loader: u32,
     before: u64,
-    gate: &G,
 ) -> (Batch, Option<FileEnd>)
     requires going { entries.old.over ≡ false }
     requires few { before < 2 ^ 32 }
@@ -26,6 +26,7 @@ pub fn gather<R: Wait, S: Source, G: Gate>(
     ensures faults { entries.old.stream.faults ≤ entries.new.stream.faults }
     ensures cause { result.1 ≡ Some FileEnd.ReadFault → Rose entries.old.stream.faults entries.new.stream.faults }
 {
+    let Shared { alloc, gate, .. } = *shared;
     let size = gate.batch();
     let mut batch = Batch::new(alloc);
     'items: loop {

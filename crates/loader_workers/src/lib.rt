@@ -1,17 +1,22 @@
-//! Loading files into a catalogue under the lock: one file, or many side by side.
+//! Loading files side by side into a catalogue under the lock.
 #![tactic(auto)]
 
 pub use file_end::FileEnd;
-pub use job::Job;
+pub use input::{InputFile, InputFiles};
 pub use loading::load;
-pub use result::FileResult;
-pub use side_by_side::{Jobs, Results, load_all};
+pub use parallel::load_files;
+pub use result::{FileResult, Results};
+pub use side_by_side::load_all;
+pub use task::{FileTask, Shared};
 
 mod counts;
+mod dealing;
 mod file_end;
 mod gathering;
-mod job;
+mod input;
 mod loading;
+mod parallel;
 mod result;
 mod side_by_side;
+mod task;
 mod turning;

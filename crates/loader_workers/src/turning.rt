@@ -1,8 +1,6 @@
-ghost use Rattle.std.specs.Prelude.{◌≡◌, ◌≢◌, ◌+◌, ◌^◌, ◌<◌, ◌≤◌, [], List, None};
-ghost use Rattle.marc_types.specs.declared.entry.Entry.{Entry};
+ghost use Rattle.std.specs.Prelude.{◌≡◌, ◌^◌, []};
 ghost use Rattle.entry_history.specs.Commits.{Origin};
-ghost use Rattle.catalogue_lock.specs.Passes.{IsPassOf, HasSeenItsOwn};
-ghost use Rattle.loader_workers.specs.Turns.{CommitsAs, AnswersAsCatalogue, CommitsFront, IsSamePass, IsCounted};
+ghost use Rattle.loader_workers.specs.Turns.{CommitsAs, IsCatalogue, CanTurn, HasTurned, CommitsFront, IsCounted};
 
 use crate::counts::Counts;
 use crate::file_end::{FileEnd, end_of_commit};
@@ -19,17 +17,12 @@ pub fn commit<O: Object<Item = Event, Call = Batch, Reply = BatchReply>, R: Wait
     batch: Batch,
     counts: &mut Counts,
 ) -> Option<FileEnd>
-    requires own { IsPassOf lock.now pass.old }
-    requires seen { HasSeenItsOwn pass.old }
-    requires room { pass.old.turns < 2 ^ 31 }
-    requires takes { (call : List Entry) → call ≢ [] → O.takes call }
-    requires catalogue { AnswersAsCatalogue (O.replies (O.origin lock.now.opened)) }
+    requires pass { CanTurn lock.now pass.old (2 ^ 31) }
+    requires catalogue { IsCatalogue O.takes (O.replies (O.origin lock.now.opened)) }
     requires counted { IsCounted counts.old pass.old.seen }
     ensures front { (origin : Origin) → CommitsAs (O.replies (O.origin lock.now.opened)) origin
         → CommitsFront origin batch result counts.old counts.new pass.old pass.new }
-    ensures same { IsSamePass pass.old pass.new }
-    ensures seen { HasSeenItsOwn pass.new }
-    ensures turns { pass.new.turns ≤ pass.old.turns + 1 }
+    ensures pass { HasTurned pass.old pass.new 1 }
     ensures no_turn { batch ≡ [] → pass.new.turns ≡ pass.old.turns }
     ensures counted { IsCounted counts.new pass.new.seen }
 {

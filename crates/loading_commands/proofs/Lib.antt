@@ -5,3 +5,4 @@ mod Written
 mod Missing
 pub mod Ended
 mod Ran
+pub mod Requests

@@ -2,7 +2,7 @@
 use Rattle.std.proofs.Common.{◌≡◌, ℕ, ◌+◌, suc, zero, Bool, true, false, ◌||◌, List, [], ◌∷◌, ◌++◌, length, slice_get, Some, None, refl, sym, ap, subst, ◌∙◌, arith, append_assoc, append-nil}
 use Rattle.std.specs.Prelude.{nat_lt}
 use Rattle.std.specs.Prelude.{if◌then◌else◌}
-use Rattle.std.specs.List.{sum_by, AllByRecursion}
+use Rattle.std.specs.List.{AllByRecursion}
 use Rattle.marc_types.specs.declared.entry.Entry.{Entry}
 use Rattle.marc_types.specs.declared.entry.Receipt.{Receipt}
 use Rattle.outside.specs.Room.{RoomView}
@@ -13,14 +13,14 @@ use Rattle.file_entries.specs.declared.refused.RefusedItem.{RefusedItem}
 use Rattle.entry_record.specs.History.{brought_by, with_run, next_run}
 use Rattle.catalogue_rules.specs.Receipts.{receipts_of_loader}
 use Rattle.console_lines.specs.Lines.{refused_lines, totals_line}
-use Rattle.console_lines.specs.Totals.{sums_of}
+use Rattle.console_lines.specs.Totals.{totals_of}
+use Rattle.marc_types.specs.Sums.{sums_of}
 use Rattle.console_lines.specs.declared.fault.Fault.{Fault}
 use Rattle.console_lines.specs.declared.fault.Fault.TheVariants as fault
-use Rattle.loader_workers.specs.Counts.{no_counts, with_receipts, counts_in}
 use Rattle.loader_workers.specs.declared.file_end.FileEnd.{FileEnd}
 use Rattle.loader_workers.specs.declared.file_end.FileEnd.TheVariants as end
 use Rattle.loader_workers.specs.declared.result.FileResult.{FileResult}
-use Rattle.parallel_loading.specs.Files.{IsFileLoaded, IsEndOfFile}
+use Rattle.loader_workers.specs.Files.{IsFileLoaded, IsEndOfFile}
 use Rattle.room_files.specs.Journals.{journal_limits}
 use Rattle.journal_loading.specs.Outcomes.{AreLibrariesLoaded, NoLibrary, OneLibrary, ends_so, any_ends, loading_fault}
 use Rattle.loading_commands.specs.Merged.{AreJudged, NoFile, OneFile}
@@ -84,16 +84,11 @@ record Whole (before added : List Entry) (code bytes : List ℕ) (loader : ℕ) 
   pub front : List Entry
   pub judged : IsJudged code loader (items bytes) front r.refused
   pub brought : brought_by loader added ≡ with_run (next_run before) front
-  pub totals : totals_in r ≡ record { accepted = length front; refused = length r.refused; sums = sums_of (receipts_of_loader loader before added) }
+  pub totals : totals_in r ≡ totals_of front r.refused (receipts_of_loader loader before added)
 
-same_totals : (r : FileResult) (n : ℕ) (receipts : List Receipt) → r.accepted ≡ n → counts_in r ≡ with_receipts no_counts receipts
-    → totals_in r ≡ record { accepted = n; refused = length r.refused; sums = sums_of receipts }
-same_totals r n receipts accepted counts =
-    let linked : r.linked ≡ sum_by (λ x. x.linked) receipts = ap (λ c. c.linked) counts ∙ omega arith in
-    let ambiguous : r.ambiguous ≡ sum_by (λ x. x.ambiguous) receipts = ap (λ c. c.ambiguous) counts ∙ omega arith in
-    let unlinked : r.unlinked ≡ sum_by (λ x. x.unlinked) receipts = ap (λ c. c.unlinked) counts ∙ omega arith in
-    let changed : r.changed ≡ sum_by (λ x. x.changed_records) receipts = ap (λ c. c.changed) counts ∙ omega arith in
-    cc
+same_totals : (r : FileResult) (front : List Entry) (receipts : List Receipt) → r.accepted ≡ length front → r.sums ≡ sums_of receipts
+    → totals_in r ≡ totals_of front r.refused receipts
+same_totals r front receipts accepted sums = λ i. record { accepted = accepted i; refused = length r.refused; sums = sums i }
 
 whole_file : (before added : List Entry) (code bytes : List ℕ) (loader : ℕ) (r : FileResult) → r.end ≡ end.Done
     → IsFileLoaded journal_limits before added None code bytes loader r → Whole before added code bytes loader r
@@ -106,7 +101,7 @@ whole_file before added code bytes loader r is f =
       front = f.front;
       judged = subst (λ is. IsJudged code loader is f.front r.refused) (sym all) (subst (λ es. IsJudged code loader f.done es r.refused) front f.judged);
       brought = f.committed_are;
-      totals = same_totals r (length f.front) (receipts_of_loader loader before added) f.accepted f.counts;
+      totals = same_totals r f.front (receipts_of_loader loader before added) f.accepted f.sums;
     }
 
 module _ (room : RoomView) (before added : List Entry) where
@@ -134,7 +129,7 @@ module _ (room : RoomView) (before added : List Entry) where
         count = ap suc rest.count;
         refused_is = ap (λ text. refused_lines l.file r.refused ++ text) rest.refused_is;
         totals_is = ap (λ t. totals_line l.file t ++ totals_text libraries results) w.totals
-            ∙ ap (λ text. totals_line l.file (record { accepted = length w.front; refused = length r.refused; sums = sums_of (receipts_of_loader loader before added) }) ++ text) rest.totals_is;
+            ∙ ap (λ text. totals_line l.file (totals_of w.front r.refused (receipts_of_loader loader before added)) ++ text) rest.totals_is;
         any_is = ap (λ any. nat_lt 0 (length r.refused) || any) rest.any_is;
       }
     where

@@ -6,7 +6,7 @@ use Rattle.command_words.specs.declared.library.Library.{Library}
 use Rattle.file_entries.specs.declared.refused.RefusedItem.{RefusedItem}
 use Rattle.catalogue_rules.specs.Receipts.{receipts_of_loader}
 use Rattle.console_lines.specs.Lines.{refused_lines, totals_line}
-use Rattle.console_lines.specs.Totals.{sums_of}
+use Rattle.console_lines.specs.Totals.{totals_of}
 
 -- the refused items of each file, in the files' order
 unfoldable pub refused_part : List Library → List (List RefusedItem) → List ℕ
@@ -17,11 +17,7 @@ refused_part libraries refused = []
 -- entries, each at its own place behind the history before. The first of these files has that loader.
 unfoldable pub totals_part : List Entry → List Entry → ℕ → List Library → List (List Entry) → List (List RefusedItem) → List ℕ
 totals_part before added loader (library ∷ libraries) (entries ∷ accepted) (items ∷ refused) =
-    totals_line library.file (record {
-      accepted = length entries;
-      refused = length items;
-      sums = sums_of (receipts_of_loader loader before added);
-    })
+    totals_line library.file (totals_of entries items (receipts_of_loader loader before added))
     ++ totals_part before added (loader + 1) libraries accepted refused
 totals_part before added loader libraries accepted refused = []
 

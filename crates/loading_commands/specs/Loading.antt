@@ -1,8 +1,10 @@
 -- How the commands end that load files.
-use Rattle.std.specs.Prelude.{◌≡◌, ◌≢◌, ◌⊎◌, ℕ, true, List, [], ◌∷◌}
+use Rattle.std.specs.Prelude.{◌≡◌, ◌≢◌, ◌⊎◌, ℕ, true, List, [], ◌∷◌, Option, Some, None}
 use Rattle.outside.specs.Fault.{Rose}
 use Rattle.outside.specs.Room.{SameBut}
 use Rattle.command_words.specs.declared.library.Library.{Library}
+use Rattle.command_words.specs.declared.asked.LoadRequest.{LoadRequest}
+use Rattle.command_words.specs.declared.asked.Outputs.{Outputs}
 use Rattle.console_lines.specs.Ends.{Outcome, IsTold, IsAllDone, IsSilent, out_unwritten, report_unwritten, console_unwritten}
 use Rattle.console_lines.specs.declared.end.End.TheVariants.{Told}
 use Rattle.console_lines.specs.declared.fault.Fault.{Fault}
@@ -53,3 +55,11 @@ pub record Runs (libraries : List Library) (journal out report : List ℕ) (o : 
   pub in_out : o.end ≡ out_unwritten → o.old.tells ≡ true → IsRunInOut o.old o.new journal out libraries
   pub in_report : o.end ≡ report_unwritten → o.old.tells ≡ true → IsRunInReport o.old o.new journal out report libraries
   pub untold : o.end ≡ console_unwritten → o.old.tells ≡ true → IsUntoldRun o.old o.new journal out report libraries o.told o.now
+
+-- How a command ends that loads files into a journal: as `load`, or, with outputs, as `run`.
+abbrev pub EndsWithOutputs : List Library → List ℕ → Option Outputs → Outcome → Type 0
+EndsWithOutputs libraries journal None o = Loads libraries journal o
+EndsWithOutputs libraries journal (Some outputs) o = Runs libraries journal outputs.out.now outputs.report.now o
+
+abbrev pub EndsLoading : LoadRequest → Outcome → Type 0
+EndsLoading asked o = EndsWithOutputs asked.libraries asked.journal.now asked.outputs o

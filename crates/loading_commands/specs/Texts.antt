@@ -8,11 +8,7 @@ use Rattle.loader_workers.specs.declared.result.FileResult.{FileResult}
 
 -- what is counted in a result
 abbrev pub totals_in : FileResult → Totals
-totals_in r = record {
-  accepted = r.accepted;
-  refused = length r.refused;
-  sums = record { linked = r.linked; ambiguous = r.ambiguous; unlinked = r.unlinked; changed = r.changed };
-}
+totals_in r = record { accepted = r.accepted; refused = length r.refused; sums = r.sums }
 
 -- the refused items of each result
 unfoldable pub refused_text : List Library → List FileResult → List ℕ

@@ -1,92 +1,70 @@
-//! The commands that load files into a journal.
-ghost use Rattle.std.specs.Prelude.{◌≡◌, ℕ, List, [], ◌∷◌, None};
-ghost use Rattle.command_words.specs.Command.{AreNames};
+//! How the commands that load files into a journal begin and end.
+ghost use Rattle.std.specs.Prelude.{◌≡◌, ℕ, List, [], ◌∷◌, None, IfOk, IfErr, OnOk, OnErr};
+ghost use Rattle.command_words.specs.Command.{names_of};
+ghost use Rattle.command_words.specs.Asked.{load_asked};
 ghost use Rattle.console_lines.specs.Ends.{outcome};
+ghost use Rattle.durable_catalogue.specs.Views.{durable_view};
 ghost use Rattle.outside.specs.Room.{SameBut};
-ghost use Rattle.journal_loading.specs.Inputs.{AreLoadable};
-ghost use Rattle.loading_commands.specs.Loading.{Loads, Runs};
+ghost use Rattle.journal_loading.specs.Inputs.{IsProper};
+ghost use Rattle.journal_loading.specs.Outcomes.{HasBegun, IsWaiting, HasRead};
+ghost use Rattle.loading_commands.specs.Loading.{EndsLoading};
 
-use crate::outputs::write_outputs;
-use crate::texts::{files_text, has_refused};
-use command_words::Library;
-use console_lines::{End, Fault, end_of_outputs, tell, tell_result};
-use journal_loading::{LoadedJournal, load_journal};
-use marc_types::NoMemory;
-use outside::{Gate, Room};
-use room_files::close_journal;
+use crate::ending::{end_load, end_run};
+use command_words::LoadRequest;
+use console_lines::{End, tell};
+use journal_loading::{Loaded, Loading, finish};
+use outside::Room;
 use std::alloc::Global;
-use std::sync::Wait;
-use std::thread::Threads;
 
-/// The command `load`: loads the files of these libraries into the journal of that name.
-pub fn load<H: Threads + Wait + Sync, R: Room, G: Gate + Sync>(
-    rt: &H,
+/// Begins the command that a request asks for: opens the journal and the files. With a fault all is closed again, the console is
+/// told, and the command has ended.
+pub fn begin<'a, R: Room>(
     alloc: Global,
-    libraries: &[Library],
+    asked: LoadRequest<'a>,
     room: &mut R,
     console: &mut R::Out,
-    journal: &str,
-    gate: &G,
-) -> End
+) -> Result<Loading<'a, R>, End>
     requires free { (name : List ℕ) → (R.seen room.old).open_as name ≡ None }
-    requires loadable { AreLoadable journal.now libraries.now }
-    ensures closed { (name : List ℕ) → (R.seen room.new).open_as name ≡ None }
-    ensures apart { SameBut (R.seen room.old) (R.seen room.new) (journal.now ∷ []) }
-    ensures ends { Loads libraries.now journal.now
-        (outcome R.seen R.Out.written R.Out.faults room.old room.new console.old console.new result) }
+    requires proper { IsProper asked }
+
+    // What is asked for was begun in this room, and the console is told nothing.
+    ensures asked { IfOk result (λ l. l.asked ≡ asked.entry) }
+    ensures before { IfOk result (λ l. l.before.value ≡ room.old) }
+    ensures begun { IfOk result (λ l. HasBegun R.In.left R.In.faults (R.seen l.before.value) l.asked (durable_view l.durable) l.inputs) }
+    ensures waiting { IfOk result (λ l. IsWaiting (R.seen l.before.value) (R.seen room.new) l.asked.journal.now) }
+    ensures silent { OnOk result (console.new ≡ console.old) }
+
+    // Or the command has ended.
+    ensures closed { OnErr result ((name : List ℕ) → (R.seen room.new).open_as name ≡ None) }
+    ensures apart { OnErr result (SameBut (R.seen room.old) (R.seen room.new) (names_of (load_asked asked.entry))) }
+    ensures ends { IfErr result (λ end. EndsLoading asked.entry
+        (outcome R.seen R.Out.written R.Out.faults room.old room.new console.old console.new end)) }
 {
-    let LoadedJournal { durable, results } = match load_journal(
-        rt, alloc, room, libraries, journal, gate,
-    ) {
-        Ok(loaded) => loaded,
-        Err(fault) => return tell(console, fault),
-    };
-    durable.is_within_limits();
-    let text = files_text(alloc, libraries, results.as_slice());
-    close_journal(room, journal, durable);
-    match text {
-        Ok(text) => tell_result(console, text.as_str(), has_refused(results.as_slice())),
-        Err(NoMemory) => tell(console, Fault::Memory),
+    match journal_loading::begin(alloc, room, asked) {
+        Ok(loading) => Ok(loading),
+        Err(fault) => Err(tell(console, fault)),
     }
 }
 
-/// The command `run`: loads the files of these libraries into the journal of that name, and then writes the export of the
-/// journal's history into the file `out` and its report into the file `report`.
-pub fn run_files<H: Threads + Wait + Sync, R: Room, G: Gate + Sync>(
-    rt: &H,
-    alloc: Global,
-    libraries: &[Library],
-    room: &mut R,
-    console: &mut R::Out,
-    journal: &str,
-    out: &str,
-    report: &str,
-    gate: &G,
-) -> End
-    requires free { (name : List ℕ) → (R.seen room.old).open_as name ≡ None }
-    requires loadable { AreLoadable journal.now libraries.now }
-    requires names { AreNames (journal.now ∷ out.now ∷ report.now ∷ []) }
+/// Ends the command of a loading whose files were loaded: closes the files, writes the export and the report of the journal's history
+/// where they were asked for, closes the journal, and tells the console the files' lines.
+pub fn end<R: Room>(alloc: Global, loaded: Loaded<'_, R>, room: &mut R, console: &mut R::Out) -> End
+    requires read { HasRead R.In.left R.In.faults (R.seen loaded.before.value) loaded.asked (durable_view loaded.durable) loaded.inputs loaded.results }
+    requires waiting { IsWaiting (R.seen loaded.before.value) (R.seen room.old) loaded.asked.journal.now }
     ensures closed { (name : List ℕ) → (R.seen room.new).open_as name ≡ None }
-    ensures apart { SameBut (R.seen room.old) (R.seen room.new) (journal.now ∷ out.now ∷ report.now ∷ []) }
-    ensures ends { Runs libraries.now journal.now out.now report.now
-        (outcome R.seen R.Out.written R.Out.faults room.old room.new console.old console.new result) }
+
+    // Since the room was as before the command began, it changed nothing else, and ended as it does.
+    ensures apart { SameBut (R.seen loaded.entry.before.value) (R.seen room.new) (names_of (load_asked loaded.entry.asked)) }
+    ensures ends { EndsLoading loaded.entry.asked
+        (outcome R.seen R.Out.written R.Out.faults loaded.entry.before.value room.new console.old console.new result) }
 {
-    let LoadedJournal { durable, results } = match load_journal(
-        rt, alloc, room, libraries, journal, gate,
-    ) {
+    let loaded = match finish(room, loaded) {
         Ok(loaded) => loaded,
         Err(fault) => return tell(console, fault),
     };
-    durable.is_within_limits();
-    let text = match files_text(alloc, libraries, results.as_slice()) {
-        Ok(text) => text,
-        Err(NoMemory) => {
-            close_journal(room, journal, durable);
-            return tell(console, Fault::Memory);
-        }
-    };
-    let written = write_outputs(alloc, room, out, report, durable.core());
-    close_journal(room, journal, durable);
-    let refused = has_refused(results.as_slice());
-    end_of_outputs(console, written, text.as_str(), refused)
+    let outputs = loaded.asked.outputs;
+    match outputs {
+        None => end_load(alloc, loaded, room, console),
+        Some(outputs) => end_run(alloc, loaded, outputs, room, console),
+    }
 }

@@ -3,7 +3,7 @@ ghost use Rattle.std.specs.Prelude.{◌≡◌, length, nat_lt, IfOk, string_byte
 ghost use Rattle.loading_commands.specs.Texts.{totals_in, files_text, has_refused};
 
 use command_words::Library;
-use console_lines::{Sums, Totals, refused_lines, totals_line};
+use console_lines::{Totals, refused_lines, totals_line};
 use loader_workers::FileResult;
 use marc_types::NoMemory;
 use std::alloc::Global;
@@ -14,12 +14,7 @@ fn totals_in(file: &FileResult) -> Totals
     Totals {
         accepted: file.accepted,
         refused: file.refused.len() as u64,
-        sums: Sums {
-            linked: file.linked,
-            ambiguous: file.ambiguous,
-            unlinked: file.unlinked,
-            changed: file.changed,
-        },
+        sums: file.sums,
     }
 }
 

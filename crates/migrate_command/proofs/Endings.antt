@@ -73,6 +73,7 @@ module _ (from into : List ℕ) (o : Outcome) (result : Result ℕ Fault) (over 
         (λ device. (is ∙ ap Told (err_once result why Device err device.0), device.1)) (over.alone entries tells has none);
     told = λ other also. subst (λ w. IsTold w o × ((WhyNotFrom o.old from w × SameBut o.old o.new (from ∷ [])) ⊎ WhyNotInto o.old from into w))
         (told_once o.end why other is also) (told, over.refused why err);
+    kept = λ other also differs. over.kept why err (λ device. differs (sym (told_once o.end why other is also) ∙ device));
     device = λ also. over.device (err ∙ ap Err (told_once o.end why Device is also));
     history = λ untold. absurd (never_told o.end why untold is);
     version = λ untold. absurd (never_told o.end why untold is);
@@ -102,6 +103,7 @@ module _ (from into : List ℕ) (o : Outcome) (result : Result ℕ Fault) (over 
       brings = over.brings;
       alone = left_alone;
       told = λ why also. absurd (told_not_done o.end why also is);
+      kept = λ why also. absurd (told_not_done o.end why also is);
       device = λ also. absurd (told_not_done o.end Device also is);
       history = λ untold. over.history count ok;
       version = λ untold. over.version count ok;
@@ -120,6 +122,7 @@ module _ (from into : List ℕ) (o : Outcome) (result : Result ℕ Fault) (over 
       brings = over.brings;
       alone = left_alone;
       told = λ why also. absurd (told_not_unwritten o.end why Console also is);
+      kept = λ why also. absurd (told_not_unwritten o.end why Console also is);
       device = λ also. absurd (told_not_unwritten o.end Device Console also is);
       history = λ untold. over.history count ok;
       version = λ untold. over.version count ok;

@@ -6,7 +6,7 @@ use Rattle.std.specs.Coded.{Coded-set, coded_ℕ}
 use Rattle.marc_types.specs.declared.entry.Entry.{Entry}
 use Rattle.outside.specs.Disk.{DiskView}
 use Rattle.outside.specs.Fault.{Rose}
-use Rattle.outside.specs.Room.{RoomView, SameBut}
+use Rattle.outside.specs.Room.{RoomView, SameBut, bytes_or_none}
 use Rattle.outside.proofs.Rooms.{same_but_none, same_but_then}
 use Rattle.commit_journal.specs.Log.{version_of}
 use Rattle.entry_record.specs.History.{IsWithin}
@@ -53,6 +53,7 @@ module _ (from into : List ℕ) (differ : into ≢ from) (old opened : RoomView)
             (λ device. (is ∙ ap (λ r. Err (fault_of_opening r)) device, rose device)) (keeps tells);
         brings = λ entries tells has. ∣ Unopened other_untouched ∣₁;
         alone = λ entries tells has unfit. journals.Unopened other_untouched;
+        kept = λ why also other tells. ap bytes_or_none other_untouched.file;
         refused = λ why also. inl (NotOpened reason current (err_once result why fault also is) so, apart);
         device = λ also. inl (rose (opening_device reason (err_once result fault Device is also)));
         history = λ count ok. absurd (ok_not_err result count fault ok is);
@@ -124,6 +125,7 @@ module _ (from into : List ℕ) (differ : into ≢ from) (old opened brought clo
     alone = λ entries tells also none.
         let f = b.fit (first.tells ∙ tells) in
         absurd (unfit_any entries (log_bytes old into) tells also none f.0 (subst (λ l. IsFit journal_limits history f.0 l) first_bytes f.1));
+    kept = λ why err. absurd (ok_not_err result count why is err);
     refused = λ why err. absurd (ok_not_err result count why is err);
     device = λ err. absurd (ok_not_err result count Device is err);
     history = λ n ok. fits;
@@ -159,14 +161,21 @@ module _ (from into : List ℕ) (differ : into ≢ from) (old opened brought clo
       images_brought tells =
           images_across history old opened brought closed from into differ first last (b.durable (log_bytes old from) (first.tells ∙ tells) (has tells))
 
-  over_unbrought : (why : Fault) (result : Result ℕ Fault) → result ≡ Err why → IsUnbrought history version opened brought into why
-      → IsBroughtOver from into old closed result
-  over_unbrought why result is (bringing.Newest newest other stays) = record {
+  still : (why : Fault) (result : Result ℕ Fault) → result ≡ Err why → (why ≢ Device → opened.tells ≡ true → log_bytes brought into ≡ log_bytes opened into)
+      → (w : Fault) → result ≡ Err w → w ≢ Device → old.tells ≡ true → log_bytes closed into ≡ log_bytes old into
+  still why result is kept w err other tells =
+      bytes_last history old opened brought closed from into differ first last
+      ∙ kept (λ device. other (err_once result w why err is ∙ device)) (first.tells ∙ tells) ∙ first_bytes
+
+  over_unbrought : (why : Fault) (result : Result ℕ Fault) → result ≡ Err why → (why ≢ Device → opened.tells ≡ true → log_bytes brought into ≡ log_bytes opened into)
+      → IsUnbrought history version opened brought into why → IsBroughtOver from into old closed result
+  over_unbrought why result is unchanged (bringing.Newest newest other stays) = record {
     keeps = keeps_opened (IsDeviceFaultOf old closed from result);
     brings = brings_opened;
     alone = λ entries tells also none.
         let failed = IsDeviceFaultOf old closed into result in
         keeps_across history old opened brought closed from into differ first last failed (unopened_keeps failed opened brought into stays);
+    kept = still why result is unchanged;
     refused = λ w err. inl (Newest (err_once result w why err is ∙ newest) (λ tells. (two tells, fits tells)), apart);
     device = λ err. let device : why ≡ Device = err_once result why Device is err in let never : OldVersion ≡ Device = sym newest ∙ device in cc;
     history = λ count ok. absurd (ok_not_err result count why ok is);
@@ -184,7 +193,7 @@ module _ (from into : List ℕ) (differ : into ≢ from) (old opened brought clo
 
       apart : SameBut old closed (from ∷ [])
       apart = same_but_then old opened closed (from ∷ []) first (same_but_then opened brought closed (from ∷ []) (same_but_none opened brought (from ∷ []) stays) last)
-  over_unbrought why result is (Refused reason oldest told so alone rose) = record {
+  over_unbrought why result is unchanged (Refused reason oldest told so alone rose) = record {
     keeps = keeps_opened (IsDeviceFaultOf old closed from result);
     brings = brings_opened;
     alone = λ entries tells also none.
@@ -192,6 +201,7 @@ module _ (from into : List ℕ) (differ : into ≢ from) (old opened brought clo
         (keeps_across history old opened brought closed from into differ first last (why ≡ Device)
         (alone (log_bytes old from) (first.tells ∙ tells) (has tells)
         (subst (IsUnfit journal_limits history) (sym first_bytes) (unfit_any entries (log_bytes old into) tells also none))));
+    kept = still why result is unchanged;
     refused = λ w err. inr (record {
       reason = reason;
       is = err_once result w why err is ∙ told;
@@ -215,6 +225,7 @@ module _ (from into : List ℕ) (differ : into ≢ from) (old opened brought clo
           omega (arith, rises, before, behind)
 
   pub over_either : (result : Result ℕ Fault) → IfOk result (λ count. count ≡ length history) → OnOk result (IsBroughtInto history version opened brought into)
-      → IfErr result (IsUnbrought history version opened brought into) → IsBroughtOver from into old closed result
-  over_either (Ok count) number it why = over_brought count (Ok count) refl number it
-  over_either (Err fault) number it why = over_unbrought fault (Err fault) refl why
+      → IfErr result (IsUnbrought history version opened brought into)
+      → IfErr result (λ fault. fault ≢ Device → opened.tells ≡ true → log_bytes brought into ≡ log_bytes opened into) → IsBroughtOver from into old closed result
+  over_either (Ok count) number it why unchanged = over_brought count (Ok count) refl number it
+  over_either (Err fault) number it why unchanged = over_unbrought fault (Err fault) refl unchanged why

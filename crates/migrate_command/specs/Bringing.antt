@@ -1,5 +1,5 @@
 -- A history that is brought from one log of a room into another, before the console is told.
-use Rattle.std.specs.Prelude.{◌≡◌, ◌⊎◌, ℕ, true, List, [], ◌∷◌, length, Result, Ok, Err}
+use Rattle.std.specs.Prelude.{◌≡◌, ◌≢◌, ◌⊎◌, ℕ, true, List, [], ◌∷◌, length, Result, Ok, Err}
 use Rattle.marc_types.specs.declared.entry.Entry.{Entry}
 use Rattle.outside.specs.Fault.{Rose}
 use Rattle.outside.specs.Room.{RoomView, SameBut}
@@ -41,6 +41,7 @@ pub record IsBroughtOver (from into : List ℕ) (old new : RoomView) (result : R
   pub brings : (entries : List Entry) → old.tells ≡ true → HasHistory entries (log_bytes old from) → ∥ BringsInto entries old new into ∥₁
   pub alone : (entries : List Entry) → old.tells ≡ true → HasHistory entries (log_bytes old from) → IsUnfit journal_limits entries (log_bytes old into)
       → KeepsHistory (IsDeviceFaultOf old new into result) old new into
+  pub kept : (why : Fault) → result ≡ Err why → why ≢ Device → old.tells ≡ true → log_bytes new into ≡ log_bytes old into
   pub refused : (why : Fault) → result ≡ Err why → (WhyNotFrom old from why × SameBut old new (from ∷ [])) ⊎ WhyNotInto old from into why
   pub device : result ≡ Err Device → Rose (old.log_faults from) (new.log_faults from) ⊎ Rose (old.log_faults into) (new.log_faults into)
   pub history : (count : ℕ) → result ≡ Ok count → old.tells ≡ true → HasFittingHistory (log_bytes old from)

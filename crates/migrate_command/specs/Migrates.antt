@@ -95,6 +95,8 @@ pub record Migrates (from into : List ℕ) (o : Outcome) : Type 0 where
   -- a new one that is not fit for the history is left alone, whatever the end is, in its file and in what a crash may leave
   pub alone : (entries : List Entry) → o.old.tells ≡ true → HasHistory entries (log_bytes o.old from)
       → IsUnfit journal_limits entries (log_bytes o.old into) → KeepsHistory (IsDeviceOf o into) o.old o.new into
+  -- unless a device failed, a new one that doesn't get the history is as it was, byte for byte
+  pub kept : (why : Fault) → o.end ≡ Told why → why ≢ Device → o.old.tells ≡ true → log_bytes o.new into ≡ log_bytes o.old into
   -- a fault is told for its reason; one of the old journal comes before the new one is opened
   pub told : (why : Fault) → o.end ≡ Told why
       → IsTold why o × ((WhyNotFrom o.old from why × SameBut o.old o.new (from ∷ [])) ⊎ WhyNotInto o.old from into why)

@@ -3,7 +3,8 @@ ghost use Rattle.std.specs.Prelude.{◌≡◌, ◌≢◌, ℕ, List, [], ◌∷�
 ghost use Rattle.outside.specs.Room.{SameBut};
 ghost use Rattle.entry_record.specs.History.{IsWithin};
 ghost use Rattle.durable_catalogue.specs.Logs.{HasHistory};
-ghost use Rattle.room_files.specs.Journals.{journal_limits};
+ghost use Rattle.console_lines.specs.declared.fault.Fault.TheVariants.{Device};
+ghost use Rattle.room_files.specs.Journals.{journal_limits, log_bytes};
 ghost use Rattle.migrate_command.specs.Bringing.{IsBroughtInto, IsUnbrought, IsBroughtOver};
 ghost use Rattle.migrate_command.specs.Migrates.{BringsInto};
 
@@ -34,6 +35,10 @@ fn bring_into<R: Room>(
     ensures counted { IfOk result (λ count. count ≡ length history.now) }
     ensures brought { OnOk result (IsBroughtInto history.now version (R.seen room.old) (R.seen room.new) into.now) }
     ensures fault { IfErr result (IsUnbrought history.now version (R.seen room.old) (R.seen room.new) into.now) }
+
+    // Unless a device failed, a file that doesn't take it is as it was, byte for byte.
+    ensures kept { IfErr result (λ fault. fault ≢ Device → (R.seen room.old).tells ≡ true →
+        log_bytes (R.seen room.new) into.now ≡ log_bytes (R.seen room.old) into.now) }
 {
     if version != 1 {
         return Err(Fault::OldVersion);
@@ -72,7 +77,7 @@ pub fn bring_over<R: Room>(
         Ok(log) => log,
         Err(fault) => return Err(fault_of_opening(fault)),
     };
-    let brought = bring_into(alloc, room, log.version(), taken.as_slice(), into);
+    let brought = bring_into(alloc, room, log.version().number(), taken.as_slice(), into);
     close_history(room, from, log);
     brought
 }

@@ -8,11 +8,12 @@ use Rattle.marc_types.specs.declared.entry.Receipt.{Receipt}
 use Rattle.entry_record.specs.History.{entry_size, entries_size}
 use Rattle.catalogue_rules.specs.Receipts.{receipt_behind, receipts_behind}
 use Rattle.catalogue_core.specs.Catalogues.{Catalogued, is_full, with_entry}
-use Rattle.console_lines.specs.Totals.{sums_of, with_receipt, HasRoom}
+use Rattle.marc_types.specs.Sums.{no_sums, sums_of, with_receipts, HasRoom, AddsFew, AreFew}
+use Rattle.marc_types.specs.declared.sums.Sums.{Sums}
+use Rattle.marc_types.proofs.Adding.{with_both, few_none, room_in_few, still_few}
 use Rattle.plain_commands.specs.Totals.{holding, IsWithinLimits, IsSummed}
 use Rattle.marc_types.specs.Limits.{most_entries, most_bytes}
 use Rattle.plain_commands.specs.Loading.{IsCommitted}
-use Rattle.console_lines.specs.declared.totals.Sums.{Sums}
 use Rattle.catalogue_rules.proofs.FewRows.{few_changed}
 
 receipts_last : (history entries : List Entry) (e : Entry)
@@ -24,19 +25,11 @@ receipts_last history (first ∷ entries) e =
     (receipts_last (history ++ first ∷ []) entries e
     ∙ ap (λ h. receipts_behind (history ++ first ∷ []) entries ++ receipt_behind h e ∷ []) (append_assoc history (first ∷ []) entries))
 
-sums_last : (receipts : List Receipt) (r : Receipt) → sums_of (receipts ++ r ∷ []) ≡ with_receipt (sums_of receipts) r
-sums_last receipts r =
-    let linked = sum_by_push (λ (r : Receipt). r.linked) receipts r in
-    let ambiguous = sum_by_push (λ (r : Receipt). r.ambiguous) receipts r in
-    let unlinked = sum_by_push (λ (r : Receipt). r.unlinked) receipts r in
-    let changed = sum_by_push (λ (r : Receipt). r.changed_records) receipts r in
-    λ i. record { linked = linked i; ambiguous = ambiguous i; unlinked = unlinked i; changed = changed i }
-
 sums_more : (accepted : List Entry) (e : Entry) (sums : Sums) → sums ≡ sums_of (receipts_behind [] accepted)
-    → with_receipt sums (receipt_behind accepted e) ≡ sums_of (receipts_behind [] (accepted ++ e ∷ []))
+    → with_receipts sums (receipt_behind accepted e ∷ []) ≡ sums_of (receipts_behind [] (accepted ++ e ∷ []))
 sums_more accepted e sums are =
-    ap (λ (s : Sums). with_receipt s (receipt_behind accepted e)) are
-    ∙ sym (ap sums_of (receipts_last [] accepted e) ∙ sums_last (receipts_behind [] accepted) (receipt_behind accepted e))
+    ap (λ (s : Sums). with_receipts s (receipt_behind accepted e ∷ [])) are
+    ∙ (with_both no_sums (receipts_behind [] accepted) (receipt_behind accepted e ∷ []) ∙ sym (ap sums_of (receipts_last [] accepted e)))
 
 within_more : (accepted : List Entry) (e : Entry) → is_full (holding accepted) e ≡ false → IsWithinLimits (accepted ++ e ∷ [])
 within_more accepted e h =
@@ -55,41 +48,27 @@ room_for_receipt accepted e sums summed within =
     let few = few_changed accepted e in
     let longer = length-append accepted (e ∷ []) in
     let entries = within.entries in
-    let linked = summed.linked in
-    let ambiguous = summed.ambiguous in
-    let unlinked = summed.unlinked in
-    let changed = summed.changed in
-    record { linked = omega arith; ambiguous = omega arith; unlinked = omega arith; changed_fits = omega arith }
+    room_in_few sums (length accepted) (receipt_behind accepted e).changed_records summed.few (omega arith) (omega arith)
 
-summed_none : IsSummed [] (sums_of [])
+summed_none : IsSummed [] no_sums
 unfolding receipts_behind
-summed_none = record { are = refl; linked = omega arith; ambiguous = omega arith; unlinked = omega arith; changed = omega arith }
+summed_none = record { are = refl; few = few_none }
 
 within_none : IsWithinLimits []
 within_none = record { entries = omega arith; bytes = omega arith }
 
 summed_more : (accepted : List Entry) (e : Entry) (sums now : Sums) → IsSummed accepted sums → IsWithinLimits (accepted ++ e ∷ [])
-    → now ≡ with_receipt sums (receipt_behind accepted e)
-    → now.linked ≤ sums.linked + 2 ^ 32 → now.ambiguous ≤ sums.ambiguous + 2 ^ 32 → now.unlinked ≤ sums.unlinked + 2 ^ 32
-    → IsSummed (accepted ++ e ∷ []) now
-summed_more accepted e sums now summed within is linked ambiguous unlinked =
+    → now ≡ with_receipts sums (receipt_behind accepted e ∷ []) → AddsFew sums now 1 → IsSummed (accepted ++ e ∷ []) now
+summed_more accepted e sums now summed within is adds =
     let few = few_changed accepted e in
     let longer = length-append accepted (e ∷ []) in
     let entries = within.entries in
-    let linked_before = summed.linked in
-    let ambiguous_before = summed.ambiguous in
-    let unlinked_before = summed.unlinked in
-    let changed_before = summed.changed in
-    let changed = ap (λ (s : Sums). s.changed) is in
     record {
       are = is ∙ sums_more accepted e sums summed.are;
-      linked = omega arith;
-      ambiguous = omega arith;
-      unlinked = omega arith;
-      changed = omega arith;
+      few = subst (AreFew now) (sym longer) (still_few sums now (receipt_behind accepted e ∷ []) (length accepted) summed.few is adds (omega arith));
     }
 
-pub committed_none : (core : Catalogued) (sums : Sums) → core ≡ holding [] → sums ≡ sums_of [] → IsCommitted core sums
+pub committed_none : (core : Catalogued) (sums : Sums) → core ≡ holding [] → sums ≡ no_sums → IsCommitted core sums
 committed_none core sums empty none =
     let history = ap (λ (c : Catalogued). c.history) empty in
     record {
@@ -109,10 +88,8 @@ room_to_add core sums e r is room receipt =
     (room_for_receipt core.history e sums is.summed (within_one core sums e is room))
 
 pub committed_more : (core now : Catalogued) (sums added : Sums) (e : Entry) (r : Receipt) → IsCommitted core sums → is_full core e ≡ false
-    → r ≡ receipt_behind core.history e → now ≡ with_entry core e → added ≡ with_receipt sums r
-    → added.linked ≤ sums.linked + 2 ^ 32 → added.ambiguous ≤ sums.ambiguous + 2 ^ 32 → added.unlinked ≤ sums.unlinked + 2 ^ 32
-    → IsCommitted now added
-committed_more core now sums added e r is room receipt behind sum linked ambiguous unlinked =
+    → r ≡ receipt_behind core.history e → now ≡ with_entry core e → added ≡ with_receipts sums (r ∷ []) → AddsFew sums added 1 → IsCommitted now added
+committed_more core now sums added e r is room receipt behind sum adds =
     let held : now ≡ holding (core.history ++ e ∷ []) = behind ∙ ap (λ (c : Catalogued). with_entry c e) is.holds in
     let history : now.history ≡ core.history ++ e ∷ [] = ap (λ (c : Catalogued). c.history) held in
     let within = within_one core sums e is room in
@@ -120,5 +97,5 @@ committed_more core now sums added e r is room receipt behind sum linked ambiguo
       holds = held ∙ sym (ap holding history);
       within = subst IsWithinLimits (sym history) within;
       summed = subst (λ (h : List Entry). IsSummed h added) (sym history)
-          (summed_more core.history e sums added is.summed within (sum ∙ ap (with_receipt sums) receipt) linked ambiguous unlinked);
+          (summed_more core.history e sums added is.summed within (sum ∙ ap (λ (r : Receipt). with_receipts sums (r ∷ [])) receipt) adds);
     }

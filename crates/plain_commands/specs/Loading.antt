@@ -10,7 +10,7 @@ use Rattle.file_entries.specs.Files.{IsEntryOf, IsJudged}
 use Rattle.file_entries.specs.declared.refused.RefusedItem.{RefusedItem}
 use Rattle.console_lines.specs.declared.fault.Fault.{Fault}
 use Rattle.console_lines.specs.declared.fault.Fault.TheVariants.{Usage, Input, Device, NotAJournal, Full, Memory, OldVersion, OtherHistory}
-use Rattle.console_lines.specs.declared.totals.Sums.{Sums}
+use Rattle.marc_types.specs.declared.sums.Sums.{Sums}
 use Rattle.plain_commands.specs.Totals.{holding, IsWithinLimits, IsSummed}
 
 -- the entries of a file that were committed, and its items that are refused

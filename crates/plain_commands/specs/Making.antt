@@ -12,8 +12,8 @@ use Rattle.console_lines.specs.declared.end.End.{End}
 use Rattle.console_lines.specs.declared.end.End.TheVariants.{Done, Refused, Unwritten, Told}
 use Rattle.console_lines.specs.declared.end.Unwritten.TheVariants.{Out, Report, Console}
 use Rattle.console_lines.specs.declared.fault.Fault.TheVariants.{Memory}
-use Rattle.console_lines.specs.Totals.{sums_of}
-use Rattle.console_lines.specs.declared.totals.Sums.{Sums}
+use Rattle.marc_types.specs.Sums.{sums_of}
+use Rattle.marc_types.specs.declared.sums.Sums.{Sums}
 use Rattle.output_files.specs.Outputs.{IsPartWritten}
 
 -- the sums over the receipts of a workload's entries in an empty catalogue

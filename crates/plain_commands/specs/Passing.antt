@@ -7,24 +7,26 @@ use Rattle.outside.specs.Sink.{WritesFront}
 use Rattle.marc_types.specs.declared.entry.Entry.{Entry}
 use Rattle.marc_stream.specs.Pieces.{items}
 use Rattle.command_words.specs.declared.library.Library.{Library}
+use Rattle.catalogue_rules.specs.Receipts.{receipts_behind}
 use Rattle.catalogue_rules.specs.Settle.{state_of}
 use Rattle.catalogue_rules.specs.Output.{export_of, all_keys}
 use Rattle.file_entries.specs.Files.{IsJudged}
 use Rattle.file_entries.specs.declared.refused.RefusedItem.{RefusedItem}
 use Rattle.console_lines.specs.Ends.{Outcome, IsTold, IsAllDone, IsSilent, end_of, out_unwritten, report_unwritten, console_unwritten}
 use Rattle.console_lines.specs.Lines.{refused_lines, totals_line}
+use Rattle.console_lines.specs.Totals.{totals_of}
 use Rattle.console_lines.specs.declared.end.End.{End}
 use Rattle.console_lines.specs.declared.end.End.TheVariants.{Told}
 use Rattle.console_lines.specs.declared.fault.Fault.{Fault}
 use Rattle.console_lines.specs.declared.fault.Fault.TheVariants.{Input, Full}
 use Rattle.output_files.specs.Outputs.{IsPartWritten}
-use Rattle.plain_commands.specs.Totals.{totals_of, IsWithinLimits}
+use Rattle.plain_commands.specs.Totals.{IsWithinLimits}
 use Rattle.plain_commands.specs.Loading.{IsFaultOfLoading, IsLoaded, IsFullAt}
 use Rattle.plain_commands.specs.declared.ready.Ready.{Ready}
 
 -- what the console is told of a file
 abbrev pub results : List ℕ → List Entry → List RefusedItem → List ℕ
-results file accepted refused = refused_lines file refused ++ totals_line file (totals_of accepted refused)
+results file accepted refused = refused_lines file refused ++ totals_line file (totals_of accepted refused (receipts_behind [] accepted))
 
 -- the records of the catalogue to which these entries were committed, all keys
 abbrev pub exported : List Entry → List ℕ

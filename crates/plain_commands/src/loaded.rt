@@ -1,13 +1,15 @@
-ghost use Rattle.std.specs.Prelude.{◌≡◌, OnOk, OnErr, IfErr, length, nat_lt};
+ghost use Rattle.std.specs.Prelude.{◌≡◌, OnOk, OnErr, IfErr, [], length, nat_lt};
 ghost use Rattle.catalogue_core.specs.Catalogues.{IsDue};
-ghost use Rattle.plain_commands.specs.Totals.{holding, totals_of, IsWithinLimits};
+ghost use Rattle.catalogue_rules.specs.Receipts.{receipts_behind};
+ghost use Rattle.console_lines.specs.Totals.{totals_of};
+ghost use Rattle.plain_commands.specs.Totals.{holding, IsWithinLimits};
 ghost use Rattle.plain_commands.specs.Loading.{nothing_loaded, lacks_room, with_accepted, with_refused};
 
 use catalogue_core::{Catalogue, CoreFault};
-use console_lines::{Sums, Totals};
+use console_lines::Totals;
 use entry_record::Prepared;
 use file_entries::RefusedItem;
-use marc_types::{Limits, NoMemory};
+use marc_types::{Limits, NoMemory, Sums};
 use record_store::Steps;
 use std::alloc::Global;
 use std::marker::Model;
@@ -58,7 +60,7 @@ impl Loaded {
         ensures err { OnErr result (self.new ≡ self.old) }
     {
         let receipt = self.core.commit(alloc, item, steps)?;
-        self.sums.add(receipt);
+        self.sums.add(&receipt);
         Ok(())
     }
 
@@ -93,7 +95,7 @@ impl Loaded {
 
     /// What is counted of the file.
     pub fn totals(&self) -> Totals
-        ensures { result ≡ totals_of self.now.accepted self.now.refused }
+        ensures { result ≡ totals_of self.now.accepted self.now.refused (receipts_behind [] self.now.accepted) }
     {
         Totals {
             accepted: self.core.history_len(),

@@ -9,7 +9,7 @@ use Rattle.console_lines.specs.declared.end.End.TheVariants.{Done, Refused, Unwr
 use Rattle.console_lines.specs.declared.end.Unwritten.TheVariants.{Out, Report, Console}
 use Rattle.command_words.specs.declared.topic.Topic.{Topic}
 use Rattle.command_words.specs.declared.topic.Topic.TheVariants as topic
-use Rattle.program_help.specs.declared.texts.TheConstants.{ALL, PASS, RUN, LOAD, EXPORT, REPORT, MAKE, VERIFY, MATCHES, HOLDINGS, MIGRATE, HELP, VERSION, THIS_VERSION}
+use Rattle.program_help.specs.declared.texts.TheConstants.{ALL, PASS, RUN, LOAD, EXPORT, REPORT, MAKE, VERIFY, MATCHES, HOLDINGS, MIGRATE, HELP, VERSION, STATUSES, THIS_VERSION}
 
 -- the text of a topic
 abbrev pub help_text : Topic → List ℕ
@@ -26,6 +26,7 @@ help_text topic.Holdings = HOLDINGS.now
 help_text topic.Migrate = MIGRATE.now
 help_text topic.Help = HELP.now
 help_text topic.Version = VERSION.now
+help_text topic.Statuses = STATUSES.now
 
 -- the text of the version
 abbrev pub version_text : List ℕ

@@ -87,8 +87,8 @@ pub fn slip_in<'a>(alloc: Global, words: &'a [Text]) -> Result<Slip<'a>, NoMemor
         return Ok(Slip::NoCommand);
     };
     match named_topic(verb.as_str()) {
-        Some(topic) => slip_behind(alloc, topic, behind),
-        None => Ok(Slip::Unknown {
+        Some(topic) if topic != Topic::Statuses => slip_behind(alloc, topic, behind),
+        _ => Ok(Slip::Unknown {
             word: verb.as_str(),
             nearest: nearest(alloc, verb.as_str())?,
         }),
@@ -119,7 +119,7 @@ fn form_of(topic: Topic) -> Form {
         Topic::Make => (3, Files::None, false),
         Topic::Verify => (1, Files::None, false),
         Topic::Holdings => (3, Files::One, true),
-        Topic::Help | Topic::All | Topic::Version => (0, Files::None, false),
+        Topic::Help | Topic::All | Topic::Version | Topic::Statuses => (0, Files::None, false),
     };
     Form {
         topic,
@@ -209,14 +209,12 @@ fn slip_of_names<'a>(form: &Form, behind: &'a [Text]) -> Option<Slip<'a>> {
     None
 }
 
-/// The first of SEED and COUNT, else COUNT.
+/// SEED where it is no number below 2^64, else COUNT.
 fn slip_of_numbers(names: &[Text]) -> Option<Slip<'_>> {
-    let is_number = |word: &Text| word.as_bytes().iter().all(|byte| byte.is_ascii_digit());
-    let numbers = names.get(..2)?;
-    let word = numbers
-        .iter()
-        .find(|word| !is_number(word))
-        .or(numbers.last())?;
+    let are_digits = |word: &Text| word.as_bytes().iter().all(|byte| byte.is_ascii_digit());
+    let seed = names.first()?;
+    let is_seed = are_digits(seed) && seed.as_str().parse::<u64>().is_ok();
+    let word = if is_seed { names.get(1)? } else { seed };
     Some(Slip::NoNumber {
         topic: Topic::Make,
         word: word.as_str(),

@@ -24,6 +24,7 @@ pub(crate) fn text_of(topic: Topic) -> &'static str
         Topic::Migrate => texts::MIGRATE,
         Topic::Help => texts::HELP,
         Topic::Version => texts::VERSION,
+        Topic::Statuses => texts::STATUSES,
     }
 }
 

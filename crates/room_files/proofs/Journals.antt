@@ -153,6 +153,7 @@ pub unopened_log : (old new : RoomView) (name : List ℕ) → old.open_as name �
 unopened_log old new name free stays rose = record {
   closed = stays.open_names name tt ∙ free;
   keeps = λ told. unopened_keeps (DeviceFault ≡ DeviceFault) old new name stays;
+  kept = λ told other. absurd (other refl);
   so = λ told. tt;
   cause = λ device. rose;
 }
@@ -174,6 +175,7 @@ pub refused_log : (old mid new : RoomView) (name : List ℕ) (was now : DiskView
 refused_log old mid new name was now why opened refused timed closed disk counted = record {
   closed = closed;
   keeps = λ told. refused_keeps old new name now (disk (opened.apart.tells ∙ told)) was why (opened.bytes told) opened.beginning refused timed;
+  kept = λ told other. ap bytes_or_none ((disk (opened.apart.tells ∙ told)).file ∙ (refused.kept other).content ∙ opened.bytes told);
   so = λ told. refused.so (log_bytes old name) (opened.bytes told);
   cause = λ device.
       let rose = rose_closed (old.log_faults name) (mid.log_faults name) now.faults (opened.apart.log_counts name)

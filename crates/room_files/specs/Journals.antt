@@ -1,5 +1,5 @@
 -- A journal in a room: as it is opened, and as it is closed again. The rules are this project's own.
-use Rattle.std.specs.Prelude.{◌≡◌, ℕ, ◌+◌, ◌≤◌, max, true, List, [], ◌∷◌, ◌++◌, length, take, Option, Some, None, is_some}
+use Rattle.std.specs.Prelude.{◌≡◌, ◌≢◌, ℕ, ◌+◌, ◌≤◌, max, true, List, [], ◌∷◌, ◌++◌, length, take, Option, Some, None, is_some}
 use Rattle.marc_types.specs.declared.entry.Entry.{Entry}
 use Rattle.marc_types.specs.declared.entry.Limits.{Limits}
 use Rattle.marc_types.specs.Limits.{greatest_limits}
@@ -126,11 +126,12 @@ pub record IsOpenLog (old new : RoomView) (name : List ℕ) (version : ℕ) (dis
   pub version_is : old.tells ≡ true → version_of (log_bytes old name) ≡ version
   pub kept : old.tells ≡ true → KeepsLog (log_bytes old name) disk
 
--- The log of that name was refused, is closed, and keeps its history. The fault comes only where the log is so, and a device's only where
--- the count of faults rose.
+-- The log of that name was refused, is closed, and keeps its history; unless a device failed its file is as it was, byte for byte. The fault
+-- comes only where the log is so, and a device's only where the count of faults rose.
 pub record IsRefusedLog (old new : RoomView) (name : List ℕ) (why : OpenFault) : Type 0 where
   pub closed : new.open_as name ≡ None
   pub keeps : old.tells ≡ true → KeepsHistory (why ≡ DeviceFault) old new name
+  pub kept : old.tells ≡ true → why ≢ DeviceFault → log_bytes new name ≡ log_bytes old name
   pub so : old.tells ≡ true → IsUnopened journal_limits (log_bytes old name) why
   pub cause : why ≡ DeviceFault → Rose (old.log_faults name) (new.log_faults name)
 

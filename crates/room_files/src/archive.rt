@@ -1,6 +1,7 @@
 //! Journals that are only read.
 ghost use Rattle.std.specs.Prelude.{◌≡◌, ◌≢◌, true, Some, None, IfOk, IfErr, ◌∷◌, []};
 ghost use Rattle.outside.specs.Room.{AsLog, SameBut};
+ghost use Rattle.commit_journal.specs.Versions.{number_of};
 ghost use Rattle.durable_catalogue.specs.declared.fault.OpenFault.TheVariants.{OldVersion};
 ghost use Rattle.durable_catalogue.specs.Logs.{HasHistory};
 ghost use Rattle.entry_record.specs.History.{IsWithin};
@@ -22,7 +23,7 @@ pub fn open_archive<R: Room>(
     ensures apart { SameBut (R.seen room.old) (R.seen room.new) (name.now ∷ []) }
 
     // The catalogue has the log's history, within the limits, and the log keeps it.
-    ensures log { IfOk result (λ a. IsOpenLog (R.seen room.old) (R.seen room.new) name.now a.journal.version (R.Log.seen a.journal.disk)) }
+    ensures log { IfOk result (λ a. IsOpenLog (R.seen room.old) (R.seen room.new) name.now (number_of a.journal.version) (R.Log.seen a.journal.disk)) }
     ensures history { IfOk result (λ a. (R.seen room.old).tells ≡ true → HasHistory a.core.history (log_bytes (R.seen room.old) name.now)) }
     ensures within { IfOk result (λ a. IsWithin journal_limits a.core.history) }
 

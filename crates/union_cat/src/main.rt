@@ -1,7 +1,7 @@
 //! The program `union_cat`: carries out the command of its words over the files of the system.
 #![tactic(auto)]
 
-use command_words::{Request, Words, libraries, request};
+use command_words::{AloneRequest, Libraries, Outputs, Request, Unasked, Words, request};
 use marc_types::Text;
 use outside_real::{FileRoom, FileSink, Intent, ProgressGate, Target};
 use program_help::slip_in;
@@ -11,9 +11,9 @@ use std::process::ExitCode;
 use std::sync::Wait;
 use std::thread::Threads;
 use std::{env, io};
-use union_top::{run, run_unless_loading};
+use union_top::{Begun, begin, end, load};
 
-/// The exit status where there is no memory for the words of the command line, or for the names in them.
+/// The exit status where there is no memory for the words of the command line.
 const NO_MEMORY: u8 = 8;
 
 /// The exit status where the words are no command.
@@ -48,68 +48,81 @@ fn words_of(rt: &HostRuntime) -> io::Result<Words> {
     Ok(Words::from_vec(words))
 }
 
-/// What the command of the words is about to do with its files: the outputs that a load is to write, which the room looks at before it
-/// lets the journal be opened, and whether it only reads its journal.
-fn intent_of(alloc: Global, words: &Words) -> io::Result<Intent> {
+/// What a command is about to do with its files: the outputs that a load is to write, which the room looks at before it lets the journal
+/// be opened, and whether it only reads its journal.
+fn intent_of(alloc: Global, asked: &Result<Request<'_>, Unasked>) -> io::Result<Intent> {
     let mut outputs = Vec::new(alloc);
     let mut reads = false;
-    match request(words) {
-        Some(Request::Run { out, report, .. }) => {
-            outputs.push(String::from_str(alloc, out)?)?;
-            outputs.push(String::from_str(alloc, report)?)?;
+    match asked {
+        Ok(Request::Load(wanted)) => {
+            if let Some(Outputs { out, report }) = wanted.outputs {
+                outputs.push(String::from_str(alloc, out)?)?;
+                outputs.push(String::from_str(alloc, report)?)?;
+            }
         }
-        Some(
-            Request::Export { .. }
-            | Request::Report { .. }
-            | Request::Matches { .. }
-            | Request::Holdings { .. },
+        Ok(
+            Request::Alone(
+                AloneRequest::Export { .. }
+                | AloneRequest::Report { .. }
+                | AloneRequest::Matches { .. }
+                | AloneRequest::Holdings { .. },
+            ),
         ) => reads = true,
         _ => {}
     }
     Ok(Intent { outputs, reads })
 }
 
+/// Whether a command writes outputs behind what it loads.
+fn is_run(asked: &Result<Request<'_>, Unasked>) -> bool {
+    match asked {
+        Ok(Request::Load(wanted)) => wanted.outputs.is_some(),
+        _ => false,
+    }
+}
+
 /// Tells on standard error what the console's bytes don't: which word is wrong, and that what `run` loaded is there. A line that can't be
 /// written is passed over.
-fn tell_more(rt: &HostRuntime, words: &Words, status: u8) {
+fn tell_more(rt: &HostRuntime, words: &Words, writes_behind: bool, status: u8) {
     if status == USAGE {
         if let Ok(slip) = slip_in(rt.alloc(), words.as_slice()) {
             let _told = eprintln!(rt; "union_cat: {slip}");
         }
     }
-    if status == UNWRITTEN && matches!(request(words), Some(Request::Run { .. })) {
+    if status == UNWRITTEN && writes_behind {
         let _told = eprintln!(rt; "union_cat: the records are in the journal");
     }
 }
 
-/// Carries out the command of the words. `threads` starts the loaders of a command that has any; no other waits for anybody.
-fn carry_out<H: Threads + Wait + Sync>(
-    rt: &HostRuntime,
-    threads: &H,
-    words: &Words,
-) -> io::Result<u8> {
-    let alloc = rt.alloc();
-    let mut room = FileRoom::new(rt.clone()?, alloc);
-    room.intend(intent_of(alloc, words)?);
-    let mut console = FileSink::direct(alloc, Target::Console(rt.clone()?));
-    if let Some(status) = run_unless_loading(alloc, words, &mut room, &mut console) {
-        return Ok(status);
-    }
-    let Ok(libraries) = libraries(alloc, words) else {
-        return Ok(NO_MEMORY);
-    };
-    let mut files = Vec::with_capacity(alloc, libraries.len())?;
+/// The names of the files of a loading, for the lines of progress.
+fn names_of(alloc: Global, libraries: &Libraries) -> io::Result<Vec<String>> {
+    let mut names = Vec::with_capacity(alloc, libraries.len())?;
     for library in libraries.iter() {
-        files.push(String::from_str(alloc, library.file.as_str())?)?;
+        names.push(String::from_str(alloc, library.file.as_str())?)?;
     }
-    let gate = ProgressGate::new(rt.clone()?, files);
-    Ok(run(threads, alloc, words, &mut room, &mut console, &gate))
+    Ok(names)
 }
 
-/// Carries out the command of the words, and tells more of how it ended.
+/// Carries out the command of the words. `threads` starts the loaders of a command that has any; no other waits for anybody.
 fn command<H: Threads + Wait + Sync>(rt: &HostRuntime, threads: &H) -> io::Result<u8> {
+    let alloc = rt.alloc();
     let words = words_of(rt)?;
-    let status = carry_out(rt, threads, &words)?;
-    tell_more(rt, &words, status);
+    let (files, told, progress) = (rt.clone()?, rt.clone()?, rt.clone()?);
+    let mut room = FileRoom::new(files, alloc);
+    let asked = request(alloc, &words);
+    let writes_behind = is_run(&asked);
+    room.intend(intent_of(alloc, &asked)?);
+    let mut console = FileSink::direct(alloc, Target::Console(told));
+    let status = match begin(alloc, &words, asked, &mut room, &mut console) {
+        Begun::Ended(status) => status,
+        Begun::Loading(loading) => {
+            // Where there is no memory for the names, no progress is told.
+            let names = names_of(alloc, loading.libraries()).unwrap_or(Vec::new(alloc));
+            let gate = ProgressGate::new(progress, names);
+            let loaded = load(threads, alloc, loading, &gate);
+            end(alloc, loaded, &mut room, &mut console)
+        }
+    };
+    tell_more(rt, &words, writes_behind, status);
     Ok(status)
 }

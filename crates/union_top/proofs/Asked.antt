@@ -1,41 +1,40 @@
 -- What a command comes to for whose libraries there is no memory.
-use Rattle.std.proofs.Common.{◌≡◌, ◌≢◌, false, true≢false, ℕ, ◌≤◌, List, [], ◌∷◌, length, get_or, Some, None, refl, sym, ap, subst, ◌∙◌, arith}
-use Rattle.std.specs.Prelude.{All, IsTrue}
+use Rattle.std.proofs.Common.{◌≡◌, ◌≢◌, ℕ, ◌≤◌, List, [], ◌∷◌, length, Option, Some, None, refl, sym, subst, ◌∙◌, arith}
+use Rattle.std.specs.Prelude.{All, IsTrue, IsSomeAnd}
+use Rattle.std.proofs.lemmas.List.Elements.{All-head}
 use Rattle.marc_types.specs.Valid.{is_code}
 use Rattle.outside.specs.Room.{SameBut, IsNoneOf}
 use Rattle.outside.proofs.Rooms.{same_but_none}
 use Rattle.command_words.specs.declared.library.Library.{Library}
-use Rattle.command_words.specs.Command.{Command, Pass, Run, Load, Export, Report, Make, Verify, Matches, Holdings, Migrate, Help, Version, command_of, libraries_of, names_of, AreNames}
-use Rattle.command_words.specs.Asked.{command_asked}
-use Rattle.command_words.specs.declared.asked.Request.{Request}
+use Rattle.command_words.specs.declared.asked.AloneRequest.{AloneRequest}
+use Rattle.command_words.specs.declared.asked.LoadRequest.{LoadRequest}
+use Rattle.command_words.specs.declared.asked.Outputs.{Outputs}
+use Rattle.command_words.specs.declared.asked.Request.TheVariants as request
+use Rattle.command_words.specs.Command.{Command, Pass, Run, Load, Export, Report, Make, Verify, Matches, Holdings, Migrate, Help, Version, command_of, libraries_of, file_count, names_of, AreNames, IsBounded, ReadsFiles}
+use Rattle.command_words.specs.Asked.{alone_asked, load_asked, loading_of, AsksFor}
 use Rattle.console_lines.specs.Ends.{Outcome, IsTold}
 use Rattle.console_lines.specs.declared.end.End.TheVariants.{Told}
 use Rattle.console_lines.specs.declared.fault.Fault.TheVariants as fault
 use Rattle.durable_catalogue.specs.declared.fault.OpenFault.TheVariants as opening
 use Rattle.room_files.proofs.Journals.{unopened_keeps}
-use Rattle.archive_commands.specs.Reads as reading
-use Rattle.archive_commands.specs.Reads.{DueView, due_of, Reads}
-use Rattle.archive_commands.proofs.Endings.{reads_fault}
 use Rattle.plain_commands.proofs.Passes.{passes_told}
-use Rattle.plain_commands.proofs.Made.{makes_no_memory}
-use Rattle.output_files.specs.Outputs as files
 use Rattle.journal_loading.specs.Outcomes.{IsLoadingFault, NotBegun, Unopened}
-use Rattle.journal_loading.specs.Inputs.{AreLoadable}
-use Rattle.union_top.specs.Commands.{is_alone, Ends, CarriesOut}
+use Rattle.journal_loading.specs.Inputs.{AreLoadable, IsProper}
+use Rattle.union_top.specs.Commands.{Ends, CarriesOut}
+use Rattle.loading_commands.specs.Loading.{Loads, Runs, EndsWithOutputs, EndsLoading}
 use Rattle.loading_commands.specs.Runs as runs
 use Rattle.holdings_command.proofs.Endings.{attaches_unopened}
 use Rattle.loading_commands.proofs.Ended.{loads_failed, runs_failed, no_memory}
 
--- what a request asks for is what the request that it is asks for
-pub asked_as : (words : List (List ℕ)) (asked : Request) {is : Request} → command_of words ≡ Some (command_asked asked) → asked ≡ is
-    → command_of words ≡ Some (command_asked is)
-asked_as words asked {is} asks same = asks ∙ ap (λ r. Some (command_asked r)) same
+-- what some words ask for is what the request asks for that it is
+pub asked_as : (words : List (List ℕ)) (asked : AloneRequest) {is : AloneRequest} → AsksFor words (request.Alone asked) → asked ≡ is → AsksFor words (request.Alone is)
+asked_as words asked {is} asks same = subst (λ r. AsksFor words (request.Alone r)) same asks
 
 -- and it is carried out as that one is
-pub carries : (words : List (List ℕ)) (asked : Request) {is : Request} {o : Outcome} → asked ≡ is → ((name : List ℕ) → o.new.open_as name ≡ None)
-    → SameBut o.old o.new (names_of (command_asked is)) → Ends words (command_asked is) o → o.end ≢ Told fault.Usage → CarriesOut words (command_asked asked) o
+pub carries : (words : List (List ℕ)) (asked : AloneRequest) {is : AloneRequest} {o : Outcome} → asked ≡ is → ((name : List ℕ) → o.new.open_as name ≡ None)
+    → SameBut o.old o.new (names_of (alone_asked is)) → Ends words (alone_asked is) o → o.end ≢ Told fault.Usage → CarriesOut words (alone_asked asked) o
 carries words asked {is} {o} same closed apart ends no_usage =
-    subst (λ r. CarriesOut words (command_asked r) o) (sym same) (record { closed = closed; apart = apart; ends = ends; no_usage = no_usage })
+    subst (λ r. CarriesOut words (alone_asked r) o) (sym same) (record { closed = closed; apart = apart; ends = ends; no_usage = no_usage })
 
 -- the libraries of a command's files can be loaded into its journal, the first of its names
 pub loadable : (libraries : List Library) (journal : List ℕ) (names : List (List ℕ)) (files : ℕ) → length libraries ≡ files → 1 ≤ files → files ≤ 64
@@ -47,39 +46,53 @@ loadable libraries journal names files count some few proper apart = record {
   apart = λ k d less. (apart k d less).0;
 }
 
--- the only one
-pub only : (library first : Library) (libraries : List Library) → libraries ≡ library ∷ [] → first ≡ get_or libraries 0 first → first ≡ library
-only library first libraries is read = read ∙ ap (λ ls. get_or ls 0 first) is
+-- the one library that a request has is the only one of the words' files
+pub only : (library first : Library) (libraries : List Library) → first ∷ [] ≡ libraries → libraries ≡ library ∷ [] → first ≡ library
+only library first libraries has named = let same : first ∷ [] ≡ library ∷ [] = has ∙ named in cc
 
--- the command names files to be read or written, or a journal that may be written
-abbrev pub NamesFiles : Command → Type 0
-NamesFiles (Pass out) = Unit {0}
-NamesFiles (Run journal out report files) = Unit {0}
-NamesFiles (Load journal files) = Unit {0}
-NamesFiles (Export journal out code) = Unit {0}
-NamesFiles (Report journal out) = Unit {0}
-NamesFiles (Make seed count out) = Unit {0}
-NamesFiles (Verify journal) = ⊥
-NamesFiles (Matches journal out) = ⊥
-NamesFiles (Holdings journal out rest code) = Unit {0}
-NamesFiles (Migrate from into) = ⊥
-NamesFiles (Help topic) = ⊥
-NamesFiles Version = ⊥
+-- a fact of all libraries of the words' files is one of that one
+pub of_only : (P : Library → Type 0) (first : Library) (libraries : List Library) → first ∷ [] ≡ libraries → All P libraries → P first
+of_only P first libraries has all = All-head P first [] (subst (All P) (sym has) all)
 
--- a command that starts threads does
-pub names_files : (command : Command) → is_alone command ≡ false → NamesFiles command
-names_files (Pass out) loads = tt
-names_files (Run journal out report files) loads = tt
-names_files (Load journal files) loads = tt
-names_files (Export journal out code) loads = tt
-names_files (Report journal out) loads = tt
-names_files (Make seed count out) loads = tt
-names_files (Verify journal) loads = absurd (true≢false loads)
-names_files (Matches journal out) loads = absurd (true≢false loads)
-names_files (Holdings journal out rest code) loads = tt
-names_files (Migrate from into) loads = absurd (true≢false loads)
-names_files (Help topic) loads = absurd (true≢false loads)
-names_files Version loads = absurd (true≢false loads)
+-- a request to load that words ask for can be carried out
+pub proper : (words : List (List ℕ)) (asked : LoadRequest) → AsksFor words (request.Load asked)
+    → ((command : Command) → command_of words ≡ Some command → length (libraries_of words) ≡ file_count command)
+    → All (λ (l : Library). IsTrue (is_code l.code)) (libraries_of words)
+    → ((command : Command) → command_of words ≡ Some command → AreNames (names_of command))
+    → ((command : Command) → command_of words ≡ Some command → All (λ (l : Library). IsNoneOf l.file (names_of command)) (libraries_of words))
+    → ((command : Command) → command_of words ≡ Some command → IsBounded command) → IsProper asked
+proper words asked asks count codes names files bounded = record {
+  loadable = subst (AreLoadable asked.journal.now) (sym asks.libraries) (decided asked.outputs asks.command (files (load_asked asked) asks.command));
+  names = names (load_asked asked) asks.command;
+}
+  where
+    decided : (outputs : Option Outputs) → command_of words ≡ Some (loading_of asked.journal.now (length asked.libraries) outputs)
+        → All (λ (l : Library). IsNoneOf l.file (names_of (loading_of asked.journal.now (length asked.libraries) outputs))) (libraries_of words)
+        → AreLoadable asked.journal.now (libraries_of words)
+    decided None is apart =
+        let few = bounded _ is in
+        loadable (libraries_of words) asked.journal.now [] (length asked.libraries) (count _ is) few.0 few.1 codes apart
+    decided (Some outputs) is apart =
+        let few = bounded _ is in
+        loadable (libraries_of words) asked.journal.now (outputs.out.now ∷ outputs.report.now ∷ []) (length asked.libraries) (count _ is) few.0 few.1 codes apart
+
+-- how it ended is how the words' command ends, and not as words end that are no command
+pub loading_ends : (words : List (List ℕ)) (asked : LoadRequest) (o : Outcome) → AsksFor words (request.Load asked) → EndsLoading asked o
+    → Ends words (load_asked asked) o × (o.end ≢ Told fault.Usage)
+loading_ends words asked o asks did = decided asked.outputs did
+  where
+    decided : (outputs : Option Outputs) → EndsWithOutputs asked.libraries asked.journal.now outputs o
+        → Ends words (loading_of asked.journal.now (length asked.libraries) outputs) o × (o.end ≢ Told fault.Usage)
+    decided None l = (subst (λ ls. Loads ls asked.journal.now o) asks.libraries l, λ usage. (l.told fault.Usage usage).1 refl)
+    decided (Some outputs) r =
+        (subst (λ ls. Runs ls asked.journal.now outputs.out.now outputs.report.now o) asks.libraries r, λ usage. (r.told fault.Usage usage).1 refl)
+
+-- so it is carried out
+pub loading_carried : (words : List (List ℕ)) (asked : LoadRequest) (o : Outcome) → AsksFor words (request.Load asked) → ((name : List ℕ) → o.new.open_as name ≡ None)
+    → SameBut o.old o.new (names_of (load_asked asked)) → EndsLoading asked o → CarriesOut words (load_asked asked) o
+loading_carried words asked o asks closed apart did =
+    let both = loading_ends words asked o asks did in
+    record { closed = closed; apart = apart; ends = both.0; no_usage = both.1 }
 
 module _ (o : Outcome) (told : o.end ≡ Told fault.Memory) (tells : IsTold fault.Memory o) (stays : SameBut o.old o.new [])
     (free : (name : List ℕ) → o.old.open_as name ≡ None) where
@@ -89,37 +102,41 @@ module _ (o : Outcome) (told : o.end ≡ Told fault.Memory) (tells : IsTold faul
   closed : (journal : List ℕ) → o.new.open_as journal ≡ None
   closed journal = stays.open_names journal tt ∙ free journal
 
-  reads : (journal out : List ℕ) (due : DueView) → Reads journal out due o
-  reads journal out due =
-      reads_fault journal out (due_of due) o opening.NoMemory told tells (same_but_none o.old o.new (journal ∷ []) stays) (λ old. cc) (λ room. tt)
-      (λ room. unopened_keeps _ o.old o.new journal stays) (λ device. cc)
-
-  pub unasked : (words : List (List ℕ)) (command : Command) → NamesFiles command → AreNames (names_of command) → Ends words command o
-  unasked words (Pass out) takes names = λ library is. passes_told library out o fault.Memory told tells tt stays (λ input. cc) (λ full. cc)
-  unasked words (Run journal out report files) takes names =
+  unasked : (words : List (List ℕ)) (command : Command) → ReadsFiles command → Ends words command o
+  unasked words (Pass out) takes = λ library is. passes_told library out o fault.Memory told tells tt stays (λ input. cc) (λ full. cc)
+  unasked words (Run journal out report files) takes =
       runs_failed (libraries_of words) journal o out report fault.Memory told tells (λ other. absurd (other refl)) (same_but_none o.old o.new (journal ∷ out ∷ []) stays)
       (no_memory o.old o.new journal (libraries_of words) _ (closed journal)
       (λ room. runs.NotLoaded (unbegun journal (libraries_of words)) (stays.files out tt) (stays.files report tt)))
-  unasked words (Load journal files) takes names =
+  unasked words (Load journal files) takes =
       loads_failed (libraries_of words) journal o fault.Memory told tells
       (no_memory o.old o.new journal (libraries_of words) _ (closed journal) (λ room. runs.NotLoaded (unbegun journal (libraries_of words))))
-  unasked words (Export journal out code) takes names = reads journal out (reading.Export code)
-  unasked words (Report journal out) takes names = reads journal out reading.Report
-  unasked words (Make seed count out) takes names = makes_no_memory seed count out o told tells (λ room. files.AsItWas (stays.files out tt))
-  unasked words (Verify journal) takes names = absurd takes
-  unasked words (Matches journal out) takes names = absurd takes
-  unasked words (Holdings journal out rest code) takes names = λ library is.
+  unasked words (Export journal out code) takes = absurd takes
+  unasked words (Report journal out) takes = absurd takes
+  unasked words (Make seed count out) takes = absurd takes
+  unasked words (Verify journal) takes = absurd takes
+  unasked words (Matches journal out) takes = absurd takes
+  unasked words (Holdings journal out rest code) takes = λ library is.
       attaches_unopened journal out rest library code o opening.NoMemory told tells (same_but_none o.old o.new (journal ∷ []) stays) (λ old. cc) (λ room. tt)
       (λ room. unopened_keeps _ o.old o.new journal stays) (λ device. cc)
-  unasked words (Migrate from into) takes names = absurd takes
-  unasked words (Help topic) takes names = absurd takes
-  unasked words Version takes names = absurd takes
+  unasked words (Migrate from into) takes = absurd takes
+  unasked words (Help topic) takes = absurd takes
+  unasked words Version takes = absurd takes
 
   -- and so is a command that wants memory before it begins
-  pub carried_unasked : (words : List (List ℕ)) (command : Command) → NamesFiles command → AreNames (names_of command) → CarriesOut words command o
-  carried_unasked words command takes names = record {
+  pub carried_unasked : (words : List (List ℕ)) (command : Command) → ReadsFiles command → CarriesOut words command o
+  carried_unasked words command takes = record {
     closed = closed;
     apart = same_but_none o.old o.new (names_of command) stays;
-    ends = unasked words command takes names;
+    ends = unasked words command takes;
     no_usage = λ usage. let no : Told fault.Memory ≡ Told fault.Usage = sym told ∙ usage in cc;
   }
+
+-- words for whose libraries there is no memory have a command that reads files
+pub wanting : (words : List (List ℕ)) → IsSomeAnd (command_of words) ReadsFiles → (command : Command) × (command_of words ≡ Some command) × ReadsFiles command
+wanting words is = decided (command_of words) refl is
+  where
+    decided : (asked : Option Command) → command_of words ≡ asked → IsSomeAnd asked ReadsFiles
+        → (command : Command) × (command_of words ≡ Some command) × ReadsFiles command
+    decided None none takes = absurd takes
+    decided (Some command) some takes = (command, some, takes)

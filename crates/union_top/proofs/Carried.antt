@@ -1,25 +1,23 @@
 -- Words are carried out, by what the calls say.
-use Rattle.std.proofs.Common.{◌≡◌, ◌≢◌, ◌≤◌, ◌⊎◌, ◌∙◌, ℕ, true, false, List, [], Some, None, sym, ap, subst}
-use Rattle.outside.specs.Room.{SameBut}
+use Rattle.std.proofs.Common.{◌≡◌, ◌≢◌, ◌≤◌, ◌⊎◌, ◌∙◌, ℕ, List, [], Option, Some, None, refl, sym, ap, subst}
+use Rattle.outside.specs.Room.{RoomView, SameBut, IsPromiseKept}
+use Rattle.outside.proofs.Rooms.{same_but_itself}
 use Rattle.command_words.specs.Command.{Command, command_of, names_of}
+use Rattle.command_words.specs.Asked.{IsUnasked}
+use Rattle.command_words.specs.declared.asked.Unasked.{Unasked}
+use Rattle.command_words.specs.declared.asked.Unasked.TheVariants as unasked
 use Rattle.console_lines.specs.Ends.{Outcome, IsTold, end_status}
 use Rattle.console_lines.specs.declared.end.End.{End}
 use Rattle.console_lines.specs.declared.end.End.TheVariants.{Told}
+use Rattle.console_lines.specs.declared.fault.Fault.{Fault}
 use Rattle.console_lines.specs.declared.fault.Fault.TheVariants.{Usage}
-use Rattle.union_top.specs.Commands.{is_alone, Ends}
+use Rattle.union_top.specs.Commands.{Ends, CarriesOut}
 use Rattle.union_top.specs.Complete.{Around, IsUnhindered}
 use Rattle.union_top.specs.Sure.{IsSure}
-use Rattle.union_top.specs.Carried.{LoadsFiles, AreCarriedOut}
-use Rattle.union_top.proofs.Complete.{two_is_usage, same_command}
-
--- words that are no command load no files, nor does a command that starts no threads
-pub none_loads : (words : List (List ℕ)) → command_of words ≡ None → LoadsFiles words → ⊥
-none_loads words none loads = let both : None ≡ Some loads.command = sym none ∙ loads.asks in cc
-
-pub alone_loads : (words : List (List ℕ)) (asked : Command) → command_of words ≡ Some asked → is_alone asked ≡ true → LoadsFiles words → ⊥
-alone_loads words asked asks alone loads =
-    let same : asked ≡ loads.command = same_command asked loads.command (sym asks ∙ loads.asks) in
-    let both : true ≡ false = sym alone ∙ (ap is_alone same ∙ loads.loads) in cc
+use Rattle.union_top.specs.Carried.{AreCarriedOut, unasked_fault}
+use Rattle.union_top.proofs.Asked.{carried_unasked, wanting}
+use Rattle.union_top.proofs.Complete.{complete, around_of, two_is_usage, same_command}
+use Rattle.union_top.proofs.Sure.{sure}
 
 module _ (words : List (List ℕ)) (status : ℕ) (a : Around) (o : End → Outcome) (end : End) (status_is : status ≡ end_status end) where
   pub usage_carried : command_of words ≡ None → end ≡ Told Usage → SameBut a.old a.new [] → IsTold Usage (o (Told Usage))
@@ -34,12 +32,12 @@ module _ (words : List (List ℕ)) (status : ℕ) (a : Around) (o : End → Outc
     sure = λ command asks u. let both : None ≡ Some command = sym none ∙ asks in cc;
   }
 
-  pub alone_carried : (asked : Command) → command_of words ≡ Some asked → end ≢ Told Usage → SameBut a.old a.new (names_of asked)
+  pub command_carried : (asked : Command) → command_of words ≡ Some asked → end ≢ Told Usage → SameBut a.old a.new (names_of asked)
       → Ends words asked (o end)
       → ((command : Command) → Ends words command (o end) → IsUnhindered words command a → (end_status end ≤ 1) ⊎ (end_status end ≡ 8))
       → ((command : Command) → Ends words command (o end) → IsSure words command a → (end_status end ≤ 1) ⊎ (end_status end ≡ 8))
       → AreCarriedOut words status a o
-  alone_carried asked asks other apart ends well sure = record {
+  command_carried asked asks other apart ends well sure = record {
     usage = (λ two. absurd (other (two_is_usage end (sym status_is ∙ two))), λ none. let both : None ≡ Some asked = sym none ∙ asks in cc);
     unchanged = λ two. absurd (other (two_is_usage end (sym status_is ∙ two)));
     usage_told = λ two. absurd (other (two_is_usage end (sym status_is ∙ two)));
@@ -51,3 +49,34 @@ module _ (words : List (List ℕ)) (status : ℕ) (a : Around) (o : End → Outc
     where
       ends_of : (command : Command) → command_of words ≡ Some command → Ends words command (o end)
       ends_of command is = subst (λ c. Ends words c (o end)) (same_command asked command (sym asks ∙ is)) ends
+
+-- what an end says of a command of words is what its status says of the words
+pub carried_out : (words : List (List ℕ)) (asked : Command) (o : End → Outcome) (end : End) (status : ℕ) → status ≡ end_status end
+    → command_of words ≡ Some asked → CarriesOut words asked (o end) → (o end).end ≡ end
+    → ((n : List ℕ) → IsPromiseKept (o end).new n ((o end).new.promise n)) → AreCarriedOut words status (around_of (o end)) o
+carried_out words asked o end status status_is asks did is kept =
+    command_carried words status (around_of (o end)) o end status_is asked asks (λ usage. did.no_usage (is ∙ usage)) did.apart did.ends
+    (λ command ends u. subst (λ e. (end_status e ≤ 1) ⊎ (end_status e ≡ 8)) is (complete (o end) words command ends u))
+    (λ command ends u. subst (λ e. (end_status e ≤ 1) ⊎ (end_status e ≡ 8)) is (sure (o end) did.apart.promises kept words command ends u))
+
+-- words that ask for nothing that can be done are carried out once the console was told why
+module _ (room : RoomView) (told now : Option (List ℕ)) (faults faults_now : ℕ) where
+  abbrev telling : End → Outcome
+  telling end = record { old = room; new = room; told = told; now = now; faults = faults; faults_now = faults_now; end = end }
+
+  told_so : (words : List (List ℕ)) (why : Unasked) (end : End) (status : ℕ) → status ≡ end_status end → IsUnasked why (command_of words)
+      → end ≡ Told (unasked_fault why) → IsTold (unasked_fault why) (telling end) → ((name : List ℕ) → room.open_as name ≡ None)
+      → ((n : List ℕ) → IsPromiseKept room n (room.promise n)) → AreCarriedOut words status (around_of (telling end)) telling
+  told_so words unasked.Usage end status status_is none is was_told free kept =
+      usage_carried words status (around_of (telling end)) telling end status_is none is (same_but_itself room []) was_told
+  told_so words unasked.NoMemory end status status_is wants is was_told free kept =
+      let command = wanting words wants in
+      carried_out words command.0 telling end status status_is command.1
+      (carried_unasked (telling end) is was_told (same_but_itself room []) free words command.0 command.2) refl kept
+
+  pub unasked_carried : (words : List (List ℕ)) (why : Unasked) (fault : Fault) (end : End) (status : ℕ) → status ≡ end_status end
+      → IsUnasked why (command_of words) → fault ≡ unasked_fault why → end ≡ Told fault → IsTold fault (telling end)
+      → ((name : List ℕ) → room.open_as name ≡ None) → ((n : List ℕ) → IsPromiseKept room n (room.promise n))
+      → AreCarriedOut words status (around_of (telling end)) telling
+  unasked_carried words why fault end status status_is none same is was_told =
+      told_so words why end status status_is none (is ∙ ap Told same) (subst (λ f. IsTold f (telling end)) same was_told)

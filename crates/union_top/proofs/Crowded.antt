@@ -18,7 +18,7 @@ use Rattle.loader_workers.specs.declared.file_end.FileEnd.{FileEnd}
 use Rattle.loader_workers.specs.declared.file_end.FileEnd.TheVariants as end
 use Rattle.loader_workers.specs.declared.result.FileResult.{FileResult}
 use Rattle.loader_workers.specs.Turns.{IsFullBehind}
-use Rattle.parallel_loading.specs.Files.{IsEndOfFile}
+use Rattle.loader_workers.specs.Files.{IsEndOfFile}
 use Rattle.room_files.specs.Journals.{journal_limits}
 use Rattle.journal_loading.specs.Outcomes.{IsLibraryLoaded, AreLibrariesLoaded, NoLibrary, OneLibrary, ends_so, any_ends}
 use Rattle.loading_commands.specs.Merged.{AreJudged, NoFile, OneFile}

@@ -1,20 +1,22 @@
 -- What it is to carry some words out. The rules are this project's own.
-use Rattle.std.specs.Prelude.{◌≡◌, ◌↔◌, ◌⊎◌, ◌≤◌, ℕ, false, List, [], Some, None}
+use Rattle.std.specs.Prelude.{◌≡◌, ◌↔◌, ◌⊎◌, ◌≤◌, ℕ, List, [], Some, None}
 use Rattle.outside.specs.Room.{SameBut}
 use Rattle.command_words.specs.Command.{Command, command_of, names_of}
+use Rattle.command_words.specs.declared.asked.Unasked.{Unasked}
+use Rattle.command_words.specs.declared.asked.Unasked.TheVariants as unasked
 use Rattle.console_lines.specs.Ends.{Outcome, IsTold}
 use Rattle.console_lines.specs.declared.end.End.{End}
 use Rattle.console_lines.specs.declared.end.End.TheVariants.{Told}
-use Rattle.console_lines.specs.declared.fault.Fault.TheVariants.{Usage}
-use Rattle.union_top.specs.Commands.{is_alone, EndsWith}
+use Rattle.console_lines.specs.declared.fault.Fault.{Fault}
+use Rattle.console_lines.specs.declared.fault.Fault.TheVariants.{Usage, Memory}
+use Rattle.union_top.specs.Commands.{EndsWith}
 use Rattle.union_top.specs.Complete.{Around, IsUnhindered}
 use Rattle.union_top.specs.Sure.{IsSure}
 
--- the command of these words loads files side by side
-pub record LoadsFiles (words : List (List ℕ)) : Type 0 where
-  pub command : Command
-  pub asks : command_of words ≡ Some command
-  pub loads : is_alone command ≡ false
+-- what is told where words ask for nothing that can be done
+abbrev pub unasked_fault : Unasked → Fault
+unasked_fault unasked.Usage = Usage
+unasked_fault unasked.NoMemory = Memory
 
 -- The words were carried out, with that exit status. It is 2 exactly where they are no command: then nothing changed, and the console
 -- was told so. Else their command changed no file but its log and outputs, and ended as its record says; where nothing hindered it, or

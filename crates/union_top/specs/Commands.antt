@@ -1,5 +1,5 @@
 -- How each command ends.
-use Rattle.std.specs.Prelude.{◌≡◌, ◌≢◌, ℕ, Bool, true, false, List, [], ◌∷◌, None}
+use Rattle.std.specs.Prelude.{◌≡◌, ◌≢◌, ℕ, List, [], ◌∷◌, None}
 use Rattle.outside.specs.Room.{SameBut}
 use Rattle.command_words.specs.declared.library.Library.{Library}
 use Rattle.command_words.specs.Command.{Command, Pass, Run, Load, Export, Report, Make, Verify, Matches, Holdings, Migrate, Help, Version, libraries_of, names_of}
@@ -17,21 +17,6 @@ use Rattle.holdings_command.specs.Attaching.{AttachesHoldings}
 use Rattle.migrate_command.specs.Migrates.{Migrates}
 use Rattle.program_help.specs.Telling.{help_text, version_text, Tells}
 use Rattle.loading_commands.specs.Loading.{Loads, Runs}
-
--- a command that starts no threads
-abbrev pub is_alone : Command → Bool
-is_alone (Pass out) = true
-is_alone (Run journal out report files) = false
-is_alone (Load journal files) = false
-is_alone (Export journal out code) = true
-is_alone (Report journal out) = true
-is_alone (Make seed count out) = true
-is_alone (Verify journal) = true
-is_alone (Matches journal out) = true
-is_alone (Holdings journal out rest code) = true
-is_alone (Migrate from into) = true
-is_alone (Help topic) = true
-is_alone Version = true
 
 -- how the command of some words ended
 abbrev pub Ends : List (List ℕ) → Command → Outcome → Type 0

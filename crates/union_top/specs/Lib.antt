@@ -3,3 +3,4 @@ pub mod Fits
 pub mod Complete
 pub mod Sure
 pub mod Carried
+pub mod Begun

@@ -1,186 +1,151 @@
-ghost use Rattle.std.specs.Prelude.{◌≡◌, ◌↔◌, ◌⊎◌, ℕ, ◌≤◌, List, true, false, Some, None, [], IfSome, IfNone};
+//! Some words, carried out in three calls: `begin` and `end` have the room, and `load` between them, which may wait, has none.
+ghost use Rattle.std.specs.Prelude.{◌≡◌, ◌↔◌, ◌⊎◌, ℕ, ◌≤◌, List, Some, None, [], IfOk, IfErr};
 ghost use Rattle.outside.specs.Room.{SameBut};
 ghost use Rattle.command_words.specs.Command.{Command, command_of, names_of};
-ghost use Rattle.command_words.specs.Asked.{command_asked};
+ghost use Rattle.command_words.specs.Asked.{AsksFor, IsUnasked};
+ghost use Rattle.command_words.specs.declared.asked.Request.{Request};
 ghost use Rattle.console_lines.specs.Ends.{outcome};
 ghost use Rattle.console_lines.specs.Faults.{IsFaultTold, fault_line};
-ghost use Rattle.union_top.specs.Commands.{is_alone, CarriesOut, EndsWith};
+ghost use Rattle.durable_catalogue.specs.Views.{durable_view};
+ghost use Rattle.journal_loading.specs.Outcomes.{HasBegun, IsWaiting, HasRead};
+ghost use Rattle.union_top.specs.Commands.{CarriesOut, EndsWith};
 ghost use Rattle.union_top.specs.Complete.{around, IsUnhindered};
 ghost use Rattle.union_top.specs.Sure.{IsSure};
-ghost use Rattle.union_top.specs.Carried.{LoadsFiles, AreCarriedOut};
+ghost use Rattle.union_top.specs.Carried.{AreCarriedOut, unasked_fault};
+ghost use Rattle.union_top.specs.Begun.{IfEnded, IfLoading};
 
-use crate::holding::attach;
-use archive_commands::{Due, read};
+use crate::asked_alone::carry_out;
 use command_words::laws::{files_are_named, names_are_apart, numbers_are_bounded};
-use command_words::{Request, Words, libraries, request};
-use console_lines::{End, Fault, tell};
-use journal_verification::verify;
-use loading_commands::{load, run_files};
-use marc_types::NoMemory;
-use match_command::write_matches;
-use migrate_command::migrate_journal;
+use command_words::{LoadRequest, Request, Unasked, Words, request};
+use console_lines::{Fault, tell};
+use journal_loading::{Loaded, Loading, load};
 use outside::{Gate, Room};
-use plain_commands::{make, pass};
-use program_help::{help, version};
 use std::alloc::Global;
 use std::sync::Wait;
 use std::thread::Threads;
 
-/// Whether a command starts no threads.
-fn is_alone(asked: Request<'_>) -> bool
-    ensures { result ≡ is_alone (command_asked asked.entry) }
+/// What the beginning of a command comes to.
+pub enum Begun<'a, R: Room> {
+    /// It has ended, with that exit status.
+    Ended(u8),
+    /// It loads files: they are open, and so is the journal.
+    Loading(Loading<'a, R>),
+}
+
+/// The fault that is told where words ask for nothing that can be done.
+fn fault_of(why: Unasked) -> Fault
+    ensures { result ≡ unasked_fault why }
 {
-    match asked {
-        Request::Run { .. } | Request::Load { .. } => false,
-        Request::Pass { .. }
-        | Request::Export { .. }
-        | Request::Report { .. }
-        | Request::Make { .. }
-        | Request::Verify { .. }
-        | Request::Matches { .. }
-        | Request::Holdings { .. }
-        | Request::Migrate { .. }
-        | Request::Help { .. }
-        | Request::Version => true,
+    match why {
+        Unasked::Usage => Fault::Usage,
+        Unasked::NoMemory => Fault::Memory,
     }
 }
 
-/// Carries out a command that starts no threads: the one that some words ask for. It waits for no thread and no lock.
-fn run_alone<R: Room>(
+/// Begins the loading that some words ask for, or ends its command.
+fn begin_loading<'a, R: Room>(
     alloc: Global,
     words: &Words,
-    asked: Request<'_>,
+    asked: LoadRequest<'a>,
     room: &mut R,
     console: &mut R::Out,
-) -> End
-    requires asks { command_of words.now ≡ Some (command_asked asked) }
-    requires alone { is_alone (command_asked asked) ≡ true }
+) -> Begun<'a, R>
+    requires asks { AsksFor words.now (Request.Load asked) }
     requires closed { (name : List ℕ) → (R.seen room.old).open_as name ≡ None }
-    ensures { CarriesOut words.now (command_asked asked.entry)
-        (outcome R.seen R.Out.written R.Out.faults room.old room.new console.old console.new result) }
-{
-    files_are_named(words);
-    names_are_apart(words);
-    numbers_are_bounded(words);
-    match asked {
-        Request::Pass { out } => match libraries(alloc, words) {
-            Ok(libraries) => pass(alloc, room, console, &libraries.as_slice()[0], out),
-            Err(NoMemory) => tell(console, Fault::Memory),
-        },
-        Request::Export { journal, out, code } => {
-            read(alloc, room, console, journal, out, Due::Export(code))
-        }
-        Request::Report { journal, out } => {
-            read(alloc, room, console, journal, out, Due::Report)
-        }
-        Request::Make { seed, count, out } => make(alloc, room, console, seed, count, out),
-        Request::Matches { journal, out } => write_matches(alloc, room, console, journal, out),
-        Request::Holdings {
-            journal,
-            out,
-            rest,
-            code,
-        } => attach(alloc, words, room, console, journal, out, rest, code),
-        Request::Migrate { old, new } => migrate_journal(alloc, room, console, old, new),
-        Request::Verify { journal } => verify(alloc, room, console, journal),
-        Request::Help { topic } => help(console, topic),
-        Request::Version => version(console),
-        Request::Run { .. } | Request::Load { .. } => unreachable!(),
-    }
-}
-
-/// Carries out some words, unless their command loads files: then it answers none, and nothing is done. Else it answers the exit
-/// status, as `run` does. It waits for no thread and no lock.
-pub fn run_unless_loading<R: Room>(
-    alloc: Global,
-    words: &Words,
-    room: &mut R,
-    console: &mut R::Out,
-) -> Option<u8>
-    requires closed { (name : List ℕ) → (R.seen room.old).open_as name ≡ None }
-    ensures closed { (name : List ℕ) → (R.seen room.new).open_as name ≡ None }
-    ensures loads { result ≡ None ↔ LoadsFiles words.now }
-    ensures untouched { IfNone result ((room.new ≡ room.old) × (console.new ≡ console.old)) }
-    ensures carried { IfSome result (λ status. AreCarriedOut words.now status
+    ensures closed { IfEnded result (λ _. (name : List ℕ) → (R.seen room.new).open_as name ≡ None) }
+    ensures carried { IfEnded result (λ status. AreCarriedOut words.now status
         (around R.seen R.Out.written R.Out.faults room.old room.new console.old console.new)
         (outcome R.seen R.Out.written R.Out.faults room.old room.new console.old console.new)) }
-{
-    match request(words) {
-        None => Some(tell(console, Fault::Usage).status()),
-        Some(asked) => {
-            if is_alone(asked) {
-                Some(run_alone(alloc, words, asked, room, console).status())
-            } else {
-                None
-            }
-        }
-    }
-}
-
-/// Carries out a command that loads files side by side: the one that some words ask for.
-fn run_loading<H: Threads + Wait + Sync, R: Room, G: Gate + Sync>(
-    rt: &H,
-    alloc: Global,
-    words: &Words,
-    asked: Request<'_>,
-    room: &mut R,
-    console: &mut R::Out,
-    gate: &G,
-) -> End
-    requires asks { command_of words.now ≡ Some (command_asked asked) }
-    requires loads { is_alone (command_asked asked) ≡ false }
-    requires closed { (name : List ℕ) → (R.seen room.old).open_as name ≡ None }
-    ensures { CarriesOut words.now (command_asked asked.entry)
-        (outcome R.seen R.Out.written R.Out.faults room.old room.new console.old console.new result) }
+    ensures asks { IfLoading result (λ l. AsksFor words.now (Request.Load l.asked)) }
+    ensures before { IfLoading result (λ l. l.before.value ≡ room.old) }
+    ensures begun { IfLoading result (λ l.
+        HasBegun R.In.left R.In.faults (R.seen l.before.value) l.asked (durable_view l.durable) l.inputs) }
+    ensures waiting { IfLoading result (λ l. IsWaiting (R.seen l.before.value) (R.seen room.new) l.asked.journal.now) }
+    ensures silent { IfLoading result (λ _. console.new ≡ console.old) }
 {
     files_are_named(words);
     names_are_apart(words);
     numbers_are_bounded(words);
-    let libraries = match libraries(alloc, words) {
-        Ok(libraries) => libraries,
-        Err(NoMemory) => return tell(console, Fault::Memory),
-    };
-    let files = libraries.as_slice();
-    match asked {
-        Request::Run {
-            journal,
-            out,
-            report,
-            ..
-        } => run_files(rt, alloc, files, room, console, journal, out, report, gate),
-        Request::Load { journal, .. } => load(rt, alloc, files, room, console, journal, gate),
-        Request::Pass { .. }
-        | Request::Export { .. }
-        | Request::Report { .. }
-        | Request::Make { .. }
-        | Request::Verify { .. }
-        | Request::Matches { .. }
-        | Request::Holdings { .. }
-        | Request::Migrate { .. }
-        | Request::Help { .. }
-        | Request::Version => unreachable!(),
+    match loading_commands::begin(alloc, asked, room, console) {
+        Ok(loading) => Begun::Loading(loading),
+        Err(end) => Begun::Ended(end.status()),
     }
 }
 
-/// Carries out the command that some words ask for.
-fn carry_out<H: Threads + Wait + Sync, R: Room, G: Gate + Sync>(
+/// Begins the command of some words, by what they ask for. One that loads no files is carried out, and words that are no command are
+/// told of: then the status is as `run` answers it. Else the journal and the files are opened. It waits for no thread and no lock.
+pub fn begin<'a, R: Room>(
+    alloc: Global,
+    words: &Words,
+    asked: Result<Request<'a>, Unasked>,
+    room: &mut R,
+    console: &mut R::Out,
+) -> Begun<'a, R>
+    requires closed { (name : List ℕ) → (R.seen room.old).open_as name ≡ None }
+
+    // It is what `request` answers to the words.
+    requires asked { IfOk asked (AsksFor words.now) }
+    requires unasked { IfErr asked (λ why. IsUnasked why (command_of words.now)) }
+
+    // What has ended is carried out.
+    ensures closed { IfEnded result (λ _. (name : List ℕ) → (R.seen room.new).open_as name ≡ None) }
+    ensures carried { IfEnded result (λ status. AreCarriedOut words.now status
+        (around R.seen R.Out.written R.Out.faults room.old room.new console.old console.new)
+        (outcome R.seen R.Out.written R.Out.faults room.old room.new console.old console.new)) }
+
+    // What is to be loaded was begun in this room, and the console is told nothing.
+    ensures asks { IfLoading result (λ l. AsksFor words.now (Request.Load l.asked)) }
+    ensures before { IfLoading result (λ l. l.before.value ≡ room.old) }
+    ensures begun { IfLoading result (λ l.
+        HasBegun R.In.left R.In.faults (R.seen l.before.value) l.asked (durable_view l.durable) l.inputs) }
+    ensures waiting { IfLoading result (λ l. IsWaiting (R.seen l.before.value) (R.seen room.new) l.asked.journal.now) }
+    ensures silent { IfLoading result (λ _. console.new ≡ console.old) }
+{
+    match asked {
+        Ok(Request::Alone(asked)) => {
+            Begun::Ended(carry_out(alloc, words, asked, room, console).status())
+        }
+        Ok(Request::Load(asked)) => begin_loading(alloc, words, asked, room, console),
+        Err(why) => Begun::Ended(tell(console, fault_of(why)).status()),
+    }
+}
+
+/// Ends the command of a loading, once its files are loaded, and answers its exit status, as `run` does. It waits for no thread and no
+/// lock.
+pub fn end<R: Room>(alloc: Global, loaded: Loaded<'_, R>, room: &mut R, console: &mut R::Out) -> u8
+    requires read { HasRead R.In.left R.In.faults (R.seen loaded.before.value) loaded.asked (durable_view loaded.durable) loaded.inputs loaded.results }
+    requires waiting { IsWaiting (R.seen loaded.before.value) (R.seen room.old) loaded.asked.journal.now }
+    ensures closed { (name : List ℕ) → (R.seen room.new).open_as name ≡ None }
+
+    // The words that asked for it are carried out, since the room was as before they were begun.
+    ensures carried { (words : List (List ℕ)) → AsksFor words (Request.Load loaded.entry.asked) → AreCarriedOut words result
+        (around R.seen R.Out.written R.Out.faults loaded.entry.before.value room.new console.old console.new)
+        (outcome R.seen R.Out.written R.Out.faults loaded.entry.before.value room.new console.old console.new) }
+{
+    loading_commands::end(alloc, loaded, room, console).status()
+}
+
+/// Carries out the command of some words: what they ask for is begun, loaded where there are files, and ended.
+fn carry_through<H: Threads + Wait + Sync, R: Room, G: Gate + Sync>(
     rt: &H,
     alloc: Global,
     words: &Words,
-    asked: Request<'_>,
     room: &mut R,
     console: &mut R::Out,
     gate: &G,
-) -> End
-    requires asks { command_of words.now ≡ Some (command_asked asked) }
+) -> u8
     requires closed { (name : List ℕ) → (R.seen room.old).open_as name ≡ None }
-    ensures { CarriesOut words.now (command_asked asked.entry)
-        (outcome R.seen R.Out.written R.Out.faults room.old room.new console.old console.new result) }
+    ensures closed { (name : List ℕ) → (R.seen room.new).open_as name ≡ None }
+    ensures carried { AreCarriedOut words.now result
+        (around R.seen R.Out.written R.Out.faults room.old room.new console.old console.new)
+        (outcome R.seen R.Out.written R.Out.faults room.old room.new console.old console.new) }
 {
-    if is_alone(asked) {
-        run_alone(alloc, words, asked, room, console)
-    } else {
-        run_loading(rt, alloc, words, asked, room, console, gate)
+    match begin(alloc, words, request(alloc, words), room, console) {
+        Begun::Ended(status) => status,
+        Begun::Loading(loading) => {
+            let loaded = load(rt, alloc, loading, gate);
+            end(alloc, loaded, room, console)
+        }
     }
 }
 
@@ -221,8 +186,5 @@ pub fn run<H: Threads + Wait + Sync, R: Room, G: Gate + Sync>(
         IsSure words.now command (around R.seen R.Out.written R.Out.faults room.old room.new console.old console.new) →
         (result ≤ 1) ⊎ (result ≡ 8) }
 {
-    match request(words) {
-        None => tell(console, Fault::Usage).status(),
-        Some(asked) => carry_out(rt, alloc, words, asked, room, console, gate).status(),
-    }
+    carry_through(rt, alloc, words, room, console, gate)
 }

@@ -1,7 +1,9 @@
-//! What the program does: one call over a room, its words and a console.
+//! What the program does: the words of a command, over a room and a console. A command begins and ends with the room at hand, and what
+//! it loads between them it loads without.
 #![tactic(auto)]
 
-pub use command::{run, run_unless_loading};
+pub use command::{Begun, begin, end, run};
+pub use journal_loading::{Loaded, Loading, load};
 
+mod asked_alone;
 mod command;
-mod holding;

@@ -2,18 +2,19 @@
 ghost use Rattle.std.specs.Prelude.{◌≡◌, ℕ, List, None, IfOk};
 ghost use Rattle.outside_mem.specs.Room.{room_view};
 
+use crate::failing::fail_each;
 use crate::room::{empty_room, with_fault, with_file, with_shut};
 use crate::shown::{print_all, print_number, shown};
 use crate::step::Step;
 use crate::turns::{Doorkeeper, Turns};
-use command_words::Words;
+use command_words::{Words, request};
 use marc_types::Text;
 use outside_mem::{MemRoom, MemSink};
 use std::alloc::{AllocError, Global};
 use std::sync::Wait;
 use std::thread::Threads;
 use std::{fs, io};
-use union_top::run;
+use union_top::{Begun, begin, end, load};
 
 /// The name of what is exported of an image.
 const EXPORT: &str = "image.out";
@@ -30,7 +31,7 @@ pub struct Desk {
 }
 
 /// What was to be done wanted memory, or the file isn't there.
-fn failed() -> io::Error {
+pub fn failed() -> io::Error {
     io::Error::from(AllocError)
 }
 
@@ -43,7 +44,7 @@ fn gathered(rt: &HostRuntime, names: &str) -> io::Result<Vec<u8>> {
     Ok(bytes)
 }
 
-fn words_of(alloc: Global, line: &str) -> io::Result<Words> {
+pub fn words_of(alloc: Global, line: &str) -> io::Result<Words> {
     let mut words = Vec::new(alloc);
     for word in line.split(' ') {
         match Text::from_str(alloc, word) {
@@ -87,7 +88,28 @@ fn crashed(
     with_file(empty_room(alloc), name, image).map_err(|_| failed())
 }
 
-/// Carries out the command of some words over a room: the status, and what the console is told.
+/// Carries out the command of some words over a room, by the calls that the program makes, and answers the status.
+pub fn answer<H: Threads + Wait + Sync>(
+    threads: &H,
+    alloc: Global,
+    words: &Words,
+    room: &mut MemRoom,
+    console: &mut MemSink,
+    gate: &Doorkeeper,
+) -> u8
+    requires { (name : List ℕ) → (room_view room.old).open_as name ≡ None }
+    ensures { (name : List ℕ) → (room_view room.new).open_as name ≡ None }
+{
+    match begin(alloc, words, request(alloc, words), room, console) {
+        Begun::Ended(status) => status,
+        Begun::Loading(loading) => {
+            let loaded = load(threads, alloc, loading, gate);
+            end(alloc, loaded, room, console)
+        }
+    }
+}
+
+/// The status of the command of some words, and what the console is told.
 fn ran<H: Threads + Wait + Sync>(
     threads: &H,
     alloc: Global,
@@ -100,7 +122,7 @@ fn ran<H: Threads + Wait + Sync>(
 {
     let mut console = MemSink::new(alloc, Vec::new(alloc));
     let gate = Doorkeeper::new(turns);
-    let status = run(threads, alloc, words, room, &mut console, &gate);
+    let status = answer(threads, alloc, words, room, &mut console, &gate);
     (status, console.into_bytes())
 }
 
@@ -177,7 +199,7 @@ fn tell_export(rt: &HostRuntime, status: u8, bytes: Option<&[u8]>) -> io::Result
 }
 
 /// Carries out an export of a journal over a room, and prints what comes of it.
-fn exported<H: Threads + Wait + Sync>(
+pub fn exported<H: Threads + Wait + Sync>(
     rt: &HostRuntime,
     threads: &H,
     room: MemRoom,
@@ -271,6 +293,9 @@ impl Desk {
         look(rt, &room, step, line)?;
         if let Step::Images(journal) = step {
             images(rt, threads, &room, journal)?;
+        }
+        if let Step::FailEach(name, words) = step {
+            fail_each(rt, threads, &room, name, words)?;
         }
         let turns = match step {
             Step::Title => Turns::Open,

@@ -10,6 +10,7 @@ use std::{fs, io};
 use step::Step;
 
 mod desk;
+mod failing;
 mod room;
 mod shown;
 mod step;

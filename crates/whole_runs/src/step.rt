@@ -28,6 +28,9 @@ pub enum Step<'a> {
     Crash(&'a str, u64, u8),
     /// Prints what comes of an export of each image of a closed log: of each moment, by each of the three choices.
     Images(&'a str),
+    /// Carries out the command of these words over the room's files again and again, each time with the next call failing on each object
+    /// that is opened by the name, until none is left to fail; and prints what comes of each.
+    FailEach(&'a str, &'a str),
     /// The line is no step.
     Unknown,
 }
@@ -51,6 +54,10 @@ fn step_of<'a>(verb: &str, words: &'a str) -> Option<Step<'a>> {
             Some(Step::File(name, sources))
         }
         "fail" => fail_of(words),
+        "fail_each" => {
+            let (name, words) = words.split_once(' ')?;
+            Some(Step::FailEach(name, words))
+        }
         "shut" => Some(Step::Shut(words)),
         "turns" => Some(Step::Turns(Turns::named(words)?)),
         "run" => Some(Step::Run(words)),

@@ -1,7 +1,7 @@
 ghost use Rattle.std.specs.Prelude.{All};
 ghost use Rattle.commit_journal.specs.Journal.{IsPayload};
 
-use commit_journal::{FoundLog, Frames, Journal, JournalFault, LARGEST_PAYLOAD};
+use commit_journal::{FoundLog, Frames, Journal, JournalFault, LARGEST_PAYLOAD, Version};
 use outside::{Bytes, Disk};
 use outside_mem::MemDisk;
 use std::alloc::Global;
@@ -49,7 +49,7 @@ fn append(journal: &mut Journal<MemDisk>, payload: &[u8]) -> bool {
     if payload.is_empty() || payload.len() > LARGEST_PAYLOAD {
         return false;
     }
-    if journal.is_broken() || journal.version() != 2 {
+    if journal.is_broken() || journal.version() != Version::Two {
         return false;
     }
     journal.append(payload).is_ok()
@@ -87,7 +87,7 @@ fn logs_open_to_their_frames_or_are_none(rt: HostRuntime) -> Result<(), Fail> {
 #[test]
 fn a_blank_log_is_written_anew(rt: HostRuntime) -> Result<(), Fail> {
     let (journal, _frames) = open(rt.alloc(), b"UNIONCAT")?;
-    assert_eq!(rt; journal.version(), 2);
+    assert_eq!(rt; journal.version(), Version::Two);
     let disk = journal.close();
     assert_eq!(rt; disk.bytes(), EMPTY);
     // The start, a sync, the cut, the header and its gate in one write, a sync.
@@ -106,7 +106,7 @@ fn with_gate(rt: &impl Abort, alloc: Global, log: &[u8], gate: u8) -> Result<Vec
 /// The frames of a log of version 2.
 fn frames_of(rt: &impl Abort, alloc: Global, log: &[u8]) -> Result<Frames, Fail> {
     let (journal, frames) = open(alloc, log)?;
-    assert_eq!(rt; journal.version(), 2);
+    assert_eq!(rt; journal.version(), Version::Two);
     Ok(frames)
 }
 
@@ -203,7 +203,7 @@ fn find(alloc: Global, bytes: &[u8]) -> Result<(FoundLog<MemDisk>, Frames), Fail
 fn a_log_that_is_left_keeps_every_byte(rt: HostRuntime) -> Result<(), Fail> {
     for log in &[TORN, b"UNIONCAT".as_slice()] {
         let (found, frames) = find(rt.alloc(), log)?;
-        assert_eq!(rt; found.version(), 2);
+        assert_eq!(rt; found.version(), Version::Two);
         assert!(rt; frames.len() <= 1);
         let disk = found.leave();
         assert!(rt; disk.bytes() == *log);
@@ -254,7 +254,7 @@ fn are_payloads(rt: &impl Abort, payloads: &[Bytes])
 
 // Appends payloads, all or none; not to a journal that is broken or of version 1.
 fn append_all(rt: &impl Abort, journal: &mut Journal<MemDisk>, payloads: &[Bytes]) -> bool {
-    if journal.is_broken() || journal.version() != 2 {
+    if journal.is_broken() || journal.version() != Version::Two {
         return false;
     }
     are_payloads(rt, payloads);

@@ -1,8 +1,8 @@
 use console_lines::{
-    End, Fault, Sums, Totals, made_line, refused_lines, results_text, tell, totals_line,
+    End, Fault, Totals, made_line, refused_lines, results_text, tell, totals_line,
 };
 use file_entries::RefusedItem;
-use marc_types::{NoMemory, Refusal, Set};
+use marc_types::{NoMemory, Refusal, Set, Sums};
 use outside_mem::MemSink;
 use std::alloc::Global;
 use std::test::Fail;

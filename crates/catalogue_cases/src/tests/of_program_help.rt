@@ -4,7 +4,7 @@ use outside_mem::MemSink;
 use program_help::{help, version};
 use std::alloc::Global;
 
-const TOPICS: [(Topic, &str); 13] = [
+const TOPICS: [(Topic, &str); 14] = [
     (Topic::All, "union_cat, a union catalogue"),
     (Topic::Pass, "union_cat pass OUT CODE=FILE\n"),
     (
@@ -24,6 +24,7 @@ const TOPICS: [(Topic, &str); 13] = [
     (Topic::Migrate, "union_cat migrate OLD NEW\n"),
     (Topic::Help, "union_cat help\n"),
     (Topic::Version, "union_cat version\n"),
+    (Topic::Statuses, "union_cat help statuses\n"),
 ];
 
 fn helped(alloc: Global, topic: Topic) -> (End, Vec<u8>) {

@@ -20,6 +20,15 @@ fn visit(table: &mut LinkTable, alloc: Global, link: Link) -> Result<(), NoMemor
     Ok(())
 }
 
+// What a look-up answers a test's proof needn't know.
+fn count_of(alloc: Global, table: &LinkTable, number: u32) -> Result<usize, NoMemory> {
+    Ok(table.of(alloc, number)?.len())
+}
+
+fn key_of(table: &LinkTable, seat: Seat) -> Option<u32> {
+    table.key_of(seat)
+}
+
 #[test]
 fn a_link_comes_back_after_another(rt: HostRuntime) -> Result<(), Fail> {
     let alloc = rt.alloc();
@@ -31,13 +40,13 @@ fn a_link_comes_back_after_another(rt: HostRuntime) -> Result<(), Fail> {
     let mut table = LinkTable::new(alloc);
     table.add(alloc, Link { number: 7, seat })?;
     let first = table.take(seat);
-    assert!(rt; table.of(alloc, 7)?.is_empty());
+    assert!(rt; count_of(alloc, &table, 7)? == 0);
     visit(&mut table, alloc, Link { number: 9, seat })?;
     if let Some(link) = first {
         table.put_back(link);
     }
-    assert!(rt; table.key_of(seat) == Some(7));
-    assert!(rt; table.of(alloc, 7)?.len() == 1);
-    assert!(rt; table.of(alloc, 9)?.is_empty());
+    assert!(rt; key_of(&table, seat) == Some(7));
+    assert!(rt; count_of(alloc, &table, 7)? == 1);
+    assert!(rt; count_of(alloc, &table, 9)? == 0);
     Ok(())
 }

@@ -33,40 +33,50 @@ fn stands_at(
     Ok(keys.at(number) == Some(&key(alloc, name)?))
 }
 
+/// Whether there are two keys, and none behind them.
+fn are_two(keys: &Numbering<Key>) -> bool {
+    keys.at(2).is_none() && keys.len() == 2
+}
+
+const ADDED: [(&str, u32); 3] = [("n 1", 0), ("n 2", 1), ("n 1", 0)];
+
+const FOUND: [(&str, Option<u32>); 2] = [("n 2", Some(1)), ("n 3", None)];
+
 #[test]
 fn keys_keep_their_numbers(rt: HostRuntime) -> Result<(), Fail> {
     let alloc = rt.alloc();
     let mut keys = Numbering::new(alloc);
-    for (name, number) in [("n 1", 0), ("n 2", 1), ("n 1", 0)] {
-        assert!(rt; added(alloc, &mut keys, name)? == number);
+    for (name, number) in &ADDED {
+        assert!(rt; added(alloc, &mut keys, name)? == *number);
     }
-    for (name, number) in [("n 2", Some(1)), ("n 3", None)] {
-        assert!(rt; number_of(alloc, &keys, name)? == number);
+    for (name, number) in &FOUND {
+        assert!(rt; number_of(alloc, &keys, name)? == *number);
     }
     assert!(rt; stands_at(alloc, &keys, 1, "n 2")?);
-    assert!(rt; keys.at(2) == None && keys.len() == 2);
+    assert!(rt; are_two(&keys));
     Ok(())
+}
+
+fn seat(class: Class, field: u32) -> Seat {
+    Seat {
+        class,
+        number: 7,
+        field,
+    }
+}
+
+fn seat_added(alloc: Global, seats: &mut Numbering<Seat>, field: u32) -> Result<u32, NoMemory> {
+    seats.add(alloc, &seat(Class::Authority, field))
 }
 
 #[test]
 fn seats_differ_by_each_part(rt: HostRuntime) -> Result<(), Fail> {
     let alloc = rt.alloc();
-    let class = Class::Authority;
     let mut seats = Numbering::new(alloc);
     for field in 0..2 {
-        let seat = Seat {
-            class,
-            number: 7,
-            field,
-        };
-        assert!(rt; seats.add(alloc, &seat)? == field);
+        assert!(rt; seat_added(alloc, &mut seats, field)? == field);
     }
-    let other = Seat {
-        class: Class::Bibliographic,
-        number: 7,
-        field: 0,
-    };
-    assert!(rt; seats.number_of(&other) == None);
+    assert!(rt; number(&seats, &seat(Class::Bibliographic, 0)) == None);
     Ok(())
 }
 

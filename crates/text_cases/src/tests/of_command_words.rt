@@ -1,5 +1,7 @@
 use super::steps::expect;
-use command_words::{Library, Request, Topic, Words, libraries, request};
+use command_words::{
+    AloneRequest, Libraries, Library, LoadRequest, Request, Topic, Unasked, Words, request,
+};
 use marc_types::{NoMemory, Text};
 use std::alloc::Global;
 use std::process::Abort;
@@ -13,15 +15,123 @@ fn words_of(alloc: Global, line: &str) -> Result<Words, NoMemory> {
     Ok(Words::from_vec(words))
 }
 
-// Behind a function without a clause, since the clause of `request` would be unfolded at each later goal.
-fn asks(words: &Words, asked: Option<Request<'_>>) -> bool {
-    request(words) == asked
+/// Words behind one another, with a bar before each.
+fn barred(alloc: Global, words: &[&str]) -> Result<String, NoMemory> {
+    let mut text = String::new(alloc);
+    for word in words {
+        text.push('|')?;
+        text.push_str(word)?;
+    }
+    Ok(text)
 }
 
-fn expect_asked(rt: &impl Abort, alloc: Global, rows: &[(&str, Request<'_>)]) -> Result<(), Fail> {
-    for (line, asked) in rows {
+fn push_word(text: &mut String, word: &str) -> Result<(), NoMemory> {
+    text.push('|')?;
+    text.push_str(word)?;
+    Ok(())
+}
+
+/// The code and the file of a library, with a bar before each.
+fn push_library(text: &mut String, library: &Library) -> Result<(), NoMemory> {
+    push_word(text, library.code.as_str())?;
+    push_word(text, library.file.as_str())
+}
+
+fn push_libraries(text: &mut String, libraries: &Libraries) -> Result<(), NoMemory> {
+    for library in libraries.as_slice() {
+        push_library(text, library)?;
+    }
+    Ok(())
+}
+
+fn load_text(alloc: Global, asked: &LoadRequest<'_>) -> Result<String, NoMemory> {
+    let mut text = match &asked.outputs {
+        Some(outputs) => barred(alloc, &["run", asked.journal, outputs.out, outputs.report])?,
+        None => barred(alloc, &["load", asked.journal])?,
+    };
+    push_libraries(&mut text, &asked.libraries)?;
+    Ok(text)
+}
+
+/// A number that some line names.
+fn number_text(number: u64) -> &'static str {
+    match number {
+        0 => "0",
+        7 => "7",
+        1_048_576 => "1048576",
+        u64::MAX => "18446744073709551615",
+        _ => "another number",
+    }
+}
+
+fn topic_text(topic: Topic) -> &'static str {
+    match topic {
+        Topic::All => "all",
+        Topic::Make => "make",
+        Topic::Help => "help",
+        Topic::Load => "load",
+        Topic::Statuses => "statuses",
+        _ => "another topic",
+    }
+}
+
+fn alone_text(alloc: Global, asked: &AloneRequest<'_>) -> Result<String, NoMemory> {
+    match asked {
+        AloneRequest::Pass { library, out } => {
+            let mut text = barred(alloc, &["pass", out])?;
+            push_library(&mut text, library)?;
+            Ok(text)
+        }
+        AloneRequest::Export { journal, out, code } => {
+            let mut text = barred(alloc, &["export", journal, out])?;
+            push_word(&mut text, code.unwrap_or("all"))?;
+            Ok(text)
+        }
+        AloneRequest::Report { journal, out } => barred(alloc, &["report", journal, out]),
+        AloneRequest::Make { seed, count, out } => {
+            let mut text = barred(alloc, &["make", number_text(*seed), number_text(*count)])?;
+            push_word(&mut text, out)?;
+            Ok(text)
+        }
+        AloneRequest::Verify { journal } => barred(alloc, &["verify", journal]),
+        AloneRequest::Matches { journal, out } => barred(alloc, &["matches", journal, out]),
+        AloneRequest::Holdings {
+            journal,
+            out,
+            rest,
+            library,
+            code,
+        } => {
+            let mut text = barred(alloc, &["holdings", journal, out, rest])?;
+            push_library(&mut text, library)?;
+            push_word(&mut text, code.unwrap_or("all"))?;
+            Ok(text)
+        }
+        AloneRequest::Migrate { old, new } => barred(alloc, &["migrate", old, new]),
+        AloneRequest::Help { topic } => barred(alloc, &["help", topic_text(*topic)]),
+        AloneRequest::Version => barred(alloc, &["version"]),
+    }
+}
+
+// Behind functions without a clause, since the clauses of `request` would be unfolded at each later goal.
+fn asked_text(alloc: Global, words: &Words) -> Result<String, NoMemory> {
+    match request(alloc, words) {
+        Ok(Request::Load(asked)) => load_text(alloc, &asked),
+        Ok(Request::Alone(asked)) => alone_text(alloc, &asked),
+        Err(Unasked::Usage) => Ok(String::from_str(alloc, "usage")?),
+        Err(Unasked::NoMemory) => Err(NoMemory),
+    }
+}
+
+fn is_asked(alloc: Global, words: &Words, wanted: &str) -> Result<bool, NoMemory> {
+    let text = asked_text(alloc, words)?;
+    Ok(text.as_str() == wanted)
+}
+
+fn expect_asked(rt: &impl Abort, alloc: Global, rows: &[(&str, &str)]) -> Result<(), Fail> {
+    for (line, wanted) in rows {
         let words = words_of(alloc, line)?;
-        expect(rt, asks(&words, Some(*asked)), line);
+        expect(rt, is_asked(alloc, &words, wanted)?, line);
     }
     Ok(())
 }
@@ -29,126 +139,59 @@ fn expect_asked(rt: &impl Abort, alloc: Global, rows: &[(&str, Request<'_>)]) ->
 fn expect_none(rt: &impl Abort, alloc: Global, lines: &[&str]) -> Result<(), Fail> {
     for line in lines {
         let words = words_of(alloc, line)?;
-        expect(rt, asks(&words, None), line);
+        expect(rt, is_asked(alloc, &words, "usage")?, line);
     }
     Ok(())
 }
 
-const WRITING: [(&str, Request<'static>); 3] = [
-    (
-        "run j o r ULIB=f0 ULIB=f1",
-        Request::Run {
-            journal: "j",
-            out: "o",
-            report: "r",
-            files: 2,
-        },
-    ),
-    (
-        "load j A=f B=f",
-        Request::Load {
-            journal: "j",
-            files: 2,
-        },
-    ),
-    ("migrate a b", Request::Migrate { old: "a", new: "b" }),
+const WITH_FILES: [(&str, &str); 6] = [
+    ("run j o r ULIB=f0 ULIB=f1", "|run|j|o|r|ULIB|f0|ULIB|f1"),
+    ("run j o r A=b=c D=e", "|run|j|o|r|A|b=c|D|e"),
+    ("load j A=f B=f", "|load|j|A|f|B|f"),
+    ("pass ./f A=f", "|pass|./f|A|f"),
+    ("holdings j o r ULIB=h", "|holdings|j|o|r|ULIB|h|all"),
+    ("holdings j o r A=h DLC", "|holdings|j|o|r|A|h|DLC"),
 ];
 
 #[test]
-fn lines_that_write_journals(rt: HostRuntime) -> Result<(), Fail> {
-    expect_asked(&rt, rt.alloc(), &WRITING)
+fn lines_with_files(rt: HostRuntime) -> Result<(), Fail> {
+    expect_asked(&rt, rt.alloc(), &WITH_FILES)
 }
 
-const READING: [(&str, Request<'static>); 5] = [
-    (
-        "export j o",
-        Request::Export {
-            journal: "j",
-            out: "o",
-            code: None,
-        },
-    ),
-    (
-        "export j o DLC",
-        Request::Export {
-            journal: "j",
-            out: "o",
-            code: Some("DLC"),
-        },
-    ),
-    (
-        "report j o",
-        Request::Report {
-            journal: "j",
-            out: "o",
-        },
-    ),
-    ("verify ./j", Request::Verify { journal: "./j" }),
-    (
-        "matches a b",
-        Request::Matches {
-            journal: "a",
-            out: "b",
-        },
-    ),
+const OVER_JOURNALS: [(&str, &str); 6] = [
+    ("export j o", "|export|j|o|all"),
+    ("export j o DLC", "|export|j|o|DLC"),
+    ("report j o", "|report|j|o"),
+    ("verify ./j", "|verify|./j"),
+    ("matches a b", "|matches|a|b"),
+    ("migrate a b", "|migrate|a|b"),
 ];
 
 #[test]
-fn lines_that_read_journals(rt: HostRuntime) -> Result<(), Fail> {
-    expect_asked(&rt, rt.alloc(), &READING)
+fn lines_over_journals(rt: HostRuntime) -> Result<(), Fail> {
+    expect_asked(&rt, rt.alloc(), &OVER_JOURNALS)
 }
 
-const HOLDINGS: [(&str, Request<'static>); 2] = [
-    (
-        "holdings j o r ULIB=h",
-        Request::Holdings {
-            journal: "j",
-            out: "o",
-            rest: "r",
-            code: None,
-        },
-    ),
-    (
-        "holdings j o r ULIB=h DLC",
-        Request::Holdings {
-            journal: "j",
-            out: "o",
-            rest: "r",
-            code: Some("DLC"),
-        },
-    ),
-];
-
-#[test]
-fn lines_of_holdings(rt: HostRuntime) -> Result<(), Fail> {
-    expect_asked(&rt, rt.alloc(), &HOLDINGS)
-}
-
-const OTHERS: [(&str, Request<'static>); 10] = [
-    ("pass ./f A=f", Request::Pass { out: "./f" }),
+const OTHERS: [(&str, &str); 15] = [
     (
         "make 18446744073709551615 1048576 o",
-        Request::Make {
-            seed: u64::MAX,
-            count: 1_048_576,
-            out: "o",
-        },
+        "|make|18446744073709551615|1048576|o",
     ),
-    (
-        "make 007 00000000000000000000 o",
-        Request::Make {
-            seed: 7,
-            count: 0,
-            out: "o",
-        },
-    ),
-    ("help", Request::Help { topic: Topic::All }),
-    ("--help", Request::Help { topic: Topic::All }),
-    ("-h", Request::Help { topic: Topic::All }),
-    ("help make", Request::Help { topic: Topic::Make }),
-    ("help help", Request::Help { topic: Topic::Help }),
-    ("version", Request::Version),
-    ("--version", Request::Version),
+    ("make 007 00000000000000000000 o", "|make|7|0|o"),
+    ("help", "|help|all"),
+    ("--help", "|help|all"),
+    ("-h", "|help|all"),
+    ("help make", "|help|make"),
+    ("help help", "|help|help"),
+    ("version", "|version"),
+    ("--version", "|version"),
+    ("-V", "|version"),
+    ("help --version", "|version"),
+    ("help statuses", "|help|statuses"),
+    ("load --help", "|help|load"),
+    ("make -h", "|help|make"),
+    // a journal's name
+    ("verify --help", "|verify|--help"),
 ];
 
 #[test]
@@ -193,7 +236,7 @@ const FAULTY_FILES: [&str; 31] = [
 #[test]
 fn faulty_lines_with_files(rt: HostRuntime) -> Result<(), Fail> {
     let words = Words::from_vec(Vec::new(rt.alloc()));
-    assert!(rt; asks(&words, None));
+    assert!(rt; is_asked(rt.alloc(), &words, "usage")?);
     expect_none(&rt, rt.alloc(), &FAULTY_FILES)
 }
 
@@ -242,39 +285,19 @@ fn load_line(alloc: Global, files: u32) -> Result<Words, NoMemory> {
     words_of(alloc, line.as_str())
 }
 
-fn load_asks(alloc: Global, files: u32, asked: Option<Request<'_>>) -> Result<bool, NoMemory> {
+/// How many libraries a load of so many files has; none where it is no command.
+fn loaded_count(alloc: Global, files: u32) -> Result<Option<usize>, NoMemory> {
     let words = load_line(alloc, files)?;
-    Ok(asks(&words, asked))
+    match request(alloc, &words) {
+        Ok(Request::Load(asked)) => Ok(Some(asked.libraries.len())),
+        Ok(Request::Alone(_)) | Err(Unasked::Usage) => Ok(None),
+        Err(Unasked::NoMemory) => Err(NoMemory),
+    }
 }
 
 #[test]
 fn most_files(rt: HostRuntime) -> Result<(), Fail> {
-    let most = Request::Load {
-        journal: "j",
-        files: 64,
-    };
-    assert!(rt; load_asks(rt.alloc(), 64, Some(most))?);
-    assert!(rt; load_asks(rt.alloc(), 65, None)?);
-    Ok(())
-}
-
-/// Whether these, by code and file, are the libraries that are listed of a line.
-fn are_listed(alloc: Global, line: &str, wanted: &[(&str, &str)]) -> Result<bool, NoMemory> {
-    let words = words_of(alloc, line)?;
-    let made = libraries(alloc, &words)?;
-    Ok(made.len() == wanted.len() && made.iter().zip(wanted).all(is_listed))
-}
-
-fn is_listed((library, (code, file)): (&Library, &(&str, &str))) -> bool {
-    library.code.as_str() == *code && library.file.as_str() == *file
-}
-
-#[test]
-fn files(rt: HostRuntime) -> Result<(), Fail> {
-    let alloc = rt.alloc();
-    let run = [("A", "b=c"), ("D", "e")];
-    assert!(rt; are_listed(alloc, "run j o r A=b=c D=e", &run)?);
-    assert!(rt; are_listed(alloc, "holdings j o r A=h D", &[("A", "h")])?);
-    assert!(rt; are_listed(alloc, "export j o D", &[])?);
+    assert!(rt; loaded_count(rt.alloc(), 64)? == Some(64));
+    assert!(rt; loaded_count(rt.alloc(), 65)? == None);
     Ok(())
 }

@@ -1,4 +1,4 @@
-//! A sink in memory, and that a case of a table holds. (A message in each test would take the prover some twenty seconds.)
+//! A sink in memory, and that a case of a table holds. (A message that is formatted would take the prover some twenty seconds.)
 ghost use Rattle.std.specs.Prelude.{Some};
 
 use outside::{Failed, Sink};
@@ -6,11 +6,15 @@ use std::alloc::Global;
 use std::process::Abort;
 
 pub(crate) fn expect(rt: &impl Abort, holds: bool, case: &str) {
-    assert!(rt; holds, "{case}");
+    if !holds {
+        rt.panic(case);
+    }
 }
 
 pub(crate) fn expect_at(rt: &impl Abort, holds: bool, number: u32) {
-    assert!(rt; holds, "{number}");
+    if !holds {
+        rt.panic(number);
+    }
 }
 
 /// A sink in memory that takes so many pieces, and then fails.

@@ -6,7 +6,7 @@ pub returns-in-Err-clause-ends : goal.returns-in-Err-clause-ends
 returns-in-Err-clause-ends g c =
     let because = c.in-Err.ensures in
     reads_unopened _ _ _ _ c.in-Err.fault _ c.fault_of_opening.ensures c.tell.ensures.end c.tell.ensures.told c.open_archive.ensures.apart
-    because.current because.refused.so because.refused.keeps because.refused.cause
+    because.current because.refused.so because.refused.keeps because.refused.kept because.refused.cause
 
 pub returns-clause-apart : goal.returns-clause-apart
 returns-clause-apart g c = apart_opened _ _ _ _ _ c.open_archive.ensures.apart c.write_archive-written.ensures.apart

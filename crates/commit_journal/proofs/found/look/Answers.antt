@@ -1,5 +1,6 @@
 use Rattle.std.proofs.Common.{arith}
 use Rattle.std.proofs.lemmas.Result.{err_from_is_err_and}
+use Rattle.commit_journal.specs.Versions.{number_of}
 use Rattle.commit_journal.proofs.Faults.{open_cause}
 use Rattle.commit_journal.proofs.Recoveries.{unwritten_read, found_read}
 use Rattle.commit_journal.proofs.Steps.{continues, syncs_now, no_sync_yet, opens_read, synced_once, unchanged_continues}
@@ -49,7 +50,7 @@ returns-clause-found g c =
     let same = read.read.unchanged in
     let first = synced.cause.later in
     let then = read.read.later in
-    found_read c.in_ok-log.log.frames.items c.in_ok-log.log.place c.in_ok-log.log.version before mid new (unwritten_read before mid new synced.content synced.len synced.crash same) synced.durable same read.log
+    found_read c.in_ok-log.log.frames.items c.in_ok-log.log.place (number_of c.in_ok-log.log.version) before mid new (unwritten_read before mid new synced.content synced.len synced.crash same) synced.durable same read.log
     (law.content_len c.read_log.new.disk)
     (opens_read before mid new (no_sync_yet before (law.synced_after old) (law.synced_by_now old)) (law.only_now c.sync.new.self) (law.undated_syncs c.read_log.new.disk)
     (continues before mid synced.time (syncs_now before mid (λ t. law.undated_syncs old t) synced.synced)) synced.synced synced.content synced.durable same)

@@ -1,9 +1,4 @@
-use Rattle.std.proofs.Common.{length}
-use Rattle.durable_catalogue.proofs.Loads.{AreBuilt}
 use Rattle.durable_catalogue.proofs.loading.build.Given as goal
 
-abbrev pub invariant-loop-frame : goal.invariant-loop-frame
-invariant-loop-frame g l =
-    (goal.iterator-loop-frame g).can_next l.frame-iterator ×
-    (goal.iterator-loop-frame g).is_finite l.frame-iterator ×
-    AreBuilt l.version l.fn.frames.items l.fn.limits (length l.yielded) l.counter l.building.core
+abbrev pub ghosts-build_in : goal.ghosts-build_in
+ghosts-build_in a = record { name = a.blank.name; parts = a.blank.parts }

@@ -1,4 +1,5 @@
 use Rattle.std.proofs.Common.{length}
+use Rattle.commit_journal.specs.Versions.{number_of}
 use Rattle.history_logs.proofs.Turns.{AreTaken}
 use Rattle.history_logs.proofs.frames.take_frames.Given as goal
 
@@ -6,4 +7,4 @@ abbrev pub invariant-loop-frame : goal.invariant-loop-frame
 invariant-loop-frame g l =
     (goal.iterator-loop-frame g).can_next l.frame-iterator ×
     (goal.iterator-loop-frame g).is_finite l.frame-iterator ×
-    AreTaken (g.T.EntryTaker.has l.taker) l.limits.bytes l.version l.fn.frames.items (length l.yielded) l.counter l.left
+    AreTaken (g.T.EntryTaker.has l.taker) l.limits.bytes (number_of l.fn.version) l.fn.frames.items (length l.yielded) l.counter l.left

@@ -10,7 +10,7 @@ returns-then-count-eq0-clause-says g c b comes =
     let second = c.in_ok-fill-2.ensures.comes b first in
     let some = c.in_ok-fill.ensures.filled c.if-not-branch.false in
     let long = c.in_ok-fill-2.ensures.filled c.if-not-branch-2.false in
-    let differs = opened b _ c.fill.new.self.window.items first some (λ is. c.if-window-eq-CLOSED.false (ap (λ l. get_or l 0 0) c.window.ensures ∙ is)) in
+    let differs = opened b _ c.fill.new.self.window.items first some (λ is. c.if-window-eq-CLOSED_GATE.false (ap (λ l. get_or l 0 0) c.window.ensures ∙ is)) in
     let named = c.length_behind-count.ensures ∙ ap (λ l. payload_length (drop 1 l)) c.window-2.ensures in
     elim c.then-count-eq0.branch [
       | then-count-eq0-via-then-count-eq0 w ↦ no_length b _ c.fill-2.new.self.window.items c.length_behind-count.result second long differs named w.if-count-eq0.true
@@ -24,7 +24,7 @@ returns-then-not-branch-3-clause-says g c b comes =
     let second = c.in_ok-fill-2.ensures.comes b first in
     let some = c.in_ok-fill.ensures.filled c.if-not-branch.false in
     let long = c.in_ok-fill-2.ensures.filled c.if-not-branch-2.false in
-    let differs = opened b _ c.fill.new.self.window.items first some (λ is. c.if-window-eq-CLOSED.false (ap (λ l. get_or l 0 0) c.window.ensures ∙ is)) in
+    let differs = opened b _ c.fill.new.self.window.items first some (λ is. c.if-window-eq-CLOSED_GATE.false (ap (λ l. get_or l 0 0) c.window.ensures ∙ is)) in
     let named = c.length_behind-count.ensures ∙ ap (λ l. payload_length (drop 1 l)) c.window-2.ensures in
     let end = c.in_ok-fill-3.ensures.end c.if-not-branch-3.true b second in
     short_frame b _ c.fill-2.new.self.window.items c.length_behind-count.result second long differs named end.1
@@ -37,7 +37,7 @@ returns-clause-says g c b comes =
     let some = c.in_ok-fill.ensures.filled c.if-not-branch.false in
     let long = c.in_ok-fill-2.ensures.filled c.if-not-branch-2.false in
     let whole = c.in_ok-fill-3.ensures.filled c.if-not-branch-3.false in
-    let differs = opened b _ c.fill.new.self.window.items first some (λ is. c.if-window-eq-CLOSED.false (ap (λ l. get_or l 0 0) c.window.ensures ∙ is)) in
+    let differs = opened b _ c.fill.new.self.window.items first some (λ is. c.if-window-eq-CLOSED_GATE.false (ap (λ l. get_or l 0 0) c.window.ensures ∙ is)) in
     let named = c.length_behind-count.ensures ∙ ap (λ l. payload_length (drop 1 l)) c.window-2.ensures in
     let some_count = c.if-count-eq0.false in
     let few = c.if-count-gt-LARGEST_PAYLOAD.false in

@@ -1,6 +1,7 @@
 use Rattle.std.proofs.Common.{◌≡◌, drop, length, length-drop, ◌∙◌, ap, sym, subst, arith}
 use Rattle.std.specs.Prelude.{Err}
 use Rattle.commit_journal.specs.Log.{header_fault, version_of_header, walk}
+use Rattle.commit_journal.specs.Versions.{number_of}
 use Rattle.journal_input.specs.Walking.{IsUnread, IsRead}
 use Rattle.journal_input.specs.Contents.{torn_behind, IsVerified, IsNoJournal}
 use Rattle.journal_input.proofs.Walks.{same_place, same_fault}
@@ -30,8 +31,8 @@ returns-in-Err-take_frames-clause-lost g c wrong is log comes =
     let filled = c.fill.ensures.place in
     let first = c.requires in
     let place : c.pass.new.self.place ≡ 16 = omega (arith, passed, filled, first) in
-    unread_is log c.fill.new.self.window.items _ come long c.in-Ok.version right says wrong
-    (subst (λ p. IsUnread c.in-Ok.version (walk p 0 (drop 16 log)) wrong) place unread)
+    unread_is log c.fill.new.self.window.items _ come long (number_of c.in-Ok.version) right says wrong
+    (subst (λ p. IsUnread (number_of c.in-Ok.version) (walk p 0 (drop 16 log)) wrong) place unread)
 
 pub returns-clause-verified : goal.returns-clause-verified
 returns-clause-verified g c log comes =
@@ -40,7 +41,10 @@ returns-clause-verified g c log comes =
     let right = ap header_fault (sym c.window-2.ensures) ∙ c.in-Ok.ensures.right in
     let says = c.in-Ok.ensures.version ∙ ap version_of_header c.window-2.ensures in
     let behind = c.pass.ensures.comes log come in
-    let read = c.in-Ok-take_frames.ensures.read (drop 16 log) behind in
+    let number = c.number.result in
+    let is = c.number.ensures.number in
+    let read = subst (λ v. IsRead v c.pass.new.self.place (drop 16 log) c.in-Ok-take_frames.found.entries c.in-Ok-take_frames.found.frames c.take_frames.new.coming.place) (sym is)
+    (c.in-Ok-take_frames.ensures.read (drop 16 log) behind) in
     let on = c.in-Ok-take_frames.ensures.on (drop 16 log) behind in
     let total = c.in_ok-bytes.ensures.total on.now on.comes in
     let passed = c.pass.ensures.place in
@@ -51,7 +55,7 @@ returns-clause-verified g c log comes =
     let rest = length-drop 16 log in
     let least = no_less log c.fill.new.self.window.items _ come long in
     let bytes : c.in_ok-bytes.bytes ≡ length log = omega (arith, total, size, rest, least, place) in
-    whole_is log c.fill.new.self.window.items _ come long c.in-Ok.version right says c.in-Ok-take_frames.found.entries c.in-Ok-take_frames.found.frames
+    whole_is log c.fill.new.self.window.items _ come long number right (is ∙ says) c.in-Ok-take_frames.found.entries c.in-Ok-take_frames.found.frames
     c.take_frames.new.coming.place c.in_ok-bytes.bytes c.torn_at.result
-    (subst (λ p. IsRead c.in-Ok.version p (drop 16 log) c.in-Ok-take_frames.found.entries c.in-Ok-take_frames.found.frames c.take_frames.new.coming.place) place read)
+    (subst (λ p. IsRead number p (drop 16 log) c.in-Ok-take_frames.found.entries c.in-Ok-take_frames.found.frames c.take_frames.new.coming.place) place read)
     bytes (c.torn_at.ensures ∙ ap (λ p. torn_behind p c.in_ok-bytes.bytes) c.place-place.ensures)

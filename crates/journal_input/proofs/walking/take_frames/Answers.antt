@@ -2,6 +2,7 @@ use Rattle.std.proofs.Common.{take, drop, length, ◌∙◌, ap, sym, subst, ari
 use Rattle.std.specs.Prelude.{Err}
 use Rattle.commit_journal.specs.Log.{walk}
 use Rattle.entry_history.specs.Readers.{HoldsNone}
+use Rattle.commit_journal.specs.Versions.{number_of}
 use Rattle.journal_input.specs.Gates.{GateSays, GateIn}
 use Rattle.journal_input.specs.Walking.{HasTaken, IsRead, IsLostAt, IsUnread, NoGate}
 use Rattle.journal_input.proofs.Walks.{taken_none, taken_more, read_all, ends_lost, walks_frame, unread_bad, unread_behind, same_place, same_fault, most_taken}
@@ -9,8 +10,8 @@ use Rattle.journal_input.proofs.walking.take_frames.Goals as goal
 
 pub gates-init : goal.gates-init
 gates-init g c = record {
-  taken = λ b comes. taken_none c.args.version c.args.coming.now.place b c.args.coming.now.window.items (g.S.Source.left c.args.coming.now.source) c.new-counter.result.extent c.new-counter.ensures.none comes;
-  version = c.new-counter.ensures.version;
+  taken = λ b comes. taken_none (number_of c.args.version) c.args.coming.now.place b c.args.coming.now.window.items (g.S.Source.left c.args.coming.now.source) c.new-counter.result.extent c.new-counter.ensures.none comes;
+  version = c.new-counter.ensures.version ∙ c.number.ensures.number;
   few = omega arith;
   counted = omega (arith, c.new-counter.ensures.count);
   faults = omega arith;
@@ -19,10 +20,10 @@ gates-init g c = record {
 pub returns-in-Closed-clause-read : goal.returns-in-Closed-clause-read
 returns-in-Closed-clause-read g c b comes =
     let taken = c.gates.invariant.taken b comes in
-    let all = read_all c.args.version c.args.coming.now.place c.gates.coming.place c.gates.frames b c.gates.coming.window.items _ c.gates.counter.extent taken
+    let all = read_all (number_of c.args.version) c.args.coming.now.place c.gates.coming.place c.gates.frames b c.gates.coming.window.items _ c.gates.counter.extent taken
     (λ x come. subst (GateSays x) c.in-Closed.is (c.in_ok-next_gate.ensures.says x come)) in
-    subst (λ p. IsRead c.args.version c.args.coming.now.place b c.count.result c.gates.frames p) (sym c.next_gate.ensures.place)
-    (subst (λ n. IsRead c.args.version c.args.coming.now.place b n c.gates.frames c.gates.coming.place) (sym c.count.ensures) all)
+    subst (λ p. IsRead (number_of c.args.version) c.args.coming.now.place b c.count.result c.gates.frames p) (sym c.next_gate.ensures.place)
+    (subst (λ n. IsRead (number_of c.args.version) c.args.coming.now.place b n c.gates.frames c.gates.coming.place) (sym c.count.ensures) all)
 
 pub returns-in-Closed-clause-on : goal.returns-in-Closed-clause-on
 returns-in-Closed-clause-on g c b comes =
@@ -59,7 +60,7 @@ gates-preserved g c =
     record {
       taken = λ b comes.
           let taken = c.gates.invariant.taken b comes in
-          taken_more c.args.version c.args.coming.now.place c.gates.coming.place c.pass-in-Frame.new.self.place c.gates.frames b c.gates.coming.window.items c.pass-in-Frame.new.self.window.items
+          taken_more (number_of c.args.version) c.args.coming.now.place c.gates.coming.place c.pass-in-Frame.new.self.place c.gates.frames b c.gates.coming.window.items c.pass-in-Frame.new.self.window.items
           c.payload_in.result.now _ _ c.gates.counter c.read.new.self taken c.in-Ok.field-0.items c.gates.invariant.version (counts taken.entries taken.extent_is)
           (walks_frame _ c.gates.coming.place c.in-Frame.count c.pass-in-Frame.new.self.place b _ filled c.pass-in-Frame.new.self.window.items c.payload_in.result.now taken.frames _ _ _ taken.on
           (λ x come. subst (GateSays x) c.in-Frame.is (c.in_ok-next_gate.ensures.says x come)) c.in_ok-next_gate.ensures.comes c.pass-in-Frame.ensures.comes within
@@ -82,8 +83,8 @@ returns-in-Ok-skip_frames-clause-unread g c wrong is b comes =
     let on = walks_frame _ c.gates.coming.place c.in-Frame.count c.pass.new.self.place b _ filled c.pass.new.self.window.items c.payload_in.result.now taken.frames _ _ _ taken.on
     (λ x come. subst (GateSays x) c.in-Frame.is (c.in_ok-next_gate.ensures.says x come)) c.in_ok-next_gate.ensures.comes c.pass.ensures.comes within
     (omega (arith, place, same)) payload in
-    subst (IsUnread c.args.version (walk c.args.coming.now.place 0 b)) (sym c.place-place.ensures ∙ same_place _ wrong is)
-    (unread_bad c.args.version c.args.coming.now.place c.gates.coming.place c.pass.new.self.place c.gates.frames b c.gates.coming.window.items c.pass.new.self.window.items
+    subst (IsUnread (number_of c.args.version) (walk c.args.coming.now.place 0 b)) (sym c.place-place.ensures ∙ same_place _ wrong is)
+    (unread_bad (number_of c.args.version) c.args.coming.now.place c.gates.coming.place c.pass.new.self.place c.gates.frames b c.gates.coming.window.items c.pass.new.self.window.items
     c.payload_in.result.now _ _ c.gates.counter taken c.gates.invariant.version none on c.in-Ok-skip_frames.ensures.closed)
 
 pub returns-in-Err-clause-unread : goal.returns-in-Err-clause-unread
@@ -97,7 +98,7 @@ returns-in-Err-clause-unread g c wrong is b comes =
     let on = walks_frame _ c.gates.coming.place c.in-Frame.count c.pass.new.self.place b _ filled c.pass.new.self.window.items c.payload_in.result.now taken.frames _ _ _ taken.on
     (λ x come. subst (GateSays x) c.in-Frame.is (c.in_ok-next_gate.ensures.says x come)) c.in_ok-next_gate.ensures.comes c.pass.ensures.comes within
     (omega (arith, place, same)) payload in
-    unread_behind c.args.version c.args.coming.now.place c.pass.new.self.place wrong b c.pass.new.self.window.items _ _ on
+    unread_behind (number_of c.args.version) c.args.coming.now.place c.pass.new.self.place wrong b c.pass.new.self.window.items _ _ on
     (c.skip_frames.ensures.lost wrong (c.in-Err.is ∙ ap Err (same_fault _ _ is)))
 
 pub read-requires : goal.read-requires

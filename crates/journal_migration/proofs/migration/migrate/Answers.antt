@@ -1,94 +1,71 @@
 use Rattle.std.proofs.Common.{◌∙◌, sym, ap, subst}
 use Rattle.outside.specs.Fault.{Rose}
 use Rattle.outside.proofs.Counts.{rose_since}
+use Rattle.commit_journal.specs.Versions.{number_of}
+use Rattle.commit_journal.specs.Journal.{Unwritten}
+use Rattle.durable_catalogue.proofs.Refused.{same_leaves}
 use Rattle.journal_migration.specs.Migrations.{IsUnmigrated, IsMigration, LeavesRefused}
-use Rattle.journal_migration.proofs.Opened.{opened_alone, is_version, fit, unfit, brought_all, images_all, migrated, unmigrated, unopened, left_unfit, left_unopened, device_fault}
+use Rattle.journal_migration.proofs.Opened.{opened_alone, finds_of, no_front_of, unmigrated, unopened, left_found, left_unopened, device_fault}
 use Rattle.journal_migration.proofs.migration.migrate.Goals as goal
 
-pub returns-in-Ok-bring-clause-migrated : goal.returns-in-Ok-bring-clause-migrated
-returns-in-Ok-bring-clause-migrated g c = record {
-  fit = λ log told.
-      let seen = g.D.Disk.seen in
-      let journal = c.in-Ok.journal in
-      let done = rw c.as_slice.ensures at c.in-Ok-bring.ensures.brought in
-      fit c.args.history.now c.in-Ok.frames journal.place journal.version (seen c.args.new) (seen journal.disk) c.in-Ok.ensures.recovered c.in-Ok.ensures.crash
-      c.args.limits done.was_newest done.front log told;
-  all = λ was bytes is_history told image.
-      let seen = g.D.Disk.seen in
-      let journal = c.in-Ok.journal in
-      let new = c.bring.new.journal.disk in
-      let done = rw c.as_slice.ensures at c.in-Ok-bring.ensures.brought in
-      images_all c.args.history.now c.in-Ok.frames journal.place journal.version (seen c.args.new) (seen journal.disk) c.in-Ok.ensures.recovered c.in-Ok.ensures.crash
-      c.in-Ok.ensures.content (seen new) c.bring.ensures.continues was is_history (g.met.D.Disk.content_is_image new) c.args.limits done.was_newest done.front done.brought
-      c.bring.new.journal.place c.bring.new.journal.version (c.bring.new.journal.settled done.whole) done.newest bytes told (subst (λ d. (seen d).image bytes) c.close.ensures image);
-  content = λ was bytes is_history is_now.
-      let seen = g.D.Disk.seen in
-      let journal = c.in-Ok.journal in
-      let new = c.bring.new.journal.disk in
-      let done = rw c.as_slice.ensures at c.in-Ok-bring.ensures.brought in
-      brought_all c.args.history.now c.in-Ok.frames journal.place journal.version (seen c.args.new) (seen journal.disk) c.in-Ok.ensures.recovered c.in-Ok.ensures.crash
-      c.in-Ok.ensures.content (seen new) c.bring.ensures.continues was is_history (g.met.D.Disk.content_is_image new) c.args.limits done.was_newest done.front done.brought
-      c.bring.new.journal.place c.bring.new.journal.version (c.bring.new.journal.settled done.whole) done.newest
-      bytes (sym (ap (λ d. (seen d).content) c.close.ensures) ∙ is_now);
-}
-
-pub returns-in-Ok-bring-clause-crash : goal.returns-in-Ok-bring-clause-crash
-returns-in-Ok-bring-clause-crash g c was is_history =
-    let seen = g.D.Disk.seen in
-    let journal = c.in-Ok.journal in
-    let new = c.bring.new.journal.disk in
+pub returns-in-Ok-front_of-clause-migrated : goal.returns-in-Ok-front_of-clause-migrated
+returns-in-Ok-front_of-clause-migrated g c =
+    let log = c.in-Ok.found in
+    let limits = c.args.limits in
     let history = c.args.history.now in
-    let brings = rw c.as_slice.ensures at c.bring.ensures.brings in
-    subst (λ d. IsMigration c.args.limits history (seen c.args.new) (seen d)) (sym c.close.ensures)
-    (migrated history c.in-Ok.frames journal.place journal.version (seen c.args.new) (seen journal.disk) c.in-Ok.ensures.recovered c.in-Ok.ensures.crash
-    c.in-Ok.ensures.content (seen new) c.bring.ensures.continues was is_history (g.met.D.Disk.content_is_image new) c.args.limits brings
-    (g.met.D.Disk.synced_by_now journal.disk (seen c.args.new).moment) c.in-Ok.ensures.synced (g.met.D.Disk.undated_syncs new (seen c.args.new).moment))
+    let front = c.in-Ok-front_of.ensures in
+    let finds = finds_of c.version.result log.version c.as_slice.result.now c.in-Ok.frames limits history c.version.ensures c.as_slice.ensures c.in-Ok-front_of.count log.place
+    (g.D.Disk.seen c.args.new) (g.D.Disk.seen log.disk) c.in-Ok.ensures.found front.version front.front in
+    c.bring_into.ensures.brought c.args.new limits finds
+
+pub returns-in-Ok-front_of-clause-crash : goal.returns-in-Ok-front_of-clause-crash
+returns-in-Ok-front_of-clause-crash g c was is_history =
+    let log = c.in-Ok.found in
+    let limits = c.args.limits in
+    let history = c.args.history.now in
+    let front = c.in-Ok-front_of.ensures in
+    let finds = finds_of c.version.result log.version c.as_slice.result.now c.in-Ok.frames limits history c.version.ensures c.as_slice.ensures c.in-Ok-front_of.count log.place
+    (g.D.Disk.seen c.args.new) (g.D.Disk.seen log.disk) c.in-Ok.ensures.found front.version front.front in
+    c.bring_into.ensures.crash was c.args.new limits is_history finds
+
+pub returns-in-Ok-front_of-clause-refused : goal.returns-in-Ok-front_of-clause-refused
+returns-in-Ok-front_of-clause-refused g c =
+    let log = c.in-Ok.found in
+    let limits = c.args.limits in
+    let history = c.args.history.now in
+    let front = c.in-Ok-front_of.ensures in
+    let finds = finds_of c.version.result log.version c.as_slice.result.now c.in-Ok.frames limits history c.version.ensures c.as_slice.ensures c.in-Ok-front_of.count log.place
+    (g.D.Disk.seen c.args.new) (g.D.Disk.seen log.disk) c.in-Ok.ensures.found front.version front.front in
+    c.bring_into.ensures.refused c.args.new limits finds
 
 pub returns-in-Ok-clause-crash : goal.returns-in-Ok-clause-crash
 returns-in-Ok-clause-crash g c was is_history =
     let seen = g.D.Disk.seen in
-    let journal = c.in-Ok.journal in
-    let new = c.bring.new.journal.disk in
-    let history = c.args.history.now in
-    let brings = rw c.as_slice.ensures at c.bring.ensures.brings in
-    subst (λ d. IsMigration c.args.limits history (seen c.args.new) (seen d)) (sym c.close-in-Err-bring.ensures)
-    (migrated history c.in-Ok.frames journal.place journal.version (seen c.args.new) (seen journal.disk) c.in-Ok.ensures.recovered c.in-Ok.ensures.crash
-    c.in-Ok.ensures.content (seen new) c.bring.ensures.continues was is_history (g.met.D.Disk.content_is_image new) c.args.limits brings
-    (g.met.D.Disk.synced_by_now journal.disk (seen c.args.new).moment) c.in-Ok.ensures.synced (g.met.D.Disk.undated_syncs new (seen c.args.new).moment))
+    let found = c.in-Ok.ensures.found in
+    subst (λ d. IsMigration c.args.limits c.args.history.now (seen c.args.new) (seen d)) (sym c.leave.ensures)
+    (opened_alone c.args.limits c.args.history.now (seen c.args.new) (seen c.in-Ok.found.disk) found.opens (same_leaves (seen c.args.new) (seen c.in-Ok.found.disk) found.unwritten.content))
 
 pub returns-in-Ok-clause-refused : goal.returns-in-Ok-clause-refused
-returns-in-Ok-clause-refused g c = record {
-  so = λ log told.
-      let seen = g.D.Disk.seen in
-      let journal = c.in-Ok.journal in
-      let history = c.args.history.now in
-      let why = rw c.as_slice.ensures at c.in-Err-bring.ensures.refused in
-      let version = is_version history c.in-Ok.frames journal.place journal.version (seen c.args.new) (seen journal.disk) c.in-Ok.ensures.recovered c.in-Ok.ensures.crash log told in
-      unmigrated c.in-Ok.frames journal.place journal.version (seen c.args.new) (seen journal.disk) c.args.limits history c.in-Err-bring.fault c.in-Ok.ensures.recovered (why.so version) log told;
-  left_alone = λ log told none.
-      let seen = g.D.Disk.seen in
-      let journal = c.in-Ok.journal in
-      let old = seen c.args.new in
-      let mid = seen journal.disk in
-      let history = c.args.history.now in
-      let opened = c.in-Ok.ensures in
-      let fault = c.in-Err-bring.fault in
-      let alone = rw c.as_slice.ensures at c.bring.ensures.alone in
-      let version = is_version history c.in-Ok.frames journal.place journal.version old mid opened.recovered opened.crash log told in
-      let no_front = unfit history c.in-Ok.frames journal.place journal.version old mid opened.recovered opened.crash c.args.limits log told none in
-      subst (λ d. LeavesRefused fault log old (seen d)) (sym c.close-in-Err-bring.ensures)
-      (subst (λ j. LeavesRefused fault log old (seen j.disk)) (sym (alone version no_front))
-      (left_unfit history c.in-Ok.frames journal.place journal.version old mid opened.recovered opened.crash opened.content fault log told));
-  failed = λ device.
-      let seen = g.D.Disk.seen in
-      let later = c.in-Ok.ensures.later in
-      subst (λ d. Rose (seen c.args.new).faults (seen d).faults) (sym c.close-in-Err-bring.ensures)
-      (rose_since _ _ _ later (c.in-Err-bring.ensures.refused.failed device));
-}
+returns-in-Ok-clause-refused g c =
+    let seen = g.D.Disk.seen in
+    let log = c.in-Ok.found in
+    let history = c.args.history.now in
+    let found = c.in-Ok.ensures.found in
+    let fault = c.in-Err-front_of.fault in
+    let why = no_front_of c.version.result log.version c.as_slice.result.now c.in-Ok.frames c.args.limits history c.version.ensures c.as_slice.ensures fault c.in-Err-front_of.ensures.fault in
+    record {
+      so = λ bytes told. unmigrated c.in-Ok.frames (number_of log.version) c.args.limits history fault bytes (found.was bytes told) (found.named bytes told) why;
+      left_alone = λ bytes told none.
+          subst (λ d. LeavesRefused fault bytes (seen c.args.new) (seen d)) (sym c.leave.ensures)
+          (left_found c.in-Ok.frames log.place (number_of log.version) (seen c.args.new) (seen log.disk) found fault bytes told);
+      kept = λ other. subst (λ d. Unwritten (seen c.args.new) (seen d)) (sym c.leave.ensures) found.unwritten;
+      failed = λ device. absurd (c.in-Err-front_of.ensures.no_device device);
+    }
 
 pub returns-clause-crash : goal.returns-clause-crash
 returns-clause-crash g c was is_history =
-    opened_alone c.args.limits c.args.history.now (g.D.Disk.seen c.args.new) (g.D.Disk.seen c.in-Err.failed.0) c.in-Err.ensures.crash c.in-Err.ensures.content
+    opened_alone c.args.limits c.args.history.now (g.D.Disk.seen c.args.new) (g.D.Disk.seen c.in-Err.failed.0) c.in-Err.ensures.crash
+    (same_leaves (g.D.Disk.seen c.args.new) (g.D.Disk.seen c.in-Err.failed.0) c.in-Err.ensures.unwritten.content)
 
 pub returns-clause-refused : goal.returns-clause-refused
 returns-clause-refused g c = record {
@@ -101,7 +78,9 @@ returns-clause-refused g c = record {
       let seen = g.D.Disk.seen in
       let refused = c.in-Err.ensures in
       subst (λ f. LeavesRefused f log (seen c.args.new) (seen c.in-Err.failed.0)) (sym c.migrate_fault.ensures)
-      (left_unopened (seen c.args.new) (seen c.in-Err.failed.0) c.in-Err.failed.1 refused.crash refused.content refused.fault log told);
+      (left_unopened (seen c.args.new) (seen c.in-Err.failed.0) c.in-Err.failed.1 refused.crash
+      (same_leaves (seen c.args.new) (seen c.in-Err.failed.0) refused.unwritten.content) refused.fault log told);
+  kept = λ other. c.in-Err.ensures.unwritten;
   failed = λ device.
       let seen = g.D.Disk.seen in
       device_fault (seen c.args.new) (seen c.in-Err.failed.0) c.in-Err.failed.1 c.in-Err.ensures.fault (sym c.migrate_fault.ensures ∙ device);

@@ -1,30 +1,17 @@
-use Rattle.std.proofs.Common.{arith, ap, length}
-use Rattle.loader_workers.proofs.Slots.{written_back, waits_all, there_all, each_all, count_all}
+use Rattle.std.proofs.Common.{rules, sym, subst}
+use Rattle.loader_workers.specs.SideBySide.{HasTask}
+use Rattle.loader_workers.proofs.Tasks.{same_places, done_at, each_all}
 use Rattle.loader_workers.proofs.side_by_side.load_all.Goals as goal
 
-pub load_slots-requires-clause-wait : goal.load_slots-requires-clause-wait
-load_slots-requires-clause-wait g c κs within =
-    waits_all _ _ _ _ _ c.requires.can c.into_vec-jobs.ensures c.deal.ensures.dealt c.as_mut_slice.ensures.value
+pub for_each_mut-requires-clause-accepts : goal.for_each_mut-requires-clause-accepts
+for_each_mut-requires-clause-accepts g c κs within i p lt is =
+    (subst (HasTask _) (sym is) (same_places _ _ _ c.requires.wait c.as_mut_slice.ensures.value i p.now lt), c.requires.catalogue)
 
-pub collect-requires-clause-there : goal.collect-requires-clause-there
-collect-requires-clause-there g c =
-    there_all _ _ _ _ c.load_slots.ensures.len c.load_slots.ensures.done
-    (written_back _ _ _ _ c.load_slots.ensures.len c.as_mut_slice.ensures.value c.deal.new.slots.ok.0)
-
-pub collect-requires-clause-jobs : goal.collect-requires-clause-jobs
-collect-requires-clause-jobs g c =
-    let count = count_all _ _ _ _ _ _ c.into_vec-jobs.ensures c.deal.ensures.dealt c.as_mut_slice.ensures.value c.load_slots.ensures.len
-    (written_back _ _ _ _ c.load_slots.ensures.len c.as_mut_slice.ensures.value c.deal.new.slots.ok.0) in
-    let all = ap (length {A = _}) c.into_vec-jobs.ensures in
-    (c.deal.ensures.none, omega (arith, count, all, c.deal.ensures.capacity, c.into_vec-jobs.result.ok.0, c.into_vec-jobs.result.ok.1))
-
-pub collect-requires-clause-results : goal.collect-requires-clause-results
-collect-requires-clause-results g c =
-    let count = count_all _ _ _ _ _ _ c.into_vec-jobs.ensures c.deal.ensures.dealt c.as_mut_slice.ensures.value c.load_slots.ensures.len
-    (written_back _ _ _ _ c.load_slots.ensures.len c.as_mut_slice.ensures.value c.deal.new.slots.ok.0) in
-    (c.in-Ok.ensures.items, omega (arith, count, c.in-Ok.ensures.capacity, c.len.ensures))
-
-pub returns-clause-each : goal.returns-clause-each
-returns-clause-each g c =
-    each_all _ _ _ _ _ _ _ _ _ c.into_vec-jobs.ensures c.deal.ensures.dealt c.as_mut_slice.ensures.value c.load_slots.ensures.len c.load_slots.ensures.done
-    (written_back _ _ _ _ c.load_slots.ensures.len c.as_mut_slice.ensures.value c.deal.new.slots.ok.0) c.collect.ensures.jobs c.collect.ensures.results
+pub returns : goal.returns
+returns g c = record {
+  each = each_all _ _ _ _ _ c.as_mut_slice.ensures.value (search rules)
+      (λ k d within.
+      let at = (c.for_each_mut.ensures k d within).1 in
+      done_at _ _ _ _ _ at.argument_is at.left at.call)
+      c.args.places.ok.0;
+}

@@ -11,7 +11,7 @@ pub returns-in-Err-clause-ends : goal.returns-in-Err-clause-ends
 returns-in-Err-clause-ends g c =
     let because = c.in-Err.ensures in
     reads_unopened _ _ matches_due _ c.in-Err.fault _ c.fault_of_opening.ensures c.tell.ensures.end c.tell.ensures.told c.open_history.ensures.apart
-    because.current because.refused.so because.refused.keeps because.refused.cause
+    because.current because.refused.so because.refused.keeps because.refused.kept because.refused.cause
 
 pub returns-clause-ends : goal.returns-clause-ends
 returns-clause-ends g c =

@@ -1,4 +1,5 @@
 use Rattle.std.proofs.Common.{◌≡◌, ◌∙◌, [], ◌∷◌, is_some, refl, sym, ap}
+use Rattle.outside.specs.Room.{bytes_or_none}
 use Rattle.outside.proofs.Rooms.{same_but_itself}
 use Rattle.console_lines.specs.declared.fault.Fault.TheVariants.{Device}
 use Rattle.room_files.specs.Journals.{log_bytes}
@@ -102,3 +103,8 @@ returns-in-Err-clause-fault g c =
     rose_into ((room c.args.room.now).log_faults into) ((room c.open_log.new.self).log_faults into) ((room c.close_log-in-Err.new.self).log_faults into)
     (disk c.in-Ok.log).faults (disk failed.0).faults c.in-Ok.ensures.fresh c.in-Ok.ensures.cause.later closing.counted
     (c.in-Err.ensures.refused.failed (migrating_device failed.1 (sym told ∙ device))))
+
+pub returns-in-Err-clause-kept : goal.returns-in-Err-clause-kept
+returns-in-Err-clause-kept g c other tells =
+    let kept = c.in-Err.ensures.refused.kept (λ device. other (c.fault_of_migrating.ensures ∙ ap fault_of_migrating device)) in
+    ap bytes_or_none (c.close_log-in-Err.ensures.bytes (c.in-Ok.ensures.apart.tells ∙ tells) ∙ kept.content ∙ c.in-Ok.ensures.bytes tells)

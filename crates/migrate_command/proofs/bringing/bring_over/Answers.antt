@@ -1,5 +1,6 @@
 use Rattle.std.proofs.Common.{◌≡◌, ◌∙◌, [], ◌∷◌, Err, sym, ap}
 use Rattle.outside.proofs.Rooms.{same_but_itself, same_but_first}
+use Rattle.commit_journal.specs.Versions.{number_of}
 use Rattle.archive_commands.proofs.Rooms.{closed_opened}
 use Rattle.migrate_command.proofs.Over.{over_unopened, over_either}
 use Rattle.migrate_command.proofs.Rooms.{apart_over, closed_over}
@@ -44,6 +45,6 @@ returns-clause-over g c =
     let brought = c.bring_into-brought.ensures in
     let closing = c.close_history.ensures in
     over_either c.args.from.now c.args.into.now (λ same. c.requires.differ (sym same)) (room c.args.room.now) (room c.open_history.new.room)
-    (room c.bring_into-brought.new.room) (room c.close_history.new.room) (g.R.Log.Disk.seen c.in-Ok.log.journal.disk) c.as_slice.result.now taken.entries c.version.result _
-    c.open_history.ensures.apart brought.apart closing.apart (c.as_slice.ensures ∙ taken.taken) taken.history taken.within c.version.ensures opened.log.version_is
-    opened.log.kept closing.log brought.brings c.bring_into-brought.result brought.counted brought.brought brought.fault
+    (room c.bring_into-brought.new.room) (room c.close_history.new.room) (g.R.Log.Disk.seen c.in-Ok.log.journal.disk) c.as_slice.result.now taken.entries c.number.result _
+    c.open_history.ensures.apart brought.apart closing.apart (c.as_slice.ensures ∙ taken.taken) taken.history taken.within (c.number.ensures.number ∙ ap number_of c.version.ensures) opened.log.version_is
+    opened.log.kept closing.log brought.brings c.bring_into-brought.result brought.counted brought.brought brought.fault brought.kept

@@ -1,3 +1,4 @@
+use Rattle.commit_journal.specs.Versions.{number_of}
 use Rattle.commit_journal.proofs.Recoveries.{read_at}
 use Rattle.commit_journal.proofs.found.FoundLog.find.Goals as goal
 
@@ -7,5 +8,5 @@ invariant_of-found g c =
     record {
       room = c.in-Ok.ensures.room;
       only = found.only;
-      read = read_at c.in-Ok.log.frames.items c.in-Ok.log.place c.in-Ok.log.version (g.D.Disk.seen c.look.new.disk) found.read;
+      read = read_at c.in-Ok.log.frames.items c.in-Ok.log.place (number_of c.in-Ok.log.version) (g.D.Disk.seen c.look.new.disk) found.read;
     }

@@ -1,3 +1,4 @@
+use Rattle.commit_journal.specs.Versions.{number_of}
 use Rattle.commit_journal.proofs.Recoveries.{settling}
 use Rattle.commit_journal.proofs.found.FoundLog.settle.Goals as goal
 
@@ -6,7 +7,7 @@ invariant_of-result g c =
     let found = c.args.self in
     record {
       room = found.room;
-      settled = λ whole. c.in-Ok.ensures.settled found.version found.read;
+      settled = λ whole. c.in-Ok.ensures.settled (number_of found.version) found.read;
     }
 
 pub returns-in-Ok-clause-crash : goal.returns-in-Ok-clause-crash
@@ -15,8 +16,8 @@ returns-in-Ok-clause-crash g c before frames found =
     let self = c.args.self in
     let now = c.bring_into_order-settled.new.disk in
     let ordered = c.bring_into_order-settled.ensures in
-    settling frames self.place self.version (g.D.Disk.seen before) (g.D.Disk.seen self.disk) (g.D.Disk.seen now) found (law.synced_by_now self.disk) (law.undated_syncs now) (law.content_is_image now)
-    ordered.continues (ordered.crash frames self.version found.read)
+    settling frames self.place (number_of self.version) (g.D.Disk.seen before) (g.D.Disk.seen self.disk) (g.D.Disk.seen now) found (law.synced_by_now self.disk) (law.undated_syncs now) (law.content_is_image now)
+    ordered.continues (ordered.crash frames (number_of self.version) found.read)
 
 pub returns-in-Err-clause-crash : goal.returns-in-Err-clause-crash
 returns-in-Err-clause-crash g c before frames found =
@@ -24,5 +25,5 @@ returns-in-Err-clause-crash g c before frames found =
     let self = c.args.self in
     let now = c.bring_into_order-settled.new.disk in
     let ordered = c.bring_into_order-settled.ensures in
-    settling frames self.place self.version (g.D.Disk.seen before) (g.D.Disk.seen self.disk) (g.D.Disk.seen now) found (law.synced_by_now self.disk) (law.undated_syncs now) (law.content_is_image now)
-    ordered.continues (ordered.crash frames self.version found.read)
+    settling frames self.place (number_of self.version) (g.D.Disk.seen before) (g.D.Disk.seen self.disk) (g.D.Disk.seen now) found (law.synced_by_now self.disk) (law.undated_syncs now) (law.content_is_image now)
+    ordered.continues (ordered.crash frames (number_of self.version) found.read)

@@ -1,5 +1,6 @@
 use Rattle.std.proofs.Common.{[], ◌∷◌, ◌++◌, sym, subst, arith}
 use Rattle.commit_journal.specs.Journal.{chain_text, IsDurableLog, HasAllOrNone}
+use Rattle.commit_journal.specs.Versions.{number_of}
 use Rattle.commit_journal.proofs.Steps.{continues_then, leaves_kept}
 use Rattle.commit_journal.proofs.Appends.{chain_leads, append_begun, append_kept, append_done, append_settled, has_none}
 use Rattle.commit_journal.proofs.journal.Journal.append_chain.Goals as goal
@@ -12,7 +13,7 @@ returns-in_err-gate-clause-crash g c log told =
     let payloads = front ++ last ∷ [] in
     let old = g.D.Disk.seen journal.disk in
     let mid = g.D.Disk.seen c.write_chain.new.disk in
-    let settled = subst (λ v. IsDurableLog journal.place v old) c.requires.newest (journal.settled c.requires.whole) in
+    let settled = subst (λ v. IsDurableLog journal.place (number_of v) old) c.requires.newest (journal.settled c.requires.whole) in
     leaves_kept (HasAllOrNone log journal.place payloads) old mid log (g.met.D.Disk.only_now journal.disk) settled.only told (has_none log journal.place payloads)
     (append_begun journal.place old mid (chain_text front last) payloads settled (chain_leads journal.place front last c.requires.fit c.requires.last) log told c.write_chain.ensures.crash)
 
@@ -25,7 +26,7 @@ returns-in_err-write_synced-clause-crash g c log told =
     let old = g.D.Disk.seen journal.disk in
     let mid = g.D.Disk.seen c.write_chain.new.disk in
     let new = g.D.Disk.seen c.write_synced.new.disk in
-    let settled = subst (λ v. IsDurableLog journal.place v old) c.requires.newest (journal.settled c.requires.whole) in
+    let settled = subst (λ v. IsDurableLog journal.place (number_of v) old) c.requires.newest (journal.settled c.requires.whole) in
     let written = c.in_ok-gate.ensures in
     leaves_kept (HasAllOrNone log journal.place payloads) old new log (g.met.D.Disk.only_now journal.disk) settled.only told (has_none log journal.place payloads)
     (append_kept journal.place old mid (chain_text front last) payloads settled (chain_leads journal.place front last c.requires.fit c.requires.last) new written.content log told
@@ -40,7 +41,7 @@ returns-clause-crash g c log told =
     let old = g.D.Disk.seen journal.disk in
     let mid = g.D.Disk.seen c.write_chain.new.disk in
     let new = g.D.Disk.seen c.write_synced.new.disk in
-    let settled = subst (λ v. IsDurableLog journal.place v old) c.requires.newest (journal.settled c.requires.whole) in
+    let settled = subst (λ v. IsDurableLog journal.place (number_of v) old) c.requires.newest (journal.settled c.requires.whole) in
     let written = c.in_ok-gate.ensures in
     leaves_kept (HasAllOrNone log journal.place payloads) old new log (g.met.D.Disk.only_now journal.disk) settled.only told (has_none log journal.place payloads)
     (append_kept journal.place old mid (chain_text front last) payloads settled (chain_leads journal.place front last c.requires.fit c.requires.last) new written.content log told
@@ -63,7 +64,7 @@ returns-clause-appended g c b after told told_after =
     let last = c.args.last.now in
     let payloads = front ++ last ∷ [] in
     let old = g.D.Disk.seen journal.disk in
-    let settled = subst (λ v. IsDurableLog journal.place v old) c.requires.newest (journal.settled c.requires.whole) in
+    let settled = subst (λ v. IsDurableLog journal.place (number_of v) old) c.requires.newest (journal.settled c.requires.whole) in
     (append_done journal.place old (g.D.Disk.seen c.write_chain.new.disk) (chain_text front last) payloads settled (chain_leads journal.place front last c.requires.fit c.requires.last)
     (g.D.Disk.seen c.write_synced.new.disk) c.in_ok-gate.ensures.content c.in_ok-write_synced.ensures.content b after told told_after).frames
 
@@ -83,7 +84,7 @@ invariant_of-self-2 g c =
     let payloads = front ++ last ∷ [] in
     let seen = g.D.Disk.seen in
     let old = seen journal.disk in
-    let settled = subst (λ v. IsDurableLog journal.place v old) c.requires.newest (journal.settled c.requires.whole) in
+    let settled = subst (λ v. IsDurableLog journal.place (number_of v) old) c.requires.newest (journal.settled c.requires.whole) in
     let first = c.in_ok-gate.ensures in
     let second = c.in_ok-write_synced.ensures in
     let gate = first.gate in
@@ -91,5 +92,5 @@ invariant_of-self-2 g c =
     (seen c.write_synced.new.disk) first.content c.in_ok-gate.gate (omega (arith, gate)) second.content first.len second.len second.durable in
     record {
       room = journal.room;
-      settled = λ whole. subst (λ v. IsDurableLog c.in_ok-gate.gate v (seen c.write_synced.new.disk)) (sym c.requires.newest) now;
+      settled = λ whole. subst (λ v. IsDurableLog c.in_ok-gate.gate (number_of v) (seen c.write_synced.new.disk)) (sym c.requires.newest) now;
     }

@@ -1,5 +1,6 @@
 use Rattle.std.proofs.Common.{◌≡◌, Some, is_some, sym, ap, subst, ◌∙◌}
 use Rattle.commit_journal.specs.Journal.{IsDurableLog}
+use Rattle.commit_journal.specs.Versions.{number_of}
 use Rattle.durable_catalogue.specs.Durables.{mark_of, marked}
 use Rattle.durable_catalogue.proofs.Keeping.{each_image}
 use Rattle.durable_catalogue.proofs.durable.Durable.close.Goals as goal
@@ -16,7 +17,7 @@ returns-clause-settled g c unmarked =
     let self = c.args.self in
     let seen = g.D.Disk.seen in
     subst (λ d. IsDurableLog self.journal.place 2 (seen d)) (sym c.close.ensures)
-    (subst (λ v. IsDurableLog self.journal.place v (seen self.journal.disk)) self.newest (self.journal.settled (self.broken ∙ ap (λ m. is_some m) unmarked)))
+    (subst (λ v. IsDurableLog self.journal.place (number_of v) (seen self.journal.disk)) self.newest (self.journal.settled (self.broken ∙ ap (λ m. is_some m) unmarked)))
 
 pub returns-clause-few : goal.returns-clause-few
 returns-clause-few g c = c.args.self.few

@@ -9,4 +9,4 @@ add-requires g c =
 pub invariant_of-self-2 : goal.invariant_of-self-2
 invariant_of-self-2 g c =
     committed_more c.self.inside.core _ c.self.inside.sums _ c.args.item c.in_ok-receipt.receipt c.self.invariant c.in_ok-receipt.ensures.room
-    c.in_ok-receipt.ensures.receipt c.in_ok-receipt.ensures.history c.add.ensures.sums c.add.ensures.linked c.add.ensures.ambiguous c.add.ensures.unlinked
+    c.in_ok-receipt.ensures.receipt c.in_ok-receipt.ensures.history c.add.ensures.sums c.add.ensures.few

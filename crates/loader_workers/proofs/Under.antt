@@ -1,0 +1,94 @@
+-- Loading files under a lock, from its passes to the catalogue that it gives back.
+use Rattle.std.proofs.Common.{◌≡◌, ◌∙◌, ℕ, ◌<◌, ◌≤◌, List, map, length, Option, Some, None, refl, sym, ap, subst, arith}
+use Rattle.std.specs.Prelude.{All, IsTrue}
+use Rattle.std.specs.List.{range_with_len}
+use Rattle.std.proofs.lemmas.List.Elements.{All-from_recursion, recursion_from_All}
+use Rattle.std.proofs.lemmas.List.FromFn.{length-map-range_with_len}
+use Rattle.marc_types.specs.declared.entry.Entry.{Entry}
+use Rattle.marc_types.specs.declared.entry.Limits.{Limits}
+use Rattle.marc_types.specs.Valid.{is_code}
+use Rattle.entry_history.specs.Commits.{IsCommit}
+use Rattle.entry_history.specs.declared.event.Event.{Event}
+use Rattle.entry_history.specs.declared.reply.BatchReply.{BatchReply}
+use Rattle.catalogue_lock.specs.Passes.{Lock, Pass, Closed, IsPassOf, new_passes}
+use Rattle.catalogue_lock.proofs.Numbers.{items_by-other}
+use Rattle.durable_catalogue.specs.Durables.{marked, events}
+use Rattle.loader_workers.specs.SideBySide.{CanLoad, LoadsTask, HasTask, Each}
+use Rattle.loader_workers.specs.Tasks.{task_of, tasks_from, tasks_in, results_of}
+use Rattle.loader_workers.specs.Files.{CanBeLoaded, IsLockOver, AreLoaded}
+use Rattle.loader_workers.specs.declared.input.InputFile.{InputFile}
+use Rattle.loader_workers.specs.declared.result.FileResult.{FileResult}
+use Rattle.loader_workers.specs.declared.task.FileTask.{FileTask}
+use Rattle.loader_workers.proofs.Tasks.{AllDid, HasResult, all_did, at_places, tasks_at, tasks_can, tasks_count}
+use Rattle.loader_workers.proofs.FileDone.{origin_of, start_of, Did}
+use Rattle.loader_workers.proofs.AllDone.{DidSo, as_many, are_loaded, all_own}
+
+-- what an object of this origin replies
+abbrev pub replies_of : Limits → ℕ → List Event → List Entry → BatchReply → List Event → Type 0
+replies_of limits run before batch reply added = IsCommit (record { limits = limits; run = run }) before batch reply added
+
+module _ {O S : Type 0} (before : List Entry) (mark : Option (List Entry)) (limits : Limits) (run : ℕ) (lock : Lock O) (passes : List (Pass O Event))
+    (files : List (InputFile S)) (over : IsLockOver before mark limits run (length files) lock passes) (can : CanBeLoaded files) where
+  starts : passes ≡ map (start_of lock before) (range_with_len 0 (length files))
+  starts = over.passes_are ∙ (ap (λ m. new_passes lock (events before m)) over.whole ∙ ap (λ n. map (start_of lock before) (range_with_len 0 n)) over.callers)
+
+  -- there are as many passes as files
+  pub many_passes : length passes ≡ length files
+  many_passes = ap (length {A = Pass O Event}) starts ∙ length-map-range_with_len (start_of lock before) 0 (length files)
+
+  ready : (k : ℕ) (code : List ℕ) → IsTrue (is_code code) → CanLoad lock (start_of lock before k) code
+  ready k code proper = record {
+    turns = record { own = (refl, refl); seen = items_by-other (Some k) None (events before None) refl; room = omega arith };
+    proper = proper;
+  }
+
+  module _ {C R Q A : Type 0} (places : List (Option (FileTask O S Event C R Q A))) (dealt : places ≡ at_places (tasks_from 0 passes files)) where
+    places_are : places ≡ at_places (tasks_at (start_of lock before) 0 files)
+    places_are = dealt ∙ ap (λ ps. at_places (tasks_from 0 ps files)) starts
+
+    pub many_places : length places ≡ length files
+    many_places = tasks_count (start_of lock before) 0 files places places_are
+
+    pub can_load : All (HasTask (λ (t : FileTask O S Event C R Q A). CanLoad lock t.pass t.file.code)) places
+    can_load =
+        All-from_recursion (HasTask (λ (t : FileTask O S Event C R Q A). CanLoad lock t.pass t.file.code)) places
+        (tasks_can (start_of lock before) lock ready 0 files (recursion_from_All (λ (f : InputFile S). IsTrue (is_code f.code)) files can.proper) places places_are)
+
+    module _ (left : S → Option (List ℕ)) (bound faults : S → ℕ) (after : List (Option (FileTask O S Event C R Q A)))
+        (each : Each (LoadsTask (replies_of limits run) left bound faults) places after)
+        (back : List (InputFile S)) (passes_now : List (Pass O Event)) (results : List FileResult)
+        (back_are : back ≡ map (λ (t : FileTask O S Event C R Q A). t.file) (tasks_in after)) (passes_are : passes_now ≡ map (λ (t : FileTask O S Event C R Q A). t.pass) (tasks_in after))
+        (results_are : results ≡ results_of (tasks_in after)) where
+      turned_so : (k : ℕ) (f : InputFile S) (t : FileTask O S Event C R Q A) → LoadsTask (replies_of limits run) left bound faults (task_of k (start_of lock before k) f) t
+          → HasResult (Did limits lock before left bound faults k f t.pass t.file) t.result
+      turned_so k f t did = record {
+        result = did.result;
+        told = did.told;
+        is = record {
+          loads = did.loads (origin_of limits before) (λ events_before batch reply added is.
+              subst (λ n. IsCommit (record { limits = limits; run = n }) events_before batch reply added) over.run_is is);
+          same = did.pass.same;
+          code = did.code;
+          faults_are = did.faults_are;
+        };
+      }
+
+      did : AllDid (DidSo limits lock before left bound faults) 0 files passes_now back results
+      did =
+          subst (λ ps. AllDid (DidSo limits lock before left bound faults) 0 files ps back results) (sym passes_are)
+          (subst (λ bs. AllDid (DidSo limits lock before left bound faults) 0 files (map (λ (t : FileTask O S Event C R Q A). t.pass) (tasks_in after)) bs results) (sym back_are)
+          (subst (AllDid (DidSo limits lock before left bound faults) 0 files (map (λ (t : FileTask O S Event C R Q A). t.pass) (tasks_in after)) (map (λ (t : FileTask O S Event C R Q A). t.file) (tasks_in after))) (sym results_are)
+          (all_did (start_of lock before) (LoadsTask (replies_of limits run) left bound faults) (DidSo limits lock before left bound faults) turned_so 0 files places after places_are each)))
+
+      pub own_passes : All (IsPassOf lock) passes_now
+      own_passes = all_own limits lock before left bound faults files passes_now back results did
+
+      pub all_passes : length passes_now ≡ lock.callers
+      all_passes = as_many (DidSo limits lock before left bound faults) 0 files passes_now back results did ∙ sym over.callers
+
+      pub loaded_under : (entries : List Entry) (mark_now : Option (List Entry)) → Closed lock.callers passes_now (events before mark) (events entries mark_now)
+          → length (marked mark_now) ≤ 32 → AreLoaded left faults limits before files back results entries mark_now
+      loaded_under entries mark_now closed few =
+          are_loaded limits lock before left bound faults lock.callers files passes_now back results did entries mark_now
+          (subst (λ m. Closed lock.callers passes_now (events before m) (events entries mark_now)) over.whole closed)
+          (subst (λ n. 0 < n) (sym over.callers) can.some) over.callers few

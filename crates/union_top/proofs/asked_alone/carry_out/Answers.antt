@@ -1,0 +1,113 @@
+use Rattle.std.proofs.Common.{[], ◌∷◌, sym, ap, subst, ◌∙◌}
+use Rattle.std.specs.Prelude.{IsTrue}
+use Rattle.std.specs.Option.{option_copied}
+use Rattle.marc_types.specs.Valid.{is_code}
+use Rattle.outside.specs.Room.{IsNoneOf}
+use Rattle.outside.proofs.Rooms.{same_but_itself}
+use Rattle.command_words.specs.Command.{libraries_of}
+use Rattle.command_words.specs.declared.library.Library.{Library}
+use Rattle.console_lines.specs.Ends.{Outcome, outcome}
+use Rattle.console_lines.specs.declared.fault.Fault.TheVariants as fault
+use Rattle.plain_commands.specs.Making.{EndsMaking}
+use Rattle.plain_commands.specs.Passing.{Passes}
+use Rattle.archive_commands.specs.Reads.{EndsReading}
+use Rattle.holdings_command.specs.Attaching.{AttachesHoldings, EndsAttaching}
+use Rattle.journal_verification.specs.Verifying.{EndsVerifying}
+use Rattle.migrate_command.specs.Migrates.{EndsMigrating}
+use Rattle.program_help.specs.Telling.{EndsTelling}
+use Rattle.union_top.proofs.Asked.{asked_as, carries, only, of_only}
+use Rattle.union_top.proofs.asked_alone.carry_out.Goals as goal
+
+pub pass-requires-clause-proper : goal.pass-requires-clause-proper
+pass-requires-clause-proper g c κs within =
+    let asks = asked_as c.args.words.now c.args.asked c.requires.asks c.in-Pass.is in
+    of_only (λ (l : Library). IsTrue (is_code l.code)) c.in-Pass.library (libraries_of c.args.words.now) asks.libraries c.files_are_named.ensures.codes
+
+pub read-requires-clause-differ : goal.read-requires-clause-differ
+read-requires-clause-differ g c κs within =
+    (c.names_are_apart.ensures.names _ (asked_as c.args.words.now c.args.asked c.requires.asks c.in-Export.is).command).1.0
+
+pub read-requires-in-Report-clause-differ : goal.read-requires-in-Report-clause-differ
+read-requires-in-Report-clause-differ g c κs within =
+    (c.names_are_apart.ensures.names _ (asked_as c.args.words.now c.args.asked c.requires.asks c.in-Report.is).command).1.0
+
+pub make-requires-clause-few : goal.make-requires-clause-few
+make-requires-clause-few g c κs within =
+    c.numbers_are_bounded.ensures _ (asked_as c.args.words.now c.args.asked c.requires.asks c.in-Make.is).command
+
+pub write_matches-requires-clause-differ : goal.write_matches-requires-clause-differ
+write_matches-requires-clause-differ g c κs within =
+    (c.names_are_apart.ensures.names _ (asked_as c.args.words.now c.args.asked c.requires.asks c.in-Matches.is).command).1.0
+
+pub migrate_journal-requires-clause-differ : goal.migrate_journal-requires-clause-differ
+migrate_journal-requires-clause-differ g c κs within =
+    (c.names_are_apart.ensures.names _ (asked_as c.args.words.now c.args.asked c.requires.asks c.in-Migrate.is).command).1.0
+
+pub attach_holdings-requires-clause-names : goal.attach_holdings-requires-clause-names
+attach_holdings-requires-clause-names g c κs within =
+    c.names_are_apart.ensures.names _ (asked_as c.args.words.now c.args.asked c.requires.asks c.in-Holdings.is).command
+
+pub attach_holdings-requires-clause-file : goal.attach_holdings-requires-clause-file
+attach_holdings-requires-clause-file g c κs within =
+    let asks = asked_as c.args.words.now c.args.asked c.requires.asks c.in-Holdings.is in
+    let names = c.in-Holdings.journal.now ∷ c.in-Holdings.out.now ∷ c.in-Holdings.rest.now ∷ [] in
+    of_only (λ (l : Library). IsNoneOf l.file names) c.in-Holdings.library (libraries_of c.args.words.now) asks.libraries
+    (c.names_are_apart.ensures.files _ asks.command)
+
+pub returns-in-Pass : goal.returns-in-Pass
+returns-in-Pass g c =
+    let o : Outcome = outcome g.R.Room.seen g.R.Out.Sink.written g.R.Out.Sink.faults c.args.room.now c.pass.new.room c.args.console.now c.pass.new.console c.pass.result in
+    let did = c.pass.ensures in
+    let asks = asked_as c.args.words.now c.args.asked c.requires.asks c.in-Pass.is in
+    carries c.args.words.now c.args.asked c.in-Pass.is did.closed did.apart
+    (λ library is. subst (λ (l : Library). Passes l c.in-Pass.out.now o) (only library c.in-Pass.library _ asks.libraries is) did.ends)
+    (λ usage. (did.ends.told fault.Usage usage).1)
+
+pub returns-in-Export : goal.returns-in-Export
+returns-in-Export g c =
+    let did = c.read.ensures in
+    carries c.args.words.now c.args.asked c.in-Export.is did.closed did.apart did.ends (λ usage. subst EndsReading usage did.ends.ends)
+
+pub returns-in-Report : goal.returns-in-Report
+returns-in-Report g c =
+    let did = c.read-in-Report.ensures in
+    carries c.args.words.now c.args.asked c.in-Report.is did.closed did.apart did.ends (λ usage. subst EndsReading usage did.ends.ends)
+
+pub returns-in-Make : goal.returns-in-Make
+returns-in-Make g c =
+    let did = c.make.ensures in
+    carries c.args.words.now c.args.asked c.in-Make.is did.closed did.apart did.ends (λ usage. let no = subst EndsMaking usage did.ends.ends in cc)
+
+pub returns-in-Verify : goal.returns-in-Verify
+returns-in-Verify g c =
+    let did = c.verify.ensures in
+    carries c.args.words.now c.args.asked c.in-Verify.is did.closed did.apart did.ends (λ usage. subst EndsVerifying usage did.ends.ends)
+
+pub returns-in-Matches : goal.returns-in-Matches
+returns-in-Matches g c =
+    let did = c.write_matches.ensures in
+    carries c.args.words.now c.args.asked c.in-Matches.is did.closed did.apart did.ends (λ usage. subst EndsReading usage did.ends.ends)
+
+pub returns-in-Holdings : goal.returns-in-Holdings
+returns-in-Holdings g c =
+    let o : Outcome = outcome g.R.Room.seen g.R.Out.Sink.written g.R.Out.Sink.faults c.args.room.now c.attach_holdings.new.room c.args.console.now c.attach_holdings.new.console c.attach_holdings.result in
+    let did = c.attach_holdings.ensures in
+    let asks = asked_as c.args.words.now c.args.asked c.requires.asks c.in-Holdings.is in
+    carries c.args.words.now c.args.asked c.in-Holdings.is did.closed did.apart
+    (λ library is.
+    subst (λ (l : Library). AttachesHoldings c.in-Holdings.journal.now c.in-Holdings.out.now c.in-Holdings.rest.now l (option_copied c.in-Holdings.code) o)
+    (only library c.in-Holdings.library _ asks.libraries is) did.ends)
+    (λ usage. subst EndsAttaching usage did.ends.ends)
+
+pub returns-in-Migrate : goal.returns-in-Migrate
+returns-in-Migrate g c =
+    let did = c.migrate_journal.ensures in
+    carries c.args.words.now c.args.asked c.in-Migrate.is did.closed did.apart did.ends (λ usage. subst EndsMigrating usage did.ends.ends)
+
+pub returns-in-Help : goal.returns-in-Help
+returns-in-Help g c =
+    carries c.args.words.now c.args.asked c.in-Help.is c.requires.closed (same_but_itself _ []) c.help.ensures (λ usage. subst EndsTelling usage c.help.ensures.ends)
+
+pub returns-in-Version : goal.returns-in-Version
+returns-in-Version g c =
+    carries c.args.words.now c.args.asked c.in-Version.is c.requires.closed (same_but_itself _ []) c.version.ensures (λ usage. subst EndsTelling usage c.version.ensures.ends)

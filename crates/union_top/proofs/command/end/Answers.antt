@@ -1,0 +1,13 @@
+use Rattle.console_lines.specs.Ends.{Outcome, outcome}
+use Rattle.console_lines.specs.declared.end.End.{End}
+use Rattle.std.proofs.Common.{refl}
+use Rattle.union_top.proofs.Asked.{loading_carried}
+use Rattle.union_top.proofs.Carried.{carried_out}
+use Rattle.union_top.proofs.command.end.Goals as goal
+
+pub returns-clause-carried : goal.returns-clause-carried
+returns-clause-carried g c words asks =
+    let o : (End → Outcome) = outcome g.R.Room.seen g.R.Out.Sink.written g.R.Out.Sink.faults c.args.loaded.before.value c.end.new.room c.args.console.now c.end.new.console in
+    let did = c.end.ensures in
+    carried_out words _ o c.end.result _ c.status.ensures asks.command (loading_carried words c.args.loaded.asked (o c.end.result) asks did.closed did.apart did.ends) refl
+    (g.met.R.Room.promised c.end.new.room)

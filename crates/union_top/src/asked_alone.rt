@@ -1,0 +1,59 @@
+//! The commands that start no threads.
+ghost use Rattle.std.specs.Prelude.{◌≡◌, ℕ, List, None};
+ghost use Rattle.command_words.specs.Asked.{alone_asked, AsksFor};
+ghost use Rattle.command_words.specs.declared.asked.Request.{Request};
+ghost use Rattle.console_lines.specs.Ends.{outcome};
+ghost use Rattle.union_top.specs.Commands.{CarriesOut};
+
+use archive_commands::{Due, read};
+use command_words::laws::{files_are_named, names_are_apart, numbers_are_bounded};
+use command_words::{AloneRequest, Words};
+use console_lines::End;
+use holdings_command::attach_holdings;
+use journal_verification::verify;
+use match_command::write_matches;
+use migrate_command::migrate_journal;
+use outside::Room;
+use plain_commands::{make, pass};
+use program_help::{help, version};
+use std::alloc::Global;
+
+/// Carries out the command that some words ask for, which starts no threads. It waits for no thread and no lock.
+pub fn carry_out<R: Room>(
+    alloc: Global,
+    words: &Words,
+    asked: AloneRequest<'_>,
+    room: &mut R,
+    console: &mut R::Out,
+) -> End
+    requires asks { AsksFor words.now (Request.Alone asked) }
+    requires closed { (name : List ℕ) → (R.seen room.old).open_as name ≡ None }
+    ensures { CarriesOut words.now (alone_asked asked.entry)
+        (outcome R.seen R.Out.written R.Out.faults room.old room.new console.old console.new result) }
+{
+    files_are_named(words);
+    names_are_apart(words);
+    numbers_are_bounded(words);
+    match asked {
+        AloneRequest::Pass { library, out } => pass(alloc, room, console, &library, out),
+        AloneRequest::Export { journal, out, code } => {
+            read(alloc, room, console, journal, out, Due::Export(code))
+        }
+        AloneRequest::Report { journal, out } => {
+            read(alloc, room, console, journal, out, Due::Report)
+        }
+        AloneRequest::Make { seed, count, out } => make(alloc, room, console, seed, count, out),
+        AloneRequest::Verify { journal } => verify(alloc, room, console, journal),
+        AloneRequest::Matches { journal, out } => write_matches(alloc, room, console, journal, out),
+        AloneRequest::Holdings {
+            journal,
+            out,
+            rest,
+            library,
+            code,
+        } => attach_holdings(alloc, room, console, journal, out, rest, &library, code),
+        AloneRequest::Migrate { old, new } => migrate_journal(alloc, room, console, old, new),
+        AloneRequest::Help { topic } => help(console, topic),
+        AloneRequest::Version => version(console),
+    }
+}
