@@ -5,9 +5,8 @@ use Rattle.std.proofs.lemmas.List.Sums.{sum_by-cons, count_by-le-length}
 use Rattle.marc_types.specs.declared.key.Class.{Class}
 use Rattle.marc_types.specs.declared.key.Class.TheVariants.{Authority, Bibliographic}
 use Rattle.marc_types.specs.declared.key.Key.{Key}
-use Rattle.marc_types.specs.declared.entry.Kept.{Kept}
 use Rattle.entry_record.specs.Authority.{Linkable}
-use Rattle.catalogue_rules.specs.State.{KeptField, Row, State, kept_record, linkable_authorities, rows_of, tied}
+use Rattle.catalogue_rules.specs.State.{KeptField, KeptRecord, Row, State, linkable_authorities, rows_of}
 use Rattle.catalogue_rules.specs.Output.{total_line}
 use Rattle.catalogue_rules.specs.Receipt as definition
 use Rattle.catalogue_rules.specs.Receipt.{is_linked, is_ambiguous, is_unlinked, standing_of, count_standing}
@@ -21,10 +20,8 @@ use Rattle.ambiguity_report.specs.declared.totals.Totals.{Totals}
 -- ---- how fields stand, by the rules
 
 module _ (here : Standing → Bool) (test : definition.Standing → Bool) (same : (s : definition.Standing) → here (stands_as s) ≡ test s) (all : List Linkable) (class : Class) where
-  count_kept : (kept : Kept) (xs : List Standing) → xs ≡ map (field_standing all class) (tied kept.rec.fields kept.links)
-      → count_by here xs ≡ count_standing test all class (kept_record kept)
-  unfolding kept_record
-  count_kept kept xs are = ap (count_by here) are ∙ count_alike here test same all class (tied kept.rec.fields kept.links)
+  count_kept : (r : KeptRecord) (xs : List Standing) → xs ≡ map (field_standing all class) r.fields → count_by here xs ≡ count_standing test all class r
+  count_kept r xs are = ap (count_by here) are ∙ count_alike here test same all class r.fields
 
 -- ---- one count
 
@@ -41,13 +38,13 @@ one_begun : (test : definition.Standing → Bool) (all : List Linkable) (class :
 one_begun test all class rows = record { split = omega arith; room = omega arith }
 
 module _ (here : Standing → Bool) (test : definition.Standing → Bool) (same : (s : definition.Standing) → here (stands_as s) ≡ test s) (all : List Linkable) (class : Class) where
-  one_more : (rows before after : List Row) (key : Key) (kept : Kept) (xs : List Standing) (n m : ℕ) → IsCounting test all class rows before n
-      → before ≡ (key, kept_record kept) ∷ after → xs ≡ map (field_standing all class) (tied kept.rec.fields kept.links) → length xs < 2 ^ 64
+  one_more : (rows before after : List Row) (key : Key) (r : KeptRecord) (xs : List Standing) (n m : ℕ) → IsCounting test all class rows before n
+      → before ≡ (key, r) ∷ after → xs ≡ map (field_standing all class) r.fields → length xs < 2 ^ 64
       → m ≡ n + count_by here xs → IsCounting test all class rows after m
-  one_more rows before after key kept xs n m so_far is are few sum =
-      let row : Row = (key, kept_record kept) in
-      let first = ap (count_rows test all class) is ∙ sum_by-cons (λ (r : Row). count_standing test all class r.1) row after in
-      let own = count_kept here test same all class kept xs are in
+  one_more rows before after key r xs n m so_far is are few sum =
+      let row : Row = (key, r) in
+      let first = ap (count_rows test all class) is ∙ sum_by-cons (λ (x : Row). count_standing test all class x.1) row after in
+      let own = count_kept here test same all class r xs are in
       let small = count_by-le-length here xs in
       let long = ap (λ (l : List Row). length l) is in
       let split = so_far.split in
@@ -77,14 +74,14 @@ counting_begun all class rows = record {
 }
 
 -- the next row is counted
-pub counting_more : (all : List Linkable) (class : Class) (rows before after : List Row) (key : Key) (kept : Kept) (xs : List Standing) (old new : Totals)
-    → AreCounting all class rows before old → before ≡ (key, kept_record kept) ∷ after → xs ≡ map (field_standing all class) (tied kept.rec.fields kept.links)
+pub counting_more : (all : List Linkable) (class : Class) (rows before after : List Row) (key : Key) (r : KeptRecord) (xs : List Standing) (old new : Totals)
+    → AreCounting all class rows before old → before ≡ (key, r) ∷ after → xs ≡ map (field_standing all class) r.fields
     → AddsRecord xs old new → AreCounting all class rows after new
-counting_more all class rows before after key kept xs old new so_far is are adds = record {
-  linked = one_more is_linked_here is_linked linked_alike all class rows before after key kept xs old.linked new.linked so_far.linked is are adds.few adds.linked;
-  ambiguous = one_more is_ambiguous_here is_ambiguous ambiguous_alike all class rows before after key kept xs old.ambiguous new.ambiguous so_far.ambiguous is are
+counting_more all class rows before after key r xs old new so_far is are adds = record {
+  linked = one_more is_linked_here is_linked linked_alike all class rows before after key r xs old.linked new.linked so_far.linked is are adds.few adds.linked;
+  ambiguous = one_more is_ambiguous_here is_ambiguous ambiguous_alike all class rows before after key r xs old.ambiguous new.ambiguous so_far.ambiguous is are
       adds.few adds.ambiguous;
-  unlinked = one_more is_unlinked_here is_unlinked unlinked_alike all class rows before after key kept xs old.unlinked new.unlinked so_far.unlinked is are
+  unlinked = one_more is_unlinked_here is_unlinked unlinked_alike all class rows before after key r xs old.unlinked new.unlinked so_far.unlinked is are
       adds.few adds.unlinked;
 }
 

@@ -1,123 +1,106 @@
 -- The lines of fields, by what stands beside each field.
-use Rattle.std.proofs.Common.{◌≡◌, ℕ, ◌+◌, ◌<◌, ◌≤◌, List, [], ◌∷◌, ◌++◌, length, map, drop, get_or, refl, sym, ap, ◌∙◌, append_assoc, append-nil}
+use Rattle.std.proofs.Common.{◌≡◌, ◌∙◌, ℕ, zero, suc, add-one, ◌+◌, ◌<◌, ◌≤◌, List, [], ◌∷◌, ◌++◌, length, map, take, drop, get_or, Option, Some, None, refl, sym, ap, append-nil}
+use Rattle.std.specs.Prelude.{option_to_list, slice_get}
 use Rattle.std.specs.List.{flat_map, enumerate_from}
-use Rattle.std.proofs.lemmas.List.{drop_all}
+use Rattle.std.specs.Option.{option_map}
+use Rattle.std.proofs.lemmas.List.{drop_all, drop_more}
 use Rattle.outside.proofs.Fronts.{drop_next}
+use Rattle.marc_types.specs.Fields.{tag_of}
+use Rattle.marc_types.specs.declared.entry.Tie.{Tie}
 use Rattle.marc_types.specs.declared.field.Field.{Field}
+use Rattle.marc_types.specs.declared.field.Tag.{Tag}
 use Rattle.marc_types.specs.declared.key.Class.{Class}
 use Rattle.marc_types.specs.declared.key.Key.{Key}
-use Rattle.marc_types.specs.declared.entry.Tie.{Tie}
-use Rattle.marc_types.specs.declared.entry.Kept.{Kept}
 use Rattle.entry_record.specs.Authority.{Linkable}
-use Rattle.catalogue_rules.specs.State.{KeptField, Row, kept_field, tied, kept_record}
+use Rattle.catalogue_rules.specs.State.{KeptField, KeptRecord, Row, fields_of, new_field}
 use Rattle.catalogue_rules.specs.Receipt as definition
 use Rattle.catalogue_rules.specs.Output.{ambiguous_line, ambiguous_line_by, awaits_line}
 use Rattle.catalogue_tables.specs.Stands.{stands_as, field_standing}
+use Rattle.ambiguity_report.specs.Beside.{ambiguous_text, awaits_text, lines_beside, row_lines, rows_lines, tags_of}
 use Rattle.catalogue_tables.specs.declared.standing.Standing.{Standing}
-use Rattle.ambiguity_report.specs.Beside.{ambiguous_text, awaits_text, lines_beside, row_lines, rows_lines}
 
 -- the next field, and what stands beside it
-pub beside_next : {X : Type 0} (line_of : ℕ → Field → X → List ℕ) (fields : List Field) (xs : List X) (i : ℕ) (field : Field) (x : X)
-    → i < length fields → field ≡ get_or fields i field → i < length xs → x ≡ get_or xs i x
-    → lines_beside line_of i (drop i fields) (drop i xs) ≡ line_of i field x ++ lines_beside line_of (i + 1) (drop (i + 1) fields) (drop (i + 1) xs)
-beside_next line_of fields xs i field x within is there beside =
-    ap (λ (l : List Field). lines_beside line_of i l (drop i xs)) (drop_next fields i field within is)
-    ∙ ap (lines_beside line_of i (field ∷ drop (i + 1) fields)) (drop_next xs i x there beside)
+pub beside_next : {X : Type 0} (line_of : ℕ → Tag → X → List ℕ) (tags : List Tag) (xs : List X) (i : ℕ) (none : Tag) (x : X)
+    → i < length tags → i < length xs → x ≡ get_or xs i x
+    → lines_beside line_of i (drop i tags) (drop i xs) ≡ line_of i (get_or tags i none) x ++ lines_beside line_of (i + 1) (drop (i + 1) tags) (drop (i + 1) xs)
+beside_next line_of tags xs i none x within there beside =
+    ap (λ (l : List Tag). lines_beside line_of i l (drop i xs)) (drop_more tags i none within)
+    ∙ ap (lines_beside line_of i (get_or tags i none ∷ drop (i + 1) tags)) (drop_next xs i x there beside)
 
--- ---- how fields stand, one after another
+no_lines : {X : Type 0} (line_of : ℕ → Tag → X → List ℕ) (i : ℕ) (tags : List Tag) → lines_beside line_of i tags [] ≡ []
+no_lines line_of i [] = refl
+no_lines line_of i (tag ∷ tags) = refl
 
--- the next field with its tie
-pub tied_next : (fields : List Field) (ties : List Tie) (i : ℕ) (field : Field) (tie : Tie) → i < length fields → field ≡ get_or fields i field → i < length ties → tie ≡ get_or ties i tie
-    → tied (drop i fields) (drop i ties) ≡ kept_field field tie ∷ tied (drop (i + 1) fields) (drop (i + 1) ties)
-tied_next fields ties i field tie within is there beside =
-    ap (λ (l : List Field). tied l (drop i ties)) (drop_next fields i field within is)
-    ∙ ap (tied (field ∷ drop (i + 1) fields)) (drop_next ties i tie there beside)
+-- nothing stands beside the fields that are left
+pub beside_none : {X : Type 0} (line_of : ℕ → Tag → X → List ℕ) (tags : List Tag) (xs : List X) (i : ℕ) → length xs ≤ i
+    → lines_beside line_of i (drop i tags) (drop i xs) ≡ []
+beside_none line_of tags xs i past = ap (lines_beside line_of i (drop i tags)) (drop_all i xs past) ∙ no_lines line_of i (drop i tags)
 
-no_ties : (fields : List Field) → tied fields [] ≡ []
-no_ties [] = refl
-no_ties (field ∷ fields) = refl
+-- ---- one field after another
 
--- what was found of the first fields, and how the others stand
-abbrev pub AreFound : List Linkable → Class → List Field → List Tie → ℕ → List Standing → Type 0
-AreFound all class fields ties i found =
-    found ++ map (field_standing all class) (tied (drop i fields) (drop i ties)) ≡ map (field_standing all class) (tied fields ties)
+-- what is found of a field is put behind the others, where there is one
+pub pushed : {X : Type 0} (o : Option X) (x : X) (old new : List X) → Some x ≡ o → new ≡ old ++ x ∷ [] → new ≡ old ++ option_to_list o
+pushed o x old new is push = push ∙ ap (λ (p : Option _). old ++ option_to_list p) is
 
-pub found_more : (all : List Linkable) (class : Class) (fields : List Field) (ties : List Tie) (i : ℕ) (field : Field) (tie : Tie) (found more : List Standing) (x : Standing)
-    → i < length fields → field ≡ get_or fields i field → i < length ties → tie ≡ get_or ties i tie → AreFound all class fields ties i found
-    → x ≡ field_standing all class (kept_field field tie) → more ≡ found ++ x ∷ [] → AreFound all class fields ties (i + 1) more
-found_more all class fields ties i field tie found more x within is there beside so_far stands pushed =
-    let rest = map (field_standing all class) (tied (drop (i + 1) fields) (drop (i + 1) ties)) in
-    ap (λ (l : List Standing). l ++ rest) pushed
-    ∙ append_assoc found (x ∷ []) rest
-    ∙ ap (λ (y : Standing). found ++ y ∷ rest) stands
-    ∙ ap (λ (l : List KeptField). found ++ map (field_standing all class) l) (sym (tied_next fields ties i field tie within is there beside))
-    ∙ so_far
+pub not_pushed : {X : Type 0} (o : Option X) (old : List X) → None ≡ o → old ≡ old ++ option_to_list o
+not_pushed o old off = sym (append-nil old) ∙ ap (λ (p : Option _). old ++ option_to_list p) off
 
--- no field is left, or none that has a tie
-pub found_all : (all : List Linkable) (class : Class) (fields : List Field) (ties : List Tie) (i : ℕ) (found : List Standing) → length fields ≤ i
-    → AreFound all class fields ties i found → found ≡ map (field_standing all class) (tied fields ties)
-found_all all class fields ties i found past so_far =
-    sym (append-nil found)
-    ∙ ap (λ (l : List Field). found ++ map (field_standing all class) (tied l (drop i ties))) (sym (drop_all i fields past))
-    ∙ so_far
+module _ {X Y : Type 0} (f : X → Y) where
+  joined : (xs : List X) (i : ℕ) → map f (take i xs) ++ option_to_list (option_map f (slice_get xs i)) ≡ map f (take (suc i) xs)
+  joined [] zero = refl
+  joined [] (suc i) = refl
+  joined (x ∷ xs) zero = refl
+  joined (x ∷ xs) (suc i) = ap (λ (l : List Y). f x ∷ l) (joined xs i)
 
-pub found_tied : (all : List Linkable) (class : Class) (fields : List Field) (ties : List Tie) (i : ℕ) (found : List Standing) → length ties ≤ i
-    → AreFound all class fields ties i found → found ≡ map (field_standing all class) (tied fields ties)
-found_tied all class fields ties i found past so_far =
-    sym (append-nil found)
-    ∙ ap (λ (l : List KeptField). found ++ map (field_standing all class) l) (sym (no_ties (drop i fields)))
-    ∙ ap (λ (l : List Tie). found ++ map (field_standing all class) (tied (drop i fields) l)) (sym (drop_all i ties past))
-    ∙ so_far
+  pub one_more : (xs : List X) (i : ℕ) (front more : List Y) → front ≡ map f (take i xs) → more ≡ front ++ option_to_list (option_map f (slice_get xs i)) → more ≡ map f (take (i + 1) xs)
+  one_more xs i front more before is =
+      is ∙ ap (λ (l : List Y). l ++ option_to_list (option_map f (slice_get xs i))) before ∙ joined xs i ∙ ap (λ (n : ℕ). map f (take n xs)) (sym (add-one i))
 
 -- ---- ambiguous fields
 
-stood_line : (class : Class) (key : Key) (place : ℕ) (h : KeptField) (s : definition.Standing) → ambiguous_line_by class key place h s ≡ ambiguous_text class key place h.field (stands_as s)
+stood_line : (class : Class) (key : Key) (place : ℕ) (h : KeptField) (s : definition.Standing)
+    → ambiguous_line_by class key place h s ≡ ambiguous_text class key place (tag_of h.field) (stands_as s)
 stood_line class key place h (definition.LinkedTo linked) = refl
 stood_line class key place h (definition.AmbiguousAmong keys) = refl
 stood_line class key place h definition.WithoutLink = refl
 stood_line class key place h definition.WithoutHeading = refl
 
-ambiguous_fields : (all : List Linkable) (class : Class) (key : Key) (place : ℕ) (fields : List Field) (ties : List Tie) →
-    flat_map (λ numbered. ambiguous_line all class key numbered.0 numbered.1) (enumerate_from place (tied fields ties))
-    ≡ lines_beside (ambiguous_text class key) place fields (map (field_standing all class) (tied fields ties))
-ambiguous_fields all class key place [] ties = refl
-ambiguous_fields all class key place (field ∷ fields) [] = refl
-ambiguous_fields all class key place (field ∷ fields) (tie ∷ ties) =
-    let h : KeptField = record { field = field; tie = tie } in
-    ap (λ (l : List ℕ). l ++ flat_map (λ numbered. ambiguous_line all class key numbered.0 numbered.1) (enumerate_from (place + 1) (tied fields ties)))
+ambiguous_fields : (all : List Linkable) (class : Class) (key : Key) (place : ℕ) (hs : List KeptField) →
+    flat_map (λ numbered. ambiguous_line all class key numbered.0 numbered.1) (enumerate_from place hs)
+    ≡ lines_beside (ambiguous_text class key) place (map (λ (h : KeptField). tag_of h.field) hs) (map (field_standing all class) hs)
+ambiguous_fields all class key place [] = refl
+ambiguous_fields all class key place (h ∷ hs) =
+    ap (λ (l : List ℕ). l ++ flat_map (λ numbered. ambiguous_line all class key numbered.0 numbered.1) (enumerate_from (place + 1) hs))
     (stood_line class key place h (definition.standing_of all class h))
-    ∙ ap (λ (l : List ℕ). ambiguous_text class key place field (field_standing all class h) ++ l) (ambiguous_fields all class key (place + 1) fields ties)
-
-ambiguous_row : (all : List Linkable) (class : Class) (key : Key) (kept : Kept) →
-    row_lines (ambiguous_line all) class (key, kept_record kept)
-    ≡ lines_beside (ambiguous_text class key) 0 kept.rec.fields (map (field_standing all class) (tied kept.rec.fields kept.links))
-unfolding kept_record
-ambiguous_row all class key kept = ambiguous_fields all class key 0 kept.rec.fields kept.links
+    ∙ ap (λ (l : List ℕ). ambiguous_text class key place (tag_of h.field) (field_standing all class h) ++ l) (ambiguous_fields all class key (place + 1) hs)
 
 -- the lines of the next row
-pub ambiguous_next : (all : List Linkable) (class : Class) (rows more : List Row) (key : Key) (kept : Kept) (standings : List Standing) → rows ≡ (key, kept_record kept) ∷ more
-    → standings ≡ map (field_standing all class) (tied kept.rec.fields kept.links)
-    → rows_lines (ambiguous_line all) class rows ≡ lines_beside (ambiguous_text class key) 0 kept.rec.fields standings ++ rows_lines (ambiguous_line all) class more
-ambiguous_next all class rows more key kept standings is are =
+pub ambiguous_next : (all : List Linkable) (class : Class) (rows more : List Row) (key : Key) (r : KeptRecord) (standings : List Standing) → rows ≡ (key, r) ∷ more
+    → standings ≡ map (field_standing all class) r.fields
+    → rows_lines (ambiguous_line all) class rows ≡ lines_beside (ambiguous_text class key) 0 (tags_of r) standings ++ rows_lines (ambiguous_line all) class more
+ambiguous_next all class rows more key r standings is are =
     ap (rows_lines (ambiguous_line all) class) is
     ∙ ap (λ (l : List ℕ). l ++ rows_lines (ambiguous_line all) class more)
-    (ambiguous_row all class key kept ∙ ap (lines_beside (ambiguous_text class key) 0 kept.rec.fields) (sym are))
+    (ambiguous_fields all class key 0 r.fields ∙ ap (lines_beside (ambiguous_text class key) 0 (tags_of r)) (sym are))
 
 -- ---- fields that await a key
 
-awaits_fields : (class : Class) (key : Key) (place : ℕ) (fields : List Field) (ties : List Tie) →
-    flat_map (λ numbered. awaits_line class key numbered.0 numbered.1) (enumerate_from place (tied fields ties))
-    ≡ lines_beside (awaits_text class key) place fields ties
-awaits_fields class key place [] ties = refl
-awaits_fields class key place (field ∷ fields) [] = refl
-awaits_fields class key place (field ∷ fields) (tie ∷ ties) = ap (λ (l : List ℕ). awaits_text class key place field tie ++ l) (awaits_fields class key (place + 1) fields ties)
+awaits_fields : (class : Class) (key : Key) (place : ℕ) (hs : List KeptField) →
+    flat_map (λ numbered. awaits_line class key numbered.0 numbered.1) (enumerate_from place hs)
+    ≡ lines_beside (awaits_text class key) place (map (λ (h : KeptField). tag_of h.field) hs) (map (λ (h : KeptField). h.tie) hs)
+awaits_fields class key place [] = refl
+awaits_fields class key place (h ∷ hs) = ap (λ (l : List ℕ). awaits_text class key place (tag_of h.field) h.tie ++ l) (awaits_fields class key (place + 1) hs)
 
-awaits_row : (class : Class) (key : Key) (kept : Kept) → row_lines awaits_line class (key, kept_record kept) ≡ lines_beside (awaits_text class key) 0 kept.rec.fields kept.links
-unfolding kept_record
-awaits_row class key kept = awaits_fields class key 0 kept.rec.fields kept.links
+pub awaits_row : (class : Class) (key : Key) (r : KeptRecord) (ties : List Tie) → ties ≡ map (λ (h : KeptField). h.tie) r.fields
+    → row_lines awaits_line class (key, r) ≡ lines_beside (awaits_text class key) 0 (tags_of r) ties
+awaits_row class key r ties are = awaits_fields class key 0 r.fields ∙ ap (lines_beside (awaits_text class key) 0 (tags_of r)) (sym are)
 
--- the lines of the next row
-pub awaits_next : (class : Class) (rows more : List Row) (key : Key) (kept : Kept) → rows ≡ (key, kept_record kept) ∷ more →
-    rows_lines awaits_line class rows ≡ lines_beside (awaits_text class key) 0 kept.rec.fields kept.links ++ rows_lines awaits_line class more
-awaits_next class rows more key kept is =
-    ap (rows_lines awaits_line class) is ∙ ap (λ (l : List ℕ). l ++ rows_lines awaits_line class more) (awaits_row class key kept)
+blank_fields : (class : Class) (key : Key) (place : ℕ) (fields : List Field) →
+    flat_map (λ numbered. awaits_line class key numbered.0 numbered.1) (enumerate_from place (map new_field fields)) ≡ []
+blank_fields class key place [] = refl
+blank_fields class key place (f ∷ fields) = blank_fields class key (place + 1) fields
+
+-- a record with blank ties has none
+pub blank_awaits : (class : Class) (key : Key) (r : KeptRecord) → r.fields ≡ map new_field (fields_of r) → row_lines awaits_line class (key, r) ≡ []
+blank_awaits class key r blank =
+    ap (λ (hs : List KeptField). flat_map (λ numbered. awaits_line class key numbered.0 numbered.1) (enumerate_from 0 hs)) blank ∙ blank_fields class key 0 (fields_of r)

@@ -11,19 +11,19 @@ use Rattle.std.specs.declared.cmp.Ordering.TheVariants.{Less}
 use Rattle.std.proofs.lemmas.Cmp.{eq_by_cmp_equiv}
 use Rattle.outside.proofs.Fronts.{drop_next}
 use Rattle.marc_types.specs.declared.key.Key.{Key}
-use Rattle.marc_types.specs.declared.entry.Kept.{Kept}
+use Rattle.numbered_store.specs.declared.kept.Kept.{Kept}
 use Rattle.marc_types.specs.Order.{key_cmp, key_cmp_total, same_key}
 use Rattle.entry_record.specs.Authority.{Linkable}
-use Rattle.record_store.specs.Store.{shown_row}
 use Rattle.catalogue_rules.specs.Choice.{has_key, keys_of_linkable}
 use Rattle.catalogue_rules.specs.Output.{cross_line, cross_lines, keys_sharing_form_of, shared_line, shared_lines}
-use Rattle.catalogue_rules.specs.State.{Row, State, fields_of, kept_record, linkable_authorities, row_linkable}
+use Rattle.catalogue_rules.specs.State.{Row, State, fields_of, linkable_authorities, row_linkable}
 use Rattle.catalogue_rules.specs.Valid.{IsAscending}
 use Rattle.catalogue_rules.proofs.Elements.{Each}
 use Rattle.catalogue_rules.proofs.Proper.{proper_linkable}
 use Rattle.catalogue_tables.specs.Sharing.{is_found_under, keys_crossing, keys_sharing, shown_keys}
 use Rattle.catalogue_tables.proofs.Rowed.{above_none, above_rows}
 use Rattle.ambiguity_report.specs.Beside.{cross_text}
+use Rattle.numbered_store.specs.Kept.{kept_record, shown_row}
 
 -- ---- each row's authority
 

@@ -1,38 +1,49 @@
 -- The lines of fields, by what stands beside each field. The rules are this project's own.
 use Rattle.std.specs.Prelude.{ℕ, ◌+◌, List, [], ◌∷◌, ◌++◌, map, codes}
+use Rattle.std.specs.Fmt.{decimal}
 use Rattle.std.specs.List.{flat_map, enumerate_from}
-use Rattle.marc_types.specs.declared.field.Field.{Field}
+use Rattle.std.specs.Option.{option_map_or}
+use Rattle.marc_types.specs.Fields.{tag_of}
+use Rattle.marc_types.specs.declared.field.Tag.{Tag}
 use Rattle.marc_types.specs.declared.key.Class.{Class}
 use Rattle.marc_types.specs.declared.key.Key.{Key}
 use Rattle.marc_types.specs.declared.entry.Tie.{Tie}
 use Rattle.heading_fields.specs.Numbers.{key_text}
-use Rattle.catalogue_rules.specs.State.{KeptField, Row, new_field, kept_field}
-use Rattle.catalogue_rules.specs.Lines.{line, then_words}
-use Rattle.catalogue_rules.specs.Output.{place_words, awaits_line}
+use Rattle.catalogue_rules.specs.State.{KeptField, KeptRecord, Row}
+use Rattle.catalogue_rules.specs.Lines.{line, then_word, then_words}
+use Rattle.catalogue_rules.specs.Output.{class_letter, tag_text}
 use Rattle.catalogue_tables.specs.declared.standing.Standing.{Standing}
 use Rattle.catalogue_tables.specs.declared.standing.Standing.TheVariants.{Linked, Ambiguous, Unlinked, NoHeading}
 
--- the line of a field that stands so
-abbrev pub ambiguous_text : Class → Key → ℕ → Field → Standing → List ℕ
-ambiguous_text class key place field Linked = []
-ambiguous_text class key place field (Ambiguous keys) =
-    line (codes "AMBIGUOUS" ++ place_words class key place (new_field field) ++ then_words (map key_text keys))
-ambiguous_text class key place field Unlinked = []
-ambiguous_text class key place field NoHeading = []
+-- a field with this tag as lines name it: its record's class and key, its tag, and its place in the record, from 0
+abbrev pub place_text : Class → Key → ℕ → Tag → List ℕ
+place_text class key place tag = then_words (class_letter class ∷ key_text key ∷ tag_text tag ∷ decimal place ∷ [])
 
--- the line of a field with this tie
-abbrev pub awaits_text : Class → Key → ℕ → Field → Tie → List ℕ
-awaits_text class key place field tie = awaits_line class key place (kept_field field tie)
+-- the line of a field with this tag that stands so
+abbrev pub ambiguous_text : Class → Key → ℕ → Tag → Standing → List ℕ
+ambiguous_text class key place tag Linked = []
+ambiguous_text class key place tag (Ambiguous keys) = line (codes "AMBIGUOUS" ++ place_text class key place tag ++ then_words (map key_text keys))
+ambiguous_text class key place tag Unlinked = []
+ambiguous_text class key place tag NoHeading = []
+
+-- the line of a field with this tag and tie
+abbrev pub awaits_text : Class → Key → ℕ → Tag → Tie → List ℕ
+awaits_text class key place tag tie =
+    option_map_or (λ awaited. line (codes "AWAITS" ++ place_text class key place tag ++ then_word (key_text awaited))) tie.awaits []
 
 -- the line of two authorities of which the first is found under the other's established form
 abbrev pub cross_text : Key → Key → List ℕ
 cross_text first second = line (codes "CROSS" ++ then_words (key_text first ∷ key_text second ∷ []))
 
--- the lines of fields from a place on, each by what stands beside it
-abbrev pub lines_beside : {X : Type 0} → (ℕ → Field → X → List ℕ) → ℕ → List Field → List X → List ℕ
+-- the tags of a record's fields
+abbrev pub tags_of : KeptRecord → List Tag
+tags_of r = map (λ h. tag_of h.field) r.fields
+
+-- the lines of fields with these tags from a place on, each by what stands beside it
+abbrev pub lines_beside : {X : Type 0} → (ℕ → Tag → X → List ℕ) → ℕ → List Tag → List X → List ℕ
 lines_beside line_of place [] xs = []
-lines_beside line_of place (field ∷ fields) [] = []
-lines_beside line_of place (field ∷ fields) (x ∷ xs) = line_of place field x ++ lines_beside line_of (place + 1) fields xs
+lines_beside line_of place (tag ∷ tags) [] = []
+lines_beside line_of place (tag ∷ tags) (x ∷ xs) = line_of place tag x ++ lines_beside line_of (place + 1) tags xs
 
 -- the lines of a record's fields
 abbrev pub row_lines : (Class → Key → ℕ → KeptField → List ℕ) → Class → Row → List ℕ

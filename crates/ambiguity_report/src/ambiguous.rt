@@ -3,18 +3,18 @@ ghost use Rattle.std.specs.Prelude.{◌≡◌, map, is_some, IfOk, OnOk};
 ghost use Rattle.std.specs.Io.KnownBytes.{Appends};
 ghost use Rattle.outside.specs.Fault.{HasWriteCause};
 ghost use Rattle.outside.specs.Sink.{WritesFront};
-ghost use Rattle.record_store.specs.Store.{shown_row};
 ghost use Rattle.catalogue_rules.specs.State.{linkable_authorities, rows_of};
 ghost use Rattle.catalogue_rules.specs.Output.{ambiguous_line};
 ghost use Rattle.ambiguity_report.specs.Beside.{rows_lines};
 ghost use Rattle.ambiguity_report.specs.Totals.{AreTotals, HaveRoom};
+ghost use Rattle.numbered_store.specs.Kept.{shown_row};
 
 use crate::beside::{Beside, write_record};
 use crate::standings::standings;
 use crate::totals::Totals;
 use crate::words::{LINE_FEED, add_key_words, begin_with_place};
 use catalogue_core::{Engine, Standing};
-use marc_types::{Class, Field, Key};
+use marc_types::{Class, Key, Tag};
 use numbered_store::RowMap;
 use outside::{Sink, WriteFault};
 use std::alloc::{AllocError, Global};
@@ -29,14 +29,14 @@ impl Beside for Standing {
         class: Class,
         key: &Key,
         place: usize,
-        field: &Field,
+        tag: &Tag,
         text: &mut Vec<u8>,
     ) -> Result<(), AllocError> {
         let Standing::Ambiguous(candidates) = self else {
             text.clear();
             return Ok(());
         };
-        begin_with_place(text, "AMBIGUOUS", class, key, place, field)?;
+        begin_with_place(text, "AMBIGUOUS", class, key, place, tag)?;
         add_key_words(text, candidates.as_slice())?;
         text.push(LINE_FEED)?;
         Ok(())
@@ -65,11 +65,10 @@ pub(crate) fn write_ambiguous<K: Sink>(
 {
     let mut totals = Totals::none();
     for (key, kept) in rows {
-        let (fields, ties) = (kept.rec.fields.as_slice(), kept.links.as_slice());
-        let Ok(standings) = standings(alloc, engine, class, fields, ties) else {
+        let Ok(standings) = standings(alloc, engine, class, kept) else {
             return Err(WriteFault::NoMemory);
         };
-        write_record(class, key, fields, &standings, text, out)?;
+        write_record(alloc, class, key, kept, &standings, text, out)?;
         totals = totals.with_record(&standings);
     }
     Ok(totals)

@@ -4,11 +4,11 @@ ghost use Rattle.std.specs.List.{flat_map};
 ghost use Rattle.std.specs.Io.KnownBytes.{Appends};
 ghost use Rattle.outside.specs.Fault.{HasWriteCause};
 ghost use Rattle.outside.specs.Sink.{WritesFront};
-ghost use Rattle.record_store.specs.Store.{shown_row};
 ghost use Rattle.catalogue_rules.specs.State.{linkable_authorities};
 ghost use Rattle.catalogue_rules.specs.Output.{cross_lines};
 ghost use Rattle.catalogue_tables.specs.Sharing.{shown_keys};
 ghost use Rattle.ambiguity_report.specs.Beside.{cross_text};
+ghost use Rattle.numbered_store.specs.Kept.{shown_row};
 
 use crate::words::{LINE_FEED, add_key_word};
 use catalogue_core::Engine;

@@ -49,6 +49,7 @@ fn write_all_ambiguous<K: Sink>(
 }
 
 fn write_all_awaits<K: Sink>(
+    alloc: Global,
     rows: &ReportRows<'_>,
     text: &mut Vec<u8>,
     out: &mut K,
@@ -60,8 +61,8 @@ fn write_all_awaits<K: Sink>(
     ensures tells { is_some (K.written out.new) ≡ is_some (K.written out.old) }
     ensures cause { HasWriteCause (K.faults out.old) (K.faults out.new) result }
 {
-    write_awaits(Class::Authority, &rows.authorities, text, out)?;
-    write_awaits(Class::Bibliographic, &rows.bibliographic, text, out)
+    write_awaits(alloc, Class::Authority, &rows.authorities, text, out)?;
+    write_awaits(alloc, Class::Bibliographic, &rows.bibliographic, text, out)
 }
 
 /// Writes the report over the rows of both classes.
@@ -82,7 +83,7 @@ fn write_parts<K: Sink>(
     let totals = write_all_ambiguous(alloc, engine, rows, text, out)?;
     write_shared(alloc, engine, &rows.authorities, text, out)?;
     write_cross(alloc, engine, &rows.authorities, text, out)?;
-    write_all_awaits(rows, text, out)?;
+    write_all_awaits(alloc, rows, text, out)?;
     write_totals(engine, totals, text, out)
 }
 

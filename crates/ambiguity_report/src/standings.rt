@@ -1,10 +1,13 @@
 //! How the fields of a record stand.
-ghost use Rattle.std.specs.Prelude.{◌≡◌, map, IfOk};
-ghost use Rattle.catalogue_rules.specs.State.{linkable_authorities, tied};
+ghost use Rattle.std.specs.Prelude.{◌≡◌, ◌++◌, map, option_map, option_to_list, IfOk, OnOk};
+ghost use Rattle.catalogue_rules.specs.State.{linkable_authorities};
+ghost use Rattle.record_store.specs.Store.{field_at};
 ghost use Rattle.catalogue_tables.specs.Stands.{field_standing};
+ghost use Rattle.numbered_store.specs.Kept.{kept_record};
 
 use catalogue_core::{Engine, Standing};
-use marc_types::{Class, Field, NoMemory, Tie};
+use marc_types::{Class, NoMemory};
+use numbered_store::Kept;
 use std::alloc::Global;
 
 /// How each field of a record stands, in order.
@@ -12,20 +15,37 @@ pub(crate) fn standings(
     alloc: Global,
     engine: &Engine,
     class: Class,
-    fields: &[Field],
-    ties: &[Tie],
+    kept: &Kept,
 ) -> Result<Vec<Standing>, NoMemory>
     ensures { IfOk result (λ found.
-        found.items ≡ map (field_standing (linkable_authorities engine.now.state) class) (tied fields.now ties.now)) }
+        found.items ≡ map (field_standing (linkable_authorities engine.now.state) class) (kept_record kept.now).fields) }
 {
-    let mut found = Vec::with_capacity(alloc, fields.len())?;
-    for (place, field) in fields.iter().enumerate() {
-        // there is one for each field
-        let Some(tie) = ties.get(place) else {
-            return Ok(found);
-        };
-        let standing = engine.standing(alloc, class, field, tie)?;
-        found.push(standing)?;
+    let places = kept.field_count();
+    let mut found = Vec::with_capacity(alloc, places as usize)?;
+    for place in 0..places {
+        push_standing(&mut found, alloc, engine, class, kept, place)?;
     }
     Ok(found)
+}
+
+// How the field at a place stands, if there is one.
+#[tactic(auto, using(crate::proofs::Fields::pushed, crate::proofs::Fields::not_pushed))]
+fn push_standing(
+    found: &mut Vec<Standing>,
+    alloc: Global,
+    engine: &Engine,
+    class: Class,
+    kept: &Kept,
+    place: u32,
+) -> Result<(), NoMemory>
+    ensures { OnOk result (found.new.items ≡ found.old.items
+        ++ option_to_list (option_map (field_standing (linkable_authorities engine.now.state) class) (field_at place (kept_record kept.now)))) }
+{
+    match engine.standing_at(alloc, class, kept, place)? {
+        Some(standing) => {
+            found.push(standing)?;
+            Ok(())
+        }
+        None => Ok(()),
+    }
 }

@@ -1,14 +1,13 @@
 //! Words that are put behind the bytes of a line.
 ghost use Rattle.std.specs.Prelude.{◌≡◌, ◌++◌, ◌∷◌, [], map, codes, OnOk};
 ghost use Rattle.std.specs.Fmt.{decimal};
-ghost use Rattle.marc_types.specs.Fields.{tag_of};
 ghost use Rattle.heading_fields.specs.Numbers.{key_text};
-ghost use Rattle.catalogue_rules.specs.State.{new_field};
 ghost use Rattle.catalogue_rules.specs.Lines.{then_word, then_words};
-ghost use Rattle.catalogue_rules.specs.Output.{class_letter, place_words, tag_text};
+ghost use Rattle.catalogue_rules.specs.Output.{class_letter, tag_text};
+ghost use Rattle.ambiguity_report.specs.Beside.{place_text};
 
 use itoa::Buffer;
-use marc_types::{Class, Field, Key};
+use marc_types::{Class, Key, Tag};
 use std::alloc::AllocError;
 
 const BLANK: u8 = b' ';
@@ -54,11 +53,10 @@ fn letter(class: Class) -> u8
     }
 }
 
-/// The tag of a field, behind a blank.
-fn add_tag_word(text: &mut Vec<u8>, field: &Field) -> Result<(), AllocError>
-    ensures { OnOk result (text.new.items ≡ text.old.items ++ then_word (tag_text (tag_of field.now))) }
+/// A tag behind a blank.
+fn add_tag_word(text: &mut Vec<u8>, tag: &Tag) -> Result<(), AllocError>
+    ensures { OnOk result (text.new.items ≡ text.old.items ++ then_word (tag_text tag.now)) }
 {
-    let tag = field.tag();
     text.extend_from_slice(&[BLANK, tag.a, tag.b, tag.c])?;
     Ok(())
 }
@@ -77,15 +75,15 @@ pub(crate) fn begin_with_place(
     class: Class,
     key: &Key,
     place: usize,
-    field: &Field,
+    tag: &Tag,
 ) -> Result<(), AllocError>
-    ensures { OnOk result (text.new.items ≡ word.now ++ place_words class key.now place (new_field field.now)) }
+    ensures { OnOk result (text.new.items ≡ word.now ++ place_text class key.now place tag.now) }
 {
     text.clear();
     text.extend_from_slice(word.as_bytes())?;
     text.extend_from_slice(&[BLANK, letter(class)])?;
     add_key_word(text, key)?;
-    add_tag_word(text, field)?;
+    add_tag_word(text, tag)?;
     text.push(BLANK)?;
     add_number(text, place as u128)
 }

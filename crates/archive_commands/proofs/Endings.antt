@@ -20,14 +20,14 @@ use Rattle.console_lines.specs.declared.fault.Fault.{Fault}
 use Rattle.console_lines.specs.declared.fault.Fault.TheVariants.{Device, Memory}
 use Rattle.console_lines.proofs.Ends.{told_once, told_not_unwritten, told_not_done, done_not_unwritten, never_told}
 use Rattle.room_files.specs.Journals.{journal_limits, log_bytes, IsClosedDisk, KeepsHistory, KeepsLog, IsDurable}
-use Rattle.output_files.specs.Outputs.{IsPartWritten, IsOutput}
+use Rattle.output_files.specs.Outputs.{IsOutput, IsOutputLeft}
 use Rattle.room_files.proofs.Faults.{opening_device}
 use Rattle.room_files.proofs.Journals.{closed_keeps, closed_durable, keeps_where}
 use Rattle.room_files.specs.Faults.{fault_of_opening}
 use Rattle.archive_commands.specs.Archives.{WhyUnopened}
 use Rattle.archive_commands.specs.Reads.{EndsReading, ReadsJournal}
-use Rattle.archive_commands.proofs.Rooms.{part_opened}
-use Rattle.archive_commands.proofs.Histories.{whole_of_any, part_of_any, fitting_history}
+use Rattle.archive_commands.proofs.Rooms.{left_opened}
+use Rattle.archive_commands.proofs.Histories.{whole_of_any, left_of_any, fitting_history}
 
 -- an opening's fault that is one of reading
 ends_unopened : (reason : OpenFault) → reason ≢ opening.OldVersion → EndsReading (Told (fault_of_opening reason))
@@ -80,26 +80,26 @@ module _ (journal out : List ℕ) (due : List Entry → List ℕ) (o : Outcome) 
     pub durable : o.old.tells ≡ true → IsDurable o.new journal
     pub has : o.old.tells ≡ true → HasHistory history (log_bytes o.old journal)
     pub within : IsWithin journal_limits history
-    pub part : o.old.tells ≡ true → IsPartWritten (o.old.file out) (o.new.file out) (due history)
+    pub left : o.old.tells ≡ true → IsOutputLeft o.old o.new out (due history)
 
   pub was_read : (mid : RoomView) (disk : DiskView) (history : List Entry) → journal ≢ out → SameBut o.old mid (journal ∷ [])
       → (mid.tells ≡ true → IsClosedDisk disk o.new journal)
       → (o.old.tells ≡ true → HasHistory history (log_bytes o.old journal)) → IsWithin journal_limits history
       → (o.old.tells ≡ true → KeepsLog (log_bytes o.old journal) disk)
-      → (mid.tells ≡ true → IsPartWritten (mid.file out) (o.new.file out) (due history)) → WasRead history
-  was_read mid disk history differ opened log has within kept part = record {
+      → (mid.tells ≡ true → IsOutputLeft mid o.new out (due history)) → WasRead history
+  was_read mid disk history differ opened log has within kept left = record {
     keeps = λ failed tells. let then = opened.tells ∙ tells in closed_keeps o.old o.new journal disk (log then) failed (kept tells);
     durable = λ tells. let then = opened.tells ∙ tells in closed_durable o.old o.new journal disk (log then) (log_bytes o.old journal) (kept tells);
     has = has;
     within = within;
-    part = λ tells. part_opened o.old mid o.new journal out (due history) differ opened (part (opened.tells ∙ tells));
+    left = λ tells. left_opened o.old mid o.new journal out (due history) differ opened (left (opened.tells ∙ tells));
   }
 
   module _ (history : List Entry) (r : WasRead history) where
-    part_is : (entries : List Entry) → o.old.tells ≡ true → HasHistory entries (log_bytes o.old journal)
-        → IsPartWritten (o.old.file out) (o.new.file out) (due entries)
-    part_is entries tells has =
-        part_of_any due entries history (log_bytes o.old journal) (o.old.file out) (o.new.file out) has (r.has tells) (r.part tells)
+    left_is : (entries : List Entry) → o.old.tells ≡ true → HasHistory entries (log_bytes o.old journal)
+        → IsOutputLeft o.old o.new out (due entries)
+    left_is entries tells has =
+        left_of_any due entries history (log_bytes o.old journal) o.old o.new out has (r.has tells) (r.left tells)
 
     pub reads_whole : o.end ≡ Done → IsSilent o
         → (o.old.tells ≡ true → o.new.file out ≡ Some (due history)) → ReadsJournal journal out due o
@@ -116,7 +116,7 @@ module _ (journal out : List ℕ) (due : List Entry → List ℕ) (o : Outcome) 
       history = λ untold tells. fitting_history history (log_bytes o.old journal) (r.has tells) r.within;
       whole = λ entries also tells has.
           whole_of_any due entries history (log_bytes o.old journal) (o.new.file out) has (r.has tells) (bytes tells);
-      part = λ entries also. part_is entries;
+      part = λ entries also. left_is entries;
     }
 
     pub reads_failed : o.end ≡ out_unwritten → IsSilent o
@@ -133,7 +133,7 @@ module _ (journal out : List ℕ) (due : List Entry → List ℕ) (o : Outcome) 
       durable = λ untold. r.durable;
       history = λ untold tells. fitting_history history (log_bytes o.old journal) (r.has tells) r.within;
       whole = λ entries also. absurd (done_not_unwritten o.end Out also is);
-      part = λ entries also. part_is entries;
+      part = λ entries also. left_is entries;
     }
 
     -- memory ran out before the output was begun
@@ -154,7 +154,7 @@ module _ (journal out : List ℕ) (due : List Entry → List ℕ) (o : Outcome) 
       by written output.cause bytes unbegun done failed memory told silent
     where
       r : WasRead history
-      r = was_read mid disk history differ opened log has within kept output.part
+      r = was_read mid disk history differ opened log has within kept output.left
 
       by : {T : Type 0} → (written : Result T WriteFault) → HasWriteCause (mid.out_faults out) (o.new.out_faults out) written
           → OnOk written (mid.tells ≡ true → o.new.file out ≡ Some (due history)) → (written ≡ Err NoMemory → SameBut mid o.new (journal ∷ []))

@@ -3,11 +3,12 @@ use Rattle.std.proofs.Common.{◌≡◌, ◌∙◌, ℕ, List, Option, Some, sym
 use Rattle.std.proofs.Math.Logic.{∥∥₁_map, ∥∥₁_elim}
 use Rattle.std.specs.Coded.{Coded-set, coded_ℕ, coded_list}
 use Rattle.marc_types.specs.declared.entry.Entry.{Entry}
+use Rattle.outside.specs.Room.{RoomView}
 use Rattle.durable_catalogue.specs.Logs.{HasHistory}
 use Rattle.entry_record.specs.History.{IsWithin}
 use Rattle.room_files.specs.Journals.{journal_limits}
 use Rattle.room_files.proofs.Histories.{reading_once}
-use Rattle.output_files.specs.Outputs.{IsPartWritten}
+use Rattle.output_files.specs.Outputs.{IsOutputLeft}
 use Rattle.archive_commands.specs.Archives.{HasFittingHistory}
 
 -- what is due of one history of a log is due of any other
@@ -22,9 +23,9 @@ pub whole_of_any : (due : List Entry → List ℕ) (entries others : List Entry)
     → HasHistory others log → file ≡ Some (due others) → file ≡ Some (due entries)
 whole_of_any due entries others log file has also whole = whole ∙ ap (λ bytes. Some bytes) (sym (due_once due entries others log has also))
 
-pub part_of_any : (due : List Entry → List ℕ) (entries others : List Entry) (log : List ℕ) (old new : Option (List ℕ)) → HasHistory entries log
-    → HasHistory others log → IsPartWritten old new (due others) → IsPartWritten old new (due entries)
-part_of_any due entries others log old new has also part = subst (IsPartWritten old new) (sym (due_once due entries others log has also)) part
+pub left_of_any : (due : List Entry → List ℕ) (entries others : List Entry) (log : List ℕ) (old new : RoomView) (out : List ℕ) → HasHistory entries log
+    → HasHistory others log → IsOutputLeft old new out (due others) → IsOutputLeft old new out (due entries)
+left_of_any due entries others log old new out has also left = subst (IsOutputLeft old new out) (sym (due_once due entries others log has also)) left
 
 pub fitting_history : (entries : List Entry) (log : List ℕ) → HasHistory entries log → IsWithin journal_limits entries → HasFittingHistory log
 fitting_history entries log has within = ∥∥₁_map has (λ is. (entries, is, within))

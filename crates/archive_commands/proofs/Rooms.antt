@@ -5,9 +5,10 @@ use Rattle.marc_types.specs.Order.{text_Decides}
 use Rattle.outside.specs.Fault.{HasWriteCause}
 use Rattle.outside.specs.Room.{RoomView, AsLog, SameBut}
 use Rattle.outside.specs.declared.fault.WriteFault.{WriteFault}
-use Rattle.output_files.specs.Outputs.{IsPartWritten, IsOutput}
+use Rattle.output_files.specs.Outputs.{IsOutput, IsOutputLeft}
 use Rattle.outside.proofs.Counts.{rose_later}
 use Rattle.outside.proofs.Rooms.{same_but_first, same_but_more, same_but_then}
+use Rattle.output_files.proofs.Parts.{left_since, left_until}
 
 same_or_not : (a b : List ℕ) → (a ≡ b) ⊎ (a ≢ b)
 same_or_not a b = let same = text_Decides a b in decided (bytes_eq a b) same.0 same.1
@@ -50,21 +51,21 @@ other_name : (room : RoomView) (journal out : List ℕ) → room.open_as journal
 other_name room journal out opened free e = let same = ap room.open_as e in cc
 
 -- the log's closing leaves the output
-pub part_closed : (old written new : RoomView) (journal out due : List ℕ) → old.open_as journal ≡ Some AsLog → old.open_as out ≡ None
-    → SameBut written new (journal ∷ []) → IsPartWritten (old.file out) (written.file out) due → IsPartWritten (old.file out) (new.file out) due
-part_closed old written new journal out due opened free apart part =
-    subst (λ file. IsPartWritten (old.file out) file due) (sym (apart.files out (other_name old journal out opened free, tt))) part
+pub left_closed : (old written new : RoomView) (journal out due : List ℕ) → old.open_as journal ≡ Some AsLog → old.open_as out ≡ None
+    → SameBut written new (journal ∷ []) → IsOutputLeft old written out due → IsOutputLeft old new out due
+left_closed old written new journal out due opened free apart left =
+    left_until old written new out due (journal ∷ []) (other_name old journal out opened free, tt) apart left
 
 -- the log's closing leaves an output that was closed before
 pub output_closed : {T : Type 0} → (old written new : RoomView) (journal out due : List ℕ) (result : Result T WriteFault) → old.open_as journal ≡ Some AsLog
     → old.open_as out ≡ None → SameBut written new (journal ∷ []) → written.open_as out ≡ None
-    → (old.tells ≡ true → IsPartWritten (old.file out) (written.file out) due) → HasWriteCause (old.out_faults out) (written.out_faults out) result
+    → (old.tells ≡ true → IsOutputLeft old written out due) → HasWriteCause (old.out_faults out) (written.out_faults out) result
     → IsOutput old new out due result
-output_closed old written new journal out due result opened free apart closed part cause =
+output_closed old written new journal out due result opened free apart closed left cause =
     let later = apart.outs out in
     record {
       closed = apart.open_names out (other_name old journal out opened free, tt) ∙ closed;
-      part = λ told. part_closed old written new journal out due opened free apart (part told);
+      left = λ told. left_closed old written new journal out due opened free apart (left told);
       cause = record {
         later = omega (arith, cause.later, later);
         failed = λ is. rose_later (old.out_faults out) (written.out_faults out) (new.out_faults out) (cause.failed is) later;
@@ -72,7 +73,6 @@ output_closed old written new journal out due result opened free apart closed pa
     }
 
 -- the log's opening leaves the output
-pub part_opened : (old opened new : RoomView) (journal out due : List ℕ) → journal ≢ out → SameBut old opened (journal ∷ [])
-    → IsPartWritten (opened.file out) (new.file out) due → IsPartWritten (old.file out) (new.file out) due
-part_opened old opened new journal out due differ apart part =
-    subst (λ file. IsPartWritten file (new.file out) due) (apart.files out ((λ e. differ (sym e)), tt)) part
+pub left_opened : (old opened new : RoomView) (journal out due : List ℕ) → journal ≢ out → SameBut old opened (journal ∷ [])
+    → IsOutputLeft opened new out due → IsOutputLeft old new out due
+left_opened old opened new journal out due differ apart left = left_since old opened new out due (journal ∷ []) ((λ e. differ (sym e)), tt) apart left

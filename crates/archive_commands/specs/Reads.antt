@@ -13,7 +13,7 @@ use Rattle.console_lines.specs.declared.end.Unwritten.TheVariants as unwritten
 use Rattle.console_lines.specs.declared.fault.Fault.{Fault}
 use Rattle.console_lines.specs.declared.fault.Fault.TheVariants.{Usage, Input, Device, NotAJournal, Full, Memory, OldVersion, OtherHistory}
 use Rattle.output_files.specs.Kept.{kept_keys}
-use Rattle.output_files.specs.Outputs.{IsPartWritten}
+use Rattle.output_files.specs.Outputs.{IsOutputLeft}
 use Rattle.outside.specs.Room.{SameBut}
 use Rattle.room_files.specs.Journals.{log_bytes, KeepsHistory, IsDurable}
 use Rattle.archive_commands.specs.Archives.{WhyUnopened, HasFittingHistory}
@@ -63,13 +63,13 @@ pub record ReadsJournal (journal out : List ℕ) (due : List Entry → List ℕ)
   -- the outside's faults have their cause
   pub device : o.end ≡ Told Device → Rose (o.old.log_faults journal) (o.new.log_faults journal)
   pub out_cause : o.end ≡ out_unwritten → Rose (o.old.out_faults out) (o.new.out_faults out)
-  -- the log has a history within the limits, which is durable, and the output is what is due of it, or a front of that
+  -- the log has a history within the limits, which is durable, and the output is what is due of it; where it could not be written it is as it was or that
   pub history : TellsNoFault o.end → o.old.tells ≡ true → HasFittingHistory (log_bytes o.old journal)
   pub durable : TellsNoFault o.end → o.old.tells ≡ true → IsDurable o.new journal
   pub whole : (entries : List Entry) → o.end ≡ Done → o.old.tells ≡ true → HasHistory entries (log_bytes o.old journal)
       → o.new.file out ≡ Some (due entries)
   pub part : (entries : List Entry) → o.end ≡ out_unwritten → o.old.tells ≡ true → HasHistory entries (log_bytes o.old journal)
-      → IsPartWritten (o.old.file out) (o.new.file out) (due entries)
+      → IsOutputLeft o.old o.new out (due entries)
 
 -- the commands `export` and `report`
 abbrev pub Reads : List ℕ → List ℕ → DueView → Outcome → Type 0

@@ -6,7 +6,7 @@ ghost use Rattle.outside.specs.Room.{AsLog, SameBut};
 ghost use Rattle.catalogue_rules.specs.Settle.{state_of};
 ghost use Rattle.catalogue_rules.specs.Output.{export_of};
 ghost use Rattle.output_files.specs.Kept.{kept_keys};
-ghost use Rattle.output_files.specs.Outputs.{IsOutput, IsPartWritten};
+ghost use Rattle.output_files.specs.Outputs.{IsOutput, IsOutputLeft};
 ghost use Rattle.room_files.specs.Journals.{IsClosedDisk};
 ghost use Rattle.archive_commands.specs.Reads.{due_view, due_of};
 
@@ -36,7 +36,7 @@ fn write_kept<R: Room>(
     ensures unbegun { IsErrOf result WriteFault.NoMemory → SameBut (R.seen room.old) (R.seen room.new) [] }
     ensures bytes { OnOk result ((R.seen room.old).tells ≡ true →
         (R.seen room.new).file out.now ≡ Some (export_of (kept_keys (option_copied code.entry)) (state_of core.now.history))) }
-    ensures part { (R.seen room.old).tells ≡ true → IsPartWritten ((R.seen room.old).file out.now) ((R.seen room.new).file out.now)
+    ensures left { (R.seen room.old).tells ≡ true → IsOutputLeft (R.seen room.old) (R.seen room.new) out.now
         (export_of (kept_keys (option_copied code.entry)) (state_of core.now.history)) }
 {
     let kept = Selection::new(|key: &Key| is_kept(key, code));
@@ -59,8 +59,8 @@ fn write_due<R: Room>(
     ensures unbegun { IsErrOf result WriteFault.NoMemory → SameBut (R.seen room.old) (R.seen room.new) [] }
     ensures bytes { OnOk result ((R.seen room.old).tells ≡ true →
         (R.seen room.new).file out.now ≡ Some (due_of (due_view due.entry) core.now.history)) }
-    ensures part { (R.seen room.old).tells ≡ true →
-        IsPartWritten ((R.seen room.old).file out.now) ((R.seen room.new).file out.now) (due_of (due_view due.entry) core.now.history) }
+    ensures left { (R.seen room.old).tells ≡ true →
+        IsOutputLeft (R.seen room.old) (R.seen room.new) out.now (due_of (due_view due.entry) core.now.history) }
 {
     match due {
         Due::Export(code) => write_kept(alloc, room, out, core, code),

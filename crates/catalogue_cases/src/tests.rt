@@ -4,6 +4,6 @@ mod of_catalogue_core;
 mod of_console_lines;
 mod of_holdings_export;
 mod of_iso_export;
-mod of_journal_migration;
+mod of_migrate_command;
 mod of_plain_commands;
 mod of_program_help;

@@ -1,16 +1,19 @@
 -- The states of an engine are valid, and a record is found by its key's number.
 use Rattle.std.proofs.Common.{◌≡◌, sym, ap, refl, subst, ℕ, Bool, true, false, List, [], Option, Some, None}
 use Rattle.std.specs.Prelude.{if◌then◌else◌}
+use Rattle.std.specs.Option.{option_and_then}
 use Rattle.marc_types.specs.Order.{same_key}
 use Rattle.marc_types.specs.declared.entry.Entry.{Entry}
 use Rattle.marc_types.specs.declared.key.Class.{Class}
 use Rattle.marc_types.specs.declared.key.Key.{Key}
+use Rattle.marc_types.specs.declared.key.Place.{Place}
 use Rattle.numbering.specs.Numbers.{IsNumberOf, is_known, number_of}
 use Rattle.entry_record.specs.History.{IsAdmitted}
 use Rattle.catalogue_rules.specs.Receipt.{kept_under}
 use Rattle.catalogue_rules.specs.Settle.{arrival_of, state_after, state_of, step}
-use Rattle.catalogue_rules.specs.State.{State, empty_state}
+use Rattle.catalogue_rules.specs.State.{KeptRecord, State, empty_state}
 use Rattle.catalogue_rules.specs.Valid.{IsValid}
+use Rattle.record_store.specs.Store.{field_at, field_under}
 use Rattle.numbered_store.proofs.Shelving.{low_number}
 use Rattle.catalogue_tables.specs.Seam.{KeyLists, keys_in}
 use Rattle.linking_laws.specs.Middle.{AreAuthoritiesInOrder}
@@ -49,6 +52,10 @@ module _ (class : Class) (key : Key) (keys : KeyLists) (s : State) where
   pub found_under : (number : ℕ) → Some number ≡ number_if (is_known same_key (keys_in class keys) key) (keys_in class keys) key
       → kept_under class (key_of class number keys) s ≡ kept_under class key s
   found_under number is = ap (λ (k : Key). kept_under class k s) (key_numbered_so (keys_in class keys) key number (number_given (keys_in class keys) key number is))
+
+-- the field at a place of the record that was found
+pub field_read : (place : Place) (s : State) (found : Option KeptRecord) → found ≡ kept_under place.class place.key s → option_and_then (field_at place.field) found ≡ field_under place s
+field_read place s found is = ap (option_and_then (field_at place.field)) is
 
 -- the authorities of a valid state are in order
 pub valid_in_order : (s : State) → IsValid s → AreAuthoritiesInOrder s

@@ -1,24 +1,24 @@
 //! A catalogue's state, without its history.
 ghost use Rattle.std.specs.Prelude.{◌≡◌, ℕ, ◌+◌, ◌<◌, ◌≤◌, ◌^◌, length, map, IfOk, OnOk, OnErr, slice_get};
 ghost use Rattle.std.specs.Option.{option_map};
-ghost use Rattle.record_store.specs.Store.{field_under, shown_row};
-ghost use Rattle.catalogue_rules.specs.State.{kept_field, kept_record, linkable_authorities, rows_of};
+ghost use Rattle.record_store.specs.Store.{field_at, field_under};
+ghost use Rattle.catalogue_rules.specs.State.{kept_field, linkable_authorities, rows_of};
 ghost use Rattle.catalogue_tables.specs.Sharing.{keys_crossing, keys_sharing, shown_keys};
 ghost use Rattle.catalogue_tables.specs.Stands.{field_standing};
 ghost use Rattle.catalogue_rules.specs.Settle.{arrival_of, step};
 ghost use Rattle.catalogue_rules.specs.Receipt.{kept_under, receipt_of};
 ghost use Rattle.catalogue_rules.specs.Valid.{IsValid};
 ghost use Rattle.linking_laws.specs.Visits.{touched};
-ghost use Rattle.commit_stages.specs.Fields.{field_as};
 ghost use Rattle.commit_stages.specs.Receipts.{AreReceiptCounts};
 ghost use Rattle.catalogue_core.specs.Engines.{empty_engine};
+ghost use Rattle.numbered_store.specs.Kept.{found_field, kept_record, shown_row};
 
 use catalogue_tables::Standing;
-use commit_stages::{Changes, FieldAt, commit_entry, field_in};
+use commit_stages::{Changes, commit_entry};
 use entry_record::Prepared;
 use linked_store::LinkedStore;
-use marc_types::{Class, Field, Kept, Key, NoMemory, Place, Tie};
-use numbered_store::RowMap;
+use marc_types::{Class, Field, Key, NoMemory, Place, Tie};
+use numbered_store::{FoundField, Kept, RowMap};
 use record_store::Steps;
 use std::alloc::Global;
 use std::marker::Model;
@@ -112,13 +112,17 @@ impl Engine {
         }
     }
 
-    /// The field at a place, and its tie.
-    pub fn field_under(&self, place: &Place) -> Option<FieldAt<'_>>
-        ensures { option_map field_as result ≡ field_under place.now self.now.state }
+    /// The field at a place, which is made from its record's bytes, with its tie.
+    pub fn field_under(
+        &self,
+        alloc: Global,
+        place: &Place,
+    ) -> Result<Option<FoundField<'_>>, NoMemory>
+        ensures { IfOk result (λ found. option_map found_field found ≡ field_under place.now self.now.state) }
     {
         match self.look(place.class, &place.key) {
-            Some(kept) => field_in(kept, place.field),
-            None => None,
+            Some(kept) => kept.found_at(alloc, place.field),
+            None => Ok(None),
         }
     }
 
@@ -142,6 +146,21 @@ impl Engine {
         ensures { IfOk result (λ standing. standing ≡ field_standing (linkable_authorities self.now.state) class (kept_field field.now tie.now)) }
     {
         self.store.standing(alloc, class, field, tie)
+    }
+
+    /// How the field at a place of a kept record stands, if there is one. It is decoded only where it isn't linked and can be a heading.
+    #[tactic(auto, using(crate::proofs::Engines::valid_in_order))]
+    pub fn standing_at(
+        &self,
+        alloc: Global,
+        class: Class,
+        kept: &Kept,
+        place: u32,
+    ) -> Result<Option<Standing>, NoMemory>
+        ensures { IfOk result (λ standing.
+            standing ≡ option_map (field_standing (linkable_authorities self.now.state) class) (field_at place (kept_record kept.now))) }
+    {
+        self.store.standing_at(alloc, class, kept, place)
     }
 
     /// The keys of all authorities whose heading has the form of that of a key's authority, in key order; none where the key has no

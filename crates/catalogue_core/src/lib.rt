@@ -4,9 +4,10 @@
 
 pub use catalogue::{Catalogue, CoreFault};
 pub use catalogue_tables::Standing;
-pub use commit_stages::{Changes, FieldAt};
+pub use commit_stages::Changes;
 pub use engine::Engine;
 pub use limits::passes_limits;
+pub use numbered_store::FoundField;
 
 mod catalogue;
 mod engine;

@@ -6,7 +6,6 @@ use Rattle.marc_types.specs.declared.field.Field.{Field}
 use Rattle.marc_types.specs.declared.key.Class.{Class}
 use Rattle.marc_types.specs.declared.key.Class.TheVariants.{Authority, Bibliographic}
 use Rattle.marc_types.specs.declared.key.Key.{Key}
-use Rattle.marc_types.specs.declared.entry.Kept.{Kept}
 use Rattle.marc_types.specs.declared.entry.Tie.{Tie}
 use Rattle.entry_record.specs.Authority.{Linkable, linkable_of}
 
@@ -32,10 +31,6 @@ abbrev pub tied : List Field → List Tie → List KeptField
 tied [] ties = []
 tied (field ∷ fields) [] = []
 tied (field ∷ fields) (tie ∷ ties) = kept_field field tie ∷ tied fields ties
-
--- what a catalogue keeps of a record, as the rules see it
-unfoldable pub kept_record : Kept → KeptRecord
-kept_record kept = record { leader = kept.rec.leader; fields = tied kept.rec.fields kept.links }
 
 -- the rows of each class, in key order
 pub record State : Type 0 where

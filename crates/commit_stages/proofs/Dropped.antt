@@ -18,7 +18,7 @@ use Rattle.catalogue_rules.specs.Valid.{IsRow}
 use Rattle.catalogue_rules.proofs.Elements.{Each}
 use Rattle.catalogue_rules.proofs.Fit.{IsFit}
 use Rattle.catalogue_rules.proofs.Proper.{all_fit}
-use Rattle.record_store.specs.Store.{StaysRecord}
+use Rattle.record_store.specs.Store.{StaysFit, StaysRecord}
 use Rattle.catalogue_tables.specs.Seam.{AreDistinct, HasKey, place_at}
 use Rattle.linking_laws.specs.Middle.{AreAuthoritiesInOrder, CanDrop, CanDropOn, IsSparedRightly, IsTiedButTo, IsWithinReach}
 use Rattle.linking_laws.specs.Partway.{AreOrdered, IsNext, IsSteady, is_place_among}
@@ -28,7 +28,7 @@ use Rattle.linking_laws.specs.Visits.{drop_visits_by}
 use Rattle.linking_laws.specs.Weights.{sum_fields}
 use Rattle.linking_laws.proofs.Dropped.{dropped_field, handled, steady_dropped}
 use Rattle.linking_laws.proofs.Listed.{drop_whole, next_is_new}
-use Rattle.linking_laws.proofs.Turning.{drop_stays}
+use Rattle.linking_laws.proofs.Turning.{drop_fits, drop_stays}
 use Rattle.field_settling.specs.Held.{held_as}
 use Rattle.field_settling.specs.declared.held.Held.{Held}
 use Rattle.linked_store.specs.Linked.{Linked, ListsSeats, SuitsSeat, field_of, record_at}
@@ -50,6 +50,11 @@ module _ (d : Dropping) (key : Key) (successor : Option Key) (done : List Place)
   stays_at can next good None is proper = tt
   stays_at can next good (Some r) is proper =
       drop_stays d key successor done x.state (place_at x.keys seat) h r can next (record { kept = is; visited = proper; proper = good })
+
+  fits_at : CanDropOn d key done x.state → IsNext done (place_at x.keys seat) h x.state → (o : Option KeptRecord) → record_at seat.class seat.number x ≡ o
+      → IfSome o (StaysFit seat.field (drop_by d (linkable_authorities x.state) key successor seat.class h).field)
+  fits_at can next None is = tt
+  fits_at can next (Some r) is = drop_fits d key successor done x.state (place_at x.keys seat) h r can next is
 
   tied_here : CanDropOn d key done x.state → IsNext done (place_at x.keys seat) h x.state → IsTiedButTo key (linkable_authorities x.state) seat.class h
   tied_here can next = field_at_place (IsTiedButTo key (linkable_authorities x.state)) x.state (place_at x.keys seat) h seat.class refl can.ties next.stands
@@ -80,6 +85,7 @@ module _ (d : Dropping) (key : Key) (successor : Option Key) (done : List Place)
     known = known;
     stands = subst IsSome (sym next.stands) refl;
     stays = stays_at can next good (record_at seat.class seat.number x) refl proper;
+    fits = fits_at can next (record_at seat.class seat.number x) refl;
     steady = λ own. subst (λ (o : Option KeptField). IfSome o (λ old. IsSteady old (drop_by d (linkable_authorities x.state) key successor seat.class h))) (sym next.stands)
         (steady_at can next seat.class (tied_here can next) (can.spared (place_at x.keys seat) h next) own);
     whole = whole_at can next;

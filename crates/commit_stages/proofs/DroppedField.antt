@@ -4,6 +4,7 @@ use Rattle.std.specs.Prelude.{◌&&◌, ◌||◌, is_some, if◌then◌else◌}
 use Rattle.std.specs.Option.{option_map_or}
 use Rattle.marc_types.specs.declared.key.Class.{Class}
 use Rattle.marc_types.specs.declared.key.Key.{Key}
+use Rattle.numbering.specs.declared.seat.Seat.{Seat}
 use Rattle.heading_fields.proofs.Fieldlaws.{is_field_unlinking}
 use Rattle.entry_record.specs.Authority.{Linkable}
 use Rattle.catalogue_rules.specs.State.{KeptField}
@@ -12,7 +13,9 @@ use Rattle.linking_laws.specs.Stages.{drop_by, drop_field}
 use Rattle.linking_laws.specs.Tables.{dropped_at}
 use Rattle.linking_laws.specs.Visits.{drop_visits, drop_visits_by, link_visit, waits_for_key}
 use Rattle.linking_laws.proofs.Touched.{drop_off, drop_on}
+use Rattle.linked_store.specs.Linked.{Linked, field_of}
 use Rattle.commit_stages.specs.Settled.{IsChoiceSettled}
+use Rattle.commit_stages.specs.Turns.{IsToDo, visits_at}
 use Rattle.commit_stages.specs.Dropping.{IsChanged, dropping_as}
 
 either : (h : KeptField) (b : Bool) → (if b then h else h) ≡ h
@@ -115,3 +118,16 @@ module _ (all : List Linkable) (key : Key) (successor : Option Key) (class : Cla
           ∙ ap {B = ℕ} (λ (c : Bool). 1 + (if c then option_map_or (λ (k : Key). link_visit all class (await h k)) successor 0 else 0)) awaits
           ∙ ap {B = ℕ} (λ (o : Option Key). 1 + option_map_or (λ (k : Key). link_visit all class (await h k)) o 0) succeeds in
           omega (arith, own, step)
+
+-- the field at a seat to do takes at least one visit
+pub drop_least : (b : Bool) (all : List Linkable) (key : Key) (successor : Option Key) (seat : Seat) (x : Linked) (before after : ℕ) → IsToDo (dropped_at key successor) seat x → after ≡ before + 1
+    → after ≤ before + visits_at (drop_visits_by (dropping_as b) all key successor) x seat
+drop_least b all key successor seat x before after to_do step = by (field_of seat x) to_do.passes
+  where
+    least : (h : KeptField) (linked : Bool) → is_linked_to key h ≡ linked → dropped_at key successor seat.class h ≡ true → 1 ≤ drop_visits_by (dropping_as b) all key successor seat.class h
+    least h true is passes = linked_visit all key successor seat.class h b is
+    least h false is passes = waiting_visit all key successor seat.class h b is passes
+
+    by : (o : Option KeptField) → option_map_or (dropped_at key successor seat.class) o false ≡ true → after ≤ before + option_map_or (drop_visits_by (dropping_as b) all key successor seat.class) o 0
+    by None passes = cc
+    by (Some h) passes = let own = least h (is_linked_to key h) refl passes in omega (arith, step, own)

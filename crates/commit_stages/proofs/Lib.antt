@@ -15,6 +15,7 @@ pub mod Dropped
 pub mod DroppedField
 pub mod SettledFields
 pub mod Choosing
+pub mod Finding
 pub mod InTurn
 pub mod CountedFields
 pub mod Alone

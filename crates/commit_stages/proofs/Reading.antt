@@ -1,23 +1,23 @@
--- The fields of a kept record, as they are read, and that the record is one.
-use Rattle.std.proofs.Common.{◌≡◌, ◌∙◌, sym, ap, subst, [], Option, Some, None, true}
+-- The fields of a kept record, as they are counted, and that the record is one.
+use Rattle.std.proofs.Common.{◌≡◌, ◌∙◌, ap, refl, subst, suc, ℕ, List, [], ◌∷◌, map, length, Option, Some, None, true}
 use Rattle.std.specs.Prelude.{IfSome}
 use Rattle.std.specs.Option.{option_map_or}
 use Rattle.marc_types.specs.Valid.{is_record}
-use Rattle.marc_types.specs.declared.entry.Kept.{Kept}
-use Rattle.catalogue_rules.specs.State.{KeptRecord, fields_of, kept_record, tied}
-use Rattle.record_store.proofs.Joined.{joined_fields}
+use Rattle.catalogue_rules.specs.State.{KeptField, KeptRecord, fields_of}
+use Rattle.numbered_store.specs.Kept.{kept_record}
+use Rattle.numbered_store.specs.declared.kept.Kept.{Kept}
+use Rattle.numbered_store.proofs.Keeping.{proper_kept}
 
--- the fields of the record that was found, and of none
-pub fields_read : (kept : Kept) (o : Option KeptRecord) → Some (kept_record kept) ≡ o → kept.rec.fields ≡ option_map_or fields_of o []
-unfolding kept_record
-fields_read kept o e = sym (joined_fields kept.rec.fields kept.links kept.tied) ∙ ap (λ (p : Option KeptRecord). option_map_or fields_of p []) e
+fields_long : (hs : List KeptField) → length hs ≡ length (map (λ (h : KeptField). h.field) hs)
+fields_long [] = refl
+fields_long (h ∷ hs) = ap suc (fields_long hs)
 
-pub none_read : (o : Option KeptRecord) → None ≡ o → [] ≡ option_map_or fields_of o []
-none_read o e = ap (λ (p : Option KeptRecord). option_map_or fields_of p []) e
+-- how many fields the record that was found has, and none
+pub count_read : (r : KeptRecord) (o : Option KeptRecord) (n : ℕ) → Some r ≡ o → n ≡ length r.fields → n ≡ length (option_map_or fields_of o [])
+count_read r o n e is = is ∙ fields_long r.fields ∙ ap (λ (p : Option KeptRecord). length (option_map_or fields_of p [])) e
 
-proper_record : (kept : Kept) → is_record (kept_record kept).leader (fields_of (kept_record kept)) ≡ true
-unfolding kept_record
-proper_record kept = ap (is_record kept.rec.leader) (joined_fields kept.rec.fields kept.links kept.tied) ∙ kept.rec.valid
+pub none_counted : (o : Option KeptRecord) → None ≡ o → 0 ≡ length (option_map_or fields_of o [])
+none_counted o e = ap (λ (p : Option KeptRecord). length (option_map_or fields_of p [])) e
 
 pub proper_there : (kept : Kept) (o : Option KeptRecord) → Some (kept_record kept) ≡ o → IfSome o (λ (r : KeptRecord). is_record r.leader (fields_of r) ≡ true)
-proper_there kept o e = subst (λ (x : Option KeptRecord). IfSome x (λ (r : KeptRecord). is_record r.leader (fields_of r) ≡ true)) e (proper_record kept)
+proper_there kept o e = subst (λ (x : Option KeptRecord). IfSome x (λ (r : KeptRecord). is_record r.leader (fields_of r) ≡ true)) e (proper_kept kept)

@@ -1,15 +1,13 @@
 -- The choice of an unlinked field is what settling makes of it, and may come to its seat.
 use Rattle.std.proofs.Common.{◌≡◌, ◌∙◌, sym, ap, refl, subst, ℕ, ◌+◌, ◌≤◌, arith, List, Option, Some, None, true, false}
-use Rattle.std.specs.Prelude.{IfSome, not, is_some, if◌then◌else◌}
-use Rattle.std.specs.Borrow.{Bor}
-use Rattle.std.specs.Option.{option_map, option_map_or}
-use Rattle.marc_types.specs.Valid.{is_field, is_record}
-use Rattle.marc_types.specs.declared.entry.Kept.{Kept}
+use Rattle.std.specs.Prelude.{not, is_some, if◌then◌else◌}
+use Rattle.std.specs.Option.{option_map_or}
+use Rattle.marc_types.specs.Valid.{is_field}
 use Rattle.marc_types.specs.declared.key.Class.{Class}
 use Rattle.marc_types.specs.declared.key.Key.{Key}
 use Rattle.entry_record.specs.Authority.{Linkable}
 use Rattle.numbering.specs.declared.seat.Seat.{Seat}
-use Rattle.catalogue_rules.specs.State.{KeptField, KeptRecord, State, fields_of, kept_record, linkable_authorities}
+use Rattle.catalogue_rules.specs.State.{KeptField, State, linkable_authorities}
 use Rattle.catalogue_rules.specs.Settle.{settle_field, settle_linked, settle_unlinked}
 use Rattle.catalogue_tables.specs.Seam.{HasKey}
 use Rattle.linking_laws.specs.Middle.{AreAuthoritiesInOrder, IsMiddle, IsMiddleWith}
@@ -21,7 +19,6 @@ use Rattle.field_settling.specs.declared.held.Held.{Held}
 use Rattle.linked_store.specs.Linked.{Linked, SuitsSeat, field_of}
 use Rattle.commit_stages.specs.Fields.{IsProperAt}
 use Rattle.commit_stages.specs.Turns.{IsMadeOf, IsToDo, visits_at}
-use Rattle.commit_stages.proofs.Reading.{proper_there}
 use Rattle.commit_stages.proofs.Suiting.{proper_at, stage_suits}
 use Rattle.commit_stages.specs.Settled.{IsChoiceSettledTo}
 use Rattle.commit_stages.specs.Unlinked.{has_no_link, turn_visits}

@@ -19,13 +19,13 @@ use Rattle.catalogue_rules.specs.Valid.{EachField, IsTied, IsRow}
 use Rattle.catalogue_rules.proofs.Elements.{Each}
 use Rattle.catalogue_rules.proofs.Fit.{IsFit}
 use Rattle.catalogue_rules.proofs.Proper.{all_fit}
-use Rattle.record_store.specs.Store.{StaysRecord, field_at, field_under}
+use Rattle.record_store.specs.Store.{StaysFit, StaysRecord, field_at, field_under}
 use Rattle.catalogue_tables.specs.Seam.{HasKey, place_at}
 use Rattle.linking_laws.specs.Middle.{IsEitherStage, IsMiddleWith, IsWithinReach}
 use Rattle.linking_laws.specs.Partway.{IsSteady}
 use Rattle.linking_laws.proofs.Settling.{handled_at}
 use Rattle.linking_laws.proofs.Steadily.{field_of_authority, field_of_bibliographic, stage_steady}
-use Rattle.linking_laws.proofs.Turning.{turn_stays}
+use Rattle.linking_laws.proofs.Turning.{turn_fits, turn_stays}
 use Rattle.linked_store.specs.Linked.{Linked, SuitsSeat, field_of, record_at}
 use Rattle.commit_stages.specs.Fields.{IsProperAt}
 
@@ -76,6 +76,11 @@ module _ (all : List Linkable) (change : Class → KeptField → KeptField) (x :
   stays_at middle either there good (Some r) is proper =
       turn_stays all change x.state (place_at x.keys seat) h r middle either there (record { kept = is; visited = proper; proper = good })
 
+  fits_at : IsMiddleWith all x.state → IsEitherStage all change → field_of seat x ≡ Some h → (o : Option KeptRecord) → record_at seat.class seat.number x ≡ o
+      → IfSome o (StaysFit seat.field (change seat.class h).field)
+  fits_at middle either there None is = tt
+  fits_at middle either there (Some r) is = turn_fits all change x.state (place_at x.keys seat) h r middle either there is
+
   whole_at : IsMiddleWith all x.state → IsEitherStage all change → field_of seat x ≡ Some h → (change seat.class h).tie.whole ≡ true
       → is_subdividable seat.class (tag_of (change seat.class h).field) ≡ true
   whole_at m either there =
@@ -95,6 +100,7 @@ module _ (all : List Linkable) (change : Class → KeptField → KeptField) (x :
         known = known;
         stands = subst IsSome (sym there) refl;
         stays = stays_at middle either there good (record_at seat.class seat.number x) refl proper;
+        fits = fits_at middle either there (record_at seat.class seat.number x) refl;
         steady = λ own. subst (λ (o : Option KeptField). IfSome o (λ old. IsSteady old (change seat.class h))) (sym there)
             (subst (λ (c : Class). IsSteady h (change c h)) (sym own) (steady.steady (place_at x.keys seat) h own there));
         whole = whole_at middle either there;

@@ -12,3 +12,4 @@ pub mod OwnFields
 pub mod Unlinked
 pub mod Receipts
 pub mod Stages
+pub mod Headings

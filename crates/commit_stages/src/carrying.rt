@@ -13,14 +13,13 @@ ghost use Rattle.field_settling.specs.Held.{heading_as};
 ghost use Rattle.commit_stages.specs.Noted.{NotesChanges, noted_with};
 ghost use Rattle.commit_stages.specs.Turns.{IsCarriedOut, IsMadeOf, IsToDo, IsTurned, visits_at};
 ghost use Rattle.commit_stages.specs.Carrying.{CanCarry, IsHeadingOf, carry_heading, linked_visits};
-ghost use Rattle.commit_stages.specs.Choosing.{heading_under};
 
 use crate::exchanging::exchange_noted;
-use crate::settling::look_at_heading;
-use crate::visiting::visit_field;
+use crate::headings::look_at_heading;
+use crate::visiting::{lent, visit_field};
 use field_settling::{Heading, Held, link_to};
 use linked_store::LinkedStore;
-use marc_types::{Field, Key, Kind, NoMemory, TryCopy};
+use marc_types::{Key, NoMemory};
 use numbering::{Numbering, Seat};
 use record_store::Steps;
 use std::alloc::Global;
@@ -52,8 +51,7 @@ pub(crate) fn carry<L: Ledger>(
     carry_from(store, alloc, number, &seats, key, noted, steps)
 }
 
-// The seats are those of all places that are linked to the key. Where there is one, the heading is copied: the record lends it only
-// while nothing changes.
+// The seats are those of all places that are linked to the key. Where there is one, the heading is decoded once for all.
 fn carry_from<L: Ledger>(
     store: &mut LinkedStore,
     alloc: Global,
@@ -79,30 +77,12 @@ fn carry_from<L: Ledger>(
     if seats.is_empty() {
         return Ok(());
     }
-    match copied_heading(store, alloc, number)? {
-        Some(copied) => {
-            let heading = Heading {
-                kind: copied.0,
-                field: &copied.1,
-            };
+    match look_at_heading(store, alloc, number)? {
+        Some(own) => {
+            let heading = own.lent();
             carry_to(store, alloc, seats, key, heading, noted, steps)
         }
         None => Ok(()),
-    }
-}
-
-// The heading of the authority under the key that has the number, with its kind.
-fn copied_heading(
-    store: &LinkedStore,
-    alloc: Global,
-    number: u32,
-) -> Result<Option<(Kind, Field)>, NoMemory>
-    requires { IsNumber AnAuthority number store.now.keys }
-    ensures { IfOk result (λ heading. heading ≡ heading_under number store.now) }
-{
-    match look_at_heading(store, number) {
-        Some(heading) => Ok(Some((heading.kind, heading.field.copy(alloc)?))),
-        None => Ok(None),
     }
 }
 
@@ -168,8 +148,9 @@ fn carried<L: Ledger>(
     ensures made { IfOk result (IsMadeOf (carry_heading key.now (heading_as heading.entry)) seat store.now) }
     ensures step { steps.new ≡ steps.old + 1 }
 {
-    match visit_field(store, seat, steps) {
-        Some(at) => {
+    match visit_field(store, alloc, seat, steps)? {
+        Some(found) => {
+            let at = lent(&found);
             let held = link_to(alloc, key, heading, seat.class, at.field, at.tie.whole)?;
             Ok(Some(held))
         }

@@ -13,7 +13,7 @@ ghost use Rattle.commit_stages.specs.Dropping.{IsDropTurn, drop_ending, dropping
 
 use crate::ending::{EndingLinks, dropped_from};
 use crate::exchanging::exchange_noted;
-use crate::visiting::visit_field;
+use crate::visiting::{lent, visit_field};
 use field_settling::Held;
 use linked_store::LinkedStore;
 use marc_types::NoMemory;
@@ -108,8 +108,11 @@ fn dropped<L: Ledger>(
     ensures made { IfOk result (IsMadeOf (drop_ending links.entry (linkable_authorities store.now.state)) seat store.now) }
     ensures visits { steps.new ≤ steps.old + visits_at (ending_visits links.entry (linkable_authorities store.now.state)) store.now seat }
 {
-    match visit_field(store, seat, steps) {
-        Some(at) => dropped_from(store, alloc, seat.class, at, links, steps),
+    match visit_field(store, alloc, seat, steps)? {
+        Some(found) => {
+            let at = lent(&found);
+            dropped_from(store, alloc, seat.class, at, links, steps)
+        }
         None => Ok(None),
     }
 }

@@ -7,7 +7,6 @@
 
 pub use changes::Changes;
 pub use commit::commit_entry;
-pub use visiting::{FieldAt, field_in};
 
 mod authority;
 mod bibliographic;
@@ -20,6 +19,8 @@ mod counts;
 mod dropping;
 mod ending;
 mod exchanging;
+mod heading;
+mod headings;
 mod noting;
 mod own;
 mod settled;

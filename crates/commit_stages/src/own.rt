@@ -16,7 +16,7 @@ use crate::counts::{HeadingCounts, counted};
 use crate::exchanging::exchange_made;
 use crate::settled::{Settled, Stands};
 use crate::settling::settle_with_standing;
-use crate::visiting::look_at_field;
+use crate::visiting::{heading_found, lent};
 use linked_store::LinkedStore;
 use marc_types::{Class, NoMemory};
 use numbering::Seat;
@@ -67,7 +67,7 @@ fn places_in(store: &LinkedStore, class: Class, number: u32) -> u32
     ensures { result ≡ length (fields_in class number store.now) }
 {
     match store.look(class, number) {
-        Some(kept) => kept.rec.fields.len() as u32,
+        Some(kept) => kept.field_count(),
         None => 0,
     }
 }
@@ -107,8 +107,11 @@ fn settled_own<L: Ledger>(
     ensures visits { steps.new ≤ steps.old + visits_at (own_visits (linkable_authorities store.now.state)) store.now seat }
 {
     is_proper(store, seat.class, seat.number);
-    match look_at_field(store, seat) {
-        Some(at) => settle_with_standing(store, alloc, seat, at, steps),
+    match heading_found(store, alloc, seat)? {
+        Some(found) => {
+            let at = lent(&found);
+            settle_with_standing(store, alloc, seat, at, steps)
+        }
         None => Ok(Settled {
             made: None,
             stands: Stands::NoHeading,

@@ -5,7 +5,7 @@ ghost use Rattle.marc_types.specs.declared.key.Class.TheVariants.{Authority as A
 ghost use Rattle.catalogue_rules.specs.State.{linkable_authorities};
 ghost use Rattle.catalogue_tables.specs.Choosing.{chosen_for, heading_choice};
 ghost use Rattle.catalogue_tables.specs.Seam.{HasKey};
-ghost use Rattle.field_settling.specs.Held.{heading_as, held_as};
+ghost use Rattle.field_settling.specs.Held.{held_as};
 ghost use Rattle.linking_laws.specs.Middle.{AreAuthoritiesInOrder};
 ghost use Rattle.linking_laws.specs.Visits.{link_visit};
 ghost use Rattle.linked_store.specs.Linked.{IsNumber, field_of};
@@ -14,10 +14,11 @@ ghost use Rattle.commit_stages.specs.Fields.{field_as};
 ghost use Rattle.commit_stages.specs.Settled.{IsChoiceSettledTo};
 ghost use Rattle.commit_stages.specs.Standing.{stands_settled};
 
+use crate::headings::visit_heading;
 use crate::settled::{Settled, Stands};
 use crate::visiting::FieldAt;
 use catalogue_tables::{Chosen, heading_form};
-use field_settling::{Heading, Held, governing, link_to};
+use field_settling::{Held, link_to};
 use linked_store::LinkedStore;
 use marc_types::{Class, Field, NoMemory};
 use numbering::Seat;
@@ -138,40 +139,13 @@ fn link_chosen<L: Ledger>(
     ensures proper { IfSome (heading_under number store.now) (λ heading. is_field heading.1 ≡ true) }
     ensures step { steps.new ≡ steps.old + 1 }
 {
-    match visit_heading(store, number, steps) {
-        Some(heading) => {
+    match visit_heading(store, alloc, number, steps)? {
+        Some(own) => {
             let key = store.key(Class::Authority, number);
+            let heading = own.lent();
             let held = link_to(alloc, key, heading, class, field, whole)?;
             Ok(Some(held))
         }
         None => Ok(None),
-    }
-}
-
-/// The heading of the authority under the key that has the number, for those who only read. It counts no visit.
-pub(crate) fn look_at_heading(store: &LinkedStore, number: u32) -> Option<Heading<'_>>
-    requires { IsNumber AnAuthority number store.now.keys }
-    ensures { option_map heading_as result ≡ heading_under number store.now }
-{
-    match store.look(Class::Authority, number) {
-        Some(kept) => governing(&kept.rec),
-        None => None,
-    }
-}
-
-// The heading of the authority under the key that has the number. Its record is visited for it.
-fn visit_heading<'a, L: Ledger>(
-    store: &'a LinkedStore,
-    number: u32,
-    steps: &mut Steps<L>,
-) -> Option<Heading<'a>>
-    requires { IsNumber AnAuthority number store.now.keys }
-    ensures heading { option_map heading_as result ≡ heading_under number store.now }
-    ensures proper { IfSome (heading_under number store.now) (λ heading. is_field heading.1 ≡ true) }
-    ensures step { steps.new ≡ steps.old + 1 }
-{
-    match store.visit(Class::Authority, number, steps) {
-        Some(kept) => governing(&kept.rec),
-        None => None,
     }
 }

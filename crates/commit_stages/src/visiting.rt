@@ -1,73 +1,106 @@
-//! The field that stands at a seat, with the record in which it stands.
-ghost use Rattle.std.specs.Prelude.{◌≡◌, ◌+◌, option_map, slice_get};
-ghost use Rattle.std.specs.Option.{option_copied};
-ghost use Rattle.catalogue_rules.specs.State.{kept_field, kept_record};
-ghost use Rattle.catalogue_tables.specs.Seam.{HasKey};
+//! The field that stands at a seat, decoded from the record in which it stands.
+ghost use Rattle.std.specs.Prelude.{◌≡◌, ◌+◌, false, IfOk, option_map};
+ghost use Rattle.std.specs.Option.{option_map_or};
+ghost use Rattle.marc_types.specs.Fields.{tag_of};
 ghost use Rattle.record_store.specs.Store.{field_at};
+ghost use Rattle.catalogue_tables.specs.Seam.{HasKey};
+ghost use Rattle.numbered_store.specs.Kept.{found_field, kept_record};
+ghost use Rattle.linked_store.specs.Holding.{can_be_heading};
 ghost use Rattle.linked_store.specs.Linked.{field_of};
-ghost use Rattle.commit_stages.specs.Fields.{IsProperAt, field_as};
+ghost use Rattle.commit_stages.specs.Fields.{FindsHeading, IsProperAt, field_as};
 
-use linked_store::LinkedStore;
-use marc_types::{Field, Kept, Tie};
+use linked_store::{LinkedStore, can_be_heading};
+use marc_types::{Class, Field, NoMemory, Tie};
+use numbered_store::{FoundField, Kept};
 use numbering::Seat;
 use record_store::Steps;
+use std::alloc::Global;
 use std::sync::ledger::Ledger;
 
-/// A field of a kept record, and its tie.
+/// A field, and its tie.
 #[derive(Clone, Copy, Debug)]
-pub struct FieldAt<'a> {
-    pub field: &'a Field,
-    pub tie: &'a Tie,
+pub(crate) struct FieldAt<'a> {
+    pub(crate) field: &'a Field,
+    pub(crate) tie: &'a Tie,
 }
 
-/// The field that stands at a seat. Its record is visited for it.
+/// A field that was found, lent.
+pub(crate) fn lent<'a>(found: &'a FoundField<'_>) -> FieldAt<'a>
+    ensures { field_as result ≡ found_field found.now }
+{
+    let (field, tie) = found.parts();
+    FieldAt { field, tie }
+}
+
+/// The field that stands at a seat. Its record is visited for it, also where memory ends.
 pub(crate) fn visit_field<'a, L: Ledger>(
     store: &'a LinkedStore,
+    alloc: Global,
     seat: Seat,
     steps: &mut Steps<L>,
-) -> Option<FieldAt<'a>>
+) -> Result<Option<FoundField<'a>>, NoMemory>
     requires { HasKey store.now.keys seat }
-    ensures field { option_map field_as result ≡ field_of seat store.now }
+    ensures field { IfOk result (λ found. option_map found_field found ≡ field_of seat store.now) }
     ensures proper { IsProperAt seat store.now }
     ensures step { steps.new ≡ steps.old + 1 }
 {
     match store.visit(seat.class, seat.number, steps) {
-        Some(kept) => field_in(kept, seat.field),
-        None => None,
+        Some(kept) => kept.found_at(alloc, seat.field),
+        None => Ok(None),
     }
 }
 
 /// The field that stands at a seat, for those who only read. It counts no visit.
-pub(crate) fn look_at_field(store: &LinkedStore, seat: Seat) -> Option<FieldAt<'_>>
+pub(crate) fn look_at_field(
+    store: &LinkedStore,
+    alloc: Global,
+    seat: Seat,
+) -> Result<Option<FoundField<'_>>, NoMemory>
     requires { HasKey store.now.keys seat }
-    ensures { option_map field_as result ≡ field_of seat store.now }
+    ensures { IfOk result (λ found. option_map found_field found ≡ field_of seat store.now) }
 {
-    let kept = store.look(seat.class, seat.number)?;
-    field_in(kept, seat.field)
-}
-
-/// The field at a place of a record.
-#[tactic(auto, using(record_store::proofs::Joined::tied_read, record_store::proofs::Joined::tied_off))]
-pub fn field_in(kept: &Kept, place: u32) -> Option<FieldAt<'_>>
-    ensures { option_map field_as result ≡ field_at place (kept_record kept.now) }
-{
-    match at(kept.rec.fields.as_slice(), place) {
-        Some(field) => with_tie(field, at(kept.links.as_slice(), place)),
-        None => None,
+    match store.look(seat.class, seat.number) {
+        Some(kept) => kept.found_at(alloc, seat.field),
+        None => Ok(None),
     }
 }
 
-fn at<T>(items: &[T], place: u32) -> Option<&T>
-    ensures { option_copied result ≡ slice_get items.now place }
+/// The field that stands at a seat, where its tag is one of a heading: no other one is decoded. It counts no visit.
+pub(crate) fn heading_found(
+    store: &LinkedStore,
+    alloc: Global,
+    seat: Seat,
+) -> Result<Option<FoundField<'_>>, NoMemory>
+    requires { HasKey store.now.keys seat }
+    ensures { IfOk result (λ found. FindsHeading seat.class (field_of seat store.now) (option_map found_field found)) }
 {
-    items.get(place as usize)
+    match store.look(seat.class, seat.number) {
+        Some(kept) => heading_in(alloc, seat.class, kept, seat.field),
+        None => Ok(None),
+    }
 }
 
-fn with_tie<'a>(field: &'a Field, tie: Option<&'a Tie>) -> Option<FieldAt<'a>>
-    ensures { option_map field_as result ≡ option_map (kept_field field.now) (option_copied tie.entry) }
+#[tactic(auto, using(crate::proofs::Finding::finds_it, crate::proofs::Finding::finds_plain))]
+fn heading_in(
+    alloc: Global,
+    class: Class,
+    kept: &Kept,
+    place: u32,
+) -> Result<Option<FoundField<'_>>, NoMemory>
+    ensures { IfOk result (λ found. FindsHeading class (field_at place (kept_record kept.now)) (option_map found_field found)) }
 {
-    match tie {
-        Some(tie) => Some(FieldAt { field, tie }),
-        None => None,
+    if !has_heading_tag(class, kept, place) {
+        return Ok(None);
+    }
+    kept.found_at(alloc, place)
+}
+
+#[tactic(auto, using(crate::proofs::Finding::tag_tells, crate::proofs::Finding::no_tag_tells))]
+fn has_heading_tag(class: Class, kept: &Kept, place: u32) -> bool
+    ensures { result ≡ option_map_or (λ h. can_be_heading class (tag_of h.field)) (field_at place (kept_record kept.now)) false }
+{
+    match kept.tag_at(place) {
+        Some(tag) => can_be_heading(&tag, class),
+        None => false,
     }
 }

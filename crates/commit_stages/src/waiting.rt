@@ -10,7 +10,7 @@ ghost use Rattle.commit_stages.specs.Unlinked.{has_no_link, turn_visits};
 
 use crate::exchanging::exchange_noted;
 use crate::settling::settle_unlinked;
-use crate::visiting::visit_field;
+use crate::visiting::{lent, visit_field};
 use field_settling::Held;
 use linked_store::LinkedStore;
 use marc_types::NoMemory;
@@ -50,8 +50,11 @@ fn settled<L: Ledger>(
     ensures made { IfOk result (IsMadeOf (settle_field (linkable_authorities store.now.state)) seat store.now) }
     ensures visits { steps.new ≤ steps.old + visits_at (turn_visits (linkable_authorities store.now.state)) store.now seat }
 {
-    match visit_field(store, seat, steps) {
-        Some(at) => settle_unlinked(store, alloc, seat, at, steps),
+    match visit_field(store, alloc, seat, steps)? {
+        Some(found) => {
+            let at = lent(&found);
+            settle_unlinked(store, alloc, seat, at, steps)
+        }
         None => Ok(None),
     }
 }

@@ -12,6 +12,8 @@ pub mod Opened
 pub mod Readings
 pub mod Refused
 pub mod Replies
+pub mod Sizes
 pub mod Stages
 pub mod Standing
+pub mod Takings
 pub mod Within

@@ -1,6 +1,5 @@
 -- The loading of a journal's frames.
-use Rattle.std.proofs.Common.{◌≡◌, ℕ, ◌+◌, ◌-◌, ◌<◌, ◌≤◌, true, false, ◌||◌, nat_lt, List, [], ◌∷◌, ◌++◌, length, take, drop, map, get_or, Option, Some, None, refl, sym, ap, subst, ◌∙◌, arith, append_assoc, length-append, take-append-drop}
-use Rattle.std.specs.Prelude.{IfSome}
+use Rattle.std.proofs.Common.{◌≡◌, ℕ, ◌+◌, ◌-◌, ◌<◌, ◌≤◌, true, false, ◌||◌, nat_lt, List, [], ◌∷◌, ◌++◌, length, take, drop, map, get_or, Option, Some, refl, sym, ap, subst, ◌∙◌, arith, append_assoc, length-append, take-append-drop}
 use Rattle.std.proofs.lemmas.List.{append-nil, map-append, drop_more, take_more, take_all}
 use Rattle.std.proofs.lemmas.List.Sums.{sum_by-append, sum_by-cons}
 use Rattle.std.proofs.lemmas.Bool.Decides.{nat_tests}
@@ -12,12 +11,12 @@ use Rattle.catalogue_core.specs.Catalogues.{Catalogued, is_full, IsDue, with_ent
 use Rattle.catalogue_core.specs.declared.catalogue.CoreFault.{CoreFault}
 use Rattle.catalogue_core.specs.declared.catalogue.CoreFault.TheVariants as commit
 use Rattle.entry_history.specs.Payloads.{Holds, IsHistory, NoMore}
-use Rattle.entry_history.specs.Readers.{Taken, Takes, Counted, HasExtent, CountsEntries}
-use Rattle.durable_catalogue.specs.declared.fault.OpenFault.{OpenFault}
-use Rattle.durable_catalogue.specs.declared.fault.OpenFault.TheVariants.{DeviceFault, NotAJournal, OldVersion, Full, NoMemory}
-use Rattle.durable_catalogue.specs.Loading.{IsUnreadFrame, IsUncommitted, IsBuilt, IsLoaded}
+use Rattle.entry_history.specs.Readers.{Taken, Takes}
+use Rattle.durable_catalogue.specs.Loading.{IsUncommitted, IsBuilt, IsLoaded}
 use Rattle.durable_catalogue.specs.Logs.{payloads_of}
-use Rattle.durable_catalogue.specs.Openings.{IsBadFrame, IsUnread, catalogue_of}
+use Rattle.durable_catalogue.specs.Openings.{IsBadFrame, catalogue_of}
+use Rattle.durable_catalogue.specs.declared.taking.Reading.{Reading}
+use Rattle.durable_catalogue.specs.Taking.{WereTaken}
 use Rattle.durable_catalogue.proofs.Histories.{one_behind, bounded_behind_none}
 
 -- so many frames are read
@@ -89,80 +88,24 @@ passed_with limits entries rest core e is full fits =
     let some = sym (test_of limits entries core e is) ∙ full in
     cc
 
-one_passes : (limits : Limits) (before all items : List Entry) (core : Catalogued) (e : Entry) → core ≡ catalogue_of limits (before ++ items) → items ≡ take (length items) all
-    → length items < length all → e ≡ get_or all (length items) e → is_full core e ≡ true → IsWithin limits (before ++ all) → ⊥
-one_passes limits before all items core e is front within at full fits =
-    let n = length items in
-    let rest : List Entry = drop (n + 1) all in
-    let split : all ≡ items ++ e ∷ rest =
-    sym (take-append-drop n all) ∙ ap (λ xs. xs ++ drop n all) (sym front) ∙ ap (λ xs. items ++ xs) (drop_more all n e within ∙ ap (λ x. x ∷ rest) (sym at)) in
-    passed_with limits (before ++ items) rest core e is full
-    (subst (IsWithin limits) (ap (λ xs. before ++ xs) split ∙ sym (append_assoc before items (e ∷ rest))) fits)
+-- an entry that is committed, or isn't
+module _ (core : Catalogued) (e : Entry) (unstaged : core.staged ≡ []) where
+  pub committed_one : (now : Catalogued) → now ≡ with_entry core e → now ≡ catalogue_of core.limits (core.history ++ e ∷ [])
+  committed_one now adds = one_committed core.limits core.history [] core now e (none_committed core unstaged) adds
 
-pub uncommitted : (limits : Limits) (before all items : List Entry) (core : Catalogued) (e : Entry) (fault : CoreFault) → core ≡ catalogue_of limits (before ++ items)
-    → items ≡ take (length items) all → length items < length all → e ≡ get_or all (length items) e → IsDue (is_full core e) fault → IsUncommitted limits (before ++ all) fault
-uncommitted limits before all items core e commit.Full is front within at full = one_passes limits before all items core e is front within at full
-uncommitted limits before all items core e commit.NoMemory is front within at room = tt
+  pub uncommitted_one : (fault : CoreFault) → IsDue (is_full core e) fault → IsUncommitted core.limits (core.history ++ e ∷ []) fault
+  uncommitted_one commit.Full full =
+      passed_with core.limits core.history [] core e (none_committed core unstaged ∙ ap (λ es. catalogue_of core.limits es) (append-nil core.history)) full
+  uncommitted_one commit.NoMemory room = tt
 
-pub map_same : (xs : List Entry) → map (λ x. x) xs ≡ xs
-map_same [] = refl
-map_same (x ∷ xs) = ap (λ ys. x ∷ ys) (map_same xs)
-
--- what is made of entries, and of more behind them
-pub unstaged_built : (limits : Limits) (entries : List Entry) (core : Option Catalogued) → IsBuilt limits entries core → IfSome core (λ c. c.staged ≡ [])
-unstaged_built limits entries None passed = tt
-unstaged_built limits entries (Some core) built = ap (λ c. c.staged) built.0
-
--- the entries of so many frames were read, and this is made of them
-pub record AreBuilt (version : ℕ) (frames : List Frame) (limits : Limits) (count : ℕ) (counter : Counted) (core : Option Catalogued) : Type 0 where
-  pub entries : List Entry
-  pub read : AreRead version frames count (record { version = version; entries = entries })
-  pub version_is : counter.version ≡ version
-  pub extent : HasExtent entries counter.extent
-  pub built : IsBuilt limits entries core
-
-pub none_built : (version : ℕ) (frames : List Frame) (limits : Limits) (counter : Counted) (core : Option Catalogued) → counter.version ≡ version → HasExtent [] counter.extent
-    → IsBuilt limits [] core → AreBuilt version frames limits 0 counter core
-none_built version frames limits counter core version_is extent built = record {
-  entries = [];
-  read = none_read version frames;
-  version_is = version_is;
-  extent = extent;
-  built = built;
-}
-
-module _ (version : ℕ) (frames : List Frame) (limits : Limits) (count : ℕ) (frame : Frame) (within : count < length frames) (is : frame ≡ get_or frames count frame)
-    (counter : Counted) (core : Option Catalogued) (b : AreBuilt version frames limits count counter core) where
-  pub one_built : (items : List Entry) (now : Counted) (made : Option Catalogued) (next : ℕ) → next ≡ count + 1 → CountsEntries counter b.entries items frame.payload now
-      → now.version ≡ counter.version → IsBuilt limits (b.entries ++ items) made → AreBuilt version frames limits next now made
-  one_built items now made next more counts same built = record {
-    entries = b.entries ++ items;
-    read = subst (λ n. AreRead version frames n (record { version = version; entries = b.entries ++ items })) (sym more)
-        (one_read version frames count frame within is (record { version = version; entries = b.entries }) b.read frame.payload
-        (record { version = version; entries = b.entries ++ items }) refl
-        (record { entries = items; holds = subst (λ v. Holds v b.entries items frame.payload) b.version_is counts.holds; new_is = refl }));
-    version_is = same ∙ b.version_is;
-    extent = counts.extent;
-    built = built;
-  }
-
-  pub unread : (fault : OpenFault) → IsUnreadFrame counter.version b.entries frame fault → IsUnread version frames fault
-  unread (NotAJournal place) h =
-      subst (IsBadFrame version frames) h.0
-      (bad_frame version frames count frame within is (record { version = version; entries = b.entries }) b.read frame.payload refl
-      (λ entries holds. h.1 entries (subst (λ v. Holds v b.entries entries frame.payload) (sym b.version_is) holds)))
-  unread NoMemory h = tt
-  unread OldVersion h = h
-  unread Full h = h
-  unread DeviceFault h = h
-
-pub all_built : (version : ℕ) (frames : List Frame) (limits : Limits) (count : ℕ) (counter : Counted) (core : Option Catalogued) → length frames ≤ count
-    → AreBuilt version frames limits count counter core → IsLoaded (IsHistory version [] (payloads_of frames)) limits core counter.extent.last_run
-all_built version frames limits count counter core whole b = record {
-  entries = b.entries;
-  history = all_read version frames count (record { version = version; entries = b.entries }) whole b.read;
-  built = b.built;
-  last = b.extent.last_is;
+-- what is made of the entries that were taken
+pub loaded_of : (IsThat : List Entry → Type 0) (limits begun now : Limits) (core : Option Catalogued) (reading : Reading) → begun ≡ limits
+    → WereTaken (λ entries. (now ≡ begun) × IsBuilt now entries core) IsThat limits reading → IsLoaded IsThat limits core reading.last_run
+loaded_of IsThat limits begun now core reading same taken = record {
+  entries = taken.entries;
+  history = taken.history;
+  built = subst (λ l. IsBuilt l taken.entries core) (taken.taken.0 ∙ same) taken.taken.1;
+  last = taken.last;
 }
 
 -- the runs of a history that was loaded are no greater than the number of its entries

@@ -10,4 +10,5 @@ pub mod Openings
 pub mod Questions
 pub mod Refused
 pub mod Staged
+pub mod Taking
 pub mod Views

@@ -4,10 +4,10 @@
 pub use archive::Archive;
 pub use durable::Durable;
 pub use fault::{OpenFault, open_fault};
-pub use loading::{counter_of, read_frame};
 pub use memory::Memory;
 pub use opening::{find_log, refuse_log, take_log};
 pub use seen::Seen;
+pub use taking::{EntryTaker, Reading, take_frames};
 
 mod archive;
 mod durable;
@@ -19,3 +19,4 @@ mod memory;
 mod opening;
 mod seen;
 mod staging;
+mod taking;

@@ -1,19 +1,18 @@
 //! The catalogue that a journal's frames hold.
-ghost use Rattle.std.specs.Prelude.{◌≡◌, ◌≢◌, ◌<◌, ◌≤◌, ◌++◌, List, [], length, IfSome, IfOk, IfErr, OnOk};
-ghost use Rattle.marc_types.specs.declared.entry.Entry.{Entry as AnyEntry};
+ghost use Rattle.std.specs.Prelude.{◌≡◌, ◌≢◌, ◌<◌, ◌≤◌, ◌++◌, ◌∷◌, [], length, IfSome, IfOk, IfErr, OnOk, OnErr};
+ghost use Rattle.std.proofs.Props.{props};
 ghost use Rattle.commit_journal.specs.Versions.{number_of};
 ghost use Rattle.entry_record.specs.History.{last_run, next_run, IsWithin};
 ghost use Rattle.entry_history.specs.Payloads.{IsHistory};
-ghost use Rattle.entry_history.specs.Readers.{HasExtent, CountsEntries};
 ghost use Rattle.durable_catalogue.specs.declared.fault.OpenFault.TheVariants.{DeviceFault, OldVersion, Full};
-ghost use Rattle.durable_catalogue.specs.Loading.{IsUnreadFrame, IsUncommitted, IsBuilt, IsLoaded};
+ghost use Rattle.durable_catalogue.specs.Loading.{IsUncommitted, IsBuilt, IsLoaded};
 ghost use Rattle.durable_catalogue.specs.Logs.{payloads_of};
 ghost use Rattle.durable_catalogue.specs.Openings.{IsUnloaded, IsUnread, catalogue_of};
 
 use crate::OpenFault;
+use crate::taking::{EntryTaker, Passing, take_frames};
 use catalogue_core::{Catalogue, CoreFault};
 use commit_journal::{Frame, Version};
-use entry_history::{EntryFault, HistoryCounter};
 use entry_record::Prepared;
 use marc_types::{Limits, NoMemory};
 use record_store::Steps;
@@ -28,89 +27,62 @@ pub struct Loaded {
     pub run: u64,
 }
 
-/// A counter of a journal's entries, of which none was read.
-pub fn counter_of(version: Version) -> HistoryCounter
-    ensures version { result.version ≡ number_of version }
-    ensures none { HasExtent [] result.extent }
-    ensures count { result.extent.count ≡ 0 }
-{
-    HistoryCounter::new(version.number())
-}
-
-/// The entries of a journal's next frame, behind those of the frames before it.
-pub fn read_frame(
-    alloc: Global,
-    counter: &mut HistoryCounter,
-    frame: &Frame,
-) -> Result<Vec<Prepared>, OpenFault>
-    ensures read { IfOk result (λ items. (before : List AnyEntry) → HasExtent before counter.old.extent
-        → CountsEntries counter.old before items.items frame.now.payload counter.new) }
-    ensures version { counter.new.version ≡ counter.old.version }
-    ensures fault { IfErr result (λ fault. (before : List AnyEntry) → HasExtent before counter.old.extent
-        → IsUnreadFrame counter.old.version before frame.now fault) }
-{
-    let payload = frame.payload.as_slice();
-    // so many bytes are in no memory
-    if u64::MAX - counter.count() < payload.len() as u64 {
-        return Err(OpenFault::NoMemory);
-    }
-    match counter.read(alloc, payload) {
-        Ok(items) => Ok(items),
-        Err(EntryFault::BadEntry) => Err(OpenFault::NotAJournal(frame.gate)),
-        Err(EntryFault::NoMemory) => Err(OpenFault::NoMemory),
-    }
-}
-
-/// Commits entries one behind the other, up to the first that passes the limits.
-fn commit_each<L: Ledger>(
+/// Commits an entry, where it passes no limit.
+fn commit_one<L: Ledger>(
     core: &mut Catalogue,
     alloc: Global,
-    items: Vec<Prepared>,
+    item: Prepared,
     steps: &mut Steps<L>,
 ) -> Result<(), CoreFault>
     requires { core.old.staged ≡ [] }
-    ensures core { OnOk result (core.new ≡ catalogue_of core.old.limits (core.old.history ++ items.items)) }
-    ensures within { OnOk result (IsWithin core.old.limits (core.old.history ++ items.items)) }
-    ensures fault { IfErr result (IsUncommitted core.old.limits (core.old.history ++ items.items)) }
+    ensures core { OnOk result (core.new ≡ catalogue_of core.old.limits (core.old.history ++ item ∷ [])) }
+    ensures within { OnOk result (IsWithin core.old.limits (core.old.history ++ item ∷ [])) }
+    ensures fault { IfErr result (IsUncommitted core.old.limits (core.old.history ++ item ∷ [])) }
+    ensures unchanged { OnErr result (core.new ≡ core.old) }
 {
-    for item in items {
-        core.commit(alloc, item, steps)?;
-    }
+    core.commit(alloc, item, steps)?;
     core.is_within_limits();
     Ok(())
 }
 
-/// What is made of the entries so far.
+/// A catalogue of the entries so far.
 #[derive(Drop)]
-struct Building {
-    // None once they pass the limits.
+struct Building<L: Ledger> {
+    // None once they pass the limits: all that come are dropped then.
     core: Option<Catalogue>,
+    limits: Limits,
+    steps: Steps<L>,
+    ghost unstaged: { IfSome core (λ core. core.staged ≡ []) } by { Prim.hlevel props },
 }
 
-impl Building {
-    fn new(alloc: Global, limits: Limits) -> Building
-        ensures { IsBuilt limits [] result.core }
+impl<L: Ledger> Building<L> {
+    /// Of no entry.
+    fn new(alloc: Global, limits: Limits, blank: Blank) -> Building<L>
+        requires name { blank.name ≡ L.name }
+        requires parts { blank.parts ≡ L.parts }
+        requires shared { 0 < blank.parts }
+        ensures built { IsBuilt limits [] result.core }
+        ensures limits { result.limits ≡ limits }
     {
         Building {
             core: Some(Catalogue::empty(alloc, limits)),
+            limits,
+            steps: Steps::<L>::new(blank),
         }
     }
+}
 
-    /// Commits the entries of the next frame. Once some pass the limits, all that come are dropped.
-    fn take<L: Ledger>(
-        &mut self,
-        alloc: Global,
-        items: Vec<Prepared>,
-        steps: &mut Steps<L>,
-    ) -> Result<(), NoMemory>
-        requires { IfSome self.old.core (λ core. core.staged ≡ []) }
-        ensures { OnOk result ((limits : Limits) (before : List AnyEntry) → IsBuilt limits before self.old.core
-            → IsBuilt limits (before ++ items.items) self.new.core) }
-    {
+impl<L: Ledger> EntryTaker for Building<L> {
+    ghost use Rattle.std.specs.Prelude.{◌≡◌};
+    ghost use Rattle.durable_catalogue.specs.Loading.{IsBuilt};
+
+    ghost has = { λ begun b entries. (b.limits ≡ begun.limits) × IsBuilt b.limits entries b.core };
+
+    fn take(&mut self, alloc: Global, item: Prepared) -> Result<(), NoMemory> {
         let Some(core) = &mut self.core else {
             return Ok(());
         };
-        match commit_each(core, alloc, items, steps) {
+        match commit_one(core, alloc, item, &mut self.steps) {
             Ok(()) => Ok(()),
             Err(CoreFault::Full) => {
                 self.core = None;
@@ -129,8 +101,7 @@ struct Built {
     last_run: u64,
 }
 
-/// Makes a catalogue of a journal's frames. A frame's entries are committed, and it is let go, before the next is read. Once the limits
-/// are passed the others are still read: a bad one decides first.
+/// Makes a catalogue of a journal's frames. Once the limits are passed the others are still read: a bad one decides first.
 fn build_in<L: Ledger>(
     alloc: Global,
     version: Version,
@@ -143,20 +114,15 @@ fn build_in<L: Ledger>(
     requires shared { 0 < blank.parts }
     ensures loaded { IfOk result (λ built. IsLoaded (IsHistory (number_of version) [] (payloads_of frames.items)) limits built.core built.last_run) }
     ensures fault { IfErr result (IsUnread (number_of version) frames.items) }
+    ensures current { IfErr result (λ fault. fault ≢ OldVersion) }
+    ensures unbuilt { IfErr result (λ fault. fault ≢ Full) }
+    ensures no_device { IfErr result (λ fault. fault ≢ DeviceFault) }
 {
-    let mut counter = counter_of(version);
-    let mut building = Building::new(alloc, limits);
-    let mut steps = Steps::<L>::new(blank);
-    for frame in frames {
-        let items = read_frame(alloc, &mut counter, &frame)?;
-        let Ok(()) = building.take(alloc, items, &mut steps) else {
-            return Err(OpenFault::NoMemory);
-        };
-    }
-    let last_run = counter.last_run();
+    let mut building = Building::<L>::new(alloc, limits, blank);
+    let reading = take_frames(alloc, version, frames, limits, &mut building)?;
     Ok(Built {
         core: building.core,
-        last_run,
+        last_run: reading.last_run,
     })
 }
 
@@ -246,12 +212,8 @@ pub fn load(
 {
     match version {
         Version::One => {
-            // all payloads are read first; no entry fits these limits, so none is committed
-            let none = Limits {
-                entries: 0,
-                bytes: 0,
-            };
-            build(alloc, version, frames, none)?;
+            // all payloads are read first
+            take_frames(alloc, version, frames, limits, &mut Passing)?;
             Err(OpenFault::OldVersion)
         }
         Version::Two => load_newest(alloc, frames, limits),

@@ -25,8 +25,11 @@ pub fn look_at(alloc: Global, core: &Catalogue, place: &Place) -> Result<Seen, N
     ensures { IfOk result (IsSeenIn (state_of (all_entries core.now)) place.now) }
 {
     let engine = core.engine();
-    match engine.field_under(place) {
-        Some(at) => look_at_field(alloc, engine, place.class, at.field, at.tie),
+    match engine.field_under(alloc, place)? {
+        Some(found) => {
+            let (field, tie) = found.parts();
+            look_at_field(alloc, engine, place.class, field, tie)
+        }
         None => Ok(Seen::Absent),
     }
 }

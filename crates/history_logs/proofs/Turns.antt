@@ -1,84 +1,14 @@
--- Frames are taken one behind the other.
-use Rattle.std.proofs.Common.{◌≡◌, ◌∙◌, ℕ, ◌+◌, ◌<◌, ◌≤◌, ◌↔◌, Bool, true, List, [], ◌∷◌, ◌++◌, length, take, get_or, Option, Some, refl, sym, ap, subst, arith, append_assoc}
-use Rattle.std.proofs.lemmas.List.{take_more}
+-- What was handed on.
+use Rattle.std.proofs.Common.{◌≡◌, true, List}
 use Rattle.marc_types.specs.declared.entry.Entry.{Entry}
 use Rattle.marc_types.specs.declared.entry.Limits.{Limits}
-use Rattle.commit_journal.specs.declared.frame.Frame.{Frame}
-use Rattle.entry_record.specs.History.{IsWithin}
-use Rattle.entry_history.specs.Payloads.{Holds, IsHistory}
-use Rattle.entry_history.specs.Readers.{Counted, HasExtent, CountsEntries}
-use Rattle.durable_catalogue.specs.declared.fault.OpenFault.{OpenFault}
-use Rattle.durable_catalogue.specs.declared.fault.OpenFault.TheVariants.{DeviceFault, NotAJournal, OldVersion, Full, NoMemory}
-use Rattle.durable_catalogue.specs.Logs.{payloads_of}
-use Rattle.durable_catalogue.specs.Openings.{IsBadFrame, IsUnread}
-use Rattle.durable_catalogue.proofs.Loads.{AreRead, none_read, one_read, bad_frame, all_read}
-use Rattle.durable_catalogue.specs.Loading.{IsUnreadFrame}
-use Rattle.history_logs.specs.Taking.{IsHandedOn, AreHandedOn, HasLeft}
+use Rattle.durable_catalogue.specs.declared.taking.Reading.{Reading}
+use Rattle.durable_catalogue.specs.Taking.{WereTaken}
+use Rattle.history_logs.specs.Taking.{IsHandedOn}
 
--- so many items are taken behind the entries before them
-pub behind_more : (before items : List Entry) (count : ℕ) (item : Entry) → count < length items → item ≡ get_or items count item →
-    (before ++ take count items) ++ item ∷ [] ≡ before ++ take (count + 1) items
-behind_more before items count item within is =
-    append_assoc before (take count items) (item ∷ [])
-    ∙ ap (λ l. before ++ l) (sym (take_more items count item within ∙ ap (λ x. take count items ++ x ∷ []) (sym is)))
-
--- the entries of so many frames were taken
-pub record AreTaken (Has : List Entry → Type 0) (bytes version : ℕ) (frames : List Frame) (count : ℕ) (counter : Counted) (left : Option ℕ) : Type 0 where
-  pub entries : List Entry
-  pub read : AreRead version frames count (record { version = version; entries = entries })
-  pub version_is : counter.version ≡ version
-  pub extent : HasExtent entries counter.extent
-  pub taken : Has entries
-  pub left_is : HasLeft bytes entries left
-
-pub none_taken : (Has : List Entry → Type 0) (bytes version : ℕ) (frames : List Frame) (counter : Counted) → counter.version ≡ version → HasExtent [] counter.extent → Has []
-    → AreTaken Has bytes version frames 0 counter (Some bytes)
-none_taken Has bytes version frames counter version_is extent taken = record {
-  entries = [];
-  read = none_read version frames;
-  version_is = version_is;
-  extent = extent;
-  taken = taken;
-  left_is = omega arith;
-}
-
-module _ (Has : List Entry → Type 0) (bytes version : ℕ) (frames : List Frame) (count : ℕ) (frame : Frame) (within : count < length frames) (is : frame ≡ get_or frames count frame)
-    (counter : Counted) (left : Option ℕ) (t : AreTaken Has bytes version frames count counter left) where
-  pub one_taken : (Then : List Entry → Type 0) (items : List Entry) (now : Counted) (rest : Option ℕ) (next : ℕ) → next ≡ count + 1 → CountsEntries counter t.entries items frame.payload now
-      → now.version ≡ counter.version → ((before : List Entry) → Has before → Then (before ++ items))
-      → ((b : ℕ) (before : List Entry) → HasLeft b before left → HasLeft b (before ++ items) rest) → AreTaken Then bytes version frames next now rest
-  one_taken Then items now rest next more counts same taken less = record {
-    entries = t.entries ++ items;
-    read = subst (λ n. AreRead version frames n (record { version = version; entries = t.entries ++ items })) (sym more)
-        (one_read version frames count frame within is (record { version = version; entries = t.entries }) t.read frame.payload
-        (record { version = version; entries = t.entries ++ items }) refl
-        (record { entries = items; holds = subst (λ v. Holds v t.entries items frame.payload) t.version_is counts.holds; new_is = refl }));
-    version_is = same ∙ t.version_is;
-    extent = counts.extent;
-    taken = taken t.entries t.taken;
-    left_is = less bytes t.entries t.left_is;
-  }
-
-  pub unread : (fault : OpenFault) → IsUnreadFrame counter.version t.entries frame fault → IsUnread version frames fault
-  unread (NotAJournal place) h =
-      subst (IsBadFrame version frames) h.0
-      (bad_frame version frames count frame within is (record { version = version; entries = t.entries }) t.read frame.payload refl
-      (λ entries holds. h.1 entries (subst (λ v. Holds v t.entries entries frame.payload) (sym t.version_is) holds)))
-  unread NoMemory h = tt
-  unread OldVersion h = h
-  unread Full h = h
-  unread DeviceFault h = h
-
-pub all_handed_on : (Has : List Entry → Type 0) (version : ℕ) (frames : List Frame) (limits : Limits) (count : ℕ) (counter : Counted) (left : Option ℕ) (fits : Bool) → length frames ≤ count
-    → (t : AreTaken Has limits.bytes version frames count counter left)
-    → ((entries : List Entry) → HasLeft limits.bytes entries left → counter.extent.count ≡ length entries → (fits ≡ true) ↔ IsWithin limits entries)
-    → AreHandedOn Has (IsHistory version [] (payloads_of frames)) limits fits
-all_handed_on Has version frames limits count counter left fits whole t test = record {
-  entries = t.entries;
-  history = all_read version frames count (record { version = version; entries = t.entries }) whole t.read;
-  taken = t.taken;
-  fits_is = test t.entries t.left_is t.extent.count_is;
-}
+-- entries that were taken, and are within the limits
+pub fitting : (Has P : List Entry → Type 0) (limits : Limits) (reading : Reading) → WereTaken Has P limits reading → reading.fits ≡ true → IsHandedOn Has P limits
+fitting Has P limits reading t fits = record { entries = t.entries; history = t.history; within = t.fits_is.0 fits; taken = t.taken }
 
 -- what holds of the entries by what was handed on
 pub is_also : (Has P Q : List Entry → Type 0) (limits : Limits) → ((entries : List Entry) → P entries → Q entries) → IsHandedOn Has P limits → IsHandedOn Has Q limits

@@ -8,9 +8,8 @@ ghost use Rattle.durable_catalogue.specs.Opened.{IsOpenedDisk, IsRefusedDisk};
 ghost use Rattle.history_logs.specs.Taking.{IsHandedOn};
 
 use crate::frames::take_within;
-use crate::taker::EntryTaker;
 use commit_journal::{Journal, Version};
-use durable_catalogue::{OpenFault, find_log, refuse_log, take_log};
+use durable_catalogue::{EntryTaker, OpenFault, find_log, refuse_log, take_log};
 use marc_types::Limits;
 use outside::Disk;
 use std::alloc::Global;
@@ -30,8 +29,8 @@ impl<D: Disk> HistoryLog<D> {
         limits: Limits,
         taker: &mut T,
     ) -> Result<Self, (D, OpenFault)>
-        requires none { T.has taker.old [] }
-        ensures taken { OnOk result (IsHandedOn (T.has taker.new)
+        requires none { T.has taker.old taker.old [] }
+        ensures taken { OnOk result (IsHandedOn (T.has taker.old taker.new)
             (λ entries. (log : List ℕ) → (D.seen disk).content ≡ Some log → HasHistory entries log) limits) }
         ensures version { IfOk result (λ h. (log : List ℕ) → (D.seen disk).content ≡ Some log → version_of log ≡ number_of h.journal.version) }
 

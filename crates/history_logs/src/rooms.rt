@@ -8,8 +8,7 @@ ghost use Rattle.room_files.specs.Journals.{journal_limits, log_bytes, IsClosedD
 ghost use Rattle.history_logs.specs.Taking.{IsHandedOn};
 
 use crate::log::HistoryLog;
-use crate::taker::EntryTaker;
-use durable_catalogue::OpenFault;
+use durable_catalogue::{EntryTaker, OpenFault};
 use outside::Room;
 use room_files::{JOURNAL_LIMITS, close_refused};
 use std::alloc::Global;
@@ -24,11 +23,11 @@ pub fn open_history<R: Room, T: EntryTaker>(
     taker: &mut T,
 ) -> Result<HistoryLog<R::Log>, OpenFault>
     requires free { (R.seen room.old).open_as name.now ≡ None }
-    requires none { T.has taker.old [] }
+    requires none { T.has taker.old taker.old [] }
     ensures apart { SameBut (R.seen room.old) (R.seen room.new) (name.now ∷ []) }
 
     // All entries of the log's history were handed on; they are within the limits, and the log keeps them.
-    ensures taken { OnOk result (IsHandedOn (T.has taker.new)
+    ensures taken { OnOk result (IsHandedOn (T.has taker.old taker.new)
         (λ entries. (R.seen room.old).tells ≡ true → HasHistory entries (log_bytes (R.seen room.old) name.now)) journal_limits) }
     ensures log { IfOk result (λ h. IsOpenLog (R.seen room.old) (R.seen room.new) name.now (number_of h.journal.version) (R.Log.seen h.journal.disk)) }
 

@@ -234,19 +234,19 @@ module _ (journal out rest : List ℕ) (library : Library) (code : Option (List 
       attaches_stopped : (which : Unwritten) → journal ≢ rest → out ≢ rest → o.end ≡ NotWritten which → IsSilent o
           → AreStopped (journal ∷ out ∷ []) out rest (holdings_export (kept_keys code) (state_of history) ready.shelf) (holdings_rest (state_of history) ready.shelf) o.old o.new which
           → AttachesHoldings journal out rest library code o
-      attaches_stopped which no_journal no_out end silent (AtFirst first up part alone) =
+      attaches_stopped which no_journal no_out end silent (AtFirst first up left alone) =
           let here : o.end ≡ out_unwritten = end ∙ ap NotWritten first in
           let untouched : o.new.file rest ≡ o.old.file rest = alone.files rest ((λ e. no_journal (sym e)), ((λ e. no_out (sym e)), tt)) in
           attaches (subst TellsNoFault (sym end) tt) (λ also. alone) (λ either. silent) (λ also. up)
           (λ also. let no : Out ≡ Report = unwritten_once o.end Out Report here also in cc)
           (λ also. let no : Out ≡ Console = unwritten_once o.end Out Console here also in cc) ready is
-          (λ bytes tells. OutFailed here (part tells) untouched silent)
-      attaches_stopped which no_journal no_out end silent (AtSecond second up whole part) =
+          (λ bytes tells. OutFailed here (left tells) untouched silent)
+      attaches_stopped which no_journal no_out end silent (AtSecond second up whole left) =
           let here : o.end ≡ rest_unwritten = end ∙ ap NotWritten second in
           attaches (subst TellsNoFault (sym end) tt) (λ also. let no : Report ≡ Out = unwritten_once o.end Report Out here also in cc) (λ either. silent)
           (λ also. let no : Report ≡ Out = unwritten_once o.end Report Out here also in cc) (λ also. up)
           (λ also. let no : Report ≡ Console = unwritten_once o.end Report Console here also in cc) ready is
-          (λ bytes tells. RestFailed here (whole tells) (part tells) silent)
+          (λ bytes tells. RestFailed here (whole tells) (left tells) silent)
 
       -- both were written, and the console was told the text or a front of it
       attaches_told : (o.old.tells ≡ true

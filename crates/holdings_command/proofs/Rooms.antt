@@ -6,7 +6,8 @@ use Rattle.marc_types.specs.Order.{text_Decides}
 use Rattle.outside.specs.Fault.{Rose}
 use Rattle.outside.specs.Room.{RoomView, SameBut}
 use Rattle.outside.proofs.Rooms.{same_but_first, same_but_more, same_but_none, same_but_then}
-use Rattle.output_files.specs.Outputs.{IsPartWritten}
+use Rattle.output_files.specs.Outputs.{IsOutputLeft}
+use Rattle.output_files.proofs.Parts.{left_since, left_until}
 use Rattle.console_lines.specs.declared.end.Unwritten.{Unwritten}
 use Rattle.console_lines.specs.declared.end.Unwritten.TheVariants.{Out, Report}
 use Rattle.holdings_command.specs.Outputs.{AreWritten, AreStopped, AtFirst, AtSecond}
@@ -74,9 +75,6 @@ module _ (old opened read written new : RoomView) (journal out rest : List ℕ) 
   read_tells tells = second.tells ∙ first.tells ∙ tells
 
   module _ (name : List ℕ) (differ : journal ≢ name) where
-    before : read.file name ≡ old.file name
-    before = second.files name tt ∙ first.files name ((λ e. differ (sym e)), tt)
-
     behind : new.file name ≡ written.file name
     behind = fourth.files name ((λ e. differ (sym e)), tt)
 
@@ -86,8 +84,11 @@ module _ (old opened read written new : RoomView) (journal out rest : List ℕ) 
     rose : Rose (read.out_faults name) (written.out_faults name) → Rose (old.out_faults name) (new.out_faults name)
     rose up = omega (arith, first.outs name, second.outs name, fourth.outs name, up)
 
-    part : (due : List ℕ) → IsPartWritten (read.file name) (written.file name) due → IsPartWritten (old.file name) (new.file name) due
-    part due is = subst (λ f. IsPartWritten f (new.file name) due) before (subst (λ f. IsPartWritten (read.file name) f due) (sym behind) is)
+    left : (due : List ℕ) → IsOutputLeft read written name due → IsOutputLeft old new name due
+    left due is =
+        let names : List (List ℕ) = journal ∷ [] in
+        left_until old written new name due names ((λ e. differ (sym e)), tt) fourth
+        (left_since old opened written name due names ((λ e. differ (sym e)), tt) first (left_since opened read written name due [] tt second is))
 
     whole : (due : List ℕ) → written.file name ≡ Some due → new.file name ≡ Some due
     whole due is = behind ∙ is
@@ -111,11 +112,11 @@ module _ (old opened read written new : RoomView) (journal out rest : List ℕ) 
 
     pub all_stopped : (which : Unwritten) → AreStopped (out ∷ []) out rest due due_rest read written which
         → AreStopped (journal ∷ out ∷ []) out rest due due_rest old new which
-    all_stopped which (AtFirst is up first_part alone) =
-        AtFirst is (rose out no_out up) (λ tells. part out no_out due (first_part (read_tells tells))) (without_second alone)
-    all_stopped which (AtSecond is up first_whole second_part) =
+    all_stopped which (AtFirst is up first_left alone) =
+        AtFirst is (rose out no_out up) (λ tells. left out no_out due (first_left (read_tells tells))) (without_second alone)
+    all_stopped which (AtSecond is up first_whole second_left) =
         AtSecond is (rose rest no_rest up) (λ tells. whole out no_out due (first_whole (read_tells tells)))
-        (λ tells. part rest no_rest due_rest (second_part (read_tells tells)))
+        (λ tells. left rest no_rest due_rest (second_left (read_tells tells)))
 
 -- the file is read in the room where the journal was opened
 pub read_there : (P : List ℕ → Type 0) (old opened : RoomView) (journal file : List ℕ) → file ≢ journal → SameBut old opened (journal ∷ [])
@@ -131,9 +132,6 @@ module _ (old mid new : RoomView) (out rest : List ℕ) (differ : out ≢ rest) 
   pub first_closed : mid.open_as out ≡ None → new.open_as out ≡ None
   first_closed closed = second.open_names out (differ, tt) ∙ closed
 
-  second_began : mid.file rest ≡ old.file rest
-  second_began = first.files rest ((λ e. differ (sym e)), tt)
-
   pub both_written : (due due_rest : List ℕ) → (old.tells ≡ true → mid.file out ≡ Some due) → (mid.tells ≡ true → new.file rest ≡ Some due_rest)
       → old.tells ≡ true → AreWritten out rest due due_rest new
   both_written due due_rest whole rest_whole tells = record {
@@ -142,13 +140,13 @@ module _ (old mid new : RoomView) (out rest : List ℕ) (differ : out ≢ rest) 
   }
 
   pub second_failed : (due due_rest : List ℕ) → (old.tells ≡ true → mid.file out ≡ Some due) → Rose (mid.out_faults rest) (new.out_faults rest)
-      → (mid.tells ≡ true → IsPartWritten (mid.file rest) (new.file rest) due_rest) → AreStopped (out ∷ []) out rest due due_rest old new Report
-  second_failed due due_rest whole up part =
+      → (mid.tells ≡ true → IsOutputLeft mid new rest due_rest) → AreStopped (out ∷ []) out rest due due_rest old new Report
+  second_failed due due_rest whole up left =
       AtSecond refl (omega (arith, first.outs rest, up)) (λ tells. first_stays ∙ whole tells)
-      (λ tells. subst (λ f. IsPartWritten f (new.file rest) due_rest) second_began (part (first.tells ∙ tells)))
+      (λ tells. left_since old mid new rest due_rest (out ∷ []) ((λ e. differ (sym e)), tt) first (left (first.tells ∙ tells)))
 
 -- the first could not be written
 pub first_failed : (old new : RoomView) (out rest : List ℕ) (due due_rest : List ℕ) → SameBut old new (out ∷ [])
-    → Rose (old.out_faults out) (new.out_faults out) → (old.tells ≡ true → IsPartWritten (old.file out) (new.file out) due)
+    → Rose (old.out_faults out) (new.out_faults out) → (old.tells ≡ true → IsOutputLeft old new out due)
     → AreStopped (out ∷ []) out rest due due_rest old new Out
-first_failed old new out rest due due_rest apart up part = AtFirst refl up part apart
+first_failed old new out rest due due_rest apart up left = AtFirst refl up left apart

@@ -17,7 +17,7 @@ use Rattle.console_lines.specs.declared.fault.Fault.{Fault}
 use Rattle.console_lines.specs.declared.fault.Fault.TheVariants.{Usage, Input, Device, NotAJournal, Full, Memory, OldVersion, OtherHistory}
 use Rattle.room_files.specs.Journals.{log_bytes, KeepsHistory, IsDurable}
 use Rattle.output_files.specs.Kept.{kept_keys}
-use Rattle.output_files.specs.Outputs.{IsPartWritten}
+use Rattle.output_files.specs.Outputs.{IsOutputLeft}
 use Rattle.archive_commands.specs.Archives.{WhyUnopened, HasFittingHistory}
 use Rattle.holdings.specs.declared.holding.Holding.{Holding}
 use Rattle.holdings.specs.Shelves.{shelf_of}
@@ -66,9 +66,9 @@ due_of file code s accepted refused = record {
 
 -- How far what is due was delivered: to OUT, then to REST, then to the console. What comes behind the first that failed isn't begun.
 pub data IsDelivered (due : Due) (out rest : List ℕ) (o : Outcome) : Type 0 where
-  OutFailed : o.end ≡ out_unwritten → IsPartWritten (o.old.file out) (o.new.file out) due.out → o.new.file rest ≡ o.old.file rest
+  OutFailed : o.end ≡ out_unwritten → IsOutputLeft o.old o.new out due.out → o.new.file rest ≡ o.old.file rest
       → IsSilent o → IsDelivered due out rest o
-  RestFailed : o.end ≡ rest_unwritten → o.new.file out ≡ Some due.out → IsPartWritten (o.old.file rest) (o.new.file rest) due.rest
+  RestFailed : o.end ≡ rest_unwritten → o.new.file out ≡ Some due.out → IsOutputLeft o.old o.new rest due.rest
       → IsSilent o → IsDelivered due out rest o
   ConsoleFailed : o.end ≡ console_unwritten → o.new.file out ≡ Some due.out → o.new.file rest ≡ Some due.rest
       → WritesFront o.told o.now due.text → IsDelivered due out rest o

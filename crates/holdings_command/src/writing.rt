@@ -6,7 +6,7 @@ ghost use Rattle.outside.specs.Room.{SameBut};
 ghost use Rattle.catalogue_rules.specs.Settle.{state_of};
 ghost use Rattle.selection.specs.Selections.{ForSelected, IsCallable};
 ghost use Rattle.output_files.specs.Kept.{kept_keys};
-ghost use Rattle.output_files.specs.Outputs.{IsPartWritten};
+ghost use Rattle.output_files.specs.Outputs.{IsOutputLeft};
 ghost use Rattle.console_lines.specs.declared.end.Unwritten.{Unwritten};
 ghost use Rattle.holdings_export.specs.Output.{holdings_export, holdings_rest};
 ghost use Rattle.holdings_command.specs.Outputs.{AreWritten, AreStopped};
@@ -35,17 +35,18 @@ fn write_selected<R: Room, F: Fn(&Key) -> bool>(
     ensures closed { (R.seen room.new).open_as name.now ≡ None }
     ensures cause { HasCause ((R.seen room.old).out_faults name.now) ((R.seen room.new).out_faults name.now) result }
 
-    // The file has all that is due, or as much as was written.
+    // The file has all that is due, or is as it was.
     ensures bytes { ForSelected F.Fn selection.now (λ kept. OnOk result ((R.seen room.old).tells ≡ true →
         (R.seen room.new).file name.now ≡ Some (holdings_export kept rows.entry groups.now))) }
-    ensures part { ForSelected F.Fn selection.now (λ kept. (R.seen room.old).tells ≡ true →
-        IsPartWritten ((R.seen room.old).file name.now) ((R.seen room.new).file name.now) (holdings_export kept rows.entry groups.now)) }
+    ensures left { ForSelected F.Fn selection.now (λ kept. (R.seen room.old).tells ≡ true →
+        IsOutputLeft (R.seen room.old) (R.seen room.new) name.now (holdings_export kept rows.entry groups.now)) }
 {
     let mut out = room.open_out(name)?;
-    let written = write_holdings(rows, groups, selection, &mut out);
-    let closed = room.close_out(name, out);
-    written?;
-    closed
+    if let Err(fault) = write_holdings(rows, groups, selection, &mut out) {
+        room.give_up_out(name, out);
+        return Err(fault);
+    }
+    room.close_out(name, out)
 }
 
 /// Writes the records of a listing with their holdings into the file of that name: all, or those under keys with that code.
@@ -62,7 +63,7 @@ fn write_out<R: Room>(
     ensures cause { HasCause ((R.seen room.old).out_faults name.now) ((R.seen room.new).out_faults name.now) result }
     ensures bytes { OnOk result ((R.seen room.old).tells ≡ true →
         (R.seen room.new).file name.now ≡ Some (holdings_export (kept_keys (option_copied code.entry)) rows.entry groups.now)) }
-    ensures part { (R.seen room.old).tells ≡ true → IsPartWritten ((R.seen room.old).file name.now) ((R.seen room.new).file name.now)
+    ensures left { (R.seen room.old).tells ≡ true → IsOutputLeft (R.seen room.old) (R.seen room.new) name.now
         (holdings_export (kept_keys (option_copied code.entry)) rows.entry groups.now) }
 {
     let kept = Selection::new(|key: &Key| is_kept(key, code));
@@ -80,14 +81,14 @@ fn write_rest_file<R: Room>(
     ensures closed { (R.seen room.new).open_as name.now ≡ None }
     ensures cause { HasCause ((R.seen room.old).out_faults name.now) ((R.seen room.new).out_faults name.now) result }
     ensures bytes { OnOk result ((R.seen room.old).tells ≡ true → (R.seen room.new).file name.now ≡ Some waiting.now) }
-    ensures part { (R.seen room.old).tells ≡ true →
-        IsPartWritten ((R.seen room.old).file name.now) ((R.seen room.new).file name.now) waiting.now }
+    ensures left { (R.seen room.old).tells ≡ true → IsOutputLeft (R.seen room.old) (R.seen room.new) name.now waiting.now }
 {
     let mut out = room.open_out(name)?;
-    let written = waiting.write(&mut out);
-    let closed = room.close_out(name, out);
-    written?;
-    closed
+    if let Err(fault) = waiting.write(&mut out) {
+        room.give_up_out(name, out);
+        return Err(fault);
+    }
+    room.close_out(name, out)
 }
 
 /// Writes the records of a catalogue with their holdings into the file of that name: all, or those under keys with that code. All
@@ -108,7 +109,7 @@ fn write_records<R: Room>(
     ensures unbegun { IsErrOf result WriteFault.NoMemory → SameBut (R.seen room.old) (R.seen room.new) [] }
     ensures bytes { OnOk result ((R.seen room.old).tells ≡ true → (R.seen room.new).file name.now
         ≡ Some (holdings_export (kept_keys (option_copied code.entry)) (state_of core.now.history) shelf.now)) }
-    ensures part { (R.seen room.old).tells ≡ true → IsPartWritten ((R.seen room.old).file name.now) ((R.seen room.new).file name.now)
+    ensures left { (R.seen room.old).tells ≡ true → IsOutputLeft (R.seen room.old) (R.seen room.new) name.now
         (holdings_export (kept_keys (option_copied code.entry)) (state_of core.now.history) shelf.now) }
 {
     let Ok(rows) = Listing::of(alloc, core) else {

@@ -1,61 +1,21 @@
 -- What is written record by record, and holding by holding.
-use Rattle.std.proofs.Common.{◌≡◌, ◌∙◌, ℕ, ◌+◌, ◌≤◌, Bool, true, false, cond, List, [], ◌∷◌, ◌++◌, append-nil, refl, sym, ap, subst, arith}
+use Rattle.std.proofs.Common.{◌≡◌, ◌∙◌, ℕ, ◌+◌, ◌≤◌, Bool, true, false, cond, List, [], ◌∷◌, ◌++◌, append-nil, refl, ap, arith}
 use Rattle.std.specs.Prelude.{filter, not, length, if◌then◌else◌}
 use Rattle.std.specs.Int.{from_bool}
 use Rattle.std.specs.List.{flat_map}
-use Rattle.std.proofs.lemmas.List.Elements.{recursion_from_All}
 use Rattle.marc_types.specs.declared.key.Key.{Key}
-use Rattle.marc_types.specs.declared.entry.Kept.{Kept}
-use Rattle.iso2709_record.specs.Written.{fits, record_bytes}
-use Rattle.catalogue_rules.specs.State.{Row, State, fields_of, kept_record}
+use Rattle.numbered_store.specs.declared.kept.Kept.{Kept}
+use Rattle.catalogue_rules.specs.State.{Row, State}
 use Rattle.catalogue_rules.specs.Output.{export_of_rows, written_row}
-use Rattle.catalogue_rules.specs.Valid.{IsValid}
-use Rattle.catalogue_rules.proofs.Elements.{Each}
-use Rattle.catalogue_rules.proofs.Fitting.{valid_fits}
-use Rattle.record_store.proofs.Joined.{joined_fields}
 use Rattle.holdings.specs.Shelves.{ShelfRow, written_holding, holdings_of}
-use Rattle.holdings_export.specs.Output.{AreFit, IsListed, with_holdings, rows_with_holdings, is_attached, is_waiting, attached_holdings, waiting_holdings}
-
--- a row's record fits its written form
-abbrev pub RowFits : Row → Type 0
-RowFits row = fits (fields_of row.1) ≡ true
-
-pub each_fits : (rows : List Row) → AreFit rows → Each RowFits rows
-each_fits rows fit = recursion_from_All RowFits rows fit
-
--- each record of a valid state fits
-pub valid_listed : (s : State) → IsValid s → IsListed s
-valid_listed s valid = record { authorities_fit = (valid_fits s valid).0; bibliographic_fit = (valid_fits s valid).1 }
-
--- the fields and the leader of a kept record are those of its record
-fields_kept : (kept : Kept) → fields_of (kept_record kept) ≡ kept.rec.fields
-unfolding kept_record
-fields_kept kept = joined_fields kept.rec.fields kept.links kept.tied
-
-leader_kept : (kept : Kept) → (kept_record kept).leader ≡ kept.rec.leader
-unfolding kept_record
-leader_kept kept = refl
-
-row_written : (key : Key) (kept : Kept) → written_row (key, kept_record kept) ≡ record_bytes kept.rec.leader kept.rec.fields
-row_written key kept = rw (fields_kept kept, leader_kept kept) refl
+use Rattle.holdings_export.specs.Output.{with_holdings, rows_with_holdings, is_attached, is_waiting, attached_holdings, waiting_holdings}
+use Rattle.numbered_store.specs.Kept.{kept_record}
 
 -- the next row of a loop over rows, as it is lent
 module _ (shelf : List ShelfRow) (key : Key) (kept : Kept) (left rows : List Row) (next : left ≡ (key, kept_record kept) ∷ rows) where
-  pub first_fits : Each RowFits left → fits kept.rec.fields ≡ true
-  first_fits each =
-      let all : Each RowFits ((key, kept_record kept) ∷ rows) = subst (Each RowFits) next each in
-      ap fits (sym (fields_kept kept)) ∙ all.0
-
-  pub rest_fits : Each RowFits left → Each RowFits rows
-  rest_fits each =
-      let all : Each RowFits ((key, kept_record kept) ∷ rows) = subst (Each RowFits) next each in all.1
-
   pub next_with_holdings : (keep : Key → Bool) → keep key ≡ true
-      → rows_with_holdings keep shelf left
-      ≡ (record_bytes kept.rec.leader kept.rec.fields ++ flat_map written_holding (holdings_of key shelf)) ++ rows_with_holdings keep shelf rows
-  next_with_holdings keep is =
-      ap (rows_with_holdings keep shelf) next ∙ at is
-      ∙ ap (λ bytes. (bytes ++ flat_map written_holding (holdings_of key shelf)) ++ rows_with_holdings keep shelf rows) (row_written key kept)
+      → rows_with_holdings keep shelf left ≡ with_holdings shelf (key, kept_record kept) ++ rows_with_holdings keep shelf rows
+  next_with_holdings keep is = ap (rows_with_holdings keep shelf) next ∙ at is
     where
       at : keep key ≡ true → rows_with_holdings keep shelf ((key, kept_record kept) ∷ rows)
           ≡ with_holdings shelf (key, kept_record kept) ++ rows_with_holdings keep shelf rows

@@ -1,27 +1,17 @@
 -- What is written of a catalogue's records and a shelf of holdings. Source of the written form: ISO 2709, as the MARC 21
 -- Specifications for Record Structure use it. Which records are written, and in which order, is this project's own rule.
-use Rattle.std.specs.Prelude.{◌≡◌, ℕ, Bool, true, not, List, [], ◌++◌, filter, All, Option, is_some, unwrap_or}
+use Rattle.std.specs.Prelude.{ℕ, Bool, not, List, [], ◌++◌, filter, Option, is_some, unwrap_or}
 use Rattle.std.specs.List.{flat_map}
 use Rattle.marc_types.specs.declared.key.Class.TheVariants.{Bibliographic}
 use Rattle.marc_types.specs.declared.key.Key.{Key}
-use Rattle.catalogue_rules.specs.State.{Row, State, fields_of}
+use Rattle.catalogue_rules.specs.State.{Row, State}
 use Rattle.catalogue_rules.specs.Receipt.{kept_under}
 use Rattle.catalogue_rules.specs.Output.{written_row, export_of_rows}
-use Rattle.iso2709_record.specs.Written.{fits}
 use Rattle.holdings.specs.Shelves.{ShelfRow, written_holding, target_of_row, holdings_of}
-
--- each record fits its written form
-abbrev pub AreFit : List Row → Type 0
-AreFit rows = All (λ row. fits (fields_of row.1) ≡ true) rows
 
 -- the rows of both classes as a state
 abbrev pub state_of_rows : List Row → List Row → State
 state_of_rows authorities bibliographic = record { authorities = authorities; bibliographic = bibliographic }
-
--- each record of a state fits its written form
-pub record IsListed (s : State) : Type 0 where
-  pub authorities_fit : AreFit s.authorities
-  pub bibliographic_fit : AreFit s.bibliographic
 
 -- a record, and its holdings on the shelf behind it
 abbrev pub with_holdings : List ShelfRow → Row → List ℕ

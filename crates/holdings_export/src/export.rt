@@ -1,21 +1,19 @@
 //! What is written of a catalogue's records and a shelf of holdings.
-ghost use Rattle.std.specs.Prelude.{◌++◌, IsTrue, OnOk, map};
+ghost use Rattle.std.specs.Prelude.{OnOk, map};
 ghost use Rattle.std.specs.Option.{option_copied};
 ghost use Rattle.std.specs.List.{flat_map};
 ghost use Rattle.std.specs.Io.KnownBytes.{Appends};
 ghost use Rattle.outside.specs.Fault.{HasCause};
 ghost use Rattle.outside.specs.Sink.{WritesFront};
-ghost use Rattle.iso2709_record.specs.Written.{fits, record_bytes};
-ghost use Rattle.record_store.specs.Store.{shown_row};
 ghost use Rattle.selection.specs.Selections.{ForSelected, IsCallable};
 ghost use Rattle.holdings.specs.Shelves.{written_holding, holdings_of};
-ghost use Rattle.holdings_export.specs.Output.{AreFit, rows_with_holdings, holdings_export, shelf_or_none};
+ghost use Rattle.holdings_export.specs.Output.{with_holdings, rows_with_holdings, holdings_export, shelf_or_none};
+ghost use Rattle.numbered_store.specs.Kept.{kept_record, shown_row};
 
 use crate::listing::Listing;
 use holdings::HoldingGroups;
-use iso2709_record::encode;
-use marc_types::{Key, Record};
-use numbered_store::RowMap;
+use marc_types::Key;
+use numbered_store::{Kept, RowMap};
 use outside::{Failed, Sink};
 use selection::Selection;
 
@@ -41,18 +39,17 @@ fn write_group<K: Sink>(
 #[tactic(auto, using(outside::proofs::Fronts::front_more, outside::proofs::Fronts::front_then, outside::proofs::Fronts::appends_then))]
 fn write_record<K: Sink>(
     key: &Key,
-    rec: &Record,
+    kept: &Kept,
     groups: Option<&HoldingGroups<'_>>,
     out: &mut K,
 ) -> Result<(), Failed>
-    requires { IsTrue (fits rec.now.fields) }
-    ensures bytes { OnOk result (Appends (K.written out.old) (K.written out.new) (record_bytes rec.now.leader rec.now.fields
-        ++ flat_map written_holding (holdings_of key.now (shelf_or_none (option_copied groups.entry))))) }
-    ensures front { WritesFront (K.written out.old) (K.written out.new) (record_bytes rec.now.leader rec.now.fields
-        ++ flat_map written_holding (holdings_of key.now (shelf_or_none (option_copied groups.entry)))) }
+    ensures bytes { OnOk result (Appends (K.written out.old) (K.written out.new)
+        (with_holdings (shelf_or_none (option_copied groups.entry)) (key.now, kept_record kept.now))) }
+    ensures front { WritesFront (K.written out.old) (K.written out.new)
+        (with_holdings (shelf_or_none (option_copied groups.entry)) (key.now, kept_record kept.now)) }
     ensures cause { HasCause (K.faults out.old) (K.faults out.new) result }
 {
-    encode(rec, out)?;
+    out.write_all(kept.as_bytes())?;
     write_group(key, groups, out)
 }
 
@@ -63,8 +60,7 @@ fn write_rows<F: Fn(&Key) -> bool, K: Sink>(
     selection: &Selection<F>,
     out: &mut K,
 ) -> Result<(), Failed>
-    requires fit { AreFit (map shown_row rows.entries) }
-    requires callable { IsCallable F.Fn selection.now }
+    requires { IsCallable F.Fn selection.now }
     ensures written { ForSelected F.Fn selection.now (λ kept.
         OnOk result (Appends (K.written out.old) (K.written out.new) (rows_with_holdings kept (shelf_or_none (option_copied groups.entry)) (map shown_row rows.entry.entries)))) }
     ensures front { ForSelected F.Fn selection.now (λ kept.
@@ -73,7 +69,7 @@ fn write_rows<F: Fn(&Key) -> bool, K: Sink>(
 {
     for (key, kept) in rows {
         if selection.keeps(key) {
-            write_record(key, &kept.rec, groups, out)?;
+            write_record(key, kept, groups, out)?;
         }
     }
     Ok(())

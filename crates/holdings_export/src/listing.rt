@@ -8,7 +8,7 @@ use numbered_store::RowMap;
 use std::alloc::Global;
 use std::marker::Model;
 
-/// The records of a catalogue, each class in key order. Contracts see them as its state. Each fits its written form.
+/// The records of a catalogue, each class in key order. Contracts see them as its state.
 #[derive(Drop)]
 pub struct Listing<'a> {
     pub(crate) authorities: RowMap<'a>,
@@ -18,25 +18,21 @@ pub struct Listing<'a> {
 impl<'a> Model for Listing<'a> {
     ghost use Rattle.std.specs.Prelude.{map};
     ghost use Rattle.catalogue_rules.specs.State.{State};
-    ghost use Rattle.record_store.specs.Store.{shown_row};
-    ghost use Rattle.holdings_export.specs.Output.{state_of_rows, IsListed};
+    ghost use Rattle.numbered_store.specs.Kept.{shown_row};
+    ghost use Rattle.holdings_export.specs.Output.{state_of_rows};
 
     ghost Value = { State };
 
     ghost view = { λ l. state_of_rows (map shown_row l.authorities.entries) (map shown_row l.bibliographic.entries) };
-
-    ghost invariant = { λ l. IsListed (state_of_rows (map shown_row l.authorities.entries) (map shown_row l.bibliographic.entries)) };
 }
 
 impl<'a> Listing<'a> {
     /// The records of a catalogue, of which nothing is staged. All memory of a listing is taken here.
-    #[tactic(auto, using(crate::proofs::Written::valid_listed))]
     pub fn of(alloc: Global, core: &'a Catalogue) -> Result<Listing<'a>, NoMemory>
         requires { core.now.staged ≡ [] }
         ensures { IfOk result (λ listing. listing ≡ state_of core.now.history) }
     {
         let engine = core.engine();
-        engine.stays_valid();
         let authorities = engine.rows(alloc, Class::Authority)?;
         let bibliographic = engine.rows(alloc, Class::Bibliographic)?;
         Ok(Listing {

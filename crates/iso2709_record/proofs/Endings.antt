@@ -1,13 +1,11 @@
 -- Marks in bytes.
-use Rattle.std.proofs.Common.{◌≡◌, ℕ, ◌+◌, ◌-◌, ◌<◌, ◌≤◌, Bool, true, false, not, ◌&&◌, ◌==◌, cond, List, [], ◌∷◌, length, get_or, take, drop, Some, None, refl, sym, ap, ◌∙◌, arith, inl, inr}
+use Rattle.std.proofs.Common.{◌≡◌, ℕ, ◌+◌, ◌-◌, ◌<◌, ◌≤◌, true, false, ◌==◌, List, [], ◌∷◌, length, get_or, take, Some, None, refl, sym, ◌∙◌, arith, inl, inr}
 use Rattle.std.specs.List.{list_any}
 use Rattle.std.proofs.lemmas.Bool.{eq-eqb, ne_eqb, false_from_ne_true, lt-ltb, cases_eq, and_from, and_left, and_right, not_from_true, not_from_false, not-true, and_parts, both_ways}
-use Rattle.std.proofs.lemmas.List.{length-take, get_or-take, get_or_default, drop_more, drop_all}
+use Rattle.std.proofs.lemmas.List.{length-take, get_or-take, get_or_default}
 use Rattle.std.proofs.lemmas.List.Folds.{list_any_none, list_any_at}
 use Rattle.memchr.specs.Find.{IsFirstByte, is_byte}
-use Rattle.marc_types.specs.Valid.{is_graphic}
-use Rattle.iso2709_record.specs.Written.{delimiter}
-use Rattle.iso2709_record.specs.Faults.{ends_once, starts_with_code, codes_follow}
+use Rattle.iso2709_record.specs.Faults.{ends_once}
 
 -- no byte before the place is the mark
 pub none_before : (mark : ℕ) (bytes : List ℕ) (place : ℕ) → place ≤ length bytes → ((k : ℕ) → k < place → (get_or bytes k 0 == mark) ≡ true → ⊥)

@@ -15,3 +15,5 @@ pub mod Leaders
 pub mod ReadAgain
 pub mod Refusals
 pub mod Terminators
+pub mod Cuts
+pub mod FieldData

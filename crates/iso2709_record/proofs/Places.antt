@@ -5,12 +5,23 @@ use Rattle.std.specs.List.{flat_map}
 use Rattle.std.proofs.Math.Seq.{drop-append-add}
 use Rattle.std.proofs.lemmas.List.{drop-append-le, take_at, drop_at}
 use Rattle.std.proofs.lemmas.List.Concat.{flat_map-append}
+use Rattle.marc_types.specs.declared.field.Tag.{Tag}
 use Rattle.marc_types.specs.declared.field.Leader.{Leader}
+use Rattle.marc_types.specs.Fields.{tag_of}
 use Rattle.marc_types.specs.declared.field.Field.{Field}
-use Rattle.iso2709_record.specs.Written.{field_terminator, record_terminator, field_bytes, field_length, fields_length, entry_bytes, directory_bytes, leader_bytes, record_bytes, base_address}
+use Rattle.iso2709_record.specs.Written.{field_terminator, record_terminator, field_bytes, field_length, fields_length, entry_of, entry_bytes, directory_bytes, leader_of, leader_bytes, record_bytes, record_length, base_address}
 use Rattle.iso2709_record.proofs.Lengths.{length-leader_bytes, length-entry_bytes, length-directory_bytes, length-fields}
 use Rattle.iso2709_record.proofs.Each.{fields_length-take}
 use Rattle.outside.proofs.Fronts.{drop_next, piece_next}
+
+-- an entry by its parts, and a leader
+pub entry_is : (tag : Tag) (size start : ℕ) (f : Field) → tag ≡ tag_of f → size ≡ field_length f → entry_of tag size start ≡ entry_bytes start f
+unfolding entry_bytes
+entry_is tag size start f its_tag its_size = ap (λ t. entry_of t size start) its_tag ∙ ap (λ n. entry_of (tag_of f) n start) its_size
+
+pub leader_is : (l : Leader) (fs : List Field) (size base : ℕ) → size ≡ record_length fs → base ≡ base_address fs → leader_of l size base ≡ leader_bytes l fs
+unfolding leader_bytes
+leader_is l fs size base its_size its_base = ap (λ n. leader_of l n base) its_size ∙ ap (λ n. leader_of l (record_length fs) n) its_base
 
 -- the next directory entry
 pub entry_next : (start n : ℕ) (fields : List Field) (i : ℕ) (f : Field) → i < length fields → f ≡ get_or fields i f → n ≡ field_length f

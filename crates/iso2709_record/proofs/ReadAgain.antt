@@ -95,7 +95,7 @@ whole_entries : (l : Leader) (fs : List Field) → IsWritten l fs → HasWholeEn
 whole_entries l fs w = record { good_length = good_length l fs w; good_leader = good_leader l fs w; not_ragged = not_ragged l fs w }
 
 -- the lengths of so many fields, and of one more
-fields_length-take_more : (fs : List Field) (i : ℕ) (f : Field) → i < length fs → f ≡ get_or fs i f
+pub fields_length-take_more : (fs : List Field) (i : ℕ) (f : Field) → i < length fs → f ≡ get_or fs i f
     → fields_length (take (suc i) fs) ≡ fields_length (take i fs) + field_length f
 fields_length-take_more [] i f lt is = absurd (omega arith)
 fields_length-take_more (x ∷ xs) zero f lt is = let same : field_length f ≡ field_length x = ap field_length is in omega arith
@@ -127,6 +127,16 @@ start_is : (l : Leader) (fs : List Field) (i : ℕ) (f : Field) → IsWritten l 
 start_is l fs i f w at =
     let front = fields_length-take i fs in
     start_again (record_bytes l fs) i (fields_length (take i fs)) f (entry_is l fs i f at) (omega (arith, w.size))
+
+-- where the fields begin, and where each of them does
+pub record HasStarts (bytes : List ℕ) (fs : List Field) : Type 0 where
+  pub base : base_of bytes ≡ base_address fs
+  pub starts : (i : ℕ) → i < length fs → start_at bytes i ≡ fields_length (take i fs)
+
+pub written_starts : (l : Leader) (fs : List Field) → is_record l fs ≡ true → fits fs ≡ true → HasStarts (record_bytes l fs) fs
+written_starts l fs valid fit =
+    let w = is_written l fs valid fit in
+    record { base = base_is l fs w; starts = λ i lt. start_is l fs i (get_or fs i no_field) w (at_place l fs i w lt) }
 
 length_is : (l : Leader) (fs : List Field) (i : ℕ) (f : Field) → IsAt fs i f → length_at (record_bytes l fs) i ≡ field_length f
 length_is l fs i f at = length_again (record_bytes l fs) i (fields_length (take i fs)) f (entry_is l fs i f at) at.short

@@ -5,7 +5,7 @@ use Rattle.std.proofs.lemmas.Bool.{and_parts, and_from, or_parts, or_from, ltb-t
 use Rattle.std.proofs.lemmas.List.{length-take, length-drop, get_or-take, get_or-drop, get_or_default}
 use Rattle.std.proofs.lemmas.List.Folds.{list_any_none}
 use Rattle.std.proofs.lemmas.List.Sums.{AllPass-from_list_all}
-use Rattle.marc_types.specs.Valid.{is_printable, is_tag, is_leader, is_alphanumeric}
+use Rattle.marc_types.specs.Valid.{is_printable, is_digit, is_tag, is_leader, is_alphanumeric}
 use Rattle.iso2709_record.specs.Written.{record_terminator, field_terminator}
 use Rattle.iso2709_record.specs.Layout.{base_of, entry_count, entry_at, tag_at, length_at, start_at, area_at, data_at, lengths_of}
 use Rattle.iso2709_record.specs.Faults.{ends_once, has_bad_length, has_bad_leader, lengths_fit, is_good_entry, is_good_field, fits_tag, IsSound}
@@ -43,6 +43,15 @@ sound_leader bytes sound =
     let back = λ (i : ℕ) (lt : i < 3). part_at is_printable bytes 17 3 i parts.1 lt (omega arith) in
     and_from _ _ (front 0 (lit< tt)) (and_from _ _ (front 1 (lit< tt)) (and_from _ _ (front 2 (lit< tt)) (and_from _ _ (front 3 (lit< tt))
     (and_from _ _ (back 0 (lit< tt)) (and_from _ _ (back 1 (lit< tt)) (and_from _ _ (back 2 (lit< tt)) refl))))))
+
+-- the base address is of digits
+pub sound_base : (bytes : List ℕ) → IsSound bytes → list_all is_digit (take 5 (drop 12 bytes)) ≡ true
+unfolding has_bad_leader
+sound_base bytes sound =
+    let a = or_parts _ _ sound.directory.whole.good_leader in
+    let b = or_parts _ _ a.0 in
+    let c = or_parts _ _ b.0 in
+    not-false _ c.1
 
 once_in_record : (bytes : List ℕ) → has_bad_length bytes ≡ false → ends_once record_terminator bytes ≡ true
 unfolding has_bad_length

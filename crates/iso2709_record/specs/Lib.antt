@@ -4,3 +4,4 @@ pub mod Layout
 pub mod Faults
 pub mod Raw
 pub mod Spelling
+pub mod Texts

@@ -3,6 +3,7 @@
 use Rattle.std.specs.Prelude.{ℕ, ◌+◌, ◌*◌, ◌/◌, ◌%◌, Bool, ◌&&◌, nat_le, List, [], ◌∷◌, ◌++◌, length}
 use Rattle.std.specs.List.{flat_map, list_all}
 use Rattle.marc_types.specs.Fields.{tag_of}
+use Rattle.marc_types.specs.declared.field.Tag.{Tag}
 use Rattle.marc_types.specs.declared.field.Leader.{Leader}
 use Rattle.marc_types.specs.declared.field.Subfield.{Subfield}
 use Rattle.marc_types.specs.declared.field.Field.{Field}
@@ -56,24 +57,29 @@ base_address fields = 25 + 12 * length fields
 abbrev pub record_length : List Field → ℕ
 record_length fields = base_address fields + fields_length fields + 1
 
--- a directory entry: the tag, the field's length, and where it starts behind the base address
+-- a directory entry: a tag, a field's length, and where the field starts behind the base address
+abbrev pub entry_of : Tag → ℕ → ℕ → List ℕ
+entry_of tag size start = (tag.a ∷ tag.b ∷ tag.c ∷ []) ++ four_digits size ++ five_digits start
+
 unfoldable pub entry_bytes : ℕ → Field → List ℕ
-entry_bytes start f =
-    ((tag_of f).a ∷ (tag_of f).b ∷ (tag_of f).c ∷ []) ++ four_digits (field_length f) ++ five_digits start
+entry_bytes start f = entry_of (tag_of f) (field_length f) start
 
 -- the entries of fields that stand one behind the other
 abbrev pub directory_bytes : ℕ → List Field → List ℕ
 directory_bytes start [] = []
 directory_bytes start (f ∷ fs) = entry_bytes start f ++ directory_bytes (start + field_length f) fs
 
--- the record's length, its own leader bytes with coding `a` (UTF-8) and the counts `22` behind them, the base address, and
+-- a record's length, its own leader bytes with coding `a` (UTF-8) and the counts `22` behind them, the base address, and
 -- the other leader bytes before the entry map `4500`
-unfoldable pub leader_bytes : Leader → List Field → List ℕ
-leader_bytes l fields =
-    five_digits (record_length fields)
+abbrev pub leader_of : Leader → ℕ → ℕ → List ℕ
+leader_of l size base =
+    five_digits size
     ++ (l.status ∷ l.rtype ∷ l.level ∷ l.control ∷ 97 ∷ 50 ∷ 50 ∷ [])
-    ++ five_digits (base_address fields)
+    ++ five_digits base
     ++ (l.encoding ∷ l.form ∷ l.linked ∷ 52 ∷ 53 ∷ 48 ∷ 48 ∷ [])
+
+unfoldable pub leader_bytes : Leader → List Field → List ℕ
+leader_bytes l fields = leader_of l (record_length fields) (base_address fields)
 
 -- leader, directory, field terminator, fields, record terminator
 unfoldable pub record_bytes : Leader → List Field → List ℕ

@@ -1,8 +1,7 @@
 ghost use Rattle.std.specs.Prelude.{◌≡◌};
-ghost use Rattle.iso2709_record.specs.Written.{digit, entry_bytes, field_length, leader_bytes};
+ghost use Rattle.iso2709_record.specs.Written.{digit, entry_of, leader_of};
 
-use crate::size::{base_len, encoded_len};
-use marc_types::{Field, Record};
+use marc_types::{Leader, Tag};
 
 pub(crate) const RECORD_TERMINATOR: u8 = 0x1d;
 
@@ -17,14 +16,12 @@ fn digit(number: u64) -> u8
     b'0' + (number % 10) as u8
 }
 
-/// The leader in its written form: the record's own bytes of it, with the coding `a` for UTF-8.
-#[tactic(auto, using(crate::proofs::Lengths::record_bounds), unfolding(crate::specs::Written::leader_bytes, crate::specs::Written::five_digits))]
-pub(crate) fn leader_block(rec: &Record) -> [u8; 24]
-    ensures { result ≡ leader_bytes rec.now.leader rec.now.fields }
+/// The leader in its written form, of a record of that length and base address: the record's own bytes of it, with the
+/// coding `a` for UTF-8.
+#[tactic(auto, unfolding(crate::specs::Written::five_digits))]
+pub fn leader_block(leader: &Leader, size: u64, base: u64) -> [u8; 24]
+    ensures { result ≡ leader_of leader.now size base }
 {
-    let leader = rec.leader;
-    let size = encoded_len(rec);
-    let base = base_len(rec.fields.as_slice());
     [
         digit(size / 10_000),
         digit(size / 1_000),
@@ -54,12 +51,10 @@ pub(crate) fn leader_block(rec: &Record) -> [u8; 24]
 }
 
 /// The directory entry of a field of that length, which starts so many bytes behind the base address.
-#[tactic(auto, unfolding(crate::specs::Written::entry_bytes, crate::specs::Written::four_digits, crate::specs::Written::five_digits))]
-pub(crate) fn entry_block(field: &Field, len: u64, start: u64) -> [u8; 12]
-    requires { len ≡ field_length field.now }
-    ensures { result ≡ entry_bytes start field.now }
+#[tactic(auto, unfolding(crate::specs::Written::four_digits, crate::specs::Written::five_digits))]
+pub fn entry_block(tag: &Tag, len: u64, start: u64) -> [u8; 12]
+    ensures { result ≡ entry_of tag.now len start }
 {
-    let tag = field.tag();
     [
         tag.a,
         tag.b,

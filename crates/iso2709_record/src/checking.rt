@@ -5,15 +5,12 @@ ghost use Rattle.iso2709_record.specs.Faults.{has_bad_length, has_bad_leader, is
 
 use crate::blocks::{FIELD_TERMINATOR, RECORD_TERMINATOR};
 use crate::decimal::{are_digits, number};
-use crate::layout::{Layout, entry_at, length_at, start_at, tag_at};
+use crate::layout::{LEAST_BASE, Layout, entry_at, length_at, start_at, tag_at};
 use crate::marks::{are_alphanumeric, are_printable, ends_once, is_control_data, is_variable_data};
 use marc_types::{Refusal, Tag};
 
 /// The bytes of a leader, of the field terminator behind an empty directory, and of the record terminator.
 const LEAST_LEN: usize = 26;
-
-/// Where the fields begin behind an empty directory.
-const LEAST_BASE: u32 = 25;
 
 #[tactic(auto, unfolding(crate::specs::Faults::has_bad_length))]
 fn has_bad_length(bytes: &[u8]) -> bool

@@ -58,7 +58,7 @@ fn write_field_data<K: Sink>(field: &Field, out: &mut K) -> Result<(), Failed>
 }
 
 #[tactic(auto, using(outside::proofs::Fronts::appends_then), unfolding(crate::specs::Written::field_bytes))]
-fn write_field<K: Sink>(field: &Field, out: &mut K) -> Result<(), Failed>
+pub(crate) fn write_field<K: Sink>(field: &Field, out: &mut K) -> Result<(), Failed>
     ensures bytes { OnOk result
         (Appends (K.written out.old) (K.written out.new) (field_bytes field.now)) }
     ensures front { WritesFront (K.written out.old) (K.written out.new) (field_bytes field.now) }

@@ -1,6 +1,6 @@
 ghost use Rattle.std.specs.Prelude.{◌≡◌, ◌+◌, ◌*◌, ◌≤◌, ◌<◌, length, true};
-ghost use Rattle.iso2709_record.specs.Layout.{entry_at, tag_at, length_at, start_at};
-ghost use Rattle.iso2709_record.specs.Faults.{is_good_entry};
+ghost use Rattle.iso2709_record.specs.Layout.{layout_of, entry_at, tag_at, length_at, start_at};
+ghost use Rattle.iso2709_record.specs.Faults.{is_good_entry, IsSound};
 
 use crate::decimal::number;
 use marc_types::Tag;
@@ -13,9 +13,25 @@ pub struct Layout {
     pub entries: u32,
 }
 
+/// Where the fields begin behind an empty directory.
+pub(crate) const LEAST_BASE: u32 = 25;
+
 const LEADER_LEN: usize = 24;
 
 const ENTRY_LEN: usize = 12;
+
+/// Where the parts of bytes stand that [`check`](crate::check) found sound.
+#[tactic(auto, using(crate::proofs::Sound::sound_base, crate::proofs::Directory::extent), unfolding(crate::specs::Layout::base_of))]
+pub fn layout_of(bytes: &[u8]) -> Layout
+    requires { IsSound bytes.now }
+    ensures { result ≡ layout_of bytes.now }
+{
+    let base = number(&bytes[12..17]);
+    Layout {
+        base,
+        entries: (base - LEAST_BASE) / 12,
+    }
+}
 
 /// The bytes of an entry of the directory.
 #[tactic(auto, unfolding(crate::specs::Layout::entry_at))]

@@ -1,6 +1,6 @@
-ghost use Rattle.std.specs.Prelude.{◌≡◌, ◌+◌, ◌<◌, true, length, slice_index};
+ghost use Rattle.std.specs.Prelude.{◌≡◌, ◌+◌, ◌<◌, ◌≤◌, true, length, slice_index};
 ghost use Rattle.marc_types.specs.Valid.{is_tag, is_leader};
-ghost use Rattle.iso2709_record.specs.Layout.{layout_of, tag_at, length_at, data_at};
+ghost use Rattle.iso2709_record.specs.Layout.{layout_of, tag_at, length_at, start_at, data_at};
 ghost use Rattle.iso2709_record.specs.Faults.{fits_tag, IsSound};
 ghost use Rattle.iso2709_record.specs.Raw.{leader_at, coding_at, has_no_terminator};
 
@@ -32,6 +32,18 @@ pub fn coding_of(bytes: &[u8]) -> u8
     ensures { result ≡ coding_at bytes.now }
 {
     bytes[9]
+}
+
+/// Where an entry's area begins, behind the base address, of bytes that [`check`](crate::check) found sound.
+#[tactic(auto, using(crate::proofs::Directory::extent))]
+pub fn start_of(bytes: &[u8], layout: &Layout, entry: u32) -> u64
+    requires sound { IsSound bytes.now }
+    requires layout { layout.now ≡ layout_of bytes.now }
+    requires within { entry < layout.now.entries }
+    ensures value { result ≡ start_at bytes.now entry }
+    ensures below { result ≤ 99999 }
+{
+    u64::from(start_at(bytes, entry))
 }
 
 /// The tag of an entry and its area without the field terminator, of bytes that [`check`](crate::check) found sound.

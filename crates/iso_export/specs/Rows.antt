@@ -1,8 +1,8 @@
 -- The rows of an export. The rules are this project's own.
 use Rattle.std.specs.Prelude.{◌≡◌, map}
-use Rattle.record_store.specs.Store.{shown_row}
 use Rattle.catalogue_rules.specs.State.{State}
 use Rattle.iso_export.specs.declared.rows.ExportRows.{ExportRows}
+use Rattle.numbered_store.specs.Kept.{shown_row}
 
 -- these are the rows of the state
 pub record AreRowsOf (s : State) (rows : ExportRows) : Type 0 where

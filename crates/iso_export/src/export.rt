@@ -2,18 +2,18 @@ ghost use Rattle.std.specs.Prelude.{◌≡◌, [], OnOk, map};
 ghost use Rattle.std.specs.Io.KnownBytes.{Appends};
 ghost use Rattle.outside.specs.Fault.{HasCause, HasWriteCause};
 ghost use Rattle.outside.specs.Sink.{WritesFront};
-ghost use Rattle.record_store.specs.Store.{shown_row};
+ghost use Rattle.iso2709_record.specs.Written.{record_bytes};
 ghost use Rattle.catalogue_rules.specs.Settle.{state_of};
 ghost use Rattle.catalogue_rules.specs.Output.{export_of, export_of_rows};
-ghost use Rattle.catalogue_rules.specs.State.{rows_of};
+ghost use Rattle.catalogue_rules.specs.State.{fields_of};
 ghost use Rattle.selection.specs.Selections.{ForSelected, IsCallable};
 ghost use Rattle.iso_export.specs.Rows.{AreRowsOf};
+ghost use Rattle.numbered_store.specs.Kept.{kept_record, shown_row};
 
 use crate::rows::{ExportRows, rows_in_order};
 use catalogue_core::{Catalogue, Engine};
-use iso2709_record::encode;
-use marc_types::{Class, Key};
-use numbered_store::RowMap;
+use marc_types::Key;
+use numbered_store::{Kept, RowMap};
 use outside::{Failed, Sink, WriteFault};
 use selection::Selection;
 use std::alloc::Global;
@@ -73,35 +73,43 @@ pub fn write_rows<F: Fn(&Key) -> bool, K: Sink>(
         WritesFront (K.written out.old) (K.written out.new) (export_of kept engine.now.state)) }
     ensures cause { HasCause (K.faults out.old) (K.faults out.new) result }
 {
+    // the clauses alone speak of the state
+    let _engine = engine;
     let ExportRows {
         authorities,
         bibliographic,
     } = rows;
-    write_class(engine, Class::Authority, authorities, selection, out)?;
-    write_class(engine, Class::Bibliographic, bibliographic, selection, out)
+    write_class(authorities, selection, out)?;
+    write_class(bibliographic, selection, out)
 }
 
 /// Writes the selected records of a class, in key order.
 fn write_class<F: Fn(&Key) -> bool, K: Sink>(
-    engine: &Engine,
-    class: Class,
     rows: RowMap<'_>,
     selection: &Selection<F>,
     out: &mut K,
 ) -> Result<(), Failed>
-    requires rows { map shown_row rows.entries ≡ rows_of class engine.now.state }
-    requires callable { IsCallable F.Fn selection.now }
+    requires { IsCallable F.Fn selection.now }
     ensures written { ForSelected F.Fn selection.now (λ kept.
-        OnOk result (Appends (K.written out.old) (K.written out.new) (export_of_rows kept (rows_of class engine.now.state)))) }
+        OnOk result (Appends (K.written out.old) (K.written out.new) (export_of_rows kept (map shown_row rows.entry.entries)))) }
     ensures front { ForSelected F.Fn selection.now (λ kept.
-        WritesFront (K.written out.old) (K.written out.new) (export_of_rows kept (rows_of class engine.now.state))) }
+        WritesFront (K.written out.old) (K.written out.new) (export_of_rows kept (map shown_row rows.entry.entries))) }
     ensures cause { HasCause (K.faults out.old) (K.faults out.new) result }
 {
-    engine.stays_valid();
     for (key, kept) in rows {
         if selection.keeps(key) {
-            encode(&kept.rec, out)?;
+            write_record(kept, out)?;
         }
     }
     Ok(())
+}
+
+fn write_record<K: Sink>(kept: &Kept, out: &mut K) -> Result<(), Failed>
+    ensures bytes { OnOk result (Appends (K.written out.old) (K.written out.new)
+        (record_bytes (kept_record kept.now).leader (fields_of (kept_record kept.now)))) }
+    ensures front { WritesFront (K.written out.old) (K.written out.new)
+        (record_bytes (kept_record kept.now).leader (fields_of (kept_record kept.now))) }
+    ensures cause { HasCause (K.faults out.old) (K.faults out.new) result }
+{
+    out.write_all(kept.as_bytes())
 }

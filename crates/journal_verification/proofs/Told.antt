@@ -6,8 +6,8 @@ use Rattle.outside.specs.Sink.{WritesFront}
 use Rattle.console_lines.specs.Ends.{Outcome, IsResultTold, ResultTold, ResultUntold, IsAllDone}
 use Rattle.console_lines.specs.declared.fault.Fault.TheVariants.{Input, NotAJournal}
 use Rattle.console_lines.proofs.Ends.{never_told, result_untold, result_line, result_front, result_cause}
-use Rattle.journal_input.specs.Contents.{IsVerified}
-use Rattle.journal_input.specs.declared.verified.Verified.{Verified}
+use Rattle.journal_verification.specs.Contents.{IsVerified}
+use Rattle.journal_verification.specs.declared.verified.Verified.{Verified}
 use Rattle.journal_verification.specs.Verifying.{EndsVerifying, Verifies, verified_lines}
 use Rattle.journal_verification.proofs.There.{there_more}
 

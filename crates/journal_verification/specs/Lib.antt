@@ -1,1 +1,5 @@
+pub mod Coming
+pub mod Contents
+pub mod Gates
 pub mod Verifying
+pub mod Walking

@@ -11,8 +11,8 @@ use Rattle.console_lines.specs.declared.end.End.TheVariants.{Done, Refused, Unwr
 use Rattle.console_lines.specs.declared.end.Unwritten.TheVariants.{Out, Report, Console}
 use Rattle.console_lines.specs.declared.fault.Fault.{Fault}
 use Rattle.console_lines.specs.declared.fault.Fault.TheVariants.{Usage, Input, Device, NotAJournal, Full, Memory, OldVersion, OtherHistory}
-use Rattle.journal_input.specs.Contents.{IsVerified, IsNoJournal}
-use Rattle.journal_input.specs.declared.verified.Verified.{Verified}
+use Rattle.journal_verification.specs.Contents.{IsVerified, IsNoJournal}
+use Rattle.journal_verification.specs.declared.verified.Verified.{Verified}
 
 -- the line of a journal that is torn
 abbrev pub torn_line : Option ℕ → List ℕ

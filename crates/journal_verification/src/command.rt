@@ -2,12 +2,13 @@ ghost use Rattle.std.specs.Prelude.{◌≡◌, ◌≤◌, ℕ, List, [], true, N
 ghost use Rattle.outside.specs.Fault.{Rose};
 ghost use Rattle.outside.specs.Room.{SameBut};
 ghost use Rattle.console_lines.specs.Ends.{outcome};
-ghost use Rattle.journal_input.specs.Contents.{IsVerified, IsNoJournal};
+ghost use Rattle.journal_verification.specs.Contents.{IsVerified, IsNoJournal};
 ghost use Rattle.journal_verification.specs.Verifying.{Verifies};
 
+use crate::fault::VerifyFault;
 use crate::text::verified_text;
+use crate::verified::{Verified, verify_source};
 use console_lines::{End, Fault, tell, tell_result};
-use journal_input::{Verified, VerifyFault, verify_source};
 use marc_types::NoMemory;
 use outside::Room;
 use std::alloc::Global;

@@ -2,7 +2,7 @@ ghost use Rattle.std.specs.Prelude.{◌≡◌, ◌++◌, IfOk, string_bytes, cod
 ghost use Rattle.std.specs.Fmt.{decimal};
 ghost use Rattle.journal_verification.specs.Verifying.{counts_line, torn_line, verified_lines};
 
-use journal_input::Verified;
+use crate::verified::Verified;
 use marc_types::NoMemory;
 use std::alloc::Global;
 

@@ -1,15 +1,12 @@
 -- What an entry brings: its record with new ties, and what its fields' seats are to wait for.
-use Rattle.std.proofs.Common.{◌≡◌, ◌∙◌, sym, ap, refl, subst, ℕ, ◌+◌, ◌<◌, ◌≤◌, arith, Bool, true, false, cond, List, [], ◌∷◌, ◌++◌, length, map, Option, Some, None, if◌then◌else◌}
+use Rattle.std.proofs.Common.{◌≡◌, ◌∙◌, sym, ap, refl, subst, ℕ, ◌+◌, ◌<◌, ◌≤◌, arith, Bool, true, false, cond, List, [], ◌∷◌, ◌++◌, length, Option, Some, None, if◌then◌else◌}
 use Rattle.std.specs.Prelude.{◌==◌, IsSomeAnd, nat_lt, slice_get}
 use Rattle.std.specs.Cmp.{unsigned_Decides}
 use Rattle.std.proofs.lemmas.Bool.{ltb-false, ltb-true}
 use Rattle.std.proofs.lemmas.Option.{slice_get_past}
 use mathlib.Core.Bool.{false≢true}
 use Rattle.marc_types.specs.declared.entry.Entry.{Entry}
-use Rattle.marc_types.specs.declared.entry.Kept.{Kept}
-use Rattle.marc_types.specs.declared.entry.Tie.{Tie}
 use Rattle.marc_types.specs.declared.field.Field.{Field}
-use Rattle.marc_types.specs.declared.field.Leader.{Leader}
 use Rattle.marc_types.specs.declared.key.Class.{Class}
 use Rattle.marc_types.specs.declared.key.Class.TheVariants.{Authority, Bibliographic}
 use Rattle.marc_types.specs.declared.key.Key.{Key}
@@ -22,7 +19,7 @@ use Rattle.form_index.specs.Order.{key_at}
 use Rattle.entry_record.specs.Identity.{is_deletion}
 use Rattle.catalogue_rules.specs.Settle.{arrival_of}
 use Rattle.iso2709_record.proofs.Lengths.{record_bounds}
-use Rattle.catalogue_rules.specs.State.{KeptField, KeptRecord, kept_record, new_field, new_record, new_tie, tied}
+use Rattle.catalogue_rules.specs.State.{KeptField, KeptRecord, new_field}
 use Rattle.linked_store.specs.Fielding.{IsRowFor}
 use Rattle.linked_store.specs.Placing.{AreApart, AreRowsOf, IsRowAt, fields_brought, noted_rows, row_of_field}
 use Rattle.linked_store.specs.Turns.{row_lent}
@@ -34,34 +31,14 @@ use Rattle.linked_store.specs.declared.turns.Row.{Row}
 use Rattle.linked_store.proofs.Agreed.{key_there}
 use Rattle.linked_store.proofs.Seated.{fails, numbers_kept}
 
--- ---- the record
-
-tied_new : (fields : List Field) → tied fields (map (λ (f : Field). new_tie) fields) ≡ map new_field fields
-tied_new [] = refl
-tied_new (f ∷ fields) = ap (λ (l : List KeptField). new_field f ∷ l) (tied_new fields)
-
-pub record_incoming : (leader : Leader) (fields : List Field) (links : List Tie) → links ≡ map (λ (f : Field). new_tie) fields →
-    ◌≡◌ {A = KeptRecord} (record { leader = leader; fields = tied fields links }) (new_record leader fields)
-record_incoming leader fields links e =
-    let same : tied fields links ≡ map new_field fields = ap (tied fields) e ∙ tied_new fields in
-    λ i. record { leader = leader; fields = same i }
-
 -- ---- how many fields
 
-tied_short : (fields : List Field) (ties : List Tie) → length (tied fields ties) ≤ length fields
-tied_short [] ties = omega arith
-tied_short (f ∷ fields) [] = omega arith
-tied_short (f ∷ fields) (t ∷ ties) = let rest = tied_short fields ties in omega (arith, rest)
-
-pub fields_few : (kept : Kept) → length kept.rec.fields ≤ 8331
-fields_few kept = (record_bounds kept.rec.leader kept.rec.fields kept.rec.valid).0
-
 -- the record that is there has no more fields than the one that was found
-pub most_found : (kept : Kept) (o : Option KeptRecord) → Some (kept_record kept) ≡ o → (r : KeptRecord) → o ≡ Some r → length r.fields ≤ length kept.rec.fields
-unfolding kept_record
-most_found kept o found r is =
-    let same : kept_record kept ≡ r = some_same (kept_record kept) r (found ∙ is) in
-    subst (λ (x : KeptRecord). length x.fields ≤ length kept.rec.fields) same (tied_short kept.rec.fields kept.links)
+pub most_found : (found : KeptRecord) (o : Option KeptRecord) (n : ℕ) → Some found ≡ o → n ≡ length found.fields → (r : KeptRecord) → o ≡ Some r → length r.fields ≤ n
+most_found found o n there count r is =
+    let same : found ≡ r = some_same found r (there ∙ is) in
+    let long : length found.fields ≡ length r.fields = ap (λ (x : KeptRecord). length x.fields) same in
+    omega (arith, count, long)
   where
     some_same : (x y : KeptRecord) → Some x ≡ Some y → x ≡ y
     some_same x y e = cc

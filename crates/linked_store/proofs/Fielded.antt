@@ -1,5 +1,5 @@
 -- A field exchanged with its rows, as callers see it.
-use Rattle.std.proofs.Common.{◌≡◌, ◌∙◌, sym, ap, refl, subst, arith, ℕ, ◌+◌, ◌<◌, true, false, List, [], ◌∷◌, ◌++◌, length, map, take, get_or, Option, Some, None, IsSome, IfSome}
+use Rattle.std.proofs.Common.{◌≡◌, ◌∙◌, sym, ap, refl, subst, arith, ℕ, ◌<◌, true, false, List, length, map, Option, Some, None, IsSome, IfSome}
 use Rattle.std.specs.Prelude.{nat_eq}
 use Rattle.std.specs.Cmp.{unsigned_Decides}
 use Rattle.std.specs.List.{AllByRecursion}
@@ -14,7 +14,7 @@ use Rattle.numbering.specs.declared.seat.Seat.{Seat}
 use Rattle.numbering.proofs.Numberlaws.{alike, number_below}
 use Rattle.catalogue_rules.specs.State.{KeptField, KeptRecord, State}
 use Rattle.catalogue_rules.specs.Receipt.{kept_under}
-use Rattle.record_store.specs.Store.{StaysRecord, field_at, field_under}
+use Rattle.record_store.specs.Store.{StaysFit, StaysRecord, field_at, field_under}
 use Rattle.numbered_store.specs.Numbered.{Numbered, SuitsSeat as SuitsByNumber, field_of as field_by_number}
 use Rattle.wait_table.specs.Waits.{forms_of, has}
 use Rattle.wait_table.specs.declared.waiting.Asked.{Asked}
@@ -107,7 +107,12 @@ pub field_there : (seat : Seat) (s : Numbered) → HasKey (key_lists s.keys) sea
 field_there seat s low = ap (option_and_then (field_at seat.field)) (record_there seat.class seat.number s low)
 
 pub suits_number : (seat : Seat) (h : KeptField) (f : Frame) (marked : ℕ) → SuitsSeat seat h (linked_view f marked) → SuitsByNumber seat h.field f.store
-suits_number seat h f marked suits = subst (λ (o : Option KeptRecord). IfSome o (StaysRecord seat.field h.field)) (sym (record_there seat.class seat.number f.store suits.known)) suits.stays
+suits_number seat h f marked suits =
+    let there = sym (record_there seat.class seat.number f.store suits.known) in
+    record {
+      stays = subst (λ (o : Option KeptRecord). IfSome o (StaysRecord seat.field h.field)) there suits.stays;
+      fits = subst (λ (o : Option KeptRecord). IfSome o (StaysFit seat.field h.field)) there suits.fits;
+    }
 
 pub stands_number : (seat : Seat) (h : KeptField) (f : Frame) (marked : ℕ) → SuitsSeat seat h (linked_view f marked) → IsSome (field_by_number seat f.store)
 stands_number seat h f marked suits = subst (λ (o : Option KeptField). IsSome o) (sym (field_there seat f.store suits.known)) suits.stands
@@ -226,6 +231,7 @@ suits_kept seat h x y same suits =
       known = same.ahead.keys.seats seat suits.known;
       stands = subst (λ (o : Option KeptField). IsSome o) (sym field) suits.stands;
       stays = subst (λ (o : Option KeptRecord). IfSome o (StaysRecord seat.field h.field)) (sym kept) suits.stays;
+      fits = subst (λ (o : Option KeptRecord). IfSome o (StaysFit seat.field h.field)) (sym kept) suits.fits;
       steady = λ e. subst (λ (o : Option KeptField). IfSome o (λ old. IsSteady old h)) (sym field) (suits.steady e);
       whole = suits.whole;
     }

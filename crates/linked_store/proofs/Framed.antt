@@ -7,8 +7,8 @@ use Rattle.numbering.proofs.Numberlaws.{keeps_itself, keeps_same}
 use Rattle.numbering.specs.Seats.{same_seat, seat_Decides}
 use Rattle.numbering.specs.declared.seat.Seat.{Seat}
 use Rattle.marc_types.specs.declared.key.Class.{Class}
-use Rattle.catalogue_rules.specs.State.{KeptField, KeptRecord}
-use Rattle.numbered_store.specs.Numbered.{with_field_of, with_record}
+use Rattle.catalogue_rules.specs.State.{KeptRecord}
+use Rattle.numbered_store.specs.Numbered.{IsNumber, Numbered, with_record}
 use Rattle.link_table.specs.Links.{Links, with_key}
 use Rattle.link_table.specs.Table.{links}
 use Rattle.wait_table.specs.Waits.{Waits, with_waiting}
@@ -19,7 +19,7 @@ use Rattle.catalogue_tables.specs.Waiting.{AddsWait}
 use Rattle.catalogue_tables.proofs.Seams.{keeps_then}
 use Rattle.catalogue_tables.specs.declared.tables.CatalogueTables.{CatalogueTables}
 use Rattle.form_index.specs.Index.{Indexed}
-use Rattle.linked_store.specs.Contents.{CanGoBack, Fits, HaveRooms, Step, ToField, ToIndex, ToLink, ToRecord, ToWait, apply, apply_back, at_seat, step_of}
+use Rattle.linked_store.specs.Contents.{CanGoBack, Fits, HaveRooms, Step, ToIndex, ToLink, ToRecord, ToWait, apply, apply_back, at_seat, step_of}
 use Rattle.linked_store.specs.Rooms.{link_back, link_gone, link_out, wait_back, wait_gone, wait_out}
 use Rattle.linked_store.specs.Frames.{GoesBack, GoesOn, IsRoomy, IsRowOut, KeepsRows, LetsGo, FormsKeep, SameForms, StaysButHeld, TakesBack, WaitsNow, contents, links_in, steps_of, waits_in}
 use Rattle.linked_store.specs.declared.change.Change.{Change}
@@ -56,18 +56,6 @@ goes_still old new store log links waits index rows = record {
 pub goes_none : (old new : Frame) → new.store ≡ old.store → new.tables ≡ old.tables → new.log.items ≡ old.log.items → GoesOn old new
 goes_none old new store tables log = goes_still old new store log (ap links_in tables) (ap waits_in tables) (ap (λ (t : CatalogueTables). t.index) tables) (rows_same old.tables new.tables tables)
 
--- a field and its tie were exchanged
-pub goes_swapped : (old new : Frame) (seat : Seat) (h : KeptField) → steps_of new ≡ steps_of old ++ ToField seat h ∷ [] → new.tables ≡ old.tables → with_field_of seat h new.store ≡ old.store
-    → Fits (ToField seat h) (contents new) → GoesOn old new
-goes_swapped old new seat h steps tables undone fits =
-    goes_one old new (ToField seat h) steps
-    (λ i. record { numbered = undone i; index = (tables i).index; links = (links_in (tables i)).key_of; waits = (waits_in (tables i)).waiting })
-    fits
-    (λ r. subst (λ (t : CatalogueTables). HaveRooms (steps_of new) (links_in t) (waits_in t)) (sym tables) (subst (λ l. HaveRooms l (links_in old.tables) (waits_in old.tables)) (sym steps)
-    (rooms_more (steps_of old) (ToField seat h) (links_in old.tables) (waits_in old.tables)
-    (record { links = λ s. refl; keys = λ n s. refl; waits = λ s. refl; forms = λ n s. refl; names = λ n s. refl }) r)))
-    (rows_same old.tables new.tables tables)
-
 -- a record was exchanged
 pub goes_exchanged : (old new : Frame) (class : Class) (number : ℕ) (r : Option KeptRecord) → steps_of new ≡ steps_of old ++ ToRecord class number r ∷ [] → new.tables ≡ old.tables
     → with_record class number r new.store ≡ old.store → Fits (ToRecord class number r) (contents new) → GoesOn old new
@@ -79,6 +67,10 @@ goes_exchanged old new class number r steps tables undone fits =
     (rooms_more (steps_of old) (ToRecord class number r) (links_in old.tables) (waits_in old.tables)
     (record { links = λ s. refl; keys = λ n s. refl; waits = λ s. refl; forms = λ n s. refl; names = λ n s. refl }) rooms)))
     (rows_same old.tables new.tables tables)
+
+-- the number stays a key's
+pub number_stays : (class : Class) (number : ℕ) (r : Option KeptRecord) (old new : Numbered) → new ≡ with_record class number r old → IsNumber class number old → IsNumber class number new
+number_stays class number r old new is low = subst (λ s. IsNumber class number s) (sym is) low
 
 -- another thing at a seat, and then the one that stood there
 set_back : {V : Type 0} (seat : Seat) (was now : Option V) (things : Seat → Option V) → was ≡ things seat → (s : Seat) → at_seat seat was (at_seat seat now things) s ≡ things s
@@ -440,7 +432,6 @@ gone_waiting old new seat waiting only is =
 -- the row of the last step is out
 pub row_out : (steps : List Step) (step : Step) (tables : CatalogueTables) → HaveRooms (steps ++ step ∷ []) (links_in tables) (waits_in tables) → IsRowOut step tables
 row_out steps (ToRecord class number r) tables rooms = tt
-row_out steps (ToField seat h) tables rooms = tt
 row_out steps (ToIndex number row) tables rooms = tt
 row_out steps (ToLink seat number) tables rooms = last_link_out steps seat number (links_in tables) (waits_in tables) rooms
 row_out steps (ToWait seat waiting) tables rooms = last_wait_out steps seat waiting (links_in tables) (waits_in tables) rooms

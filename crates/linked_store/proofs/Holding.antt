@@ -1,10 +1,9 @@
 -- The row that a seat can have, as its field tells.
 use Rattle.std.proofs.Common.{◌≡◌, ◌∙◌, sym, ap, refl, subst, ℕ, Bool, true, false, Option, Some, None, is_some, ◌<◌, length}
-use Rattle.std.specs.Prelude.{slice_get, if◌then◌else◌}
+use Rattle.std.specs.Prelude.{if◌then◌else◌}
 use Rattle.std.specs.List.{IsDistinct}
 use Rattle.std.specs.Option.{option_map, option_map_or}
 use Rattle.marc_types.specs.declared.field.Field.{Field}
-use Rattle.marc_types.specs.declared.entry.Kept.{Kept}
 use Rattle.marc_types.specs.declared.entry.Tie.{Tie}
 use Rattle.marc_types.specs.declared.form.Form.{Form}
 use Rattle.marc_types.specs.declared.form.Kind.{Kind}
@@ -12,10 +11,11 @@ use Rattle.marc_types.specs.declared.key.Class.{Class}
 use Rattle.marc_types.specs.declared.key.Key.{Key}
 use Rattle.marc_types.specs.Order.{same_form, same_key}
 use Rattle.numbering.specs.declared.seat.Seat.{Seat}
-use Rattle.heading_fields.specs.Tables.{kind_of}
+use Rattle.marc_types.specs.Fields.{tag_of}
+use Rattle.marc_types.specs.declared.field.Tag.{Tag}
+use mathlib.Core.Bool.{false≢true}
 use Rattle.entry_record.specs.Authority.{has_form, heading_kind, option_filter}
-use Rattle.catalogue_rules.specs.State.{KeptField, kept_field, kept_record}
-use Rattle.record_store.proofs.Joined.{tied_off, tied_read}
+use Rattle.catalogue_rules.specs.State.{KeptField, new_tie}
 use Rattle.numbered_store.specs.Numbered.{field_of}
 use Rattle.linking_laws.specs.Tables.{asks_at, holds_at, linked_at}
 use Rattle.linking_laws.specs.Waiting.{asked_forms, is_form_among}
@@ -23,24 +23,29 @@ use Rattle.catalogue_tables.specs.Seam.{AreDistinct, HasKey, IsSeatOf, keys_in, 
 use Rattle.catalogue_tables.specs.declared.tables.CatalogueTables.{CatalogueTables}
 use Rattle.catalogue_tables.proofs.Seams.{seat_back}
 use Rattle.linked_store.specs.Contents.{Contents, ToLink, ToWait, apply}
-use Rattle.linked_store.specs.Holding.{AreAsTold, HasNoOther, IsAsTold, row_held}
+use Rattle.linked_store.specs.Holding.{AreAsTold, HasNoOther, IsAsTold, can_be_heading, row_held, row_held_by}
 use Rattle.linked_store.specs.Placing.{seat_in}
 use Rattle.linked_store.specs.Sound.{AgreesWith, keys_of, state_in}
 use Rattle.linked_store.specs.Turns.{without_rows}
 use Rattle.linked_store.specs.declared.held.RowHeld.{RowHeld}
 use Rattle.linked_store.specs.declared.held.RowHeld.TheVariants.{Link, Waiting, Nothing}
+use Rattle.linked_store.proofs.Heading.{no_heading}
 use Rattle.linked_store.proofs.Fielded.{field_there}
 use Rattle.linked_store.proofs.Fieldless.{no_link, no_wait}
 use Rattle.linked_store.proofs.Outside.{none_at}
 
 -- ---- a field read at a place
 
-pub held_off : (class : Class) (kept : Kept) (i : ℕ) → None ≡ slice_get kept.rec.fields i → Nothing ≡ row_held class (slice_get (kept_record kept).fields i)
-held_off class kept i off = ap (row_held class) (tied_off kept i off)
+pub held_off : (class : Class) (o : Option KeptField) → None ≡ option_map (λ (h : KeptField). tag_of h.field) o → Nothing ≡ row_held class o
+held_off class None off = refl
+held_off class (Some h) off = absurd (false≢true (ap is_some off))
 
-pub held_read : (class : Class) (kept : Kept) (i : ℕ) (f : Field) (t : Option Tie) → Some f ≡ slice_get kept.rec.fields i → t ≡ slice_get kept.links i
-    → row_held class (option_map (kept_field f) t) ≡ row_held class (slice_get (kept_record kept).fields i)
-held_read class kept i f t here tie = ap (row_held class) (tied_read kept i f t here tie)
+pub held_read : (class : Class) (o : Option KeptField) (tag : Tag) (tie : Tie) → Some tag ≡ option_map (λ (h : KeptField). tag_of h.field) o
+    → tie ≡ option_map_or (λ (h : KeptField). h.tie) o new_tie → row_held_by class tag tie ≡ row_held class o
+held_read class None tag tie here own = absurd (false≢true (sym (ap is_some here)))
+held_read class (Some h) tag tie here own =
+    let same : tag ≡ tag_of h.field = cc in
+    λ i. row_held_by class (same i) (own i)
 
 -- ---- what the tables have
 
@@ -58,15 +63,11 @@ asks_not_linked form class h linked =
     ap (λ (b : Bool). if b then false else option_map_or (λ kind. is_form_among (asked_forms class kind h) form) (heading_kind class h.field) false) linked
 
 -- nor does one without a heading's tag
-no_kind : (class : Class) (f : Field) → is_some (kind_of class f) ≡ false → heading_kind class f ≡ None
+pub no_kind : (class : Class) (f : Field) → can_be_heading class (tag_of f) ≡ false → heading_kind class f ≡ None
 unfolding heading_kind
-no_kind class f none = by (kind_of class f) none
-  where
-    by : (o : Option Kind) → is_some o ≡ false → option_filter (has_form f) o ≡ None
-    by None e = refl
-    by (Some k) e = cc
+no_kind class f none = ap (option_filter (has_form f)) (no_heading class f none)
 
-asks_not_plain : (form : Form) (class : Class) (h : KeptField) → is_some (kind_of class h.field) ≡ false → asks_at form class h ≡ false
+asks_not_plain : (form : Form) (class : Class) (h : KeptField) → can_be_heading class (tag_of h.field) ≡ false → asks_at form class h ≡ false
 asks_not_plain form class h plain =
     ap (λ (o : Option Kind). if is_some h.tie.key then false else option_map_or (λ kind. is_form_among (asked_forms class kind h) form) o false) (no_kind class h.field plain) ∙ never (is_some h.tie.key)
   where
@@ -91,7 +92,7 @@ module _ (tables : CatalogueTables) (c : Contents) (distinct : AreDistinct (keys
   pub as_told : IsAsTold seat c
   as_told = by (field_of seat c.numbered) refl
     where
-      for : (h : KeptField) → field_of seat c.numbered ≡ Some h → (linked heading : Bool) → is_some h.tie.key ≡ linked → is_some (kind_of seat.class h.field) ≡ heading
+      for : (h : KeptField) → field_of seat c.numbered ≡ Some h → (linked heading : Bool) → is_some h.tie.key ≡ linked → can_be_heading seat.class (tag_of h.field) ≡ heading
           → HasNoOther (if linked then Link else if heading then Waiting else Nothing) seat c
       for h is true heading l k = free_wait (λ form. holds_by (asks_at form) (Some h) is ∙ asks_not_linked form seat.class h l)
       for h is false true l k = free_link (λ key. holds_by (linked_at key) (Some h) is ∙ linked_not key seat.class h l)
@@ -102,7 +103,7 @@ module _ (tables : CatalogueTables) (c : Contents) (distinct : AreDistinct (keys
 
       by : (o : Option KeptField) → field_of seat c.numbered ≡ o → HasNoOther (row_held seat.class o) seat c
       by None is = (free_link (λ key. holds_by (linked_at key) None is), free_wait (λ form. holds_by (asks_at form) None is))
-      by (Some h) is = for h is (is_some h.tie.key) (is_some (kind_of seat.class h.field)) refl refl
+      by (Some h) is = for h is (is_some h.tie.key) (can_be_heading seat.class (tag_of h.field)) refl refl
 
 -- ---- one row taken out is all
 

@@ -18,3 +18,6 @@ pub mod Holding
 pub mod Lent
 pub mod Stayed
 pub mod Rowed
+pub mod Swapping
+pub mod Heading
+pub mod Stood

@@ -2,8 +2,8 @@
 use Rattle.std.proofs.Common.{◌≡◌, ◌∙◌, sym, ap, refl, subst, ℕ, zero, suc, ◌+◌, ◌<◌, ◌≤◌, arith, List, [], ◌∷◌, ◌++◌, length, length-append, take, drop, Option}
 use Rattle.numbering.specs.declared.seat.Seat.{Seat}
 use Rattle.wait_table.specs.declared.waiting.Waiting.{Waiting}
-use Rattle.numbered_store.specs.Numbered.{Grows, Numbered, KeyNumbers, with_field_of, with_record}
-use Rattle.numbered_store.proofs.Growing.{field_put, record_put}
+use Rattle.numbered_store.specs.Numbered.{Grows, Numbered, KeyNumbers, with_record}
+use Rattle.numbered_store.proofs.Growing.{record_state}
 use Rattle.numbering.specs.Numbers.{Keeps}
 use Rattle.marc_types.specs.Order.{same_key}
 use Rattle.std.specs.List.{IsDistinct}
@@ -13,7 +13,7 @@ use Rattle.catalogue_tables.proofs.WaysBack.{way_stays}
 use Rattle.catalogue_tables.proofs.Followed.{tells_rows_kept}
 use Rattle.catalogue_rules.specs.State.{State, linkable_authorities}
 use Rattle.catalogue_tables.specs.Seam.{AreDistinct, KeysKeep}
-use Rattle.linked_store.specs.Contents.{CanGoBack, Contents, CanReturn, Fits, Step, ToField, ToIndex, ToLink, ToRecord, ToWait, apply, apply_back, at_seat}
+use Rattle.linked_store.specs.Contents.{CanGoBack, Contents, CanReturn, Fits, Step, ToIndex, ToLink, ToRecord, ToWait, apply, apply_back, at_seat}
 use Rattle.linked_store.specs.Frames.{FormsKeep, GoesBack, GoesOn, IsKept, IsRoomy, StaysButHeld, contents, steps_of}
 use Rattle.catalogue_tables.specs.declared.tables.CatalogueTables.{CatalogueTables}
 use Rattle.linked_store.proofs.Framed.{forms_same}
@@ -49,11 +49,8 @@ state_grown c d s t grows same = record {
 
 step_grown : (step : Step) (c d : Contents) → GrowsTo c d → Fits step c → Fits step d × GrowsTo (apply step c) (apply step d)
 step_grown (ToRecord class number r) c d grows fits =
-    let same = record_put c.numbered d.numbered grows.numbered class number r fits in
+    let same = record_state c.numbered d.numbered grows.numbered class number r fits in
     (grows.numbered.longer class number fits, state_grown c d (with_record class number r c.numbered).state (with_record class number r d.numbered).state grows same)
-step_grown (ToField seat h) c d grows fits =
-    let both = field_put c.numbered d.numbered grows.numbered seat h fits in
-    (both.0, state_grown c d (with_field_of seat h c.numbered).state (with_field_of seat h d.numbered).state grows both.1)
 step_grown (ToIndex number row) c d grows fits =
     let here : CanReturn d.numbered.keys.authorities number row c.index = record {
       known = let low : number < length c.numbered.keys.authorities = fits.known in let long = grows.keep.longer in omega (arith, low, long);
@@ -89,7 +86,6 @@ back_grown (step ∷ steps) c d grows can =
 
 keys_step : (step : Step) (c : Contents) → (apply step c).numbered.keys ≡ c.numbered.keys
 keys_step (ToRecord class number r) c = refl
-keys_step (ToField seat h) c = refl
 keys_step (ToIndex number row) c = refl
 keys_step (ToLink seat number) c = refl
 keys_step (ToWait seat waiting) c = refl

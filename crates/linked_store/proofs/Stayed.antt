@@ -1,29 +1,26 @@
 -- A field that stays linked to the same authority leaves all rows as they are.
-use Rattle.std.proofs.Common.{◌≡◌, ◌∙◌, sym, ap, refl, subst, ℕ, Bool, true, false, cond, List, Option, Some, None, IfSome, is_some}
-use Rattle.std.specs.Prelude.{slice_get, if◌then◌else◌}
+use Rattle.std.proofs.Common.{◌≡◌, ◌∙◌, sym, ap, refl, subst, ℕ, Bool, true, false, cond, Option, Some, None, IfSome, is_some}
+use Rattle.std.specs.Prelude.{unwrap_or, if◌then◌else◌}
 use Rattle.std.specs.List.{IsDistinct}
-use Rattle.std.specs.Option.{option_map, option_map_or}
+use Rattle.std.specs.Option.{option_map_or}
 use mathlib.Core.Bool.{false≢true}
-use Rattle.marc_types.specs.declared.entry.Kept.{Kept}
 use Rattle.marc_types.specs.declared.entry.Tie.{Tie}
-use Rattle.marc_types.specs.declared.field.Field.{Field}
 use Rattle.marc_types.specs.declared.key.Key.{Key}
 use Rattle.marc_types.specs.Order.{key_Decides, same_form, same_key}
 use Rattle.numbering.specs.Numbers.{number_of}
 use Rattle.numbering.specs.Seats.{same_seat, seat_Decides}
 use Rattle.numbering.specs.declared.seat.Seat.{Seat}
-use Rattle.heading_fields.specs.Tables.{kind_of}
-use Rattle.catalogue_rules.specs.State.{KeptField, kept_record}
+use Rattle.marc_types.specs.Fields.{tag_of}
+use Rattle.catalogue_rules.specs.State.{KeptField, new_tie}
 use Rattle.numbered_store.specs.Numbered.{field_of as field_by_number, with_field_of}
-use Rattle.record_store.proofs.Joined.{tie_at}
 use Rattle.link_table.specs.Links.{is_linked}
 use Rattle.linking_laws.specs.Partway.{IsSteady, swapped}
 use Rattle.linking_laws.specs.Tables.{linked_at}
 use Rattle.catalogue_tables.specs.Seam.{IsSeatOf, place_at}
 use Rattle.catalogue_tables.proofs.Seams.{seat_back}
-use Rattle.linked_store.specs.Contents.{Contents, ToField, apply, at_seat}
+use Rattle.linked_store.specs.Contents.{Contents, at_seat, with_field_in}
 use Rattle.linked_store.specs.Frames.{GoesOn, contents}
-use Rattle.linked_store.specs.Holding.{HasNoOther, row_held_for}
+use Rattle.linked_store.specs.Holding.{HasNoOther, can_be_heading, row_held_for}
 use Rattle.linked_store.specs.Linked.{IsAhead, Linked, SuitsSeat, field_of}
 use Rattle.linked_store.specs.Sound.{AgreesWith, IsSound, keys_of, linked_view, seen_links, state_in}
 use Rattle.linked_store.specs.Staying.{is_linked_alike, same_link}
@@ -40,21 +37,15 @@ use Rattle.linked_store.proofs.Wanting.{wants_linked}
 
 -- ---- the tie at a place
 
-alike_by : (tie : Tie) (o : Option KeptField) → option_map_or (λ (own : Tie). same_link own tie) (option_map (λ (h : KeptField). h.tie) o) false ≡ is_linked_alike tie o
-alike_by tie None = refl
-alike_by tie (Some h) = refl
+alike_some : (o : Option KeptField) (tie own : Tie) → own ≡ option_map_or (λ (h : KeptField). h.tie) o new_tie → same_link own tie ≡ is_linked_alike tie o
+alike_some None tie own is = ap (λ (t : Tie). same_link t tie) is
+alike_some (Some h) tie own is = ap (λ (t : Tie). same_link t tie) is
 
-alike_found : (kept : Kept) (i : ℕ) (tie : Tie) (own : Option Tie) → own ≡ slice_get kept.links i
-    → option_map_or (λ (t : Tie). same_link t tie) own false ≡ is_linked_alike tie (slice_get (kept_record kept).fields i)
-alike_found kept i tie own is =
-    ap (λ (o : Option Tie). option_map_or (λ (t : Tie). same_link t tie) o false) (is ∙ sym (tie_at kept i))
-    ∙ alike_by tie (slice_get (kept_record kept).fields i)
+pub alike_read : (o : Option KeptField) (tie own : Tie) → unwrap_or (Some own) new_tie ≡ option_map_or (λ (h : KeptField). h.tie) o new_tie → same_link own tie ≡ is_linked_alike tie o
+alike_read o tie own is = alike_some o tie own is
 
-pub alike_read : (kept : Kept) (i : ℕ) (tie own : Tie) → Some own ≡ slice_get kept.links i → same_link own tie ≡ is_linked_alike tie (slice_get (kept_record kept).fields i)
-alike_read kept i tie own is = alike_found kept i tie (Some own) is
-
-pub alike_off : (kept : Kept) (i : ℕ) (tie : Tie) → None ≡ slice_get kept.links i → false ≡ is_linked_alike tie (slice_get (kept_record kept).fields i)
-alike_off kept i tie is = alike_found kept i tie None is
+pub alike_off : (o : Option KeptField) (tie : Tie) → unwrap_or None new_tie ≡ option_map_or (λ (h : KeptField). h.tie) o new_tie → false ≡ is_linked_alike tie o
+alike_off o tie is = alike_some o tie new_tie is
 
 -- ---- the same key
 
@@ -93,7 +84,7 @@ itself_at {V} seat things s = by (same_seat seat s) refl
     by false e = refl
 
 module _ (f g : Frame) (marked : ℕ) (seat : Seat) (h : KeptField) (sound : IsSound f marked) (once : IsDistinct same_form f.tables.forms) (suits : SuitsSeat seat h (linked_view f marked))
-    (alike : is_linked_alike h.tie (field_of seat (linked_view f marked)) ≡ true) (goes : GoesOn f g) (now : contents g ≡ apply (ToField seat h) (contents f)) where
+    (alike : is_linked_alike h.tie (field_of seat (linked_view f marked)) ≡ true) (goes : GoesOn f g) (now : contents g ≡ with_field_in seat h (contents f)) where
   abbrev c : Contents
   c = contents f
 
@@ -114,7 +105,7 @@ module _ (f g : Frame) (marked : ℕ) (seat : Seat) (h : KeptField) (sound : IsS
       let told = as_told f.tables c sound.distinct once sound.now seat suits.known in
       let field : field_by_number seat f.store ≡ Some stands.was = field_there seat f.store suits.known ∙ stands.is in
       let told_link : HasNoOther (row_held_for seat.class stands.was) seat c = subst (λ (o : Option KeptField). HasNoOther (option_map_or (row_held_for seat.class) o Nothing) seat c) field told in
-      by (is_some stands.was.tie.key) (if is_some (kind_of seat.class stands.was.field) then Waiting else Nothing) linked_own told_link
+      by (is_some stands.was.tie.key) (if can_be_heading seat.class (tag_of stands.was.field) then Waiting else Nothing) linked_own told_link
     where
       by : (b : Bool) (other : RowHeld) → b ≡ true → HasNoOther (cond b Link other) seat c → c.waits seat ≡ None
       by true other e has = has
@@ -157,7 +148,7 @@ module _ (f g : Frame) (marked : ℕ) (seat : Seat) (h : KeptField) (sound : IsS
 
 -- how the exchange leaves the store, of which its caller saw this
 pub left_alike : (f g : Frame) (marked : ℕ) (seen : Linked) → linked_view f marked ≡ seen → IsSound f marked → (seat : Seat) (h : KeptField) → IsDistinct same_form f.tables.forms
-    → SuitsSeat seat h seen → is_linked_alike h.tie (field_of seat seen) ≡ true → GoesOn f g → contents g ≡ apply (ToField seat h) (contents f)
+    → SuitsSeat seat h seen → is_linked_alike h.tie (field_of seat seen) ≡ true → GoesOn f g → contents g ≡ with_field_in seat h (contents f)
     → IsLeft seen (swapped (place_at seen.keys seat) h seen.state) g marked
 left_alike f g marked seen view sound seat h once suits alike goes now =
     let suits_seat : SuitsSeat seat h (linked_view f marked) = subst (λ (x : Linked). SuitsSeat seat h x) (sym view) suits in

@@ -5,7 +5,7 @@ use Rattle.catalogue_rules.specs.State.{KeptField}
 use Rattle.numbered_store.specs.Numbered.{with_field_of}
 use Rattle.wait_table.specs.declared.waiting.Waiting.{Waiting}
 use Rattle.catalogue_tables.specs.declared.tables.CatalogueTables.{CatalogueTables}
-use Rattle.linked_store.specs.Contents.{Contents, ToField, ToLink, ToWait, apply, at_seat}
+use Rattle.linked_store.specs.Contents.{Contents, ToLink, ToWait, apply, at_seat, with_field_in}
 use Rattle.linked_store.specs.Frames.{contents}
 use Rattle.linked_store.specs.Turning.{turned}
 use Rattle.linked_store.specs.Turns.{HasRows, IsTurned, IsWaiting, IsWaitingOf, without_rows}
@@ -39,7 +39,7 @@ pub no_row_at : (seat : Seat) (c d : Contents) → d ≡ without_rows seat c →
 no_row_at seat c d is = ap (λ (x : Contents). x.waits seat) is ∙ gone_at seat None c.waits
 
 all_again : (seat : Seat) (h : KeptField) (link : Option ℕ) (waiting : Option Waiting) (c : Contents)
-    → apply (ToField seat h) (apply (ToWait seat waiting) (apply (ToLink seat link) (without_rows seat c))) ≡ turned seat h link waiting c
+    → with_field_in seat h (apply (ToWait seat waiting) (apply (ToLink seat link) (without_rows seat c))) ≡ turned seat h link waiting c
 all_again seat h link waiting c = λ i. record {
   numbered = with_field_of seat h c.numbered;
   index = c.index;
@@ -48,11 +48,11 @@ all_again seat h link waiting c = λ i. record {
 }
 
 pub turned_rows : (start without with_rows now : Frame) (seat : Seat) (h : KeptField) (link : Option ℕ) (row : Option Row) → contents without ≡ without_rows seat (contents start)
-    → HasRows seat link row without with_rows → now.tables ≡ with_rows.tables → contents now ≡ apply (ToField seat h) (contents with_rows) → IsTurned seat h link row start now
+    → HasRows seat link row without with_rows → now.tables ≡ with_rows.tables → contents now ≡ with_field_in seat h (contents with_rows) → IsTurned seat h link row start now
 turned_rows start without with_rows now seat h link row out rows tables is = record {
   waiting = rows.waiting;
   is = subst (λ (t : CatalogueTables). IsWaitingOf t.forms row rows.waiting) (sym tables) rows.is;
   now =
-      is ∙ ap (apply (ToField seat h)) rows.now ∙ ap (λ (c : Contents). apply (ToField seat h) (apply (ToWait seat rows.waiting) (apply (ToLink seat link) c))) out
+      is ∙ ap (with_field_in seat h) rows.now ∙ ap (λ (c : Contents). with_field_in seat h (apply (ToWait seat rows.waiting) (apply (ToLink seat link) c))) out
       ∙ all_again seat h link rows.waiting (contents start);
 }

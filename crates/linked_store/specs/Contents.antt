@@ -1,21 +1,22 @@
--- What changes in a linked store, and the steps that lead back: records and fields, the index of authorities, the link of each
+-- What changes in a linked store, and the steps that lead back: records, the index of authorities, the link of each
 -- seat, and what each seat waits for. Numbers of keys and forms are not taken back, and so they are no part of it.
-use Rattle.std.specs.Prelude.{ℕ, ◌+◌, ◌<◌, ◌≤◌, nat_eq, length, List, [], ◌∷◌, Option, None, Some, IsSome, ⊤, if◌then◌else◌}
+use Rattle.std.specs.Prelude.{ℕ, ◌+◌, ◌<◌, ◌≤◌, nat_eq, length, List, [], ◌∷◌, Option, None, Some, ⊤, if◌then◌else◌}
 use Rattle.std.specs.Option.{option_map}
 use Rattle.marc_types.specs.declared.key.Class.{Class}
 use Rattle.marc_types.specs.declared.key.Key.{Key}
 use Rattle.numbering.specs.declared.seat.Seat.{Seat}
 use Rattle.numbering.specs.Seats.{same_seat}
 use Rattle.place_names.specs.Counts.{brought}
-use Rattle.catalogue_rules.specs.State.{KeptField, KeptRecord, kept_field, kept_record}
-use Rattle.numbered_store.specs.Numbered.{Numbered, IsNumber, SuitsSeat, field_of, with_field_of, with_record}
+use Rattle.catalogue_rules.specs.State.{KeptField, KeptRecord}
+use Rattle.numbered_store.specs.Kept.{kept_record}
+use Rattle.numbered_store.specs.Numbered.{Numbered, IsNumber, with_field_of, with_record}
 use Rattle.link_table.specs.Links.{Links}
 use Rattle.wait_table.specs.Waits.{Waits, forms_of}
 use Rattle.wait_table.specs.declared.waiting.Waiting.{Waiting}
 use Rattle.form_index.specs.Index.{Indexed, IsInOrder, Taken}
 use Rattle.catalogue_tables.specs.Following.{CanRestore, restored, without_row}
 use Rattle.linked_store.specs.declared.change.Change.{Change}
-use Rattle.linked_store.specs.declared.change.Change.TheVariants.{Exchanged, Swapped, Followed, Relinked, Awaited}
+use Rattle.linked_store.specs.declared.change.Change.TheVariants.{Exchanged, Followed, Relinked, Awaited}
 
 pub record Contents : Type 0 where
   pub numbered : Numbered
@@ -27,18 +28,16 @@ pub record Contents : Type 0 where
 abbrev pub at_seat : {V : Type 0} → Seat → Option V → (Seat → Option V) → Seat → Option V
 at_seat one thing things seat = if same_seat one seat then thing else things seat
 
--- back to a record, or to none, under a number; to a field and its tie at a seat; to an authority's row in the index, or to none,
+-- back to a record, or to none, under a number; to an authority's row in the index, or to none,
 -- under a number; to a link, or to none; to what the seat waited for, or to nothing
 pub data Step : Type 0 where
   ToRecord : Class → ℕ → Option KeptRecord → Step
-  ToField : Seat → KeptField → Step
   ToIndex : ℕ → Option Taken → Step
   ToLink : Seat → Option ℕ → Step
   ToWait : Seat → Option Waiting → Step
 
 abbrev pub step_of : Change → Step
 step_of (Exchanged class number before) = ToRecord class number (option_map kept_record before)
-step_of (Swapped seat field tie) = ToField seat (kept_field field tie)
 step_of (Followed number before) = ToIndex number before
 step_of (Relinked seat before) = ToLink seat before
 step_of (Awaited seat before) = ToWait seat before
@@ -50,7 +49,6 @@ apply (ToRecord class number r) c = record {
   links = c.links;
   waits = c.waits;
 }
-apply (ToField seat h) c = record { numbered = with_field_of seat h c.numbered; index = c.index; links = c.links; waits = c.waits }
 apply (ToIndex number row) c = record {
   numbered = c.numbered;
   index = restored c.numbered.keys.authorities number row c.index;
@@ -59,6 +57,10 @@ apply (ToIndex number row) c = record {
 }
 apply (ToLink seat number) c = record { numbered = c.numbered; index = c.index; links = at_seat seat number c.links; waits = c.waits }
 apply (ToWait seat waiting) c = record { numbered = c.numbered; index = c.index; links = c.links; waits = at_seat seat waiting c.waits }
+
+-- another field and tie at a seat
+abbrev pub with_field_in : Seat → KeptField → Contents → Contents
+with_field_in seat h c = record { numbered = with_field_of seat h c.numbered; index = c.index; links = c.links; waits = c.waits }
 
 -- the row that was taken can come back in place of the one under the number
 pub record CanReturn (keys : List Key) (number : ℕ) (row : Option Taken) (x : Indexed) : Type 0 where
@@ -70,7 +72,6 @@ pub record CanReturn (keys : List Key) (number : ℕ) (row : Option Taken) (x : 
 -- the step can be taken
 abbrev pub Fits : Step → Contents → Type 0
 Fits (ToRecord class number r) c = IsNumber class number c.numbered
-Fits (ToField seat h) c = IsSome (field_of seat c.numbered) × SuitsSeat seat h.field c.numbered
 Fits (ToIndex number row) c = CanReturn c.numbered.keys.authorities number row c.index
 Fits (ToLink seat number) c = ⊤
 Fits (ToWait seat waiting) c = ⊤
@@ -93,7 +94,6 @@ one_at one seat = if same_seat one seat then 1 else 0
 -- what a step puts back at a seat: of links, of links to a key, of rows, of rows for a form and for a key
 abbrev pub link_rooms : Step → Seat → ℕ
 link_rooms (ToRecord class number r) seat = 0
-link_rooms (ToField at h) seat = 0
 link_rooms (ToIndex number row) seat = 0
 link_rooms (ToLink at None) seat = 0
 link_rooms (ToLink at (Some number)) seat = one_at at seat
@@ -101,7 +101,6 @@ link_rooms (ToWait at waiting) seat = 0
 
 abbrev pub key_rooms : Step → ℕ → Seat → ℕ
 key_rooms (ToRecord class number r) n seat = 0
-key_rooms (ToField at h) n seat = 0
 key_rooms (ToIndex number row) n seat = 0
 key_rooms (ToLink at None) n seat = 0
 key_rooms (ToLink at (Some number)) n seat = if same_seat at seat then (if nat_eq number n then 1 else 0) else 0
@@ -109,7 +108,6 @@ key_rooms (ToWait at waiting) n seat = 0
 
 abbrev pub wait_rooms : Step → Seat → ℕ
 wait_rooms (ToRecord class number r) seat = 0
-wait_rooms (ToField at h) seat = 0
 wait_rooms (ToIndex number row) seat = 0
 wait_rooms (ToLink at number) seat = 0
 wait_rooms (ToWait at None) seat = 0
@@ -117,7 +115,6 @@ wait_rooms (ToWait at (Some waiting)) seat = one_at at seat
 
 abbrev pub form_rooms : Step → ℕ → Seat → ℕ
 form_rooms (ToRecord class number r) n seat = 0
-form_rooms (ToField at h) n seat = 0
 form_rooms (ToIndex number row) n seat = 0
 form_rooms (ToLink at number) n seat = 0
 form_rooms (ToWait at None) n seat = 0
@@ -125,7 +122,6 @@ form_rooms (ToWait at (Some waiting)) n seat = brought nat_eq same_seat (forms_o
 
 abbrev pub name_rooms : Step → ℕ → Seat → ℕ
 name_rooms (ToRecord class number r) n seat = 0
-name_rooms (ToField at h) n seat = 0
 name_rooms (ToIndex number row) n seat = 0
 name_rooms (ToLink at number) n seat = 0
 name_rooms (ToWait at None) n seat = 0

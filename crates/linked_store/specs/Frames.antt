@@ -14,7 +14,7 @@ use Rattle.wait_table.specs.Table.{waits}
 use Rattle.wait_table.specs.declared.waiting.Waiting.{Waiting}
 use Rattle.catalogue_tables.specs.Waiting.{AreNumbersOf}
 use Rattle.catalogue_tables.specs.declared.tables.CatalogueTables.{CatalogueTables}
-use Rattle.linked_store.specs.Contents.{CanGoBack, Contents, HaveRooms, Step, ToRecord, ToField, ToIndex, ToLink, ToWait, apply, apply_back, step_of}
+use Rattle.linked_store.specs.Contents.{CanGoBack, Contents, HaveRooms, Step, ToRecord, ToIndex, ToLink, ToWait, apply, apply_back, step_of}
 use Rattle.linked_store.specs.Rooms.{IsOut, IsWaitOut}
 use Rattle.linked_store.specs.declared.frame.Frame.{Frame}
 
@@ -67,7 +67,6 @@ pub record WaitsNow (seat : Seat) (asked : List Form) (keys : List ℕ) (old new
 -- the row that a step puts back is out
 abbrev pub IsRowOut : Step → CatalogueTables → Type 0
 IsRowOut (ToRecord class number r) tables = ⊤
-IsRowOut (ToField seat h) tables = ⊤
 IsRowOut (ToIndex number row) tables = ⊤
 IsRowOut (ToLink seat number) tables = IsOut seat number (links_in tables)
 IsRowOut (ToWait seat waiting) tables = IsWaitOut seat waiting (waits_in tables)

@@ -1,9 +1,13 @@
 -- Which of the two tables can have a row of a seat: the field that stands there tells.
-use Rattle.std.specs.Prelude.{◌≡◌, ℕ, Option, None, is_some, if◌then◌else◌}
+use Rattle.std.specs.Prelude.{◌≡◌, ℕ, ◌==◌, ◌||◌, ◌&&◌, Bool, Option, None, is_some, if◌then◌else◌}
 use Rattle.std.specs.Option.{option_map_or}
 use Rattle.marc_types.specs.declared.key.Class.{Class}
+use Rattle.marc_types.specs.declared.key.Class.TheVariants.{Authority, Bibliographic}
 use Rattle.numbering.specs.declared.seat.Seat.{Seat}
-use Rattle.heading_fields.specs.Tables.{kind_of}
+use Rattle.heading_fields.specs.Tables.{any_kind}
+use Rattle.marc_types.specs.Fields.{tag_of}
+use Rattle.marc_types.specs.declared.entry.Tie.{Tie}
+use Rattle.marc_types.specs.declared.field.Tag.{Tag}
 use Rattle.catalogue_rules.specs.State.{KeptField}
 use Rattle.numbered_store.specs.Numbered.{field_of}
 use Rattle.linked_store.specs.Contents.{Contents}
@@ -11,9 +15,21 @@ use Rattle.linked_store.specs.Placing.{seat_in}
 use Rattle.linked_store.specs.declared.held.RowHeld.{RowHeld}
 use Rattle.linked_store.specs.declared.held.RowHeld.TheVariants.{Link, Waiting, Nothing}
 
+-- the first characters of headings' tags
+abbrev pub begins_heading : Class → ℕ → Bool
+begins_heading Authority a = a == 53
+begins_heading Bibliographic a = (a == 54) || ((a == 49) || ((a == 55) || (a == 56)))
+
+-- a field with the tag can be a heading: it begins as a heading's, and ends as that of a kind
+abbrev pub can_be_heading : Class → Tag → Bool
+can_be_heading class tag = begins_heading class tag.a && is_some (any_kind tag.b tag.c)
+
 -- a linked field has its link, an unlinked one with a heading's tag can wait, and any other has nothing
+abbrev pub row_held_by : Class → Tag → Tie → RowHeld
+row_held_by class tag tie = if is_some tie.key then Link else if can_be_heading class tag then Waiting else Nothing
+
 abbrev pub row_held_for : Class → KeptField → RowHeld
-row_held_for class h = if is_some h.tie.key then Link else if is_some (kind_of class h.field) then Waiting else Nothing
+row_held_for class h = row_held_by class (tag_of h.field) h.tie
 
 -- where no field stands there is nothing
 abbrev pub row_held : Class → Option KeptField → RowHeld

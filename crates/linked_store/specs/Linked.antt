@@ -11,7 +11,7 @@ use Rattle.heading_fields.specs.Tables.{is_subdividable}
 use Rattle.numbering.specs.declared.seat.Seat.{Seat}
 use Rattle.catalogue_rules.specs.State.{KeptField, KeptRecord, State, empty_state}
 use Rattle.catalogue_rules.specs.Receipt.{kept_under}
-use Rattle.record_store.specs.Store.{StaysRecord, field_under}
+use Rattle.record_store.specs.Store.{StaysFit, StaysRecord, field_under}
 use Rattle.linking_laws.specs.Partway.{IsSteady}
 use Rattle.linking_laws.specs.Tables.{IsListing}
 use Rattle.form_index.specs.Order.{key_at}
@@ -65,12 +65,13 @@ pub record IsUnchanged (old new : Linked) : Type 0 where
   pub ahead : IsAhead old new
   pub state : new.state ≡ old.state
 
--- A field and a tie may come to the seat: a field stands there, its record stays one, an authority keeps its heading and its
--- tracings, and only a field that takes subdivisions is whole.
+-- A field and a tie may come to the seat: a field stands there, its record stays one and fits its written form, an authority keeps
+-- its heading and its tracings, and only a field that takes subdivisions is whole.
 pub record SuitsSeat (seat : Seat) (h : KeptField) (x : Linked) : Type 0 where
   pub known : HasKey x.keys seat
   pub stands : IsSome (field_of seat x)
   pub stays : IfSome (record_at seat.class seat.number x) (StaysRecord seat.field h.field)
+  pub fits : IfSome (record_at seat.class seat.number x) (StaysFit seat.field h.field)
   pub steady : seat.class ≡ Authority → IfSome (field_of seat x) (λ old. IsSteady old h)
   pub whole : h.tie.whole ≡ true → is_subdividable seat.class (tag_of h.field) ≡ true
 

@@ -1,9 +1,9 @@
 //! The way back: the last changes are taken back, or let go, one by one and without memory.
-ghost use Rattle.std.specs.Prelude.{◌≡◌, ◌≤◌, ◌++◌, ◌∷◌, [], length, IsSome, IfSome, IfNone};
+ghost use Rattle.std.specs.Prelude.{◌≡◌, ◌≤◌, ◌++◌, ◌∷◌, [], length, IfSome, IfNone};
 ghost use Rattle.std.specs.Option.{option_map};
-ghost use Rattle.catalogue_rules.specs.State.{kept_field, kept_record};
-ghost use Rattle.numbered_store.specs.Numbered.{IsNumber, SuitsSeat, field_of};
-ghost use Rattle.linked_store.specs.Contents.{CanGoBack, Fits, ToField, ToIndex, ToLink, ToRecord, ToWait, step_of};
+ghost use Rattle.numbered_store.specs.Kept.{kept_record};
+ghost use Rattle.numbered_store.specs.Numbered.{IsNumber};
+ghost use Rattle.linked_store.specs.Contents.{CanGoBack, Fits, ToIndex, ToLink, ToRecord, ToWait, step_of};
 ghost use Rattle.linked_store.specs.Frames.{GoesBack, IsInSomeOrder, IsKept, IsRoomy, IsRowOut, KeepsRows, LetsGo, TakesBack, contents, links_in, steps_of, waits_in};
 ghost use Rattle.linked_store.specs.Rooms.{IsOut, IsWaitOut};
 
@@ -12,7 +12,8 @@ use crate::frame::Frame;
 use crate::rows::{forget_link, forget_waiting, relink, wait_again};
 use catalogue_tables::CatalogueTables;
 use form_index::FormRow;
-use marc_types::{Class, Field, Kept, Tie};
+use marc_types::Class;
+use numbered_store::Kept;
 use numbering::Seat;
 use wait_table::Waiting;
 
@@ -63,7 +64,6 @@ fn undo(frame: &mut Frame, change: Change)
             number,
             before,
         } => exchange_back(frame, class, number, before),
-        Change::Swapped { seat, field, tie } => swap_back(frame, seat, field, tie),
         Change::Followed { number, before } => index_back(frame, number, before),
         Change::Relinked { seat, before } => link_back(frame, seat, before),
         Change::Awaited { seat, before } => wait_back(frame, seat, before),
@@ -75,14 +75,6 @@ fn exchange_back(frame: &mut Frame, class: Class, number: u32, before: Option<Ke
     ensures { TakesBack (ToRecord class number (option_map kept_record before)) frame.old frame.new }
 {
     let _after = frame.store.exchange(class, number, before);
-}
-
-fn swap_back(frame: &mut Frame, seat: Seat, field: Field, tie: Tie)
-    requires stands { IsSome (field_of seat frame.old.store) }
-    requires suits { SuitsSeat seat field frame.old.store }
-    ensures { TakesBack (ToField seat (kept_field field tie)) frame.old frame.new }
-{
-    let _after = frame.store.swap(seat, field, tie);
 }
 
 fn index_back(frame: &mut Frame, number: u32, before: Option<FormRow>)
@@ -129,7 +121,6 @@ fn forget(tables: &mut CatalogueTables, change: Change)
 {
     match change {
         Change::Exchanged { .. } => {}
-        Change::Swapped { .. } => {}
         Change::Followed { before, .. } => forget_row(tables, before),
         Change::Relinked { seat, before } => forget_link(tables, seat, before),
         Change::Awaited { seat, before } => forget_waiting(tables, seat, before),

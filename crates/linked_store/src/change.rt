@@ -1,5 +1,6 @@
 use form_index::FormRow;
-use marc_types::{Class, Field, Kept, Tie};
+use marc_types::Class;
+use numbered_store::Kept;
 use numbering::Seat;
 use wait_table::Waiting;
 
@@ -10,11 +11,6 @@ pub(crate) enum Change {
         class: Class,
         number: u32,
         before: Option<Kept>,
-    },
-    Swapped {
-        seat: Seat,
-        field: Field,
-        tie: Tie,
     },
     Followed {
         number: u32,

@@ -33,7 +33,7 @@ impl LinkedStore {
         ensures ahead { IsAhead self.old self.new }
     {
         if self.is_linked_alike(seat, &tie) {
-            return self.exchange_alike(seat, field, tie);
+            return self.exchange_alike(alloc, seat, field, tie);
         }
         let wanted = wants_of(alloc, seat.class, &field, &tie)?;
         let link = self.link_number(alloc, &tie)?;

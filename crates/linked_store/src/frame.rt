@@ -2,11 +2,12 @@
 ghost use Rattle.std.specs.Prelude.{◌≡◌, OnOk, IsSome, None, Some};
 ghost use Rattle.std.specs.Option.{option_copied, option_map};
 ghost use Rattle.marc_types.specs.declared.key.Class.TheVariants.{Authority as AnAuthority};
-ghost use Rattle.catalogue_rules.specs.State.{kept_field, kept_record};
+ghost use Rattle.catalogue_rules.specs.State.{kept_field};
 ghost use Rattle.form_index.specs.Index.{IsInOrder};
 ghost use Rattle.catalogue_tables.specs.Waiting.{one_or_two};
+ghost use Rattle.numbered_store.specs.Kept.{kept_record};
 ghost use Rattle.numbered_store.specs.Numbered.{IsNumber, SuitsSeat, field_of};
-ghost use Rattle.linked_store.specs.Contents.{ToField, ToLink, ToRecord, ToWait, apply};
+ghost use Rattle.linked_store.specs.Contents.{ToLink, ToRecord, ToWait, apply, with_field_in};
 ghost use Rattle.linked_store.specs.Placing.{IsFollowed};
 ghost use Rattle.linked_store.specs.Frames.{GoesOn, WaitsNow, contents};
 
@@ -15,8 +16,8 @@ use crate::rows::{take_link, take_waiting};
 use catalogue_tables::CatalogueTables;
 use entry_record::Preparation;
 use link_table::Link;
-use marc_types::{Class, Field, Form, Kept, NoMemory, Sequence, Tie};
-use numbered_store::NumberedStore;
+use marc_types::{Class, Field, Form, NoMemory, Sequence, Tie};
+use numbered_store::{Kept, NumberedStore};
 use numbering::Seat;
 use std::alloc::Global;
 
@@ -28,18 +29,25 @@ pub(crate) struct Frame {
 }
 
 impl Frame {
-    /// Exchanges a field and its tie.
-    pub(crate) fn swap(&mut self, seat: Seat, field: Field, tie: Tie) -> Result<(), NoMemory>
+    /// Exchanges a field and its tie: the record is written anew with them, and comes in place of the one that stands there.
+    pub(crate) fn swap(
+        &mut self,
+        alloc: Global,
+        seat: Seat,
+        field: &Field,
+        tie: Tie,
+    ) -> Result<(), NoMemory>
         requires stands { IsSome (field_of seat self.old.store) }
-        requires suits { SuitsSeat seat field self.old.store }
-        ensures now { OnOk result (contents self.new ≡ apply (ToField seat (kept_field field tie)) (contents self.old)) }
+        requires suits { SuitsSeat seat field.now self.old.store }
+        ensures now { OnOk result (contents self.new ≡ with_field_in seat (kept_field field.now tie) (contents self.old)) }
         ensures goes { GoesOn self.old self.new }
         ensures tables { self.new.tables ≡ self.old.tables }
     {
-        self.log.reserve(1)?;
-        let (field, tie) = self.store.swap(seat, field, tie);
-        self.log.push_reserved(Change::Swapped { seat, field, tie });
-        Ok(())
+        self.store.a_field_changes_with_its_record();
+        // a record stands there, since a field stands at the seat
+        let kept = self.store.look(seat.class, seat.number).unwrap();
+        let kept = kept.with_field(alloc, seat.field, field, tie)?;
+        self.exchange(seat.class, seat.number, Some(kept))
     }
 
     /// Exchanges a record, or none.

@@ -1,14 +1,17 @@
 //! Which of the two tables can have a row of a seat, as the field tells that stands there.
-ghost use Rattle.std.specs.Prelude.{◌≡◌, option_map, slice_get};
+ghost use Rattle.std.specs.Prelude.{◌≡◌, is_some, unwrap_or};
 ghost use Rattle.std.specs.Option.{option_copied};
-ghost use Rattle.catalogue_rules.specs.State.{kept_field, kept_record};
+ghost use Rattle.heading_fields.specs.Tables.{any_kind};
+ghost use Rattle.catalogue_rules.specs.State.{new_tie};
+ghost use Rattle.numbered_store.specs.Kept.{kept_record};
 ghost use Rattle.numbered_store.specs.Numbered.{field_of};
 ghost use Rattle.record_store.specs.Store.{field_at};
-ghost use Rattle.linked_store.specs.Holding.{row_held, row_held_for};
+ghost use Rattle.linked_store.specs.Holding.{begins_heading, can_be_heading, row_held, row_held_by};
 
 use crate::frame::Frame;
-use heading_fields::heading_kind;
-use marc_types::{Class, Field, Kept, Tie};
+use heading_fields::authority_kind;
+use marc_types::{Class, Tag, Tie};
+use numbered_store::Kept;
 use numbering::Seat;
 
 /// The row that a seat can have.
@@ -31,42 +34,64 @@ impl Frame {
     }
 }
 
-// The row of the field at a place of a record.
+/// The row of the field at a place of a record.
 #[tactic(auto, using(crate::proofs::Holding::held_read, crate::proofs::Holding::held_off))]
-fn row_held_in(class: Class, kept: &Kept, place: u32) -> RowHeld
+pub(crate) fn row_held_in(class: Class, kept: &Kept, place: u32) -> RowHeld
     ensures { result ≡ row_held class (field_at place (kept_record kept.now)) }
 {
-    match at(kept.rec.fields.as_slice(), place) {
-        Some(field) => row_held_with(class, field, at(kept.links.as_slice(), place)),
-        None => RowHeld::Nothing,
-    }
-}
-
-/// What stands at a place, if anything does.
-pub(crate) fn at<T>(items: &[T], place: u32) -> Option<&T>
-    ensures { option_copied result ≡ slice_get items.now place }
-{
-    items.get(place as usize)
-}
-
-fn row_held_with(class: Class, field: &Field, tie: Option<&Tie>) -> RowHeld
-    ensures { result ≡ row_held class (option_map (kept_field field.now) (option_copied tie.entry)) }
-{
-    match tie {
-        Some(tie) => row_held_for(class, field, tie),
+    match kept.tag_at(place) {
+        Some(tag) => row_held_with(class, &tag, kept.tie_at(place)),
         None => RowHeld::Nothing,
     }
 }
 
 // A linked field has a link, and an unlinked one with the tag of a heading can wait.
-fn row_held_for(class: Class, field: &Field, tie: &Tie) -> RowHeld
-    ensures { result ≡ row_held_for class (kept_field field.now tie.now) }
+fn row_held_with(class: Class, tag: &Tag, tie: Option<&Tie>) -> RowHeld
+    ensures { result ≡ row_held_by class tag.now (unwrap_or (option_copied tie.entry) new_tie) }
 {
-    if tie.key.is_some() {
+    if is_link(tie) {
         return RowHeld::Link;
     }
-    match heading_kind(field, class) {
-        Some(_) => RowHeld::Waiting,
-        None => RowHeld::Nothing,
+    if can_be_heading(tag, class) {
+        return RowHeld::Waiting;
     }
+    RowHeld::Nothing
+}
+
+fn is_link(tie: Option<&Tie>) -> bool
+    ensures { result ≡ is_some (unwrap_or (option_copied tie.entry) new_tie).key }
+{
+    match tie {
+        Some(tie) => tie.key.is_some(),
+        None => false,
+    }
+}
+
+/// Whether a field with the tag can be a heading in a record of the class: no other one is decoded to be settled.
+pub fn can_be_heading(tag: &Tag, class: Class) -> bool
+    ensures { result ≡ can_be_heading class tag.now }
+{
+    begins_heading(tag.a, class) && has_kind(tag)
+}
+
+fn begins_heading(first: u8, class: Class) -> bool
+    ensures { result ≡ begins_heading class first }
+{
+    match class {
+        Class::Authority => first == b'5',
+        Class::Bibliographic => matches!(first, b'6' | b'1' | b'7' | b'8'),
+    }
+}
+
+// Whether a tag ends as that of a kind.
+#[tactic(auto, unfolding(heading_fields::specs::Tables::authority_kind_of))]
+fn has_kind(tag: &Tag) -> bool
+    ensures { result ≡ is_some (any_kind tag.now.b tag.now.c) }
+{
+    let heading = Tag {
+        a: b'1',
+        b: tag.b,
+        c: tag.c,
+    };
+    authority_kind(&heading).is_some()
 }

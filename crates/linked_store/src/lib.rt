@@ -2,6 +2,7 @@
 //! with its records, and which can go back to what it was.
 #![tactic(auto)]
 
+pub use held::can_be_heading;
 pub use store::LinkedStore;
 
 mod back;

@@ -1,11 +1,12 @@
 //! A record that comes into its place, with its rows in the tables.
-ghost use Rattle.std.specs.Prelude.{◌≡◌, ◌≤◌, ◌++◌, length, map, slice_get, IfOk, OnOk, OnErr};
+ghost use Rattle.std.specs.Prelude.{◌≡◌, ◌≤◌, ◌++◌, length, slice_get, IfOk, IsTrue, OnOk, OnErr};
 ghost use Rattle.std.specs.Option.{option_map};
 ghost use Rattle.marc_types.specs.Order.{same_key};
 ghost use Rattle.numbering.specs.Numbers.{IsNumberOf};
+ghost use Rattle.iso2709_record.specs.Written.{fits};
 ghost use Rattle.catalogue_tables.specs.Seam.{keys_in};
 ghost use Rattle.catalogue_rules.specs.Settle.{arrival_of};
-ghost use Rattle.catalogue_rules.specs.State.{kept_record, new_record, new_tie};
+ghost use Rattle.numbered_store.specs.Kept.{kept_record};
 ghost use Rattle.linking_laws.specs.Commits.{placed_by};
 ghost use Rattle.linking_laws.specs.Partway.{HasAtMost};
 ghost use Rattle.linked_store.specs.Linked.{IsAhead, IsNumber, IsUnchanged, key_of};
@@ -19,8 +20,10 @@ use crate::store::LinkedStore;
 use crate::turns::LentRow;
 use crate::wanted::named;
 use entry_record::Preparation;
-use marc_types::{Class, Field, Kept, Links, NoMemory, Record, Tie};
+use marc_types::{Class, Field, NoMemory, Record, Tie};
+use numbered_store::Kept;
 use std::alloc::Global;
+use written_record::WrittenRecord;
 
 // A record comes in with no link, no field whole, and nothing awaited.
 const NEW_TIE: Tie = Tie {
@@ -40,6 +43,7 @@ impl LinkedStore {
         item: &Preparation,
     ) -> Result<(), NoMemory>
         requires own { rec ≡ item.now.rec }
+        requires fit { IsTrue (fits item.now.rec.fields) }
         requires number { IsNumberOf same_key (keys_in item.now.class self.old.keys) item.now.key number }
         ensures ok { OnOk result (self.new.state ≡ placed_by item.now.class self.old.state item.now) }
         ensures err { OnErr result (self.new.state ≡ self.old.state) }
@@ -77,7 +81,7 @@ impl LinkedStore {
         ensures { HasAtMost class (key_of class number self.now.keys) result self.now.state }
     {
         match self.look(class, number) {
-            Some(kept) => kept.rec.fields.len() as u32,
+            Some(kept) => kept.field_count(),
             None => 0,
         }
     }
@@ -170,29 +174,13 @@ fn brought<'r>(rec: &'r Record, item: &Preparation) -> &'r [Field]
 
 // The record that an entry brings, as it is kept; a deletion brings none.
 fn kept_of(alloc: Global, rec: Record, item: &Preparation) -> Result<Option<Kept>, NoMemory>
-    requires { rec ≡ item.now.rec }
+    requires own { rec ≡ item.now.rec }
+    requires fit { IsTrue (fits item.now.rec.fields) }
     ensures { IfOk result (λ kept. option_map kept_record kept ≡ record_brought (arrival_of item.now)) }
 {
     if item.is_deletion() {
         return Ok(None);
     }
-    let kept = incoming(alloc, rec)?;
-    Ok(Some(kept))
-}
-
-fn incoming(alloc: Global, rec: Record) -> Result<Kept, NoMemory>
-    ensures { IfOk result (λ kept. kept_record kept ≡ new_record rec.leader rec.fields) }
-{
-    let links = new_ties(alloc, rec.fields.as_slice())?;
-    Ok(Kept { rec, links })
-}
-
-fn new_ties(alloc: Global, fields: &[Field]) -> Result<Links, NoMemory>
-    ensures { IfOk result (λ ties. ties ≡ map (λ field. new_tie) fields.now) }
-{
-    let mut ties = Vec::with_capacity(alloc, fields.len())?;
-    for _field in fields {
-        ties.push(NEW_TIE)?;
-    }
-    Ok(Links::from_vec(ties))
+    let written = WrittenRecord::of(alloc, &rec)?;
+    Ok(Some(Kept::new(written)))
 }

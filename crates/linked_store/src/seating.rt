@@ -2,7 +2,7 @@
 ghost use Rattle.std.specs.Prelude.{◌≡◌, OnOk, []};
 ghost use Rattle.std.specs.Option.{option_map};
 ghost use Rattle.catalogue_rules.specs.Settle.{arrival_of};
-ghost use Rattle.catalogue_rules.specs.State.{kept_record};
+ghost use Rattle.numbered_store.specs.Kept.{kept_record};
 ghost use Rattle.form_index.specs.Index.{IsInOrder};
 ghost use Rattle.numbered_store.specs.Numbered.{IsNumber};
 ghost use Rattle.linked_store.specs.Frames.{GoesOn, contents};
@@ -12,7 +12,8 @@ ghost use Rattle.linked_store.specs.Placing.{AreApart, AreFreeFrom, HaveRows, In
 use crate::frame::Frame;
 use crate::turns::LentRow;
 use entry_record::Preparation;
-use marc_types::{Class, Kept, NoMemory};
+use marc_types::{Class, NoMemory};
+use numbered_store::Kept;
 use numbering::Seat;
 use std::alloc::Global;
 

@@ -1,8 +1,9 @@
 //! A field that comes in place of one that is linked to the same authority: it waits for nothing either, and so all rows stay.
 ghost use Rattle.std.specs.Prelude.{◌≡◌, true, OnOk, OnErr};
-ghost use Rattle.catalogue_rules.specs.State.{kept_field, kept_record};
+ghost use Rattle.catalogue_rules.specs.State.{kept_field};
 ghost use Rattle.catalogue_tables.specs.Seam.{HasKey, place_at};
 ghost use Rattle.linking_laws.specs.Partway.{swapped};
+ghost use Rattle.numbered_store.specs.Kept.{kept_record};
 ghost use Rattle.numbered_store.specs.Numbered.{field_of as field_by_number};
 ghost use Rattle.record_store.specs.Store.{field_at};
 ghost use Rattle.linked_store.specs.Linked.{IsAhead, SuitsSeat, field_of};
@@ -10,10 +11,11 @@ ghost use Rattle.linked_store.specs.Staying.{is_linked_alike, same_link};
 
 use crate::back::go_back;
 use crate::frame::Frame;
-use crate::held::at;
 use crate::store::LinkedStore;
-use marc_types::{Field, Kept, NoMemory, Tie};
+use marc_types::{Field, NoMemory, Tie};
+use numbered_store::Kept;
 use numbering::Seat;
+use std::alloc::Global;
 
 impl LinkedStore {
     /// Whether the field at a seat is linked to the key to which a tie links another.
@@ -27,6 +29,7 @@ impl LinkedStore {
     /// Puts a field and its tie at a seat where a field stands that is linked to the same key.
     pub(crate) fn exchange_alike(
         &mut self,
+        alloc: Global,
         seat: Seat,
         field: Field,
         tie: Tie,
@@ -39,7 +42,7 @@ impl LinkedStore {
     {
         self.frame.tables.each_form_has_one_number();
         let position = self.frame.log.len();
-        if let Err(error) = self.frame.swap(seat, field, tie) {
+        if let Err(error) = self.frame.swap(alloc, seat, &field, tie) {
             go_back(&mut self.frame, position);
             return Err(error);
         }
@@ -62,7 +65,7 @@ impl Frame {
 fn is_linked_alike_in(kept: &Kept, place: u32, tie: &Tie) -> bool
     ensures { result ≡ is_linked_alike tie.now (field_at place (kept_record kept.now)) }
 {
-    match at(kept.links.as_slice(), place) {
+    match kept.tie_at(place) {
         Some(own) => has_same_link(own, tie),
         None => false,
     }

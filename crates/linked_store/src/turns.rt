@@ -48,7 +48,7 @@ impl Frame {
     {
         self.take_rows(seat)?;
         self.put_rows(alloc, seat, link, row)?;
-        self.swap(seat, field, tie)
+        self.swap(alloc, seat, &field, tie)
     }
 
     /// Takes the seat's link out, or all that it waits for: what the field there tells.

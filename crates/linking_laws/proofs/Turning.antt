@@ -1,6 +1,6 @@
 -- One turn of a stage: a field is exchanged at one place, and the state is still one between stages.
 use Rattle.catalogue_rules.specs.Receipt.{kept_under}
-use Rattle.std.proofs.Common.{cond, ◌≡◌, ℕ, zero, suc, ◌≤◌, Bool, true, false, ◌||◌, List, [], ◌∷◌, ◌++◌, Option, Some, None, refl, sym, ap, ◌∙◌, subst, if◌then◌else◌, arith, inl}
+use Rattle.std.proofs.Common.{cond, ◌≡◌, ℕ, zero, suc, ◌≤◌, Bool, true, false, ◌||◌, List, [], ◌∷◌, ◌++◌, map, Option, Some, None, refl, sym, ap, ◌∙◌, subst, if◌then◌else◌, arith, inl}
 use Rattle.std.specs.Prelude.{All, slice_get, slice_set}
 use Rattle.std.specs.List.{sum_by}
 use Rattle.std.specs.Map.{lookup}
@@ -8,18 +8,21 @@ use Rattle.std.specs.Option.{option_map, option_and_then}
 use Rattle.std.proofs.lemmas.List.Elements.{All-from_recursion, recursion_from_All}
 use Rattle.std.proofs.lemmas.List.Sums.{sum_by-cons}
 use Rattle.marc_types.specs.Order.{key_Decides, same_key}
+use Rattle.marc_types.specs.declared.field.Field.{Field}
 use Rattle.marc_types.specs.declared.key.Class.{Class}
 use Rattle.marc_types.specs.declared.key.Class.TheVariants.{Authority, Bibliographic}
 use Rattle.marc_types.specs.declared.key.Key.{Key}
 use Rattle.marc_types.specs.declared.key.Place.{Place}
+use Rattle.iso2709_record.specs.Written.{fits}
 use Rattle.entry_record.specs.Authority.{Linkable}
 use Rattle.catalogue_rules.specs.State.{KeptField, KeptRecord, Row, State, rows_of, linkable_authorities}
 use Rattle.catalogue_rules.specs.Valid.{EachRow, EachField, IsAscending, IsRow, IsTied, HasRoom, reach}
 use Rattle.catalogue_rules.proofs.Elements.{Each, each_weaker, each_both, each_map}
 use Rattle.catalogue_rules.proofs.Fit.{IsFit}
+use Rattle.catalogue_rules.proofs.Fitting.{row_fits}
 use Rattle.catalogue_rules.proofs.Proper.{all_fit}
 use Rattle.catalogue_rules.proofs.Put.{tied_but}
-use Rattle.record_store.specs.Store.{StaysRecord, field_at, field_under, with_field, with_field_under, with_rows}
+use Rattle.record_store.specs.Store.{StaysFit, StaysRecord, field_at, field_under, with_field, with_field_under, with_rows}
 use Rattle.linking_laws.specs.Middle.{IsWithinReach, IsMiddle, IsLeftOrSettled, IsEitherStage, IsMiddleWith, IsTiedButTo, IsSparedRightly, CanDrop, CanDropOn, IsDroppedOn, IsLentAt}
 use Rattle.linking_laws.specs.Partway.{same_place, is_place_among, swapped, IsNext, IsSteady}
 use Rattle.linking_laws.specs.Stages.{Dropping, drop_by}
@@ -28,7 +31,7 @@ use Rattle.linking_laws.proofs.Exchanges.{field_swapped, outlines_swapped, set_l
 use Rattle.linking_laws.proofs.Heart.{or_false, any_append}
 use Rattle.linking_laws.proofs.Pairs.{Both, place_of, rows_from, linkables_same}
 use Rattle.linking_laws.proofs.Partial.{place_is, ascend_by}
-use Rattle.linking_laws.proofs.Settling.{stays_record, handled_at, steady_at}
+use Rattle.linking_laws.proofs.Settling.{IsHandled, stays_record, handled_at, steady_at}
 use Rattle.linking_laws.proofs.Steadily.{got, each_row_of, field_of_authority, field_of_bibliographic}
 use Rattle.linking_laws.proofs.Dropped.{handled, dropped_field, steady_dropped}
 
@@ -321,14 +324,29 @@ exchange_stays p h g r s m w stands less short lent =
     stays_record p.class (p.key, r) p.field g.field
     (record { visited = lent.visited; room = has.room; within = has.within; proper = lent.proper; short = omega arith })
 
+-- what a turn of a stage makes of the field at the place, and what one of dropping makes of it
+turn_handled : (all : List Linkable) (change : Class → KeptField → KeptField) (now : State) (p : Place) (h : KeptField) → IsMiddleWith all now → IsEitherStage all change →
+    field_under p now ≡ Some h → IsHandled all p.class h (change p.class h)
+turn_handled all change now p h m either stands =
+    let fit : Each (IsFit all) all = subst (λ (l : List Linkable). Each (IsFit l) l) m.authorities_are (fits_of now m.middle.authorities_ascend m.middle.rows.0) in
+    let ties : EachField (IsTied all) now = subst (λ (l : List Linkable). EachField (IsTied l) now) m.authorities_are m.middle.ties in
+    handled_at all p.class fit h (change p.class h) (either.either p.class h) (field_at_place (IsTied all) now p h p.class refl ties stands)
+    (field_at_place IsWithinReach now p h p.class refl m.middle.within stands)
+
+drop_handled : (d : Dropping) (key : Key) (successor : Option Key) (done : List Place) (now : State) (p : Place) (h : KeptField) → CanDropOn d key done now → IsNext done p h now →
+    IsHandled (linkable_authorities now) p.class h (drop_by d (linkable_authorities now) key successor p.class h)
+drop_handled d key successor done now p h m next =
+    let all = linkable_authorities now in
+    let tied = field_at_place (IsTiedButTo key all) now p h p.class refl m.ties next.stands in
+    let short = field_at_place IsWithinReach now p h p.class refl m.within next.stands in
+    handled all key successor p.class (fits_of now m.authorities_ascend m.rows.0) h (drop_by d all key successor p.class h) tied short
+    (dropped_field all key successor p.class d h tied (m.spared p h next))
+
 -- in a turn of a stage the record of the place stays one
 pub turn_stays : (all : List Linkable) (change : Class → KeptField → KeptField) (now : State) (p : Place) (h : KeptField) (r : KeptRecord) → IsMiddleWith all now →
     IsEitherStage all change → field_under p now ≡ Some h → IsLentAt p r (change p.class h).field now → StaysRecord p.field (change p.class h).field r
 turn_stays all change now p h r m either stands lent =
-    let fits : Each (IsFit all) all = subst (λ (l : List Linkable). Each (IsFit l) l) m.authorities_are (fits_of now m.middle.authorities_ascend m.middle.rows.0) in
-    let ties : EachField (IsTied all) now = subst (λ (l : List Linkable). EachField (IsTied l) now) m.authorities_are m.middle.ties in
-    let done = handled_at all p.class fits h (change p.class h) (either.either p.class h) (field_at_place (IsTied all) now p h p.class refl ties stands)
-    (field_at_place IsWithinReach now p h p.class refl m.middle.within stands) in
+    let done = turn_handled all change now p h m either stands in
     exchange_stays p h (change p.class h) r now m.middle.room m.middle.within stands done.less done.within lent
 
 -- and so in a turn of dropping
@@ -336,10 +354,35 @@ pub drop_stays : (d : Dropping) (key : Key) (successor : Option Key) (done : Lis
     IsNext done p h now → IsLentAt p r (drop_by d (linkable_authorities now) key successor p.class h).field now →
     StaysRecord p.field (drop_by d (linkable_authorities now) key successor p.class h).field r
 drop_stays d key successor done now p h r m next lent =
-    let all = linkable_authorities now in
-    let g = drop_by d all key successor p.class h in
-    let fits = fits_of now m.authorities_ascend m.rows.0 in
-    let tied = field_at_place (IsTiedButTo key all) now p h p.class refl m.ties next.stands in
-    let short = field_at_place IsWithinReach now p h p.class refl m.within next.stands in
-    let is = handled all key successor p.class fits h g tied short (dropped_field all key successor p.class d h tied (m.spared p h next)) in
-    exchange_stays p h g r now m.room m.within next.stands is.less is.within lent
+    let is = drop_handled d key successor done now p h m next in
+    exchange_stays p h (drop_by d (linkable_authorities now) key successor p.class h) r now m.room m.within next.stands is.less is.within lent
+
+-- ---- the record of the place fits its written form
+
+fields_set : (hs : List KeptField) (i : ℕ) (g : KeptField) → map (λ (h : KeptField). h.field) (slice_set hs i g) ≡ slice_set (map (λ (h : KeptField). h.field) hs) i g.field
+fields_set [] i g = refl
+fields_set (h ∷ hs) zero g = refl
+fields_set (h ∷ hs) (suc i) g = ap (λ (l : List Field). h.field ∷ l) (fields_set hs i g)
+
+exchange_fits : (p : Place) (h g : KeptField) (r : KeptRecord) (s : State) → EachRow HasRoom s → EachField IsWithinReach s → field_under p s ≡ Some h →
+    reach p.class g ≤ reach p.class h → IsWithinReach p.class g → kept_under p.class p.key s ≡ Some r → StaysFit p.field g.field r
+exchange_fits p h g r s m w stands less short kept = λ low.
+    let has = roomy_at p.class p.key r s m w kept in
+    let there : slice_get r.fields p.field ≡ Some h = sym (ap (option_and_then (field_at p.field)) kept) ∙ stands in
+    let within = set_each (IsWithinReach p.class) r.fields p.field g (recursion_from_All (IsWithinReach p.class) r.fields has.within) short in
+    subst (λ (l : List Field). fits l ≡ true) (fields_set r.fields p.field g)
+    (row_fits p.class (p.key, with_field p.field g r) within (room_set p.class (p.key, r) p.field h g there less has.room))
+
+-- in a turn of a stage the record of the place fits
+pub turn_fits : (all : List Linkable) (change : Class → KeptField → KeptField) (now : State) (p : Place) (h : KeptField) (r : KeptRecord) → IsMiddleWith all now →
+    IsEitherStage all change → field_under p now ≡ Some h → kept_under p.class p.key now ≡ Some r → StaysFit p.field (change p.class h).field r
+turn_fits all change now p h r m either stands kept =
+    let done = turn_handled all change now p h m either stands in
+    exchange_fits p h (change p.class h) r now m.middle.room m.middle.within stands done.less done.within kept
+
+-- and so in a turn of dropping
+pub drop_fits : (d : Dropping) (key : Key) (successor : Option Key) (done : List Place) (now : State) (p : Place) (h : KeptField) (r : KeptRecord) → CanDropOn d key done now →
+    IsNext done p h now → kept_under p.class p.key now ≡ Some r → StaysFit p.field (drop_by d (linkable_authorities now) key successor p.class h).field r
+drop_fits d key successor done now p h r m next kept =
+    let is = drop_handled d key successor done now p h m next in
+    exchange_fits p h (drop_by d (linkable_authorities now) key successor p.class h) r now m.room m.within next.stands is.less is.within kept

@@ -15,7 +15,8 @@ ghost use Rattle.linking_laws.specs.Stages.{Dropping, drop_by, carry_by, choose_
 ghost use Rattle.marc_types.specs.declared.field.Field.{Field};
 ghost use Rattle.marc_types.specs.declared.form.Form.{Form};
 ghost use Rattle.marc_types.specs.declared.key.Place.{Place};
-ghost use Rattle.record_store.specs.Store.{StaysRecord, field_under};
+ghost use Rattle.record_store.specs.Store.{StaysFit, StaysRecord, field_under};
+ghost use Rattle.catalogue_rules.specs.Receipt.{kept_under};
 ghost use Rattle.linking_laws.specs.Commits.{CanBeCommitted, dropping_of, placed_by};
 
 /// A valid state may stand between two stages.
@@ -57,6 +58,16 @@ pub fn a_turn_leaves_a_record()
     ensures dropping { (d : Dropping) (key : Key) (successor : Option Key) (done : List Place) (now : State) (p : Place) (h : KeptField) (r : KeptRecord)
         → CanDropOn d key done now → IsNext done p h now → IsLentAt p r (drop_by d (linkable_authorities now) key successor p.class h).field now
         → StaysRecord p.field (drop_by d (linkable_authorities now) key successor p.class h).field r }
+{}
+
+/// And the record of the place fits its written form.
+pub fn a_turn_leaves_a_record_that_fits()
+    ensures stage { (all : List Linkable) (change : Class → KeptField → KeptField) (now : State) (p : Place) (h : KeptField) (r : KeptRecord)
+        → IsMiddleWith all now → IsEitherStage all change → field_under p now ≡ Some h → kept_under p.class p.key now ≡ Some r
+        → StaysFit p.field (change p.class h).field r }
+    ensures dropping { (d : Dropping) (key : Key) (successor : Option Key) (done : List Place) (now : State) (p : Place) (h : KeptField) (r : KeptRecord)
+        → CanDropOn d key done now → IsNext done p h now → kept_under p.class p.key now ≡ Some r
+        → StaysFit p.field (drop_by d (linkable_authorities now) key successor p.class h).field r }
 {}
 
 /// Such a stage changes no field of an authority record but a 5XX, so that the authorities stay also on its way.

@@ -9,7 +9,6 @@ use Rattle.std.proofs.MapsCrossing as maps
 use Rattle.marc_types.specs.contracts.text.Text as Text
 use Rattle.marc_types.specs.contracts.key.Key as Key
 use Rattle.marc_types.specs.contracts.form.Form as Form
-use Rattle.marc_types.specs.contracts.entry.Kept as Kept
 use Rattle.numbering.specs.contracts.numbers.Numbering as Numbering
 use Rattle.form_index.specs.contracts.key_list.KeyList as KeyList
 use Rattle.form_index.specs.contracts.lists.Lists as Lists
@@ -22,6 +21,7 @@ use Rattle.wait_table.specs.contracts.waiting.Waiting as Waiting
 use Rattle.wait_table.specs.contracts.table.WaitTable as WaitTable
 use Rattle.link_table.specs.contracts.table.LinkTable as LinkTable
 use Rattle.catalogue_tables.specs.contracts.tables.CatalogueTables as CatalogueTables
+use Rattle.numbered_store.specs.contracts.kept.Kept as Kept
 use Rattle.numbered_store.specs.contracts.shelf.Shelf as Shelf
 use Rattle.numbered_store.specs.contracts.store.NumberedStore as NumberedStore
 use Rattle.linked_store.specs.contracts.change.Change as Change

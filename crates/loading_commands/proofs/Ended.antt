@@ -19,10 +19,10 @@ use Rattle.console_lines.specs.declared.fault.Fault.{Fault}
 use Rattle.console_lines.specs.declared.fault.Fault.TheVariants as fault
 use Rattle.console_lines.proofs.Ends.{told_once, told_not_unwritten, never_told, told_not_all, all_not_unwritten, out_not_console, out_not_report, report_not_console, result_untold, result_done, result_line, result_front, result_no_output, result_cause}
 use Rattle.loader_workers.specs.declared.result.FileResult.{FileResult}
-use Rattle.output_files.specs.Outputs.{IsPartWritten}
+use Rattle.output_files.specs.Outputs.{IsOutputLeft}
 use Rattle.journal_loading.specs.Outcomes.{Fails}
 use Rattle.loading_commands.specs.Texts.{files_text, has_refused}
-use Rattle.loading_commands.specs.Runs.{EndsLoad, EndsRun, AreOutputs, AreOutAndPart, WhyNotLoad, WhyNotRun, NoMemory, NoMemoryForReport}
+use Rattle.loading_commands.specs.Runs.{EndsLoad, EndsRun, AreOutputs, AreOutAndLeft, WhyNotLoad, WhyNotRun, NoMemory, NoMemoryForReport}
 use Rattle.loading_commands.specs.Loading.{Loads, Runs}
 use Rattle.loading_commands.proofs.OneHistory.{MergedBy}
 use Rattle.loading_commands.proofs.Missing.{told_of_loading, loading_untold, running_untold, unloaded_keeps, unrun_keeps}
@@ -169,9 +169,9 @@ module _ (libraries : List Library) (journal : List ℕ) (o : Outcome) where
     module _ (entries : List Entry) (results : List FileResult) (silent : IsSilent o)
         (merged : o.old.tells ≡ true → MergedBy o.old o.new journal libraries entries results) where
       pub runs_in_out : o.end ≡ out_unwritten → Rose (o.old.out_faults out) (o.new.out_faults out) → SameBut o.old o.new (journal ∷ out ∷ [])
-          → (o.old.tells ≡ true → IsPartWritten (o.old.file out) (o.new.file out) (export_of all_keys (state_of entries)))
+          → (o.old.tells ≡ true → IsOutputLeft o.old o.new out (export_of all_keys (state_of entries)))
           → Runs libraries journal out report o
-      runs_in_out is rose apart part =
+      runs_in_out is rose apart left =
           let no : (why : Fault) → o.end ≡ Told why → ⊥ = λ why also. told_not_unwritten o.end why unwritten.Out also is in record {
             ends = subst EndsRun (sym is) tt;
             told = λ why also. absurd (no why also);
@@ -188,14 +188,14 @@ module _ (libraries : List Library) (journal : List ℕ) (o : Outcome) where
             silent = λ either. silent;
             in_out = λ also tells.
                 let m = merged tells in
-                record { merged = m.merged; part = subst (λ es. IsPartWritten (o.old.file out) (o.new.file out) (export_of all_keys (state_of es))) m.entries_are (part tells) };
+                record { merged = m.merged; left = subst (λ es. IsOutputLeft o.old o.new out (export_of all_keys (state_of es))) m.entries_are (left tells) };
             in_report = λ also. absurd (out_not_report o.end is also);
             untold = λ also. absurd (out_not_console o.end is also);
           }
 
       pub runs_in_report : o.end ≡ report_unwritten → Rose (o.old.out_faults report) (o.new.out_faults report)
-          → (o.old.tells ≡ true → AreOutAndPart o.old o.new out report entries) → Runs libraries journal out report o
-      runs_in_report is rose part =
+          → (o.old.tells ≡ true → AreOutAndLeft o.old o.new out report entries) → Runs libraries journal out report o
+      runs_in_report is rose left =
           let no : (why : Fault) → o.end ≡ Told why → ⊥ = λ why also. told_not_unwritten o.end why unwritten.Report also is in record {
             ends = subst EndsRun (sym is) tt;
             told = λ why also. absurd (no why also);
@@ -213,7 +213,7 @@ module _ (libraries : List Library) (journal : List ℕ) (o : Outcome) where
             in_out = λ also. absurd (out_not_report o.end also is);
             in_report = λ also tells.
                 let m = merged tells in
-                record { merged = m.merged; outputs = subst (AreOutAndPart o.old o.new out report) m.entries_are (part tells) };
+                record { merged = m.merged; outputs = subst (AreOutAndLeft o.old o.new out report) m.entries_are (left tells) };
             untold = λ also. absurd (report_not_console o.end is also);
           }
 

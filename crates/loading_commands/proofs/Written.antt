@@ -1,5 +1,5 @@
 -- What a run's outputs are, from what was written one after the other.
-use Rattle.std.proofs.Common.{◌≡◌, ◌≢◌, ◌⊎◌, inl, inr, ◌∙◌, ℕ, true, List, [], ◌∷◌, Some, refl, sym, subst, arith}
+use Rattle.std.proofs.Common.{◌≡◌, ◌≢◌, ◌⊎◌, inl, inr, ◌∙◌, ℕ, true, List, [], ◌∷◌, Some, refl, sym, arith}
 use Rattle.marc_types.specs.declared.entry.Entry.{Entry}
 use Rattle.outside.specs.Fault.{Rose}
 use Rattle.outside.specs.Room.{RoomView, SameBut}
@@ -10,9 +10,10 @@ use Rattle.command_words.specs.Command.{AreNames}
 use Rattle.console_lines.specs.declared.end.OutputsFault.{OutputsFault}
 use Rattle.console_lines.specs.declared.end.OutputsFault.TheVariants.{NoMemory, Unwritten}
 use Rattle.console_lines.specs.declared.end.Unwritten.TheVariants.{Out, Report}
-use Rattle.output_files.specs.Outputs.{IsPartWritten}
+use Rattle.output_files.specs.Outputs.{IsOutputLeft}
+use Rattle.output_files.proofs.Parts.{left_since, left_until}
 use Rattle.loading_commands.specs.Outputs.{AreUnwritten}
-use Rattle.loading_commands.specs.Runs.{AreOutputs, AreOutAndPart}
+use Rattle.loading_commands.specs.Runs.{AreOutputs, AreOutAndLeft}
 
 module _ (old new : RoomView) (out report : List ℕ) (entries : List Entry) where
   pub nothing_begun : SameBut old new [] → AreUnwritten old new out report entries NoMemory
@@ -27,25 +28,25 @@ module _ (old new : RoomView) (out report : List ℕ) (entries : List Entry) whe
   }
 
   pub out_failed : SameBut old new (out ∷ []) → Rose (old.out_faults out) (new.out_faults out)
-      → (old.tells ≡ true → IsPartWritten (old.file out) (new.file out) (export_of all_keys (state_of entries)))
+      → (old.tells ≡ true → IsOutputLeft old new out (export_of all_keys (state_of entries)))
       → AreUnwritten old new out report entries (Unwritten Out)
-  out_failed apart rose part = record {
+  out_failed apart rose left = record {
     no_console = λ is. cc;
     out_cause = λ is. rose;
     report_cause = λ is. cc;
     no_report = λ other. apart;
-    in_out = λ is. part;
+    in_out = λ is. left;
     in_report = λ is. cc;
     memory = λ is. cc;
   }
 
   module _ (mid : RoomView) (differ : report ≢ out) (first : SameBut old mid (out ∷ [])) (second : SameBut mid new (report ∷ []))
       (whole : old.tells ≡ true → mid.file out ≡ Some (export_of all_keys (state_of entries)))
-      (part : mid.tells ≡ true → IsPartWritten (mid.file report) (new.file report) (report_of (state_of entries))) where
-    out_and_part : old.tells ≡ true → AreOutAndPart old new out report entries
-    out_and_part tells = record {
+      (left : mid.tells ≡ true → IsOutputLeft mid new report (report_of (state_of entries))) where
+    out_and_left : old.tells ≡ true → AreOutAndLeft old new out report entries
+    out_and_left tells = record {
       export = second.files out ((λ same. differ (sym same)), tt) ∙ whole tells;
-      report_is = subst (λ f. IsPartWritten f (new.file report) (report_of (state_of entries))) (first.files report (differ, tt)) (part (first.tells ∙ tells));
+      report_is = left_since old mid new report (report_of (state_of entries)) (out ∷ []) (differ, tt) first (left (first.tells ∙ tells));
     }
 
     pub report_rose : Rose (mid.out_faults report) (new.out_faults report) → AreUnwritten old new out report entries (Unwritten Report)
@@ -55,7 +56,7 @@ module _ (old new : RoomView) (out report : List ℕ) (entries : List Entry) whe
       report_cause = λ is. let earlier = first.outs report in omega (arith, earlier, rose);
       no_report = λ other. absurd (other refl);
       in_out = λ is. cc;
-      in_report = λ is. out_and_part;
+      in_report = λ is. out_and_left;
       memory = λ is. cc;
     }
 
@@ -75,9 +76,9 @@ module _ (old new : RoomView) (out report : List ℕ) (entries : List Entry) whe
 -- the same where a journal was opened before that and closed behind it
 module _ (old mid wrote new : RoomView) (journal out report : List ℕ) (entries : List Entry) (names : AreNames (journal ∷ out ∷ report ∷ []))
     (opened : SameBut old mid (journal ∷ [])) (closing : SameBut wrote new (journal ∷ [])) where
-  part_between : (name due : List ℕ) → name ≢ journal → IsPartWritten (mid.file name) (wrote.file name) due → IsPartWritten (old.file name) (new.file name) due
-  part_between name due other is =
-      subst (λ f. IsPartWritten f (new.file name) due) (opened.files name (other, tt)) (subst (λ f. IsPartWritten (mid.file name) f due) (sym (closing.files name (other, tt))) is)
+  left_between : (name due : List ℕ) → name ≢ journal → IsOutputLeft mid wrote name due → IsOutputLeft old new name due
+  left_between name due other is =
+      left_until old wrote new name due (journal ∷ []) (other, tt) closing (left_since old mid wrote name due (journal ∷ []) (other, tt) opened is)
 
   out_is : new.file out ≡ wrote.file out
   out_is = closing.files out ((λ same. names.1.0 (sym same)), tt)
@@ -106,14 +107,14 @@ module _ (old mid wrote new : RoomView) (journal out report : List ℕ) (entries
         (same_but_then mid wrote new names_too (same_but_more mid wrote (out ∷ []) names_too (λ n other. other.1) (are.no_report unfailed))
         (same_but_more wrote new (journal ∷ []) names_too (λ n other. (other.0, tt)) closing))
 
-    pub in_out : why ≡ Unwritten Out → old.tells ≡ true → IsPartWritten (old.file out) (new.file out) (export_of all_keys (state_of entries))
-    in_out is tells = part_between out (export_of all_keys (state_of entries)) (λ same. names.1.0 (sym same)) (are.in_out is (opened.tells ∙ tells))
+    pub in_out : why ≡ Unwritten Out → old.tells ≡ true → IsOutputLeft old new out (export_of all_keys (state_of entries))
+    in_out is tells = left_between out (export_of all_keys (state_of entries)) (λ same. names.1.0 (sym same)) (are.in_out is (opened.tells ∙ tells))
 
-    pub in_report : why ≡ Unwritten Report → old.tells ≡ true → AreOutAndPart old new out report entries
+    pub in_report : why ≡ Unwritten Report → old.tells ≡ true → AreOutAndLeft old new out report entries
     in_report fails tells =
         let is = are.in_report fails (opened.tells ∙ tells) in record {
           export = out_is ∙ is.export;
-          report_is = part_between report (report_of (state_of entries)) (λ same. names.1.1.0 (sym same)) is.report_is;
+          report_is = left_between report (report_of (state_of entries)) (λ same. names.1.1.0 (sym same)) is.report_is;
         }
 
     pub ran_out : why ≡ NoMemory → SameBut old new (journal ∷ []) ⊎ (old.tells ≡ true → new.file out ≡ Some (export_of all_keys (state_of entries)))

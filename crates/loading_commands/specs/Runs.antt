@@ -14,7 +14,7 @@ use Rattle.console_lines.specs.declared.fault.Fault.{Fault}
 use Rattle.console_lines.specs.declared.end.End.TheVariants.{Done, Refused, Unwritten, Told}
 use Rattle.console_lines.specs.declared.end.Unwritten.TheVariants as unwritten
 use Rattle.console_lines.specs.declared.fault.Fault.TheVariants.{Usage, Input, Device, NotAJournal, Full, Memory, OldVersion, OtherHistory}
-use Rattle.output_files.specs.Outputs.{IsPartWritten}
+use Rattle.output_files.specs.Outputs.{IsOutputLeft}
 use Rattle.journal_loading.specs.Outcomes.{IsLoadingFault}
 use Rattle.loading_commands.specs.Merged.{IsOneHistory}
 use Rattle.loading_commands.specs.Console.{console_of, any_refused}
@@ -78,10 +78,10 @@ pub record AreOutputs (room : RoomView) (out report : List ℕ) (entries : List 
   pub export : room.file out ≡ Some (export_of all_keys (state_of entries))
   pub report_is : room.file report ≡ Some (report_of (state_of entries))
 
--- OUT is that export, and REPORT is as it was or holds a front of that report
-pub record AreOutAndPart (old new : RoomView) (out report : List ℕ) (entries : List Entry) : Type 0 where
+-- OUT is that export, and REPORT is as it was or that report
+pub record AreOutAndLeft (old new : RoomView) (out report : List ℕ) (entries : List Entry) : Type 0 where
   pub export : new.file out ≡ Some (export_of all_keys (state_of entries))
-  pub report_is : IsPartWritten (old.file report) (new.file report) (report_of (state_of entries))
+  pub report_is : IsOutputLeft old new report (report_of (state_of entries))
 
 -- The headline: the files were loaded whole, OUT is the export and REPORT the report of the state behind the one history that they
 -- make, and the console was told the files' lines.
@@ -91,15 +91,15 @@ pub record IsWholeRun (old new : RoomView) (journal out report : List ℕ) (libr
   pub console : Appends told now (told_of merged)
   pub end_is : end ≡ end_after merged
 
--- OUT could not be written: the files were loaded whole, and OUT is as it was or holds a front of the export.
+-- OUT could not be written: the files were loaded whole, and OUT is as it was or the export.
 pub record IsRunInOut (old new : RoomView) (journal out : List ℕ) (libraries : List Library) : Type 0 where
   pub merged : IsMergedLoad old new journal libraries
-  pub part : IsPartWritten (old.file out) (new.file out) (export_of all_keys (state_of (merged.before ++ merged.added)))
+  pub left : IsOutputLeft old new out (export_of all_keys (state_of (merged.before ++ merged.added)))
 
--- REPORT could not be written: the files were loaded whole, OUT is the export, and REPORT is as it was or holds a front of the report.
+-- REPORT could not be written: the files were loaded whole, OUT is the export, and REPORT is as it was or the report.
 pub record IsRunInReport (old new : RoomView) (journal out report : List ℕ) (libraries : List Library) : Type 0 where
   pub merged : IsMergedLoad old new journal libraries
-  pub outputs : AreOutAndPart old new out report (merged.before ++ merged.added)
+  pub outputs : AreOutAndLeft old new out report (merged.before ++ merged.added)
 
 -- Memory ran out before REPORT was begun: the files were loaded whole, OUT is the export, and REPORT is as it was.
 pub record IsRunToOut (old new : RoomView) (journal out report : List ℕ) (libraries : List Library) : Type 0 where

@@ -30,10 +30,9 @@ impl EntryTaker for HistoryMatches {
     ghost use Rattle.std.specs.Prelude.{◌≡◌};
     ghost use Rattle.match_report.specs.Matches.{table_after};
 
-    ghost has = { λ m entries. m.table ≡ table_after entries };
+    ghost has = { λ begun m entries. m.table ≡ table_after entries };
 
-    #[tactic(auto, using(crate::proofs::Taken::table_behind))]
-    fn take(&mut self, alloc: Global, item: &Prepared) -> Result<(), NoMemory> {
+    fn take(&mut self, alloc: Global, item: Prepared) -> Result<(), NoMemory> {
         self.table.put(alloc, item.entry())
     }
 }

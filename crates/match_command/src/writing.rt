@@ -2,7 +2,7 @@
 ghost use Rattle.std.specs.Prelude.{◌≡◌, ◌∷◌, [], true, Some, None, OnOk, IsErrOf};
 ghost use Rattle.outside.specs.Fault.{HasCause, HasWriteCause};
 ghost use Rattle.outside.specs.Room.{AsLog, SameBut};
-ghost use Rattle.output_files.specs.Outputs.{IsOutput, IsPartWritten};
+ghost use Rattle.output_files.specs.Outputs.{IsOutput, IsOutputLeft};
 ghost use Rattle.room_files.specs.Journals.{IsClosedDisk};
 ghost use Rattle.match_report.specs.Groups.{lines_of, matches_of};
 
@@ -18,17 +18,17 @@ fn write_groups<R: Room>(room: &mut R, name: &str, groups: &Groups<'_>) -> Resul
     ensures closed { (R.seen room.new).open_as name.now ≡ None }
     ensures cause { HasCause ((R.seen room.old).out_faults name.now) ((R.seen room.new).out_faults name.now) result }
 
-    // The file has all lines, or as much as was written.
+    // The file has all lines, or is as it was.
     ensures bytes { OnOk result ((R.seen room.old).tells ≡ true →
         (R.seen room.new).file name.now ≡ Some (lines_of groups.now)) }
-    ensures part { (R.seen room.old).tells ≡ true →
-        IsPartWritten ((R.seen room.old).file name.now) ((R.seen room.new).file name.now) (lines_of groups.now) }
+    ensures left { (R.seen room.old).tells ≡ true → IsOutputLeft (R.seen room.old) (R.seen room.new) name.now (lines_of groups.now) }
 {
     let mut out = room.open_out(name)?;
-    let written = groups.write(&mut out);
-    let closed = room.close_out(name, out);
-    written?;
-    closed
+    if let Err(fault) = groups.write(&mut out) {
+        room.give_up_out(name, out);
+        return Err(fault);
+    }
+    room.close_out(name, out)
 }
 
 /// Writes the lines of a table's groups into the file of that name. Only the finding of the groups takes memory, and without it no
@@ -47,8 +47,8 @@ fn write_table<R: Room>(
     ensures memory { IsErrOf result WriteFault.NoMemory → SameBut (R.seen room.old) (R.seen room.new) [] }
     ensures bytes { OnOk result ((R.seen room.old).tells ≡ true →
         (R.seen room.new).file name.now ≡ Some (lines_of (matches_of table.now))) }
-    ensures part { (R.seen room.old).tells ≡ true →
-        IsPartWritten ((R.seen room.old).file name.now) ((R.seen room.new).file name.now) (lines_of (matches_of table.now)) }
+    ensures left { (R.seen room.old).tells ≡ true →
+        IsOutputLeft (R.seen room.old) (R.seen room.new) name.now (lines_of (matches_of table.now)) }
 {
     let groups = match table.groups(alloc) {
         Ok(groups) => groups,

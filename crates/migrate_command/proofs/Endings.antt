@@ -17,10 +17,10 @@ use Rattle.console_lines.proofs.Ends.{told_once, told_not_done, told_not_unwritt
 use Rattle.room_files.specs.Faults.{fault_of_opening}
 use Rattle.room_files.specs.Journals.{journal_limits, log_bytes, KeepsHistory}
 use Rattle.room_files.proofs.Journals.{keeps_where}
-use Rattle.journal_migration.specs.Migrations.{IsUnfit}
-use Rattle.journal_migration.specs.declared.fault.MigrateFault.{MigrateFault}
-use Rattle.journal_migration.specs.declared.fault.MigrateFault.TheVariants as migrating
-use Rattle.migrate_command.specs.Faults.{fault_of_migrating}
+use Rattle.migrate_command.specs.Migrations.{IsUnfit}
+use Rattle.migrate_command.specs.declared.fault.MigrateFault.{MigrateFault}
+use Rattle.migrate_command.specs.declared.fault.MigrateFault.TheVariants as migrating
+use Rattle.migrate_command.specs.Told.{fault_of_migrating}
 use Rattle.migrate_command.specs.Bringing.{IsDeviceFaultOf, IsBroughtOver}
 use Rattle.migrate_command.specs.Migrates.{EndsMigrating, WhyNotFrom, NotOpened, Newest, WhyNotInto, IsDeviceOf, migrated_line, Migrates}
 

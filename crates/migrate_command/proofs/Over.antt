@@ -6,7 +6,7 @@ use Rattle.std.specs.Coded.{Coded-set, coded_ℕ}
 use Rattle.marc_types.specs.declared.entry.Entry.{Entry}
 use Rattle.outside.specs.Disk.{DiskView}
 use Rattle.outside.specs.Fault.{Rose}
-use Rattle.outside.specs.Room.{RoomView, SameBut, bytes_or_none}
+use Rattle.outside.specs.Room.{RoomView, SameBut, IsUntouched, bytes_or_none}
 use Rattle.outside.proofs.Rooms.{same_but_none, same_but_then}
 use Rattle.commit_journal.specs.Log.{version_of}
 use Rattle.entry_record.specs.History.{IsWithin}
@@ -19,13 +19,13 @@ use Rattle.console_lines.specs.declared.fault.Fault.{Fault}
 use Rattle.console_lines.specs.declared.fault.Fault.TheVariants.{Device, OldVersion}
 use Rattle.room_files.specs.Faults.{fault_of_opening}
 use Rattle.room_files.specs.Journals as journals
-use Rattle.room_files.specs.Journals.{journal_limits, log_bytes, IsClosedDisk, KeepsHistory, KeepsLog, IsUntouched}
+use Rattle.room_files.specs.Journals.{journal_limits, log_bytes, IsClosedDisk, KeepsHistory, KeepsLog}
 use Rattle.room_files.proofs.Faults.{opening_device}
 use Rattle.room_files.proofs.Histories.{reading_once}
 use Rattle.room_files.proofs.Journals.{closed_keeps, keeps_where, unopened_keeps}
 use Rattle.archive_commands.specs.Archives.{HasFittingHistory}
 use Rattle.archive_commands.proofs.Histories.{fitting_history}
-use Rattle.journal_migration.specs.Migrations.{IsFit, IsUnfit, IsUnmigrated, IsBrought}
+use Rattle.migrate_command.specs.Migrations.{IsFit, IsUnfit, IsUnmigrated, IsBrought}
 use Rattle.migrate_command.specs.Bringing as bringing
 use Rattle.migrate_command.specs.Bringing.{IsBroughtInto, IsUnbrought, Refused, IsDeviceFaultOf, IsBroughtOver}
 use Rattle.migrate_command.specs.Migrates.{BringsInto, Unopened, HasInEachImage, NotOpened, Newest}

@@ -4,7 +4,7 @@ use Rattle.std.proofs.Math.Logic.{∥∥₁_map}
 use Rattle.marc_types.specs.declared.entry.Entry.{Entry}
 use Rattle.outside.specs.Disk.{DiskView, SameDisk}
 use Rattle.outside.specs.Fault.{Rose, count_sum}
-use Rattle.outside.specs.Room.{RoomView, SameBut, bytes_or_none}
+use Rattle.outside.specs.Room.{RoomView, SameBut, IsUntouched, bytes_or_none}
 use Rattle.outside.proofs.Counts.{rose_closed}
 use Rattle.outside.proofs.Disks.{same_disk_then}
 use Rattle.outside.proofs.Rooms.{same_but_then, same_but_first, same_but_more}
@@ -14,12 +14,12 @@ use Rattle.durable_catalogue.specs.Refused.{LeavesAlone}
 use Rattle.durable_catalogue.proofs.Keeping.{some_of}
 use Rattle.durable_catalogue.proofs.Readings.{same_log}
 use Rattle.room_files.specs.Journals as journals
-use Rattle.room_files.specs.Journals.{journal_limits, log_bytes, IsUntouched, IsClosedDisk, KeepsHistory}
+use Rattle.room_files.specs.Journals.{journal_limits, log_bytes, IsClosedDisk, KeepsHistory}
 use Rattle.room_files.proofs.Journals.{IsTimed, settled_now, closed_history}
 use Rattle.archive_commands.proofs.Rooms.{closed_opened}
-use Rattle.journal_migration.specs.declared.fault.MigrateFault.{MigrateFault}
-use Rattle.journal_migration.specs.declared.fault.MigrateFault.TheVariants as migrating
-use Rattle.journal_migration.specs.Migrations.{IsFit, IsUnfit, LeavesRefused, LeavesUnfitAlone, IsBrought, IsMigration, IsAmid}
+use Rattle.migrate_command.specs.declared.fault.MigrateFault.{MigrateFault}
+use Rattle.migrate_command.specs.declared.fault.MigrateFault.TheVariants as migrating
+use Rattle.migrate_command.specs.Migrations.{IsFit, IsUnfit, LeavesRefused, LeavesUnfitAlone, IsBrought, IsMigration, IsAmid}
 use Rattle.migrate_command.specs.Migrates.{BringsInto, Unopened, Opened, IsAmidInto, HasInEachImage}
 
 -- a log was opened as a disk, into which a history was brought, and the disk was closed as the log

@@ -4,7 +4,7 @@ use Rattle.std.specs.Fmt.{decimal}
 use Rattle.std.specs.Io.KnownBytes.{Appends}
 use Rattle.marc_types.specs.declared.entry.Entry.{Entry}
 use Rattle.outside.specs.Fault.{Rose}
-use Rattle.outside.specs.Room.{RoomView, SameBut}
+use Rattle.outside.specs.Room.{RoomView, SameBut, IsUntouched}
 use Rattle.outside.specs.Sink.{WritesFront}
 use Rattle.commit_journal.specs.Log.{version_of}
 use Rattle.durable_catalogue.specs.Logs.{HasHistory}
@@ -18,11 +18,11 @@ use Rattle.console_lines.specs.declared.end.Unwritten.TheVariants.{Out, Report, 
 use Rattle.console_lines.specs.declared.fault.Fault.{Fault}
 use Rattle.console_lines.specs.declared.fault.Fault.TheVariants.{Usage, Input, Device, NotAJournal, Full, Memory, OldVersion, OtherHistory}
 use Rattle.room_files.specs.Faults.{fault_of_opening}
-use Rattle.room_files.specs.Journals.{journal_limits, log_bytes, KeepsHistory, IsUntouched}
+use Rattle.room_files.specs.Journals.{journal_limits, log_bytes, KeepsHistory}
 use Rattle.archive_commands.specs.Archives.{HasFittingHistory}
-use Rattle.journal_migration.specs.declared.fault.MigrateFault.{MigrateFault}
-use Rattle.journal_migration.specs.Migrations.{IsFit, IsUnfit, IsUnmigrated, IsBrought, IsAmid}
-use Rattle.migrate_command.specs.Faults.{fault_of_migrating}
+use Rattle.migrate_command.specs.declared.fault.MigrateFault.{MigrateFault}
+use Rattle.migrate_command.specs.Migrations.{IsFit, IsUnfit, IsUnmigrated, IsBrought, IsAmid}
+use Rattle.migrate_command.specs.Told.{fault_of_migrating}
 
 -- how it ends: nothing is refused, no input is read, and no output is written
 abbrev pub EndsMigrating : End → Type 0

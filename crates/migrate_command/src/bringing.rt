@@ -8,11 +8,12 @@ ghost use Rattle.room_files.specs.Journals.{journal_limits, log_bytes};
 ghost use Rattle.migrate_command.specs.Bringing.{IsBroughtInto, IsUnbrought, IsBroughtOver};
 ghost use Rattle.migrate_command.specs.Migrates.{BringsInto};
 
-use crate::fault::fault_of_migrating;
+use crate::history::HistoryEntries;
+use crate::migration::migrate;
+use crate::told::fault_of_migrating;
 use console_lines::Fault;
 use entry_history::EntryPayload;
 use history_logs::{close_history, open_history};
-use journal_migration::{HistoryEntries, migrate};
 use outside::Room;
 use room_files::{JOURNAL_LIMITS, fault_of_opening};
 use std::alloc::Global;

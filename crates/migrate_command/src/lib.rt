@@ -1,8 +1,16 @@
-//! The command that brings the history of a journal of version 1 into a journal of version 2.
+//! The command `migrate`: the history of a journal of version 1 is brought into a journal of version 2, entry by entry.
 #![tactic(auto)]
 
 pub use command::migrate_journal;
+pub use fault::MigrateFault;
+pub use history::HistoryEntries;
+pub use migration::migrate;
 
+mod appending;
 mod bringing;
 mod command;
 mod fault;
+mod front;
+mod history;
+mod migration;
+mod told;

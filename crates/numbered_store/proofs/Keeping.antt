@@ -5,16 +5,17 @@ use Rattle.std.specs.Map.{lookup}
 use Rattle.std.specs.Option.{is_some}
 use Rattle.marc_types.specs.Order.{same_key}
 use Rattle.marc_types.specs.Valid.{is_record}
-use Rattle.marc_types.specs.declared.entry.Kept.{Kept}
 use Rattle.marc_types.specs.declared.key.Class.{Class}
 use Rattle.marc_types.specs.declared.key.Class.TheVariants.{Authority, Bibliographic}
 use Rattle.marc_types.specs.declared.key.Key.{Key}
 use Rattle.numbering.specs.Numbers.{is_known}
-use Rattle.catalogue_rules.specs.State.{KeptRecord, kept_record}
+use Rattle.catalogue_rules.specs.State.{KeptRecord}
 use Rattle.catalogue_rules.specs.Receipt.{kept_under}
-use Rattle.record_store.proofs.Joined.{joined_fields}
 use Rattle.numbered_store.specs.Numbered.{Numbered, keys_in, numbered}
+use Rattle.numbered_store.specs.Kept.{kept_record}
+use Rattle.numbered_store.specs.declared.kept.Kept.{Kept}
 use Rattle.numbered_store.specs.Rows.{IsProper, Shelved, present, rows_by, slot_records}
+use Rattle.numbered_store.proofs.Tied.{kept_fields}
 use Rattle.numbered_store.proofs.Ordered.{lookup_ordered}
 use Rattle.numbered_store.proofs.Slotted.{absent}
 
@@ -43,9 +44,9 @@ kept_known keys slots key some = known_by key keys slots (is_known same_key keys
 
 -- ---- MARC records
 
-proper_kept : (kept : Kept) → IsProper (kept_record kept)
+pub proper_kept : (kept : Kept) → IsProper (kept_record kept)
 unfolding kept_record
-proper_kept kept = ap (is_record kept.rec.leader) (joined_fields kept.rec.fields kept.links kept.tied) ∙ kept.rec.valid
+proper_kept kept = ap (is_record kept.written.leader) (kept_fields kept) ∙ kept.written.valid
 
 proper_at : (kept : Kept) (b : Bool) (o : Option KeptRecord) → IfSome o IsProper → IfSome (cond b (Some (kept_record kept)) o) IsProper
 proper_at kept true o rest = proper_kept kept

@@ -8,9 +8,9 @@ use Rattle.std.specs.declared.cmp.Ordering.TheVariants.{Less, Equal, Greater}
 use Rattle.std.specs.Ordering.{match_ordering}
 use Rattle.marc_types.specs.Order.{key_cmp}
 use Rattle.marc_types.specs.declared.key.Key.{Key}
-use Rattle.marc_types.specs.declared.entry.Kept.{Kept}
-use Rattle.catalogue_rules.specs.State.{Row, kept_record}
-use Rattle.record_store.specs.Store.{shown_row}
+use Rattle.catalogue_rules.specs.State.{Row}
+use Rattle.numbered_store.specs.Kept.{kept_record, shown_row}
+use Rattle.numbered_store.specs.declared.kept.Kept.{Kept}
 use Rattle.numbered_store.specs.Rows.{HaveSlots, rows_by, slot_at, with_slot}
 
 abbrev pub Lent : Type 0

@@ -1,24 +1,23 @@
 -- A shelf's rows by its slots: reading one, exchanging one, one more.
-use Rattle.std.proofs.Common.{◌≡◌, ℕ, zero, suc, ◌+◌, ◌<◌, ◌≤◌, Bool, true, false, cond, List, [], ◌∷◌, ◌++◌, length, Option, Some, None, IsSome, IfSome, refl, sym, ap, ◌∙◌, subst, if◌then◌else◌, arith}
+use Rattle.std.proofs.Common.{◌≡◌, ℕ, zero, suc, ◌+◌, ◌<◌, ◌≤◌, Bool, true, false, cond, List, [], ◌∷◌, ◌++◌, length, Option, Some, None, refl, sym, ap, ◌∙◌, subst, if◌then◌else◌, arith}
 use mathlib.Core.Bool.{false≢true}
 use Rattle.std.specs.Prelude.{slice_get, slice_set}
 use Rattle.std.specs.Borrow.{Bor}
 use Rattle.std.specs.Option.{is_some, option_and_then, option_copied, option_map}
 use Rattle.std.specs.List.{IsDistinct}
+use Rattle.std.specs.Map.{lookup}
 use Rattle.numbering.specs.Numbers.{IsNumberOf, is_known, with_thing}
 use Rattle.numbering.proofs.Numberlaws.{number_below}
 use Rattle.marc_types.specs.Order.{same_key}
 use Rattle.marc_types.specs.declared.key.Key.{Key}
-use Rattle.marc_types.specs.declared.entry.Kept.{Kept}
-use Rattle.marc_types.specs.declared.field.Field.{Field}
-use Rattle.catalogue_rules.specs.State.{KeptField, KeptRecord, kept_record}
-use Rattle.record_store.specs.Store.{StaysRecord, field_at, with_field}
-use Rattle.record_store.proofs.Joined.{joined_length, valid_field}
-use Rattle.marc_types.specs.Valid.{is_record}
+use Rattle.catalogue_rules.specs.State.{KeptField, KeptRecord}
+use Rattle.record_store.specs.Store.{with_field}
+use Rattle.numbered_store.specs.Kept.{kept_record}
+use Rattle.numbered_store.specs.declared.kept.Kept.{Kept}
 use Rattle.numbered_store.specs.Rows.{HaveSlots, count_in, in_key_order, present, row_under, rows_by, slot_at, slot_records, with_row, with_row_field}
 use Rattle.numbered_store.proofs.Ordered.{lookup_ordered, ordered, row_back, row_changed}
+use Rattle.numbered_store.proofs.Tied.{set_long}
 use Rattle.numbered_store.proofs.Slotted.{length_present, length_rows, length_set, present_at, present_more, rows_set}
-use Rattle.numbered_store.proofs.Fielded.{set_back, within}
 
 -- ---- slots as a state has them
 
@@ -39,21 +38,6 @@ records_at : (slots : List (Option Kept)) (n : ℕ) → slot_at (slot_records sl
 records_at [] n = refl
 records_at (s ∷ slots) zero = refl
 records_at (s ∷ slots) (suc n) = records_at slots n
-
-pub set_long : {X : Type 0} (xs : List X) (n : ℕ) (x : X) → length (slice_set xs n x) ≡ length xs
-set_long [] n x = refl
-set_long (y ∷ xs) zero x = refl
-set_long (y ∷ xs) (suc n) x = ap suc (set_long xs n x)
-
-set_again : {X : Type 0} (xs : List X) (n : ℕ) (x y : X) → slice_set (slice_set xs n x) n y ≡ slice_set xs n y
-set_again [] n x y = refl
-set_again (z ∷ xs) zero x y = refl
-set_again (z ∷ xs) (suc n) x y = ap (λ l. z ∷ l) (set_again xs n x y)
-
-slot_set : (slots : List (Option Kept)) (n : ℕ) (x : Option Kept) → n < length slots → slot_at (slice_set slots n x) n ≡ x
-slot_set [] n x low = absurd (omega (arith, low))
-slot_set (s ∷ slots) zero x low = refl
-slot_set (s ∷ slots) (suc n) x low = slot_set slots n x (omega (arith, low))
 
 slot_held : (slots : List (Option Kept)) (n : ℕ) (x : Option Kept) → slice_get slots n ≡ Some x → slot_at slots n ≡ x
 slot_held slots n x e = ap (option_and_then (λ slot. slot)) e
@@ -132,109 +116,10 @@ module _ (keys : List Key) (slots : List (Option Kept)) (have : HaveSlots keys s
   pub count_rows : count_in keys slots ≡ length (rows_by keys slots)
   count_rows = sym (length_rows keys (slot_records slots) have.once)
 
-  -- ---- another field in a slot's record
-
-  swapped_at : (n at : ℕ) (h : KeptField) (kept after : Kept) (key : Option Key) → slice_get keys n ≡ key → slice_get slots n ≡ Some (Some kept)
-      → kept_record after ≡ with_field at h (kept_record kept) → with_row key (Some (kept_record after)) (rows_by keys slots) ≡ with_row_field key at h (rows_by keys slots)
-  swapped_at n at h kept after None is stood same = refl
-  swapped_at n at h kept after (Some key) is stood same =
-      ap (λ r. with_row (Some key) (Some r) (rows_by keys slots)) same
-      ∙ row_changed key (with_field at h) (kept_record kept) (rows_by keys slots) (ordered (present keys (slot_records slots)))
-      (ap (λ k. row_under k (rows_by keys slots)) (sym is) ∙ sym (row_held n (Some kept) stood))
-
-  pub rows_swapped : (n at : ℕ) (h : KeptField) (kept after : Kept) → n < length keys → slice_get slots n ≡ Some (Some kept) → kept_record after ≡ with_field at h (kept_record kept)
-      → rows_by keys (slice_set slots n (Some after)) ≡ with_row_field (slice_get keys n) at h (rows_by keys slots)
-  rows_swapped n at h kept after low stood same =
-      rows_exchanged n (Some after) low ∙ swapped_at n at h kept after (slice_get keys n) refl stood same
-
--- a field and its tie put back give the record as it was
-record_back : (r : KeptRecord) (at : ℕ) (h old : KeptField) → slice_get r.fields at ≡ Some old → with_field at old (with_field at h r) ≡ r
-record_back r at h old stood = let same = set_back r.fields at h old stood in λ i. record { leader = r.leader; fields = same i }
-
-get_low : {X : Type 0} (xs : List X) (n : ℕ) (x : X) → slice_get xs n ≡ Some x → n < length xs
-get_low xs n x e = within xs n (ap is_some e)
-
-set_get : {X : Type 0} (xs : List X) (n : ℕ) (x : X) → n < length xs → slice_get (slice_set xs n x) n ≡ Some x
-set_get [] n x low = absurd (omega (arith, low))
-set_get (y ∷ xs) zero x low = refl
-set_get (y ∷ xs) (suc n) x low = set_get xs n x (omega (arith, low))
-
--- ---- what one exchange of a field leaves, by the record before and after it
-
-module _ (keys : List Key) (slots middle now : List (Option Kept)) (have : HaveSlots keys slots) (n at : ℕ) (h old : KeptField) (kept after : Kept)
-    (stood : slice_get slots n ≡ Some (Some kept)) (out : middle ≡ slice_set slots n None) (back : now ≡ slice_set middle n (Some after))
-    (same : kept_record after ≡ with_field at h (kept_record kept)) (was : slice_get (kept_record kept).fields at ≡ Some old) where
-  low : n < length slots
-  low = get_low slots n (Some kept) stood
-
-  low_key : n < length keys
-  low_key = omega (arith, low, have.long)
-
-  once : now ≡ slice_set slots n (Some after)
-  once = back ∙ ap (λ l. slice_set l n (Some after)) out ∙ set_again slots n None (Some after)
-
-  pub swap_have : HaveSlots keys now
-  swap_have = subst (λ l. HaveSlots keys l) (sym once) (have_set keys slots have n (Some after))
-
-  pub swap_rows : rows_by keys now ≡ with_row_field (slice_get keys n) at h (rows_by keys slots)
-  swap_rows = ap (rows_by keys) once ∙ rows_swapped keys slots have n at h kept after low_key stood same
-
-  pub swap_before : option_and_then (field_at at) (row_under (slice_get keys n) (rows_by keys slots)) ≡ Some old
-  swap_before = ap (option_and_then (field_at at)) (sym (row_held keys slots have n (Some kept) stood)) ∙ was
-
-  pub swap_back : with_row_field (slice_get keys n) at old (rows_by keys now) ≡ rows_by keys slots
-  swap_back =
-      let held : slice_get now n ≡ Some (Some after) = ap (λ l. slice_get l n) once ∙ set_get slots n (Some after) low in
-      let reset : kept_record kept ≡ with_field at old (kept_record after) = sym (ap (with_field at old) same ∙ record_back (kept_record kept) at h old was) in
-      let whole : slice_set now n (Some kept) ≡ slots = ap (λ l. slice_set l n (Some kept)) once ∙ set_back slots n (Some after) (Some kept) stood in
-      sym (rows_swapped keys now swap_have n at old after kept low_key held reset) ∙ ap (rows_by keys) whole
-
-  pub swap_after : option_and_then (field_at at) (row_under (slice_get keys n) (rows_by keys now)) ≡ Some h
-  swap_after =
-      let held : slice_get now n ≡ Some (Some after) = ap (λ l. slice_get l n) once ∙ set_get slots n (Some after) low in
-      ap (option_and_then (field_at at)) (sym (row_held keys now swap_have n (Some after) held)) ∙ ap (λ r. slice_get r.fields at) same
-      ∙ set_get (kept_record kept).fields at h (get_low (kept_record kept).fields at old was)
-
-  pub swap_stays : (field : Field) → StaysRecord at field (kept_record after) → IfSome (row_under (slice_get keys n) (rows_by keys now)) (StaysRecord at field)
-  swap_stays field stays =
-      let held : slice_get now n ≡ Some (Some after) = ap (λ l. slice_get l n) once ∙ set_get slots n (Some after) low in
-      subst (λ o. IfSome o (StaysRecord at field)) (row_held keys now swap_have n (Some after) held) stays
-
-  pub swap_count : count_in keys now ≡ count_in keys slots
-  swap_count =
-      let counts = count_set keys slots have n (Some after) (Some kept) low_key stood in
-      let now_is = ap (count_in keys) once in
-      omega (arith, counts, now_is)
-
--- ---- what is asked of an exchange of a field
-
-module _ (keys : List Key) (slots : List (Option Kept)) (have : HaveSlots keys slots) (n at : ℕ) (some : IsSome (option_and_then (field_at at) (row_under (slice_get keys n) (rows_by keys slots)))) where
-  pub swap_low : n < length slots
-  swap_low = by (slice_get keys n) refl some
-    where
-      by : (key : Option Key) → slice_get keys n ≡ key → IsSome (option_and_then (field_at at) (row_under key (rows_by keys slots))) → n < length slots
-      by None e s = absurd (false≢true s)
-      by (Some key) e s = omega (arith, get_low keys n key e, have.long)
-
-  slot_some : IsSome (option_and_then (field_at at) (option_map kept_record (slot_at slots n)))
-  slot_some = subst (λ o. IsSome (option_and_then (field_at at) o)) (row_at keys slots have n) some
-
-  -- a record stands there
-  pub swap_stands : (o : Option Kept) → slice_get slots n ≡ Some o → IsSome o
-  swap_stands None e = absurd (false≢true (subst (λ o. IsSome (option_and_then (field_at at) (option_map kept_record o))) (slot_held slots n None e) slot_some))
-  swap_stands (Some kept) e = refl
-
-  pub swap_within : (kept : Kept) → slice_get slots n ≡ Some (Some kept) → at < length kept.rec.fields
-  unfolding kept_record
-  swap_within kept e =
-      let low = within (kept_record kept).fields at (subst (λ o. IsSome (option_and_then (field_at at) (option_map kept_record o))) (slot_held slots n (Some kept) e) slot_some) in
-      omega (arith, low, joined_length kept.rec.fields kept.links kept.tied)
-
--- the record stays one
-pub swap_valid : (keys : List Key) (slots : List (Option Kept)) → HaveSlots keys slots → (n at : ℕ) (field : Field) (kept : Kept) → slice_get slots n ≡ Some (Some kept)
-    → IfSome (row_under (slice_get keys n) (rows_by keys slots)) (StaysRecord at field) → at < length kept.rec.fields → is_record kept.rec.leader (slice_set kept.rec.fields at field) ≡ true
-swap_valid keys slots have n at field kept stood stays low =
-    valid_field kept at field (Some kept) refl (subst (λ o. IfSome o (StaysRecord at field)) (sym (row_held keys slots have n (Some kept) stood)) stays) low
+  -- a record with another field in its place
+  pub field_changed : (key : Key) (at : ℕ) (h : KeptField) (r : KeptRecord) → lookup (same_key key) (rows_by keys slots) ≡ Some r
+      → with_row (Some key) (Some (with_field at h r)) (rows_by keys slots) ≡ with_row_field (Some key) at h (rows_by keys slots)
+  field_changed key at h r stood = row_changed key (with_field at h) r (rows_by keys slots) (ordered (present keys (slot_records slots))) stood
 
 -- ---- one more key
 

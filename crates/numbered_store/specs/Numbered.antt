@@ -9,7 +9,7 @@ use Rattle.marc_types.specs.Order.{same_key}
 use Rattle.numbering.specs.declared.seat.Seat.{Seat}
 use Rattle.numbering.specs.Numbers.{with_thing}
 use Rattle.catalogue_rules.specs.State.{KeptField, KeptRecord, State, empty_state, rows_of}
-use Rattle.record_store.specs.Store.{StaysRecord, field_at, with_rows}
+use Rattle.record_store.specs.Store.{StaysFit, StaysRecord, field_at, with_rows}
 use Rattle.numbered_store.specs.Rows.{Shelved, row_under, with_row, with_row_field}
 
 -- the keys of each class; a key's number is its place in the list
@@ -51,9 +51,10 @@ record_at class number s = row_under (key_at class number s) (rows_of class s.st
 abbrev pub field_of : Seat → Numbered → Option KeptField
 field_of seat s = option_and_then (field_at seat.field) (record_at seat.class seat.number s)
 
--- with this field at the seat the record there stays one
-abbrev pub SuitsSeat : Seat → Field → Numbered → Type 0
-SuitsSeat seat field s = IfSome (record_at seat.class seat.number s) (StaysRecord seat.field field)
+-- with this field at the seat the record there stays one, and fits its written form
+pub record SuitsSeat (seat : Seat) (field : Field) (s : Numbered) : Type 0 where
+  pub stays : IfSome (record_at seat.class seat.number s) (StaysRecord seat.field field)
+  pub fits : IfSome (record_at seat.class seat.number s) (StaysFit seat.field field)
 
 -- the keys with one more of a class, where it has no number yet
 abbrev pub with_key : Class → Key → KeyNumbers → KeyNumbers

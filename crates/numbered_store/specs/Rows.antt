@@ -6,10 +6,11 @@ use Rattle.std.specs.Option.{option_and_then, option_map}
 use Rattle.std.specs.BTreeMap.{insert_entry}
 use Rattle.marc_types.specs.Valid.{is_record}
 use Rattle.marc_types.specs.declared.key.Key.{Key}
-use Rattle.marc_types.specs.declared.entry.Kept.{Kept}
 use Rattle.marc_types.specs.Order.{key_cmp, same_key}
-use Rattle.catalogue_rules.specs.State.{KeptField, KeptRecord, Row, fields_of, kept_record}
+use Rattle.catalogue_rules.specs.State.{KeptField, KeptRecord, Row, fields_of}
 use Rattle.record_store.specs.Store.{with_field_under}
+use Rattle.numbered_store.specs.Kept.{kept_record}
+use Rattle.numbered_store.specs.declared.kept.Kept.{Kept}
 
 -- the keys whose slot isn't blank, each with what it holds
 abbrev pub present : {V : Type 0} → List Key → List (Option V) → List (Key × V)

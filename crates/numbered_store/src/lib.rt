@@ -1,10 +1,12 @@
-//! The kept records of a catalogue, found by the numbers of their keys and changed in place.
+//! The kept records of a catalogue, found by the numbers of their keys and exchanged in place.
 #![tactic(auto)]
 
+pub use kept::{FoundField, Kept};
 pub use listing::RowMap;
 pub use store::NumberedStore;
 
-mod exchange;
+mod fields;
+mod kept;
 pub mod laws;
 mod listing;
 mod shelf;

@@ -1,9 +1,10 @@
 ghost use Rattle.std.specs.Prelude.{◌≡◌, ◌<◌, length, map, IfOk, OnOk, slice_get};
-ghost use Rattle.record_store.specs.Store.{shown_row};
+ghost use Rattle.numbered_store.specs.Kept.{shown_row};
 ghost use Rattle.numbered_store.specs.Rows.{HaveSlots, rows_by, slot_at, with_slot};
 
+use crate::kept::Kept;
 use crate::slots::{Slots, slot};
-use marc_types::{Kept, Key, NoMemory};
+use marc_types::{Key, NoMemory};
 use numbering::Numbering;
 use std::alloc::Global;
 use std::collections::BTreeMap;

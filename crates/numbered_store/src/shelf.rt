@@ -1,16 +1,18 @@
-ghost use Rattle.std.specs.Prelude.{◌≡◌, ◌<◌, ◌^◌, true, [], length, map, IsSome, IfSome, IfOk, OnOk, OnErr, slice_get, Some, None, if◌then◌else◌};
+ghost use Rattle.std.specs.Prelude.{◌≡◌, ℕ, ◌<◌, ◌^◌, true, [], length, map, IsSome, IfSome, IfOk, OnOk, OnErr, slice_get, Some, None, if◌then◌else◌};
 ghost use Rattle.std.specs.Map.{lookup};
-ghost use Rattle.std.specs.Option.{option_map, option_and_then};
+ghost use Rattle.std.specs.Option.{option_map};
 ghost use Rattle.marc_types.specs.declared.key.Key.{Key as AnyKey};
 ghost use Rattle.marc_types.specs.Order.{same_key};
 ghost use Rattle.numbering.specs.Numbers.{is_known, number_of, with_thing, IsNumberOf};
-ghost use Rattle.catalogue_rules.specs.State.{kept_field, kept_record};
-ghost use Rattle.record_store.specs.Store.{StaysRecord, field_at, shown_row};
+ghost use Rattle.catalogue_rules.specs.State.{KeptField, KeptRecord};
+ghost use Rattle.record_store.specs.Store.{with_field};
+ghost use Rattle.numbered_store.specs.Kept.{kept_record, shown_row};
 ghost use Rattle.numbered_store.specs.Rows.{IsProper, row_under, with_row, with_row_field};
 
+use crate::kept::Kept;
 use crate::listing::{RowMap, in_order};
-use crate::slots::{Slots, exchange_slot, kept_at, recounted, swap_slot};
-use marc_types::{Field, Kept, Key, NoMemory, Tie};
+use crate::slots::{Slots, exchange_slot, kept_at, recounted};
+use marc_types::{Key, NoMemory};
 use numbering::Numbering;
 use std::alloc::Global;
 use std::marker::Model;
@@ -122,18 +124,11 @@ impl Shelf {
         before
     }
 
-    /// Puts a field and its tie into a place of the record under the key that has the number, and gives those that stood
-    /// there.
-    pub(crate) fn swap(&mut self, number: u32, at: usize, field: Field, tie: Tie) -> (Field, Tie)
-        requires stands { IsSome (option_and_then (field_at at) (row_under (slice_get self.old.keys number) self.old.rows)) }
-        requires stays { IfSome (row_under (slice_get self.old.keys number) self.old.rows) (StaysRecord at field) }
-        ensures rows { self.new.rows ≡ with_row_field (slice_get self.old.keys number) at (kept_field field tie) self.old.rows }
-        ensures before { option_and_then (field_at at) (row_under (slice_get self.old.keys number) self.old.rows) ≡ Some (kept_field result.0 result.1) }
-        ensures back { with_row_field (slice_get self.new.keys number) at (kept_field result.0 result.1) self.new.rows ≡ self.old.rows }
-        ensures after { option_and_then (field_at at) (row_under (slice_get self.new.keys number) self.new.rows) ≡ Some (kept_field field tie) }
-        ensures stays { IfSome (row_under (slice_get self.new.keys number) self.new.rows) (StaysRecord at result.0) }
-        ensures keys { self.new.keys ≡ self.old.keys }
+    /// A record exchanged for itself with another field is that field exchanged.
+    pub(crate) fn a_field_changes_with_its_record(&self)
+        ensures { (key : AnyKey) (place : ℕ) (h : KeptField) (r : KeptRecord) → lookup (same_key key) self.now.rows ≡ Some r
+            → with_row (Some key) (Some (with_field place h r)) self.now.rows ≡ with_row_field (Some key) place h self.now.rows }
     {
-        swap_slot(&self.keys, &mut self.slots, number, at, field, tie)
+        let _slots = &self.slots;
     }
 }

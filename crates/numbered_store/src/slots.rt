@@ -1,11 +1,10 @@
-ghost use Rattle.std.specs.Prelude.{◌≡◌, ◌+◌, ◌<◌, ◌≤◌, ◌^◌, length, is_some, IsSome, IfSome, slice_get, slice_set, Some, if◌then◌else◌};
-ghost use Rattle.std.specs.Option.{option_and_then, option_copied, option_map};
-ghost use Rattle.catalogue_rules.specs.State.{kept_field, kept_record};
-ghost use Rattle.record_store.specs.Store.{StaysRecord, field_at};
-ghost use Rattle.numbered_store.specs.Rows.{HaveSlots, count_in, row_under, rows_by, slot_at, with_row, with_row_field};
+ghost use Rattle.std.specs.Prelude.{◌≡◌, ◌+◌, ◌<◌, ◌≤◌, ◌^◌, length, is_some, slice_get, slice_set, Some, if◌then◌else◌};
+ghost use Rattle.std.specs.Option.{option_copied, option_map};
+ghost use Rattle.numbered_store.specs.Kept.{kept_record};
+ghost use Rattle.numbered_store.specs.Rows.{HaveSlots, count_in, row_under, rows_by, slot_at, with_row};
 
-use crate::exchange::exchange;
-use marc_types::{Field, Kept, Key, Tie};
+use crate::kept::Kept;
+use marc_types::Key;
 use numbering::Numbering;
 use std::mem;
 
@@ -46,33 +45,6 @@ pub(crate) fn exchange_slot(
     ensures there { (if is_some result then 1 else 0) ≤ count_in keys.now slots.old.items }
 {
     replaced(slots, number, kept)
-}
-
-/// Puts a field and its tie into a place of the record under the key that has the number, and gives those that stood there.
-pub(crate) fn swap_slot(
-    keys: &Numbering<Key>,
-    slots: &mut Slots,
-    number: u32,
-    at: usize,
-    field: Field,
-    tie: Tie,
-) -> (Field, Tie)
-    requires slots { HaveSlots keys.now slots.old.items }
-    requires stands { IsSome (option_and_then (field_at at) (row_under (slice_get keys.now number) (rows_by keys.now slots.old.items))) }
-    requires stays { IfSome (row_under (slice_get keys.now number) (rows_by keys.now slots.old.items)) (StaysRecord at field) }
-    ensures slots { HaveSlots keys.now slots.new.items }
-    ensures rows { rows_by keys.now slots.new.items ≡ with_row_field (slice_get keys.now number) at (kept_field field tie) (rows_by keys.now slots.old.items) }
-    ensures before { option_and_then (field_at at) (row_under (slice_get keys.now number) (rows_by keys.now slots.old.items)) ≡ Some (kept_field result.0 result.1) }
-    ensures back { with_row_field (slice_get keys.now number) at (kept_field result.0 result.1) (rows_by keys.now slots.new.items) ≡ rows_by keys.now slots.old.items }
-    ensures after { option_and_then (field_at at) (row_under (slice_get keys.now number) (rows_by keys.now slots.new.items)) ≡ Some (kept_field field tie) }
-    ensures stays { IfSome (row_under (slice_get keys.now number) (rows_by keys.now slots.new.items)) (StaysRecord at result.0) }
-    ensures count { count_in keys.now slots.new.items ≡ count_in keys.now slots.old.items }
-{
-    // a record stands there, since a field stands at the place
-    let kept = replaced(slots, number, None).unwrap();
-    let (kept, before) = exchange(kept, at, field, tie);
-    let _blank = replaced(slots, number, Some(kept));
-    before
 }
 
 // Puts a thing into a slot, and gives what stood there.

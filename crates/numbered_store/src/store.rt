@@ -4,16 +4,19 @@ ghost use Rattle.marc_types.specs.declared.key.Class.{Class as AnyClass};
 ghost use Rattle.marc_types.specs.declared.key.Key.{Key as AnyKey};
 ghost use Rattle.marc_types.specs.Order.{same_key};
 ghost use Rattle.numbering.specs.Numbers.{is_known, number_of, IsNumberOf};
-ghost use Rattle.catalogue_rules.specs.State.{rows_of, kept_field, kept_record};
+ghost use Rattle.numbering.specs.declared.seat.Seat.{Seat as AnySeat};
+ghost use Rattle.catalogue_rules.specs.State.{KeptField, KeptRecord, rows_of};
 ghost use Rattle.catalogue_rules.specs.Receipt.{kept_under};
-ghost use Rattle.record_store.specs.Store.{shown_row};
+ghost use Rattle.record_store.specs.Store.{with_field};
+ghost use Rattle.numbered_store.specs.Kept.{kept_record, shown_row};
 ghost use Rattle.numbered_store.specs.Rows.{IsProper};
-ghost use Rattle.numbered_store.specs.Numbered.{IsNumber, SuitsSeat, empty_numbered, field_of, keys_in, record_at, with_field_of, with_number, with_record};
+ghost use Rattle.numbered_store.specs.Numbered.{IsNumber, empty_numbered, keys_in, record_at, with_field_of, with_number, with_record};
 
+use crate::kept::Kept;
 use crate::listing::RowMap;
 use crate::shelf::Shelf;
-use marc_types::{Class, Field, Kept, Key, NoMemory, Tie};
-use numbering::{Numbering, Seat};
+use marc_types::{Class, Key, NoMemory};
+use numbering::Numbering;
 use record_store::Steps;
 use std::alloc::Global;
 use std::marker::Model;
@@ -135,22 +138,13 @@ impl NumberedStore {
         }
     }
 
-    /// Puts a field and its tie at a seat, and gives those that stood there. It takes no memory, and the same call with
-    /// the result undoes it.
-    pub fn swap(&mut self, seat: Seat, field: Field, tie: Tie) -> (Field, Tie)
-        requires stands { IsSome (field_of seat self.old) }
-        requires suits { SuitsSeat seat field self.old }
-        ensures now { self.new ≡ with_field_of seat (kept_field field tie) self.old }
-        ensures before { field_of seat self.old ≡ Some (kept_field result.0 result.1) }
-        ensures after { field_of seat self.new ≡ Some (kept_field field tie) }
-        ensures back { with_field_of seat (kept_field result.0 result.1) self.new ≡ self.old }
-        ensures suits { SuitsSeat seat result.0 self.new }
+    /// A record exchanged for itself with another field is that field exchanged.
+    pub fn a_field_changes_with_its_record(&self)
+        ensures { (seat : AnySeat) (h : KeptField) (r : KeptRecord) → record_at seat.class seat.number self.now ≡ Some r
+            → with_record seat.class seat.number (Some (with_field seat.field h r)) self.now ≡ with_field_of seat h self.now }
     {
-        let at = seat.field as usize;
-        match seat.class {
-            Class::Authority => self.authorities.swap(seat.number, at, field, tie),
-            Class::Bibliographic => self.bibliographic.swap(seat.number, at, field, tie),
-        }
+        self.authorities.a_field_changes_with_its_record();
+        self.bibliographic.a_field_changes_with_its_record();
     }
 
     fn shelf(&self, class: Class) -> &Shelf

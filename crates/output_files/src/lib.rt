@@ -1,5 +1,5 @@
-//! The outputs of the commands: a catalogue's records and its report, each written into a file of a room, which is closed
-//! again on every path.
+//! The outputs of the commands: a catalogue's records and its report, each written into a file of a room, which is whole or as it
+//! was on every path.
 #![tactic(auto)]
 
 pub use kept::is_kept;

@@ -1,11 +1,11 @@
 -- What several writes wrote, one after the other, and what is left to write.
-use Rattle.std.proofs.Common.{◌≡◌, ℕ, List, [], ◌++◌, Option, Some, None, Result, Ok, Err, OnOk, OnErr, refl, sym, ap, ◌∙◌, append_assoc, append-nil, ◌<◌, ◌+◌, length, take, drop, get_or, arith, subst, ◌∷◌, take-append-drop, drop-cons}
+use Rattle.std.proofs.Common.{◌≡◌, ℕ, List, [], ◌++◌, Option, Some, None, refl, sym, ap, ◌∙◌, append_assoc, append-nil, ◌<◌, ◌+◌, length, take, drop, get_or, arith, subst, ◌∷◌, take-append-drop, drop-cons}
 use Rattle.std.specs.Io.KnownBytes.{Appends, Consumes, IsAtEnd}
 use Rattle.std.proofs.KnownBytes.{Appends-trans, Appends-nil, Consumes-trans}
 use Rattle.std.specs.List.{flat_map}
 use Rattle.std.proofs.lemmas.Grind.{common_steps, flat_map-append}
 use Rattle.std.proofs.lemmas.List.{drop_more}
-use Rattle.outside.specs.Sink.{WritesFront, IsFrontOf, HasFront}
+use Rattle.outside.specs.Sink.{WritesFront}
 
 -- nothing was written
 pub front_none : (a : Option (List ℕ)) (p : List ℕ) → WritesFront a a p
@@ -117,10 +117,3 @@ drop_next xs i x h is = drop_more xs i x h ∙ ap (λ y. y ∷ drop (i + 1) xs) 
 pub piece_next : {X : Type 0} (f : X → List ℕ) (xs : List X) (i : ℕ) (x : X) → i < length xs → x ≡ get_or xs i x
     → flat_map f (drop i xs) ≡ f x ++ flat_map f (drop (i + 1) xs)
 piece_next f xs i x h is = ap (flat_map f) (drop_next xs i x h is)
-
--- however a close ends, the file has a front of what was written
-pub front_of_closed : {T E : Type 0} (result : Result T E) (file written : Option (List ℕ)) (bytes : List ℕ) (Tells : Type 0)
-    → OnOk result (Tells → file ≡ written) → OnErr result (Tells → HasFront file written) → Tells → written ≡ Some bytes → IsFrontOf file bytes
-front_of_closed (Ok value) file written bytes Tells whole front tells is =
-    record { front = bytes; rest = []; split = sym (append-nil bytes); is = whole tells ∙ is }
-front_of_closed (Err fault) file written bytes Tells whole front tells is = subst (HasFront file) is (front tells)

@@ -1,7 +1,7 @@
 -- What several calls on a room leave the same.
-use Rattle.std.proofs.Common.{ℕ, List, [], ◌∷◌, refl, ◌∙◌, arith}
+use Rattle.std.proofs.Common.{◌≡◌, ℕ, List, [], ◌∷◌, Option, true, Result, Ok, Err, OnOk, OnErr, refl, ◌∙◌, arith}
 use Rattle.outside.proofs.Disks.{same_disk, same_disk_then}
-use Rattle.outside.specs.Room.{RoomView, IsNoneOf, SameBut}
+use Rattle.outside.specs.Room.{RoomView, IsNoneOf, SameBut, IsUntouched, IsPut, IsPutOrNot, Untouched, Put}
 
 -- before the first call
 pub same_but_itself : (a : RoomView) (names : List (List ℕ)) → SameBut a a names
@@ -14,6 +14,7 @@ same_but_itself a names = record {
   ins = λ n. omega arith;
   outs = λ n. omega arith;
   log_counts = λ n. omega arith;
+  failed_ats = λ n _. refl;
   promises = λ n. refl;
 }
 
@@ -28,6 +29,7 @@ same_but_then a b c names first second = record {
   ins = λ n. omega (arith, first.ins n, second.ins n);
   outs = λ n. omega (arith, first.outs n, second.outs n);
   log_counts = λ n. omega (arith, first.log_counts n, second.log_counts n);
+  failed_ats = λ n other. second.failed_ats n other ∙ first.failed_ats n other;
   promises = λ n. second.promises n ∙ first.promises n;
 }
 
@@ -43,6 +45,7 @@ same_but_more a b names more fewer same = record {
   ins = same.ins;
   outs = same.outs;
   log_counts = same.log_counts;
+  failed_ats = λ n other. same.failed_ats n (fewer n other);
   promises = same.promises;
 }
 
@@ -53,3 +56,34 @@ same_but_none a b names same = same_but_more a b [] names (λ n other. tt) same
 -- the same but for the first of these names
 pub same_but_first : (a b : RoomView) (name : List ℕ) (names : List (List ℕ)) → SameBut a b (name ∷ []) → SameBut a b (name ∷ names)
 same_but_first a b name names same = same_but_more a b (name ∷ []) (name ∷ names) (λ n other. (other.0, tt)) same
+
+-- a name before the first call
+pub untouched_itself : (a : RoomView) (name : List ℕ) → IsUntouched a a name
+untouched_itself a name = record { file = refl; is_log = refl; log = λ _. same_disk (a.log name) }
+
+-- a name under which nothing changed
+pub untouched_same : (a b : RoomView) (name : List ℕ) → SameBut a b [] → IsUntouched a b name
+untouched_same a b name same = record { file = same.files name tt; is_log = same.log_names name tt; log = same.logs name tt }
+
+-- one call after the other
+pub untouched_then : (a b c : RoomView) (name : List ℕ) → IsUntouched a b name → IsUntouched b c name → IsUntouched a c name
+untouched_then a b c name first second = record {
+  file = second.file ∙ first.file;
+  is_log = second.is_log ∙ first.is_log;
+  log = λ is. same_disk_then (a.log name) (b.log name) (c.log name) (first.log is) (second.log (first.is_log ∙ is));
+}
+
+put_then : (a b c : RoomView) (name : List ℕ) (bytes : Option (List ℕ)) → b.tells ≡ a.tells → IsPut b c name bytes → IsPut a c name bytes
+put_then a b c name bytes tells put = record { file = λ told. put.file (tells ∙ told); no_log = put.no_log }
+
+-- an output that was begun, and then closed
+pub put_or_not_then : (a b c : RoomView) (name : List ℕ) (bytes : Option (List ℕ)) → b.tells ≡ a.tells → IsUntouched a b name
+    → IsPutOrNot b c name bytes → IsPutOrNot a c name bytes
+put_or_not_then a b c name bytes tells first (Untouched second) = Untouched (untouched_then a b c name first second)
+put_or_not_then a b c name bytes tells first (Put put) = Put (put_then a b c name bytes tells put)
+
+-- however a close ended
+pub put_or_not : {T E : Type 0} (result : Result T E) (a b : RoomView) (name : List ℕ) (bytes : Option (List ℕ)) → OnOk result (IsPut a b name bytes)
+    → OnErr result (IsPutOrNot a b name bytes) → IsPutOrNot a b name bytes
+put_or_not (Ok value) a b name bytes put or_not = Put put
+put_or_not (Err fault) a b name bytes put or_not = or_not

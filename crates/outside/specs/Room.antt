@@ -1,5 +1,5 @@
 -- What clauses see of a room.
-use Rattle.std.specs.Prelude.{◌≡◌, ◌≢◌, ◌⊎◌, ℕ, ◌≤◌, List, [], ◌∷◌, length, Option, Some, None, Bool, true}
+use Rattle.std.specs.Prelude.{◌≡◌, ◌≢◌, ◌⊎◌, ℕ, ◌≤◌, List, [], ◌∷◌, length, Option, Some, None, Bool, true, false}
 use Rattle.outside.specs.Disk.{DiskView, SameDisk}
 
 -- how a name is open, other than as input
@@ -7,7 +7,7 @@ pub data OpenSort : Type 0 where
   AsOutput : OpenSort
   AsLog : OpenSort
 
--- what a room promises of a name: nothing; or that its inputs have no fault; or that its outputs and logs have none before its file has so
+-- what a room promises of a name: nothing; or that its inputs have no fault; or that no output and no log of it has one before it has so
 -- many bytes
 pub data Promise : Type 0 where
   Unpromised : Promise
@@ -18,7 +18,7 @@ pub data Promise : Type 0 where
 pub record RoomView : Type 1 where
   -- whether it tells its files
   pub tells : Bool
-  -- the bytes of the file of that name, where there is one and the name isn't open
+  -- the bytes of the file of that name, where there is one that isn't open as a log. An output that is open leaves it as it is.
   pub file : List ℕ → Option (List ℕ)
   -- how the name is open
   pub open_as : List ℕ → Option OpenSort
@@ -32,6 +32,8 @@ pub record RoomView : Type 1 where
   pub out_faults : List ℕ → ℕ
   -- the faults of the name's logs
   pub log_faults : List ℕ → ℕ
+  -- the most bytes that an output of the name had which was taken back with a fault
+  pub failed_at : List ℕ → ℕ
   -- what each input that was closed had left then, the newest first; none where its source doesn't tell
   pub lefts : List (Option (List ℕ))
   -- what it promises of the name, which no call changes
@@ -42,15 +44,32 @@ abbrev pub bytes_or_none : Option (List ℕ) → List ℕ
 bytes_or_none None = []
 bytes_or_none (Some bytes) = bytes
 
--- no output or log of the name had a fault, or its file has so many bytes
-abbrev pub HasHeld : RoomView → List ℕ → ℕ → Type 0
-HasHeld room name most = ((room.out_faults name ≡ 0) × (room.log_faults name ≡ 0)) ⊎ (most ≤ length (bytes_or_none (room.file name)))
+-- no output of the name had a fault, or one that had it had so many bytes; no log of the name had a fault, or its file has so many
+pub record HasHeld (room : RoomView) (name : List ℕ) (most : ℕ) : Type 0 where
+  pub outs : (room.out_faults name ≡ 0) ⊎ (most ≤ room.failed_at name)
+  pub logs : (room.log_faults name ≡ 0) ⊎ (most ≤ length (bytes_or_none (room.file name)))
 
 -- a promise of a room is kept
 abbrev pub IsPromiseKept : RoomView → List ℕ → Promise → Type 0
 IsPromiseKept room name Unpromised = Unit {0}
 IsPromiseKept room name ReadsAlways = room.in_faults name ≡ 0
 IsPromiseKept room name (HoldsUpTo most) = HasHeld room name most
+
+-- the file of that name, and the log that was closed as it, are as they were
+pub record IsUntouched (old new : RoomView) (name : List ℕ) : Type 0 where
+  pub file : new.file name ≡ old.file name
+  pub is_log : new.has_log name ≡ old.has_log name
+  pub log : old.has_log name ≡ true → SameDisk (old.log name) (new.log name)
+
+-- the file of that name has these bytes, where the room tells it, and is no closed log
+pub record IsPut (old new : RoomView) (name : List ℕ) (bytes : Option (List ℕ)) : Type 0 where
+  pub file : old.tells ≡ true → new.file name ≡ bytes
+  pub no_log : new.has_log name ≡ false
+
+-- an output of these bytes is whole or not at all: the file of that name is as it was, or has all of them
+pub data IsPutOrNot (old new : RoomView) (name : List ℕ) (bytes : Option (List ℕ)) : Type 0 where
+  Untouched : IsUntouched old new name → IsPutOrNot old new name bytes
+  Put : IsPut old new name bytes → IsPutOrNot old new name bytes
 
 -- a name that differs from each of these
 abbrev pub IsNoneOf : List ℕ → List (List ℕ) → Type 0
@@ -67,4 +86,5 @@ pub record SameBut (old new : RoomView) (names : List (List ℕ)) : Type 0 where
   pub ins : (n : List ℕ) → old.in_faults n ≤ new.in_faults n
   pub outs : (n : List ℕ) → old.out_faults n ≤ new.out_faults n
   pub log_counts : (n : List ℕ) → old.log_faults n ≤ new.log_faults n
+  pub failed_ats : (n : List ℕ) → IsNoneOf n names → new.failed_at n ≡ old.failed_at n
   pub promises : (n : List ℕ) → new.promise n ≡ old.promise n

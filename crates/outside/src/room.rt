@@ -1,12 +1,11 @@
-ghost use Rattle.std.specs.Prelude.{◌≡◌, ℕ, List, [], Option, true, false, Some, None, IsSome, IfOk, OnOk, OnErr, ◌∷◌};
+ghost use Rattle.std.specs.Prelude.{◌≡◌, ℕ, ◌<◌, ◌≤◌, max, length, List, [], Option, true, false, Some, None, IsSome, IsErr, IfOk, OnOk, OnErr, ◌∷◌};
 ghost use Rattle.outside.specs.Fault.{HasCause, count_sum};
 ghost use Rattle.outside.specs.Disk.{SameDisk};
-ghost use Rattle.outside.specs.Room.{RoomView, AsOutput, AsLog, bytes_or_none, SameBut, IsPromiseKept};
-ghost use Rattle.outside.specs.Sink.{HasFront};
+ghost use Rattle.outside.specs.Room.{RoomView, AsOutput, AsLog, bytes_or_none, SameBut, IsUntouched, IsPut, IsPutOrNot, IsPromiseKept};
 
 use crate::{Disk, Failed, Sink, Source};
 
-/// Files by name. Each object that a room opens is given back to it by a close of its sort.
+/// Files by name. Each object that a room opens is given back to it by a close of its sort; an output may be given up in its place.
 pub trait Room {
     type In: Source + Send;
 
@@ -14,8 +13,8 @@ pub trait Room {
 
     type Log: Disk + Send;
 
-    // What a room is, for the clauses: its files, closed logs, open names, counts of faults, what closed inputs had left, and what it
-    // promises.
+    // What a room is, for the clauses: its files, closed logs, open names, counts of faults, how far outputs came that failed, what closed
+    // inputs had left, and what it promises.
     ghost seen: { Self → RoomView };
 
     /// Opens the file of that name to be read. It fails where there is no such file.
@@ -31,10 +30,12 @@ pub trait Room {
         ensures bytes { IfOk result (λ object.
             (seen self.old).tells ≡ true → Self.In.left object ≡ (seen self.old).file name.now) };
 
-    /// Starts an empty file of that name, which is open as output until it is closed.
+    /// Begins an output of that name, which is open until it is closed or given up. Until then the file of that name stays as it is.
     fn open_out(&mut self, name: &str) -> Result<Self::Out, Failed>
         requires { (seen self.old).open_as name.now ≡ None }
         ensures apart { SameBut (seen self.old) (seen self.new) (name.now ∷ []) }
+        ensures untouched { IsUntouched (seen self.old) (seen self.new) name.now }
+        ensures failed_at { (seen self.new).failed_at name.now ≡ (seen self.old).failed_at name.now }
         ensures lefts { (seen self.new).lefts ≡ (seen self.old).lefts }
         ensures opened { OnOk result ((seen self.new).open_as name.now ≡ Some AsOutput) }
         ensures failed { OnErr result (SameBut (seen self.old) (seen self.new) []) }
@@ -68,23 +69,40 @@ pub trait Room {
         ensures counted { (seen self.new).in_faults name.now
             ≡ count_sum ((seen self.old).in_faults name.now) (Self.In.faults object) };
 
-    /// Takes an output back as the file of that name, and adds its faults to the count of that name's outputs.
+    /// Takes an output back, puts it in the place of the file of that name, and adds its faults to the count of that name's outputs. It is put
+    /// there whole or not at all: one that had a fault isn't.
     fn close_out(&mut self, name: &str, object: Self::Out) -> Result<(), Failed>
         requires { (seen self.old).open_as name.now ≡ Some AsOutput }
         ensures apart { SameBut (seen self.old) (seen self.new) (name.now ∷ []) }
         ensures lefts { (seen self.new).lefts ≡ (seen self.old).lefts }
         ensures closed { (seen self.new).open_as name.now ≡ None }
 
-        // The file has all that was written, or, where the call fails, some front of it.
-        ensures bytes { OnOk result ((seen self.old).tells ≡ true → (seen self.new).file name.now ≡ Self.Out.written object) }
-        ensures front { OnErr result ((seen self.old).tells ≡ true → HasFront ((seen self.new).file name.now) (Self.Out.written object)) }
-        ensures no_log { (seen self.new).has_log name.now ≡ false }
+        // The file has all that was written. Where the call fails, it is as it was, or has that too.
+        ensures put { OnOk result (IsPut (seen self.old) (seen self.new) name.now (Self.Out.written object)) }
+        ensures put_or_not { OnErr result (IsPutOrNot (seen self.old) (seen self.new) name.now (Self.Out.written object)) }
+        ensures refused { 0 < Self.Out.faults object → IsErr result }
+        ensures untouched { 0 < Self.Out.faults object → IsUntouched (seen self.old) (seen self.new) name.now }
 
         // It fails only where the count rose above the sum, which is the count where it doesn't fail.
         ensures counted { OnOk result ((seen self.new).out_faults name.now
             ≡ count_sum ((seen self.old).out_faults name.now) (Self.Out.faults object)) }
         ensures cause { HasCause (count_sum ((seen self.old).out_faults name.now) (Self.Out.faults object))
-            ((seen self.new).out_faults name.now) result };
+            ((seen self.new).out_faults name.now) result }
+        ensures failed_at { (seen self.new).failed_at name.now
+            ≤ max ((seen self.old).failed_at name.now) (length (bytes_or_none (Self.Out.written object))) };
+
+    /// Takes an output back that is given up, and adds its faults to the count of that name's outputs. The file of that name is as it was when
+    /// the output was begun.
+    fn give_up_out(&mut self, name: &str, object: Self::Out)
+        requires { (seen self.old).open_as name.now ≡ Some AsOutput }
+        ensures apart { SameBut (seen self.old) (seen self.new) (name.now ∷ []) }
+        ensures untouched { IsUntouched (seen self.old) (seen self.new) name.now }
+        ensures lefts { (seen self.new).lefts ≡ (seen self.old).lefts }
+        ensures closed { (seen self.new).open_as name.now ≡ None }
+        ensures counted { (seen self.new).out_faults name.now
+            ≡ count_sum ((seen self.old).out_faults name.now) (Self.Out.faults object) }
+        ensures failed_at { (seen self.new).failed_at name.now
+            ≤ max ((seen self.old).failed_at name.now) (length (bytes_or_none (Self.Out.written object))) };
 
     /// Takes a log back as the file of that name, which is a closed log with the moments of the object, and adds its faults
     /// to the count of that name's logs.
@@ -99,10 +117,10 @@ pub trait Room {
         ensures counted { (seen self.new).log_faults name.now
             ≡ count_sum ((seen self.old).log_faults name.now) (Self.Log.seen object).faults };
 
-    // A name that is open so has no told file, and no closed log.
-    ghost open_untold: { (room : Self) (name : List ℕ) → IsSome ((seen room).open_as name) → (seen room).file name ≡ None };
+    // A name that is open as a log has no told file, and no closed log.
+    ghost open_untold: { (room : Self) (name : List ℕ) → (seen room).open_as name ≡ Some AsLog → (seen room).file name ≡ None };
 
-    ghost open_unlogged: { (room : Self) (name : List ℕ) → IsSome ((seen room).open_as name) → (seen room).has_log name ≡ false };
+    ghost open_unlogged: { (room : Self) (name : List ℕ) → (seen room).open_as name ≡ Some AsLog → (seen room).has_log name ≡ false };
 
     // What it promises holds.
     ghost promised: { (room : Self) (name : List ℕ) → IsPromiseKept (seen room) name ((seen room).promise name) };

@@ -1,8 +1,8 @@
 -- What a list of entries has under each name, after one of them changed or was added.
-use Rattle.std.proofs.Common.{◌≡◌, ◌≢◌, ℕ, ◌<◌, ◌≤◌, List, [], ◌∷◌, ◌++◌, length, set, get_or, Option, Some, None, IfSome, IfNone, Bool, true, false, not, cond, nat_lt, refl, sym, ap, ◌∙◌, arith, subst, length-append, Result, Ok, Err, OnErr, inl, inr, true≢false}
+use Rattle.std.proofs.Common.{◌≡◌, ◌≢◌, ℕ, ◌<◌, List, [], ◌∷◌, ◌++◌, length, set, get_or, Option, Some, None, IfSome, IfNone, Bool, true, false, not, cond, refl, sym, ap, ◌∙◌, arith, subst, length-append, Result, Ok, Err, OnErr, true≢false}
 use Rattle.std.specs.List.{find, position, position_or_len, slice_get}
 use Rattle.std.specs.Option.{option_or}
-use Rattle.std.proofs.lemmas.Option.{slice_get-get_or, slice_get_cases}
+use Rattle.std.proofs.lemmas.Option.{slice_get-get_or}
 use Rattle.std.specs.Str.{bytes_eq}
 use Rattle.std.specs.String.{string_bytes}
 use Rattle.std.proofs.lemmas.Grind.{common_steps}
@@ -90,10 +90,11 @@ changes_place files name place old file at is same =
 -- only the calls that are to fail change
 pub changes_fails : (files : List MemFile) (name : List ℕ) (place : ℕ) (old file : MemFile) (fails : List ℕ) → IsPlaceOf files name place
     → old ≡ get_or files place old → string_bytes file.name ≡ string_bytes old.name → file.fails.items ≡ fails → file.state ≡ old.state
-    → file.opening_fails ≡ old.opening_fails → ChangesFile files (set files place file) name (record (file_in files name) { fails = fails })
-changes_fails files name place old file fails at is same now state opening =
+    → file.opening_fails ≡ old.opening_fails → file.is_output ≡ old.is_output
+    → ChangesFile files (set files place file) name (record (file_in files name) { fails = fails })
+changes_fails files name place old file fails at is same now state opening output =
     let changed = changes_place files name place old file at is same in
-    let content : without_name (Some file) ≡ record (file_in files name) { fails = fails } = rw (is_under files name place old at is, now, state, opening) refl in
+    let content : without_name (Some file) ≡ record (file_in files name) { fails = fails } = rw (is_under files name place old at is, now, state, opening, output) refl in
     subst (ChangesFile files (set files place file) name) content changed
 
 -- a fact that holds whatever the result is

@@ -1,10 +1,10 @@
 -- Why a disk in memory is a disk.
-use Rattle.std.specs.Prelude.{◌≡◌, ◌⊎◌, ℕ, ◌+◌, ◌<◌, ◌≤◌, max, Bool, true, false, List, [], ◌∷◌, ◌++◌, length, take, drop, Option, Some, None, Result, Ok, Err, OnOk, OnErr, if◌then◌else◌, nat_lt, nat_le, ◌&&◌, refl}
-use Rattle.std.proofs.Common.{inl, inr, sym, ap, subst, true≢false, ◌∙◌, arith, append_assoc, length-append, length-drop}
-use Rattle.std.proofs.lemmas.List.{length-take-le, take_at, drop_at, take_all}
+use Rattle.std.specs.Prelude.{◌≡◌, ◌⊎◌, ℕ, ◌+◌, ◌<◌, ◌≤◌, Bool, true, false, List, [], ◌∷◌, length, take, Option, Some, None, Result, Ok, Err, OnOk, OnErr, if◌then◌else◌, nat_lt, nat_le, ◌&&◌, refl}
+use Rattle.std.proofs.Common.{inl, inr, sym, ap, subst, true≢false, arith}
+use Rattle.std.proofs.lemmas.List.{length-take-le}
 use Rattle.std.proofs.lemmas.Bool.Decides.{nat_tests}
 use Rattle.std.specs.Option.{option_or}
-use Rattle.outside.specs.Disk.{patch, Torn, TornCut, longest_disk}
+use Rattle.outside.specs.Disk.{patch, longest_disk}
 use Rattle.outside.proofs.Disks.{torn_self, cut_self, length-patch, torn_patch, torn_cut}
 use Rattle.outside_mem.specs.declared.change.Change.{Change}
 use Rattle.outside_mem.specs.declared.change.Change.TheVariants.{Write, Cut, Sync}

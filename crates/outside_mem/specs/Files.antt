@@ -4,7 +4,7 @@ use Rattle.std.specs.List.{find, position_or_len}
 use Rattle.std.specs.Str.{bytes_eq}
 use Rattle.std.specs.String.{string_bytes}
 use Rattle.outside_mem.specs.declared.files.FileState.{FileState}
-use Rattle.outside_mem.specs.declared.files.FileState.TheVariants.{Absent, Closed, ClosedLog, OpenOutput, OpenLog}
+use Rattle.outside_mem.specs.declared.files.FileState.TheVariants.{Absent, Closed, ClosedLog, OpenLog}
 use Rattle.outside_mem.specs.declared.files.MemFile.{MemFile}
 
 -- the bytes of a closed file
@@ -12,14 +12,15 @@ abbrev pub told_file : FileState → Option (List ℕ)
 told_file Absent = None
 told_file (Closed bytes) = Some bytes
 told_file (ClosedLog disk) = Some disk.tape.bytes
-told_file OpenOutput = None
 told_file OpenLog = None
 
--- what stands under a name, the numbers of the calls that are to fail on an object opened by it, and whether each opening is to fail
+-- what stands under a name, the numbers of the calls that are to fail on an object opened by it, whether each opening is to fail, and
+-- whether an output of it is open
 pub record NamedFile : Type 0 where
   pub state : FileState
   pub fails : List ℕ
   pub opening_fails : Bool
+  pub is_output : Bool
 
 -- whether the entry has that name
 abbrev pub is_named : List ℕ → MemFile → Bool
@@ -27,8 +28,8 @@ is_named name file = bytes_eq (string_bytes file.name) name
 
 -- an entry without its name; no entry is that of no file
 abbrev pub without_name : Option MemFile → NamedFile
-without_name None = record { state = Absent; fails = []; opening_fails = false }
-without_name (Some file) = record { state = file.state; fails = file.fails.items; opening_fails = file.opening_fails }
+without_name None = record { state = Absent; fails = []; opening_fails = false; is_output = false }
+without_name (Some file) = record { state = file.state; fails = file.fails.items; opening_fails = file.opening_fails; is_output = file.is_output }
 
 -- what a list of entries has under a name
 unfoldable pub file_in : List MemFile → List ℕ → NamedFile

@@ -16,8 +16,6 @@ pub enum FileState {
     Closed(Bytes),
     /// What was closed as a log.
     ClosedLog(MemDisk),
-    /// What is open as output.
-    OpenOutput,
     /// What is open as a log.
     OpenLog,
 }
@@ -30,7 +28,7 @@ impl FileState {
         match self {
             FileState::Closed(bytes) => Some(bytes.as_slice()),
             FileState::ClosedLog(disk) => Some(disk.bytes()),
-            FileState::Absent | FileState::OpenOutput | FileState::OpenLog => None,
+            FileState::Absent | FileState::OpenLog => None,
         }
     }
 }
@@ -44,6 +42,8 @@ pub struct MemFile {
     pub fails: Vec<u64>,
     /// Whether each opening by this name is to fail.
     pub opening_fails: bool,
+    /// Whether an output of the name is open. It leaves what stands there until it is closed.
+    pub is_output: bool,
 }
 
 fn position_of(files: &[MemFile], name: &str) -> Option<usize>
@@ -94,6 +94,7 @@ fn blank(alloc: Global, name: &str) -> Result<MemFile, AllocError>
         state: FileState::Absent,
         fails: Vec::new(alloc),
         opening_fails: false,
+        is_output: false,
     })
 }
 
@@ -118,6 +119,26 @@ pub fn set_state(files: &mut Vec<MemFile>, place: usize, state: FileState)
 {
     let file = &mut files[place];
     file.state = state;
+}
+
+pub fn set_output(files: &mut Vec<MemFile>, place: usize, is_output: bool)
+    requires { place < vec_len files.old }
+    ensures { (name : List ℕ) → IsPlaceOf files.old.items name place
+        → ChangesFile files.old.items files.new.items name (record (file_in files.old.items name) { is_output = is_output }) }
+{
+    let file = &mut files[place];
+    file.is_output = is_output;
+}
+
+/// What was closed takes the place of what stands there, and nothing of the name is open any more.
+pub fn close(files: &mut Vec<MemFile>, place: usize, state: FileState)
+    requires { place < vec_len files.old }
+    ensures { (name : List ℕ) → IsPlaceOf files.old.items name place
+        → ChangesFile files.old.items files.new.items name (record (file_in files.old.items name) { state = state; is_output = false }) }
+{
+    let file = &mut files[place];
+    file.state = state;
+    file.is_output = false;
 }
 
 pub fn let_opening_fail(files: &mut Vec<MemFile>, place: usize)

@@ -1,13 +1,13 @@
-ghost use Rattle.std.specs.Prelude.{◌≡◌, ◌≢◌, ℕ, ◌≤◌, List, [], ◌∷◌, ◌++◌, length, Option, Some, None, true, false, IsOk, IsErr, IfOk, IfErr, IfSome, IfNone, OnOk, OnErr, OnSome, IsSome};
+ghost use Rattle.std.specs.Prelude.{◌≡◌, ◌≢◌, ℕ, ◌<◌, ◌≤◌, List, [], ◌∷◌, ◌++◌, length, Option, Some, None, true, false, IsErr, is_err, not, IfOk, IfErr, IfSome, IfNone, OnOk, OnErr, OnSome, IsSome};
 ghost use Rattle.std.specs.Option.{option_copied};
 ghost use Rattle.outside.specs.Disk.{SameDisk, longest_disk};
 ghost use Rattle.outside.specs.Fault.{HasCause, count_sum, counted};
-ghost use Rattle.outside.specs.Room.{AsOutput, AsLog, bytes_or_none, SameBut};
+ghost use Rattle.outside.specs.Room.{AsOutput, AsLog, bytes_or_none, SameBut, IsUntouched, IsPut, IsPutOrNot};
 ghost use Rattle.outside_mem.specs.Calls.{fresh_calls};
 ghost use Rattle.outside_mem.specs.Files.{NamedFile, file_in, told_file};
-ghost use Rattle.outside_mem.specs.Room.{file_under, room_view, open_sort, is_closed_log, SameFiles, SameCounts, HasCounts, in_count, out_count, ChangesUnder, IsSourceOf, IsSinkOf, IsLogOf, log_count, log_view};
+ghost use Rattle.outside_mem.specs.Room.{file_under, room_view, open_sort, is_closed_log, SameFiles, SameCounts, HasCounts, in_count, out_count, ChangesUnder, IsSourceOf, IsSinkOf, IsLogOf, log_count, log_view, can_be_put};
 ghost use Rattle.outside_mem.specs.MemDisk.{disk_view};
-ghost use Rattle.outside_mem.specs.declared.files.FileState.TheVariants.{Absent, Closed, ClosedLog, OpenOutput, OpenLog};
+ghost use Rattle.outside_mem.specs.declared.files.FileState.TheVariants.{Absent, Closed, ClosedLog, OpenLog};
 
 use crate::files::{self, FileState, MemFile};
 use crate::{MemDisk, MemSink, MemSource};
@@ -29,7 +29,7 @@ impl MemRoom {
     /// An empty room.
     #[tactic(auto, using(crate::proofs::Places::file_in_none))]
     pub fn new(alloc: Global) -> Self
-        ensures files { (n : List ℕ) → file_under result n ≡ record { state = Absent; fails = []; opening_fails = false } }
+        ensures files { (n : List ℕ) → file_under result n ≡ record { state = Absent; fails = []; opening_fails = false; is_output = false } }
         ensures closed { (n : List ℕ) → (room_view result).open_as n ≡ None }
         ensures counts { HasCounts result 0 0 0 }
     {
@@ -47,12 +47,12 @@ impl MemRoom {
     pub fn put(&mut self, name: &str, bytes: Vec<u8>) -> Result<(), NoMemory>
         requires { (room_view self.old).open_as name.now ≡ None }
         ensures ok { OnOk result (ChangesUnder self.old self.new name.now
-            (record (file_under self.old name.now) { state = Closed bytes.items })) }
+            (record (file_under self.old name.now) { state = Closed bytes.items; is_output = false })) }
         ensures err { OnErr result (SameFiles self.old self.new) }
         ensures counts { SameCounts self.old self.new }
     {
         let place = files::enter(self.alloc, &mut self.files, name)?;
-        files::set_state(
+        files::close(
             &mut self.files,
             place,
             FileState::Closed(Bytes::from_vec(bytes)),
@@ -157,14 +157,42 @@ impl MemRoom {
         ensures lefts { self.new.closed ≡ self.old.closed }
         ensures sink { IfSome result (IsSinkOf (file_under self.old name.now)) }
         ensures open { OnSome result (ChangesUnder self.old self.new name.now
-            (record (file_under self.old name.now) { state = OpenOutput })) }
+            (record (file_under self.old name.now) { is_output = true })) }
         ensures none { IfNone result (SameFiles self.old self.new) }
         ensures counts { SameCounts self.old self.new }
     {
         let place = files::enter(self.alloc, &mut self.files, name).ok()?;
         let fails = files::fails_of_opening(self.alloc, &self.files, place)?;
-        files::set_state(&mut self.files, place, FileState::OpenOutput);
+        files::set_output(&mut self.files, place, true);
         Some(MemSink::new(self.alloc, fails))
+    }
+
+    /// The output of that name is open no more, and what stands under the name is as it was.
+    #[tactic(auto, using(crate::proofs::Places::file_in_nameless))]
+    fn end_output(&mut self, name: &str)
+        requires { (room_view self.old).open_as name.now ≡ Some AsOutput }
+        ensures lefts { self.new.closed ≡ self.old.closed }
+        ensures closed { ChangesUnder self.old self.new name.now (record (file_under self.old name.now) { is_output = false }) }
+        ensures counts { SameCounts self.old self.new }
+    {
+        if let Some(place) = files::place_of(&self.files, name) {
+            files::set_output(&mut self.files, place, false);
+        }
+    }
+
+    /// The output of that name takes the place of what stands there.
+    #[tactic(auto, using(crate::proofs::Places::file_in_nameless))]
+    fn put_output(&mut self, name: &str, object: MemSink)
+        requires { (room_view self.old).open_as name.now ≡ Some AsOutput }
+        ensures lefts { self.new.closed ≡ self.old.closed }
+        ensures closed { ChangesUnder self.old self.new name.now
+            (record (file_under self.old name.now) { state = Closed object.bytes; is_output = false }) }
+        ensures counts { SameCounts self.old self.new }
+    {
+        if let Some(place) = files::place_of(&self.files, name) {
+            let bytes = Bytes::from_vec(object.into_bytes());
+            files::close(&mut self.files, place, FileState::Closed(bytes));
+        }
     }
 
     /// A disk of the file under that name, where it may be opened and there is memory for it.
@@ -213,17 +241,19 @@ impl Room for MemRoom {
         }
     }
 
-    #[tactic(auto, using(crate::proofs::Rooms::stays_same, crate::proofs::Rooms::apart_changed, crate::proofs::Rooms::apart_same))]
+    #[tactic(auto, using(crate::proofs::Rooms::stays_same, crate::proofs::Rooms::apart_changed, crate::proofs::Rooms::apart_same, crate::proofs::Rooms::untouched_output, crate::proofs::Rooms::untouched_files, crate::proofs::Rooms::begun_sort))]
     fn open_out(&mut self, name: &str) -> Result<MemSink, Failed>
         requires { (room_view self.old).open_as name.now ≡ None }
         ensures apart { SameBut (room_view self.old) (room_view self.new) (name.now ∷ []) }
+        ensures untouched { IsUntouched (room_view self.old) (room_view self.new) name.now }
+        ensures opened { OnOk result ((room_view self.new).open_as name.now ≡ Some AsOutput) }
         ensures stays { OnErr result (SameBut (room_view self.old) (room_view self.new) []) }
         ensures cause { HasCause ((room_view self.old).out_faults name.now) ((room_view self.new).out_faults name.now) result }
 
         // It gives an empty sink, and the name is open. A fault counts once, and all else stays.
         ensures sink { IfOk result (IsSinkOf (file_under self.old name.now)) }
         ensures open { OnOk result (ChangesUnder self.old self.new name.now
-            (record (file_under self.old name.now) { state = OpenOutput })) }
+            (record (file_under self.old name.now) { is_output = true })) }
         ensures failed { OnErr result (SameFiles self.old self.new) }
         ensures counts { HasCounts self.new (in_count self.old) (counted result (out_count self.old)) (log_count self.old) }
         ensures lefts { self.new.closed ≡ self.old.closed }
@@ -272,24 +302,49 @@ impl Room for MemRoom {
         self.closed.give_up(&object);
     }
 
-    #[tactic(auto, using(crate::proofs::Places::file_in_nameless, crate::proofs::Rooms::apart_changed))]
+    #[tactic(auto, using(crate::proofs::Rooms::apart_changed, crate::proofs::Rooms::untouched_output, crate::proofs::Rooms::put_output, crate::proofs::Rooms::not_put, crate::proofs::Rooms::ended_sort))]
     fn close_out(&mut self, name: &str, object: MemSink) -> Result<(), Failed>
         requires { (room_view self.old).open_as name.now ≡ Some AsOutput }
         ensures apart { SameBut (room_view self.old) (room_view self.new) (name.now ∷ []) }
+        ensures is_closed { (room_view self.new).open_as name.now ≡ None }
+        ensures put { OnOk result (IsPut (room_view self.old) (room_view self.new) name.now (Some object.bytes)) }
+        ensures put_or_not { OnErr result (IsPutOrNot (room_view self.old) (room_view self.new) name.now (Some object.bytes)) }
+        ensures untouched { 0 < object.calls.faults → IsUntouched (room_view self.old) (room_view self.new) name.now }
+        ensures cause { HasCause (count_sum (out_count self.old) object.calls.faults) (out_count self.new) result }
 
-        // It never fails, and the name has a file of what was written.
-        ensures ok { IsOk result }
-        ensures closed { ChangesUnder self.old self.new name.now
-            (record (file_under self.old name.now) { state = Closed object.bytes }) }
+        // It is put in its place exactly where that can be. Else what stands there is as it was.
+        ensures fails { is_err result ≡ not (can_be_put object) }
+        ensures closed { OnOk result (ChangesUnder self.old self.new name.now
+            (record (file_under self.old name.now) { state = Closed object.bytes; is_output = false })) }
+        ensures failed { OnErr result (ChangesUnder self.old self.new name.now (record (file_under self.old name.now) { is_output = false })) }
+        ensures counts { HasCounts self.new (in_count self.old) (count_sum (out_count self.old) (counted result object.calls.faults)) (log_count self.old) }
+        ensures lefts { self.new.closed ≡ self.old.closed }
+    {
+        let faults = object.faults();
+        if faults == 0 && !object.is_next_listed() {
+            self.out_faults = self.out_faults.saturating_add(faults);
+            self.put_output(name, object);
+            return Ok(());
+        }
+        self.out_faults = self.out_faults.saturating_add(faults.saturating_add(1));
+        self.end_output(name);
+        Err(Failed)
+    }
+
+    #[tactic(auto, using(crate::proofs::Rooms::apart_changed, crate::proofs::Rooms::untouched_output, crate::proofs::Rooms::ended_sort))]
+    fn give_up_out(&mut self, name: &str, object: MemSink)
+        requires { (room_view self.old).open_as name.now ≡ Some AsOutput }
+        ensures apart { SameBut (room_view self.old) (room_view self.new) (name.now ∷ []) }
+        ensures untouched { IsUntouched (room_view self.old) (room_view self.new) name.now }
+        ensures is_closed { (room_view self.new).open_as name.now ≡ None }
+
+        // What stands under the name is as it was.
+        ensures closed { ChangesUnder self.old self.new name.now (record (file_under self.old name.now) { is_output = false }) }
         ensures counts { HasCounts self.new (in_count self.old) (count_sum (out_count self.old) object.calls.faults) (log_count self.old) }
         ensures lefts { self.new.closed ≡ self.old.closed }
     {
         self.out_faults = self.out_faults.saturating_add(object.faults());
-        if let Some(place) = files::place_of(&self.files, name) {
-            let bytes = Bytes::from_vec(object.into_bytes());
-            files::set_state(&mut self.files, place, FileState::Closed(bytes));
-        }
-        Ok(())
+        self.end_output(name);
     }
 
     #[tactic(auto, using(crate::proofs::Places::file_in_nameless, crate::proofs::Rooms::apart_changed, crate::proofs::Rooms::closed_log))]
@@ -300,21 +355,21 @@ impl Room for MemRoom {
         // The name has the disk as its closed log.
         ensures moments { SameDisk (disk_view object) (log_view (file_under self.new name.now).state) }
         ensures closed { ChangesUnder self.old self.new name.now
-            (record (file_under self.old name.now) { state = ClosedLog object }) }
+            (record (file_under self.old name.now) { state = ClosedLog object; is_output = false }) }
         ensures counts { HasCounts self.new (in_count self.old) (out_count self.old) (count_sum (log_count self.old) object.calls.faults) }
         ensures lefts { self.new.closed ≡ self.old.closed }
     {
         self.log_faults = self.log_faults.saturating_add(object.faults());
         if let Some(place) = files::place_of(&self.files, name) {
-            files::set_state(&mut self.files, place, FileState::ClosedLog(object));
+            files::close(&mut self.files, place, FileState::ClosedLog(object));
         }
     }
 
     ghost use Rattle.outside_mem.specs.Room.{open_is_untold, open_is_unlogged};
 
-    ghost open_untold = { λ room name. open_is_untold (file_under room name).state };
+    ghost open_untold = { λ room name. open_is_untold (file_under room name) };
 
-    ghost open_unlogged = { λ room name. open_is_unlogged (file_under room name).state };
+    ghost open_unlogged = { λ room name. open_is_unlogged (file_under room name) };
 
     ghost promised = { λ room name. tt };
 }

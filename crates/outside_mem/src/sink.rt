@@ -56,6 +56,13 @@ impl MemSink {
     {
         self.calls.faults()
     }
+
+    /// Whether the next call is to fail. The close of an output counts as a call on it.
+    pub(crate) fn is_next_listed(&self) -> bool
+        ensures { result ≡ is_next_listed self.now.calls }
+    {
+        self.calls.is_next_listed()
+    }
 }
 
 impl Sink for MemSink {

@@ -37,6 +37,7 @@ untold_room is_output is_log ins outs logs lefts = record {
   in_faults = λ _. ins;
   out_faults = λ _. outs;
   log_faults = λ _. logs;
+  failed_at = λ _. 0;
   lefts = lefts;
   promise = λ _. Unpromised;
 }

@@ -13,6 +13,8 @@ use std::rt::Files;
 #[derive(Drop)]
 pub struct HeldFiles {
     pub files: BTreeMap<String, File>,
+    /// The new files of outputs, by the outputs' names.
+    drafts: BTreeMap<String, File>,
 }
 
 impl HeldFiles {
@@ -21,6 +23,7 @@ impl HeldFiles {
     {
         HeldFiles {
             files: BTreeMap::new(alloc),
+            drafts: BTreeMap::new(alloc),
         }
     }
 
@@ -34,10 +37,41 @@ impl HeldFiles {
     ) -> Result<File, Cause>
         ensures holds { Holds self.old self.new name.now result }
     {
+        self.let_draft_go(name);
         self.let_go(name);
         let file = opened(rt, name, sort)?;
         self.keep(alloc, name, &file)?;
         Ok(file)
+    }
+
+    /// Holds the new file of an output of that name, where there is one, as long as the file of that name.
+    pub fn hold_draft(
+        &mut self,
+        alloc: Global,
+        name: &str,
+        draft: Option<&File>,
+    ) -> Result<(), Cause>
+        ensures files { (n : List ℕ) → has_file self.new n ≡ has_file self.old n }
+    {
+        let Some(file) = draft else {
+            return Ok(());
+        };
+        let Ok(key) = String::from_str(alloc, name) else {
+            return Err(Cause::NoMemory);
+        };
+        let Ok(again) = file.try_clone() else {
+            return Err(Cause::Other);
+        };
+        match self.drafts.insert(key, again) {
+            Ok(_) => Ok(()),
+            Err(_) => Err(Cause::NoMemory),
+        }
+    }
+
+    fn let_draft_go(&mut self, name: &str)
+        ensures files { (n : List ℕ) → has_file self.new n ≡ has_file self.old n }
+    {
+        self.drafts.remove(name);
     }
 
     // A second handle of one opening holds the file as long as the first.

@@ -2,12 +2,18 @@
 //! are proved against the traits for their counts of faults alone.
 #![tactic(auto)]
 
+mod beside;
 mod cause;
 mod count;
 mod disk;
+mod draft;
 mod folder;
 mod gate;
 mod held;
+mod leftover;
+mod line_notes;
+mod links;
+mod mounts;
 mod names;
 mod opening;
 mod progress;
@@ -15,12 +21,16 @@ mod room;
 mod sink;
 mod slips;
 mod source;
+mod straight;
 mod target;
+mod ticking;
 mod writing;
 
 pub use cause::Cause;
 pub use disk::FileDisk;
+pub use draft::Draft;
 pub use gate::OpenGate;
+pub use line_notes::LineNotes;
 pub use progress::ProgressGate;
 pub use room::{FileRoom, Intent};
 pub use sink::FileSink;

@@ -9,6 +9,7 @@ use crate::slips::{begins_a_journal, is_library_word};
 use std::fs;
 use std::fs::{File, OpenOptions, TryLockError};
 use std::io::{ErrorKind, Read};
+use std::os::unix::fs::MetadataExt;
 use std::rt::Files;
 
 /// What a file is opened as.
@@ -30,7 +31,18 @@ pub fn opened<R: Files<File = File>>(rt: &R, name: &str, sort: OpenedAs) -> Resu
     }
     let file = opened_with(rt, name, sort, &options(sort))?;
     hold(&file, sort)?;
+    if sort == OpenedAs::Output && !has_name(rt, name, &file) {
+        return Err(Cause::InUse);
+    }
     Ok(file)
+}
+
+// Whether the file still has that name. Another command may have put an output in its place before it was held.
+fn has_name<R: Files<File = File>>(rt: &R, name: &str, file: &File) -> bool {
+    match (fs::metadata(rt, name), file.metadata()) {
+        (Ok(named), Ok(found)) => named.dev() == found.dev() && named.ino() == found.ino(),
+        _ => false,
+    }
 }
 
 /// Whether there is no file of that name.
@@ -113,6 +125,11 @@ fn options(sort: OpenedAs) -> OpenOptions
         OpenedAs::Log => how.read(true).write(true).create(true),
     };
     how
+}
+
+/// Holds a file that was just made.
+pub fn hold_alone(file: &File) -> Result<(), Cause> {
+    hold(file, OpenedAs::Output)
 }
 
 // A pipe or a device is held by nobody.

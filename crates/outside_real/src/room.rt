@@ -1,9 +1,10 @@
-ghost use Rattle.std.specs.Prelude.{◌≡◌, ◌≢◌, ℕ, List, false, Some, None, IfOk, OnOk, OnErr, ◌∷◌, []};
+ghost use Rattle.std.specs.Prelude.{◌≡◌, ◌≢◌, ℕ, ◌<◌, List, false, Some, None, IsErr, IfOk, OnOk, OnErr, ◌∷◌, []};
 ghost use Rattle.outside.specs.Fault.{HasCause, count_sum, counted};
-ghost use Rattle.outside.specs.Room.{AsOutput, AsLog, SameBut};
+ghost use Rattle.outside.specs.Room.{AsOutput, AsLog, SameBut, IsUntouched, IsPut, IsPutOrNot};
 ghost use Rattle.outside_real.specs.Held.{has_file, Holds};
 ghost use Rattle.outside_real.specs.View.{file_room_view, HasCounts};
 
+use crate::beside::{Way, way_of};
 use crate::cause::Cause;
 use crate::count::{added, raised};
 use crate::disk::FileDisk;
@@ -14,9 +15,11 @@ use crate::opening::{OpenedAs, emptied, is_journal, is_missing};
 use crate::sink::FileSink;
 use crate::slips::is_library_word;
 use crate::source::FileSource;
+use crate::straight::Straight;
 use crate::target::Target;
 use outside::{Disk, Failed, GivenUp, Room, Sink, Source};
 use std::alloc::Global;
+use std::fs;
 use std::fs::File;
 use std::rt::Files;
 
@@ -24,10 +27,13 @@ use std::rt::Files;
 ///
 /// A regular file is held from its opening until its name is opened again or the room is dropped: an input shared, an output and
 /// a log alone. Who can't have it, this room under another name included, finds that the opening fails, and the file as it was.
+///
+/// An output is written to a new file beside its own, which takes its place when it is closed; or over it, where that can't be.
 #[derive(Drop)]
 pub struct FileRoom<R: Files> {
     rt: R,
     alloc: Global,
+    process: u32,
     outputs: Names,
     open_logs: Names,
     held: HeldFiles,
@@ -47,8 +53,9 @@ pub struct Intent {
     pub reads: bool,
 }
 
-impl<R: Files<File = File> + Print + Eprint + Clone + Drop> FileRoom<R> {
-    pub fn new(rt: R, alloc: Global) -> Self
+impl<R: Files<File = File> + Print + Eprint + Alloc + Clone + Drop> FileRoom<R> {
+    /// A room of the process with that number.
+    pub fn new(rt: R, alloc: Global, process: u32) -> Self
         ensures closed { (n : List ℕ) → (file_room_view result).open_as n ≡ None }
         ensures counts { HasCounts result 0 0 0 }
         ensures unheld { (n : List ℕ) → has_file result.held n ≡ false }
@@ -56,6 +63,7 @@ impl<R: Files<File = File> + Print + Eprint + Clone + Drop> FileRoom<R> {
         FileRoom {
             rt,
             alloc,
+            process,
             outputs: Names::new(alloc),
             open_logs: Names::new(alloc),
             held: HeldFiles::new(alloc),
@@ -145,15 +153,90 @@ impl<R: Files<File = File> + Print + Eprint + Clone + Drop> FileRoom<R> {
         false
     }
 
-    // An output that is held and empty.
-    fn output_of(&self, name: &str, file: File) -> Result<FileSink<Target<R>>, Cause>
-        ensures fresh { IfOk result (λ object. ⟦<FileSink<Target<R>> as Sink>⟧.faults object ≡ 0) }
-    {
+    // An output that is written over its file tells so, since a failure then leaves a part of it.
+    fn tell_straight(&self, name: &str, why: Straight) {
+        if why.is_told() {
+            let _told = eprintln!(self.rt;
+                "union_cat: {name}{why}: a failure leaves a part of what is written there"
+            );
+        }
+    }
+
+    // Where an output goes whose file is held: to a new file beside it, or over it, which is empty then.
+    fn target_of(&self, name: &str, file: File, is_new: bool) -> Result<Target<R>, Cause> {
         if is_journal(&self.rt, name)? {
             return Err(Cause::IsJournal);
         }
-        emptied(&file)?;
-        Ok(FileSink::gathering(self.alloc, Target::File(file)))
+        match way_of(self.alloc, &self.rt, name, &file, is_new, self.process)? {
+            Way::Beside(draft) => Ok(Target::Draft(draft)),
+            Way::Straight(why) => {
+                self.tell_straight(name, why);
+                emptied(&file)?;
+                Ok(Target::File(file))
+            }
+        }
+    }
+
+    // An output that is begun. One that can't be leaves no file that was made for it.
+    fn output_of(&self, name: &str, file: File, is_new: bool) -> Result<FileSink<Target<R>>, Cause>
+        ensures fresh { IfOk result (λ object. ⟦<FileSink<Target<R>> as Sink>⟧.faults object ≡ 0) }
+    {
+        match self.target_of(name, file, is_new) {
+            Ok(target) => Ok(FileSink::gathering(self.alloc, target)),
+            Err(cause) => {
+                if is_new {
+                    let _removed = fs::remove_file(&self.rt, name);
+                }
+                Err(cause)
+            }
+        }
+    }
+
+    // An output that is begun, with its file and its new file held.
+    fn held_output(&mut self, name: &str) -> Result<FileSink<Target<R>>, Cause>
+        ensures fresh { IfOk result (λ object. ⟦<FileSink<Target<R>> as Sink>⟧.faults object ≡ 0) }
+        ensures outputs { self.new.outputs ≡ self.old.outputs }
+        ensures logs { self.new.open_logs ≡ self.old.open_logs }
+        ensures counts { HasCounts self.new self.old.ins self.old.outs self.old.logs }
+        ensures holds { Holds self.old.held self.new.held name.now result }
+        ensures lefts { self.new.closed ≡ self.old.closed }
+    {
+        let is_new = is_missing(&self.rt, name);
+        let file = self
+            .held
+            .open(self.alloc, &self.rt, name, OpenedAs::Output)?;
+        let sink = self.output_of(name, file, is_new)?;
+        match self.held.hold_draft(self.alloc, name, sink.draft()) {
+            Ok(()) => Ok(sink),
+            Err(cause) => {
+                let _removed = sink.give_up(&self.rt);
+                Err(cause)
+            }
+        }
+    }
+
+    // An output under a name that isn't open, which is open then. One that can't be begun leaves the name as it is.
+    fn begun(&mut self, name: &str) -> Result<FileSink<Target<R>>, Cause>
+        requires { (file_room_view self.old).open_as name.now ≡ None }
+        ensures fresh { IfOk result (λ object. ⟦<FileSink<Target<R>> as Sink>⟧.faults object ≡ 0) }
+        ensures opened { OnOk result ((file_room_view self.new).open_as name.now ≡ Some AsOutput) }
+        ensures others { (n : List ℕ) → n ≢ name.now → (file_room_view self.new).open_as n ≡ (file_room_view self.old).open_as n }
+        ensures failed { OnErr result ((n : List ℕ) → (file_room_view self.new).open_as n ≡ (file_room_view self.old).open_as n) }
+        ensures counts { HasCounts self.new self.old.ins self.old.outs self.old.logs }
+        ensures holds { Holds self.old.held self.new.held name.now result }
+        ensures lefts { self.new.closed ≡ self.old.closed }
+    {
+        // The name first, so that want of memory leaves the file as it was.
+        if self.outputs.add(self.alloc, name).is_err() {
+            return Err(Cause::NoMemory);
+        }
+        match self.held_output(name) {
+            Ok(sink) => Ok(sink),
+            Err(cause) => {
+                self.outputs.remove(name);
+                Err(cause)
+            }
+        }
     }
 
     // The name is open in no way any more.
@@ -170,7 +253,7 @@ impl<R: Files<File = File> + Print + Eprint + Clone + Drop> FileRoom<R> {
     }
 }
 
-impl<R: Files<File = File> + Print + Eprint + Clone + Drop> Room for FileRoom<R> {
+impl<R: Files<File = File> + Print + Eprint + Alloc + Clone + Drop> Room for FileRoom<R> {
     ghost use Rattle.std.proofs.Common.{refl};
 
     type In = FileSource<File>;
@@ -208,9 +291,11 @@ impl<R: Files<File = File> + Print + Eprint + Clone + Drop> Room for FileRoom<R>
         }
     }
 
+    #[tactic(auto, using(crate::proofs::Outputs::untold_untouched))]
     fn open_out(&mut self, name: &str) -> Result<FileSink<Target<R>>, Failed>
         requires { (file_room_view self.old).open_as name.now ≡ None }
         ensures apart { SameBut (file_room_view self.old) (file_room_view self.new) (name.now ∷ []) }
+        ensures untouched { IsUntouched (file_room_view self.old) (file_room_view self.new) name.now }
         ensures opened { OnOk result ((file_room_view self.new).open_as name.now ≡ Some AsOutput) }
         ensures failed { OnErr result (SameBut (file_room_view self.old) (file_room_view self.new) []) }
         ensures cause { HasCause self.old.outs self.new.outs result }
@@ -221,21 +306,14 @@ impl<R: Files<File = File> + Print + Eprint + Clone + Drop> Room for FileRoom<R>
         ensures holds { Holds self.old.held self.new.held name.now result }
         ensures lefts { self.new.closed ≡ self.old.closed }
     {
-        // The name first, so that want of memory leaves the file as it was.
-        if self.outputs.add(self.alloc, name).is_ok() {
-            match self.held.open(self.alloc, &self.rt, name, OpenedAs::Output) {
-                Ok(file) => match self.output_of(name, file) {
-                    Ok(sink) => return Ok(sink),
-                    Err(cause) => self.tell(name, cause),
-                },
-                Err(cause) => self.tell(name, cause),
+        match self.begun(name) {
+            Ok(sink) => Ok(sink),
+            Err(cause) => {
+                self.tell(name, cause);
+                self.outs = raised(self.outs);
+                Err(Failed)
             }
-            self.outputs.remove(name);
-        } else {
-            self.tell(name, Cause::NoMemory);
         }
-        self.outs = raised(self.outs);
-        Err(Failed)
     }
 
     fn open_log(&mut self, name: &str) -> Result<FileDisk, Failed>
@@ -280,23 +358,44 @@ impl<R: Files<File = File> + Print + Eprint + Clone + Drop> Room for FileRoom<R>
         self.closed.give_up(&object);
     }
 
+    #[tactic(auto, using(crate::proofs::Outputs::untold_untouched, crate::proofs::Outputs::untold_put, crate::proofs::Outputs::untold_put_or_not))]
     fn close_out(&mut self, name: &str, mut object: FileSink<Target<R>>) -> Result<(), Failed>
         requires { (file_room_view self.old).open_as name.now ≡ Some AsOutput }
         ensures apart { SameBut (file_room_view self.old) (file_room_view self.new) (name.now ∷ []) }
+        ensures untouched { IsUntouched (file_room_view self.old) (file_room_view self.new) name.now }
         ensures closed { (file_room_view self.new).open_as name.now ≡ None }
+        ensures put { OnOk result (IsPut (file_room_view self.old) (file_room_view self.new) name.now None) }
+        ensures put_or_not { OnErr result (IsPutOrNot (file_room_view self.old) (file_room_view self.new) name.now None) }
+        ensures refused { 0 < ⟦<FileSink<Target<R>> as Sink>⟧.faults object → IsErr result }
         ensures cause { HasCause (count_sum self.old.outs (⟦<FileSink<Target<R>> as Sink>⟧.faults object)) self.new.outs result }
 
-        // A fault of the last write counts once, and the other counts stay.
+        // A fault of the close counts once, and the other counts stay.
         ensures counts { HasCounts self.new self.old.ins
             (count_sum self.old.outs (counted result (⟦<FileSink<Target<R>> as Sink>⟧.faults object))) self.old.logs }
         ensures held { self.new.held ≡ self.old.held }
         ensures lefts { self.new.closed ≡ self.old.closed }
     {
-        let finished = object.finish();
+        let closed = object.close(&self.rt);
         self.tell_some(name, object.cause());
         self.outs = added(self.outs, object.faults());
         self.forget(name);
-        finished
+        closed
+    }
+
+    #[tactic(auto, using(crate::proofs::Outputs::untold_untouched))]
+    fn give_up_out(&mut self, name: &str, object: FileSink<Target<R>>)
+        requires { (file_room_view self.old).open_as name.now ≡ Some AsOutput }
+        ensures apart { SameBut (file_room_view self.old) (file_room_view self.new) (name.now ∷ []) }
+        ensures untouched { IsUntouched (file_room_view self.old) (file_room_view self.new) name.now }
+        ensures closed { (file_room_view self.new).open_as name.now ≡ None }
+        ensures counts { HasCounts self.new self.old.ins (count_sum self.old.outs (⟦<FileSink<Target<R>> as Sink>⟧.faults object)) self.old.logs }
+        ensures held { self.new.held ≡ self.old.held }
+        ensures lefts { self.new.closed ≡ self.old.closed }
+    {
+        let _removed = object.give_up(&self.rt);
+        self.tell_some(name, object.cause());
+        self.outs = added(self.outs, object.faults());
+        self.forget(name);
     }
 
     fn close_log(&mut self, name: &str, object: FileDisk)

@@ -6,11 +6,13 @@ ghost use Rattle.outside_real.specs.Gathering.{GathersNothing};
 
 use crate::cause::Cause;
 use crate::count::raised;
-use crate::target::Keep;
+use crate::target::{Keep, Target};
 use crate::writing::{pass_on, write_whole};
 use outside::{Failed, Sink};
 use std::alloc::Global;
+use std::fs::File;
 use std::io::Write;
+use std::rt::Files;
 
 /// How many bytes a file's sink gathers before it writes them.
 const BUFFER: usize = 131_072;
@@ -146,6 +148,43 @@ impl<W: Write + Keep + Drop> FileSink<W> {
         self.flush()?;
         let kept = self.to.keep();
         self.counted(kept)
+    }
+}
+
+impl<R: Print + Drop> FileSink<Target<R>> {
+    /// Writes what was gathered, has the system keep it, and puts a draft in its place. Where that fails, a draft is removed.
+    pub fn close<F: Files>(&mut self, files: &F) -> Result<(), Failed>
+        // A fault counts once. Behind one this fails.
+        ensures counts { self.new.faults ≡ counted result self.old.faults }
+        ensures cause { HasCause (⟦<FileSink<Target<R>> as Sink>⟧.faults self.old) (⟦<FileSink<Target<R>> as Sink>⟧.faults self.new) result }
+        ensures behind { 0 < self.old.faults → IsErr result }
+    {
+        let put = self.put(files);
+        if put.is_err() {
+            let _removed = self.to.give_up(files);
+        }
+        put
+    }
+
+    // A draft is put in its place only once all that was gathered is written and kept.
+    fn put<F: Files>(&mut self, files: &F) -> Result<(), Failed>
+        ensures counts { self.new.faults ≡ counted result self.old.faults }
+        ensures cause { HasCause (⟦<FileSink<Target<R>> as Sink>⟧.faults self.old) (⟦<FileSink<Target<R>> as Sink>⟧.faults self.new) result }
+        ensures behind { 0 < self.old.faults → IsErr result }
+    {
+        self.finish()?;
+        let put = self.to.put(files);
+        self.counted(put)
+    }
+
+    /// Removes a draft. What is gathered isn't written.
+    pub fn give_up<F: Files>(&self, files: &F) -> Result<(), Cause> {
+        self.to.give_up(files)
+    }
+
+    /// The new file, where there is one.
+    pub fn draft(&self) -> Option<&File> {
+        self.to.draft()
     }
 }
 

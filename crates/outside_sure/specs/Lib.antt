@@ -4,5 +4,6 @@ pub mod SureDisk
 pub mod SureLaws
 pub mod SureKept
 pub mod SureFiles
+pub mod SureWell
 pub mod SureRoom
 pub mod SurePromise

@@ -1,6 +1,7 @@
 //! The outside in memory without faults: sources, sinks, disks and a room that fail for want of room alone.
 #![tactic(auto)]
 
+mod drawer;
 mod held;
 mod kept;
 mod stored;

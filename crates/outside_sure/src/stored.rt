@@ -1,7 +1,7 @@
 ghost use Rattle.std.specs.Prelude.{◌≡◌, ◌≤◌, length, is_some, is_none, IfSome, IfOk};
 ghost use Rattle.std.specs.Option.{option_copied};
 ghost use Rattle.outside.specs.Room.{bytes_or_none};
-ghost use Rattle.outside_sure.specs.SureKept.{told_stored, stored_sort, IsNewStored};
+ghost use Rattle.outside_sure.specs.SureKept.{told_stored, stored_sort, memory_of, IsNewStored};
 
 use crate::SureDisk;
 use crate::held::Held;
@@ -13,12 +13,10 @@ use std::alloc::Global;
 pub enum Stored<const ROOM: usize> {
     /// Room for a file, and none yet.
     Blank(Held<ROOM>),
-    /// A file, which the drawer was made with or which was closed as output.
+    /// A file, which the drawer was made with or which was put there as an output.
     File(Held<ROOM>),
     /// What was closed as a log.
     Log(SureDisk<ROOM>),
-    /// What is open as output.
-    OpenOutput,
     /// What is open as a log.
     OpenLog,
 }
@@ -42,7 +40,7 @@ impl<const ROOM: usize> Stored<ROOM> {
         match self {
             Stored::File(held) => Some(held.bytes()),
             Stored::Log(disk) => Some(disk.bytes()),
-            Stored::Blank(_) | Stored::OpenOutput | Stored::OpenLog => None,
+            Stored::Blank(_) | Stored::OpenLog => None,
         }
     }
 
@@ -55,7 +53,18 @@ impl<const ROOM: usize> Stored<ROOM> {
             Stored::Blank(held) => Some(held.emptied()),
             Stored::File(held) => Some(held),
             Stored::Log(disk) => Some(disk.into_held()),
-            Stored::OpenOutput | Stored::OpenLog => None,
+            Stored::OpenLog => None,
+        }
+    }
+
+    /// The memory of what isn't open, with any bytes.
+    pub fn into_memory(self) -> Option<Held<ROOM>>
+        ensures { result ≡ memory_of self.entry }
+    {
+        match self {
+            Stored::Blank(held) | Stored::File(held) => Some(held),
+            Stored::Log(disk) => Some(disk.into_held()),
+            Stored::OpenLog => None,
         }
     }
 }

@@ -1,13 +1,14 @@
-ghost use Rattle.std.specs.Prelude.{◌≡◌, ◌≢◌, ℕ, ◌<◌, List, [], length, Some, None, IsSome, IfSome, IfNone, IfOk, OnOk, OnErr, not, is_none};
+ghost use Rattle.std.specs.Prelude.{◌≡◌, ◌≢◌, ℕ, ◌<◌, List, [], length, Some, None, IfSome, IfNone, IfOk, OnOk, OnErr, not, is_none};
 ghost use Rattle.std.specs.Option.{option_copied};
 ghost use Rattle.outside.specs.Room.{bytes_or_none};
-ghost use Rattle.outside_sure.specs.SureKept.{told_kept, kept_sort, is_ready, kept_opened, kept_closed, IsFull, IsKeptWell};
+ghost use Rattle.outside_sure.specs.SureKept.{told_kept, kept_sort, can_open, kept_opened, kept_closed, closing_sort, IsFull, IsKeptWell};
 ghost use Rattle.outside_sure.specs.SureFiles.{kept_in, IsAt, IsUncalled, ChangesKept};
-ghost use Rattle.outside_sure.specs.declared.kept.Kept.TheVariants.{Drawer};
+ghost use Rattle.outside_sure.specs.SureWell.{are_kept_well_prop};
+ghost use Rattle.outside_sure.specs.declared.drawer.Opened.TheVariants.{Log};
 
+use crate::drawer::{Closing, Opened};
 use crate::held::Held;
 use crate::kept::Kept;
-use crate::stored::Stored;
 use outside::NoMemory;
 use std::alloc::Global;
 
@@ -22,7 +23,7 @@ pub struct SureFile<'a, const ROOM: usize> {
 #[derive(Debug, Drop)]
 pub struct SureFiles<'a, const ROOM: usize> {
     items: Vec<SureFile<'a, ROOM>>,
-    ghost well: { (n : List ℕ) → IsKeptWell (kept_in items.items n) },
+    ghost well: { (n : List ℕ) → IsKeptWell (kept_in items.items n) } by { are_kept_well_prop items.items },
 }
 
 // The place of the entry of that name.
@@ -73,32 +74,32 @@ fn replace<'a, const ROOM: usize>(
 fn open_at<'a, const ROOM: usize>(
     files: &mut Vec<SureFile<'a, ROOM>>,
     place: usize,
-    opened: Stored<ROOM>,
+    sort: Opened,
 ) -> Option<Held<ROOM>>
     requires { place < length files.old.items }
-    ensures none { (name : List ℕ) → IsAt files.old.items name place → is_none result ≡ not (is_ready (kept_in files.old.items name)) }
+    ensures none { (name : List ℕ) → IsAt files.old.items name place → is_none result ≡ not (can_open sort (kept_in files.old.items name)) }
     ensures bytes { IfSome result (λ held. (name : List ℕ) → IsAt files.old.items name place
-        → held.buffer.items ≡ bytes_or_none (told_kept (kept_in files.old.items name))) }
+        → sort ≡ Log → held.buffer.items ≡ bytes_or_none (told_kept (kept_in files.old.items name))) }
     ensures now { (name : List ℕ) → IsAt files.old.items name place
-        → ChangesKept files.old.items files.new.items name (kept_opened opened.entry (kept_in files.old.items name)) }
+        → ChangesKept files.old.items files.new.items name (kept_opened sort (kept_in files.old.items name)) }
 {
     let file = &mut files[place];
-    file.kept.open(opened)
+    file.kept.open(sort)
 }
 
 // Closes what is kept at that place.
 fn close_at<'a, const ROOM: usize>(
     files: &mut Vec<SureFile<'a, ROOM>>,
     place: usize,
-    closed: Stored<ROOM>,
+    closing: Closing<ROOM>,
     more: u64,
 )
     requires { place < length files.old.items }
     ensures { (name : List ℕ) → IsAt files.old.items name place
-        → ChangesKept files.old.items files.new.items name (kept_closed closed.entry more (kept_in files.old.items name)) }
+        → ChangesKept files.old.items files.new.items name (kept_closed closing.entry more (kept_in files.old.items name)) }
 {
     let file = &mut files[place];
-    file.kept.close(closed, more);
+    file.kept.close(closing, more);
 }
 
 impl<'a, const ROOM: usize> SureFiles<'a, ROOM> {
@@ -135,28 +136,30 @@ impl<'a, const ROOM: usize> SureFiles<'a, ROOM> {
         Ok(())
     }
 
-    /// Opens a drawer that has no fault, and answers its memory with the file's bytes. A drawer with a fault counts one more.
+    /// Opens a drawer that isn't open, and answers memory: for a log with the file's bytes, for an output with any. One whose log had a fault
+    /// isn't opened, and counts one more.
     #[tactic(auto, using(crate::proofs::Kepts::well_changed, crate::proofs::Kepts::well_opened, crate::proofs::Kepts::opened_nowhere, crate::proofs::Kepts::ready_nowhere))]
-    pub fn open(&mut self, name: &str, opened: Stored<ROOM>) -> Option<Held<ROOM>>
-        ensures none { is_none result ≡ not (is_ready (kept_in self.old.items.items name.now)) }
-        ensures bytes { IfSome result (λ held. held.buffer.items ≡ bytes_or_none (told_kept (kept_in self.old.items.items name.now))) }
+    pub fn open(&mut self, name: &str, sort: Opened) -> Option<Held<ROOM>>
+        requires { kept_sort (kept_in self.old.items.items name.now) ≡ None }
+        ensures none { is_none result ≡ not (can_open sort (kept_in self.old.items.items name.now)) }
+        ensures bytes { IfSome result (λ held. sort ≡ Log → held.buffer.items ≡ bytes_or_none (told_kept (kept_in self.old.items.items name.now))) }
         ensures now { ChangesKept self.old.items.items self.new.items.items name.now
-            (kept_opened opened.entry (kept_in self.old.items.items name.now)) }
+            (kept_opened sort (kept_in self.old.items.items name.now)) }
     {
         let place = place_of(&self.items, name)?;
-        open_at(&mut self.items, place, opened)
+        open_at(&mut self.items, place, sort)
     }
 
-    /// The drawer of that name, which is open, has this now, and so many faults more.
+    /// The drawer of that name takes back what was opened, with so many faults.
     #[tactic(auto, using(crate::proofs::Kepts::well_changed, crate::proofs::Kepts::well_closed, crate::proofs::Kepts::closed_nowhere))]
-    pub fn close(&mut self, name: &str, closed: Stored<ROOM>, more: u64)
-        requires is_open { IsSome (kept_sort (kept_in self.old.items.items name.now)) }
-        requires full { more ≢ 0 → IsFull (Some (Drawer closed more)) }
+    pub fn close(&mut self, name: &str, closing: Closing<ROOM>, more: u64)
+        requires is_open { kept_sort (kept_in self.old.items.items name.now) ≡ Some (closing_sort closing) }
+        requires full { IsFull closing more }
         ensures { ChangesKept self.old.items.items self.new.items.items name.now
-            (kept_closed closed.entry more (kept_in self.old.items.items name.now)) }
+            (kept_closed closing.entry more (kept_in self.old.items.items name.now)) }
     {
         if let Some(place) = place_of(&self.items, name) {
-            close_at(&mut self.items, place, closed, more);
+            close_at(&mut self.items, place, closing, more);
         }
     }
 }

@@ -1,18 +1,18 @@
-ghost use Rattle.std.specs.Prelude.{◌≡◌, ℕ, ◌+◌, ◌≤◌, List, [], ◌∷◌, length, Option, Some, None, IsOk, IsSome, IfOk, IfSome, IfNone, OnOk, OnErr, is_err, is_none, not, true, false};
+ghost use Rattle.std.specs.Prelude.{◌≡◌, ℕ, ◌+◌, ◌<◌, ◌≤◌, max, List, [], ◌∷◌, length, Option, Some, None, IsErr, IsSome, IfOk, IfSome, IfNone, OnOk, OnErr, is_err, is_none, nat_eq, not, true, false};
 ghost use Rattle.std.specs.Option.{option_copied};
 ghost use Rattle.outside.specs.Disk.{SameDisk, longest_disk, longest_write};
 ghost use Rattle.outside.specs.Fault.{HasCause, count_sum, counted};
-ghost use Rattle.outside.specs.Room.{AsOutput, AsLog, bytes_or_none, SameBut};
-ghost use Rattle.outside.specs.Sink.{HasFront};
+ghost use Rattle.outside.specs.Room.{AsOutput, AsLog, bytes_or_none, SameBut, IsUntouched, IsPut, IsPutOrNot};
 ghost use Rattle.outside_sure.specs.SureState.{source_faults};
 ghost use Rattle.outside_sure.specs.SureSink.{sink_state};
 ghost use Rattle.outside_sure.specs.SureDisk.{disk_state, sure_disk_view};
-ghost use Rattle.outside_sure.specs.SureKept.{told_kept, is_input, is_ready, kept_opened, kept_closed};
+ghost use Rattle.outside_sure.specs.SureKept.{told_kept, is_input, can_open, kept_opened, kept_closed};
 ghost use Rattle.outside_sure.specs.declared.kept.Kept.TheVariants.{Input};
-ghost use Rattle.outside_sure.specs.declared.stored.Stored.TheVariants.{File, Log, OpenOutput, OpenLog};
+ghost use Rattle.outside_sure.specs.declared.drawer.Opened.TheVariants as opened;
+ghost use Rattle.outside_sure.specs.declared.drawer.Closing.TheVariants as closing;
 
+use crate::drawer::{Closing, Drawer, Opened};
 use crate::kept::Kept;
-use crate::stored::Stored;
 use crate::sure_files::SureFiles;
 use crate::{SureDisk, SureSink, SureSource};
 use outside::{Failed, GivenUp, NoMemory, Room};
@@ -62,7 +62,9 @@ impl<'a, const ROOM: usize> SureRoom<'a, ROOM> {
         self.files.keep(self.alloc, name, input)
     }
 
-    /// Makes the name a drawer for outputs and logs, with a file of these bytes or none yet, whatever it was. Takes `ROOM` bytes.
+    /// Makes the name a drawer for outputs and logs, with a file of these bytes or none yet, whatever it was. Takes twice `ROOM` bytes: an
+    /// output leaves the file until it is closed.
+    #[tactic(auto, using(crate::proofs::Kepts::well_new))]
     pub fn make_drawer(&mut self, name: &str, bytes: Option<&[u8]>) -> Result<(), NoMemory>
         requires { IfSome (option_copied bytes) (λ b. length b ≤ ROOM) }
         ensures ok { OnOk result (MakesDrawer self.old self.new name.now (option_copied bytes.entry)) }
@@ -70,11 +72,11 @@ impl<'a, const ROOM: usize> SureRoom<'a, ROOM> {
         ensures counts { HasSureCounts self.new self.old.in_faults self.old.out_faults self.old.log_faults }
         ensures lefts { self.new.closed ≡ self.old.closed }
     {
-        let stored = Stored::new(self.alloc, bytes)?;
-        self.files.keep(self.alloc, name, Kept::Drawer(stored, 0))
+        let drawer = Drawer::new(self.alloc, bytes)?;
+        self.files.keep(self.alloc, name, Kept::InDrawer(drawer))
     }
 
-    /// The bytes of the file of that name, a closed log's among them, where there is one that isn't open.
+    /// The bytes of the file of that name, a closed log's among them, where there is one that isn't open as a log.
     pub fn file(&self, name: &str) -> Option<&[u8]>
         ensures { option_copied result ≡ (sure_room_view self.now).file name.now }
     {
@@ -91,7 +93,7 @@ impl<'a, const ROOM: usize> SureRoom<'a, ROOM> {
     {
         match self.files.under(name) {
             Some(Kept::Input(source)) => Some(SureSource::new(source.bytes())),
-            Some(Kept::Drawer(_, _)) | None => None,
+            Some(Kept::InDrawer(_)) | None => None,
         }
     }
 }
@@ -132,10 +134,12 @@ impl<'a, const ROOM: usize> Room for SureRoom<'a, ROOM> {
         }
     }
 
-    #[tactic(auto, using(crate::proofs::SureRooms::apart_opened, crate::proofs::SureRooms::stays_refused))]
+    #[tactic(auto, using(crate::proofs::SureRooms::apart_opened, crate::proofs::SureRooms::stays_refused, crate::proofs::SureRooms::begun_untouched, crate::proofs::SureRooms::begun_failed_at, crate::proofs::SureRooms::begun_sort))]
     fn open_out(&mut self, name: &str) -> Result<SureSink<ROOM>, Failed>
         requires { (sure_room_view self.old).open_as name.now ≡ None }
         ensures apart { SameBut (sure_room_view self.old) (sure_room_view self.new) (name.now ∷ []) }
+        ensures untouched { IsUntouched (sure_room_view self.old) (sure_room_view self.new) name.now }
+        ensures failed_at { (sure_room_view self.new).failed_at name.now ≡ (sure_room_view self.old).failed_at name.now }
         ensures lefts { (sure_room_view self.new).lefts ≡ (sure_room_view self.old).lefts }
         ensures opened { OnOk result ((sure_room_view self.new).open_as name.now ≡ Some AsOutput) }
         ensures failed { OnErr result (SameBut (sure_room_view self.old) (sure_room_view self.new) []) }
@@ -143,13 +147,13 @@ impl<'a, const ROOM: usize> Room for SureRoom<'a, ROOM> {
         ensures fresh { IfOk result (λ object. object.faults ≡ 0) }
         ensures empty { IfOk result (λ object. (sure_room_view self.old).tells ≡ true → Some object.held.buffer.items ≡ Some []) }
 
-        // It fails exactly where the name isn't a drawer, or has a fault.
-        ensures fails { is_err result ≡ not (is_ready (kept_under self.old name.now)) }
+        // It fails exactly where the name isn't a drawer, or its log had a fault.
+        ensures fails { is_err result ≡ not (can_open opened.Output (kept_under self.old name.now)) }
         ensures sink { IfOk result (λ sink. sink_state sink ≡ record { bytes = []; faults = 0 }) }
-        ensures kept { KeepsUnder self.old self.new name.now (kept_opened OpenOutput (kept_under self.old name.now)) }
+        ensures kept { KeepsUnder self.old self.new name.now (kept_opened opened.Output (kept_under self.old name.now)) }
         ensures counts { HasSureCounts self.new self.old.in_faults (counted result self.old.out_faults) self.old.log_faults }
     {
-        match self.files.open(name, Stored::OpenOutput) {
+        match self.files.open(name, Opened::Output) {
             Some(held) => Ok(SureSink::of_held(held)),
             None => {
                 self.out_faults = self.out_faults.saturating_add(1);
@@ -158,7 +162,7 @@ impl<'a, const ROOM: usize> Room for SureRoom<'a, ROOM> {
         }
     }
 
-    #[tactic(auto, using(crate::proofs::SureRooms::apart_opened, crate::proofs::SureRooms::stays_refused))]
+    #[tactic(auto, using(crate::proofs::SureRooms::apart_opened, crate::proofs::SureRooms::stays_refused, crate::proofs::SureRooms::log_sort))]
     fn open_log(&mut self, name: &str) -> Result<SureDisk<ROOM>, Failed>
         requires { (sure_room_view self.old).open_as name.now ≡ None }
         ensures apart { SameBut (sure_room_view self.old) (sure_room_view self.new) (name.now ∷ []) }
@@ -171,13 +175,13 @@ impl<'a, const ROOM: usize> Room for SureRoom<'a, ROOM> {
         ensures bytes { IfOk result (λ object. (sure_room_view self.old).tells ≡ true →
             (sure_disk_view object).content ≡ Some (bytes_or_none ((sure_room_view self.old).file name.now))) }
 
-        // It fails exactly where the name isn't a drawer, or has a fault.
-        ensures fails { is_err result ≡ not (is_ready (kept_under self.old name.now)) }
+        // It fails exactly where the name isn't a drawer, or its log had a fault.
+        ensures fails { is_err result ≡ not (can_open opened.Log (kept_under self.old name.now)) }
         ensures disk { IfOk result (λ disk. disk_state disk ≡ record { bytes = bytes_or_none (told_kept (kept_under self.old name.now)); faults = 0 }) }
-        ensures kept { KeepsUnder self.old self.new name.now (kept_opened OpenLog (kept_under self.old name.now)) }
+        ensures kept { KeepsUnder self.old self.new name.now (kept_opened opened.Log (kept_under self.old name.now)) }
         ensures counts { HasSureCounts self.new self.old.in_faults self.old.out_faults (counted result self.old.log_faults) }
     {
-        match self.files.open(name, Stored::OpenLog) {
+        match self.files.open(name, Opened::Log) {
             Some(held) => Ok(SureDisk::of_held(held)),
             None => {
                 self.log_faults = self.log_faults.saturating_add(1);
@@ -200,34 +204,65 @@ impl<'a, const ROOM: usize> Room for SureRoom<'a, ROOM> {
         self.closed.give_up(&object);
     }
 
-    #[tactic(auto, using(crate::proofs::SureRooms::apart_closed, crate::proofs::SureRooms::closed_counts, crate::proofs::SureRooms::closed_sort, crate::proofs::SureRooms::closed_told, crate::proofs::SureRooms::closed_is_log))]
+    #[tactic(auto, using(crate::proofs::SureRooms::apart_closed, crate::proofs::SureRooms::closed_sort, crate::proofs::SureRooms::put_told, crate::proofs::SureRooms::given_up_not_put, crate::proofs::SureRooms::given_up_untouched, crate::proofs::SureRooms::output_counts, crate::proofs::SureRooms::output_failed_at, crate::proofs::SureRooms::faulty_failed_at))]
     fn close_out(&mut self, name: &str, object: SureSink<ROOM>) -> Result<(), Failed>
         requires { (sure_room_view self.old).open_as name.now ≡ Some AsOutput }
         ensures apart { SameBut (sure_room_view self.old) (sure_room_view self.new) (name.now ∷ []) }
         ensures lefts { (sure_room_view self.new).lefts ≡ (sure_room_view self.old).lefts }
         ensures closed { (sure_room_view self.new).open_as name.now ≡ None }
-        ensures bytes { OnOk result ((sure_room_view self.old).tells ≡ true
-            → (sure_room_view self.new).file name.now ≡ Some object.entry.held.buffer.items) }
-        ensures front { OnErr result ((sure_room_view self.old).tells ≡ true
-            → HasFront ((sure_room_view self.new).file name.now) (Some object.entry.held.buffer.items)) }
-        ensures no_log { (sure_room_view self.new).has_log name.now ≡ false }
+        ensures put { OnOk result (IsPut (sure_room_view self.old) (sure_room_view self.new) name.now (Some object.entry.held.buffer.items)) }
+        ensures put_or_not { OnErr result
+            (IsPutOrNot (sure_room_view self.old) (sure_room_view self.new) name.now (Some object.entry.held.buffer.items)) }
+        ensures refused { 0 < object.entry.faults → IsErr result }
+        ensures untouched { 0 < object.entry.faults → IsUntouched (sure_room_view self.old) (sure_room_view self.new) name.now }
         ensures counted { OnOk result ((sure_room_view self.new).out_faults name.now
             ≡ count_sum ((sure_room_view self.old).out_faults name.now) object.entry.faults) }
         ensures cause { HasCause (count_sum ((sure_room_view self.old).out_faults name.now) object.entry.faults)
             ((sure_room_view self.new).out_faults name.now) result }
+        ensures failed_at { (sure_room_view self.new).failed_at name.now
+            ≤ max ((sure_room_view self.old).failed_at name.now) (length object.entry.held.buffer.items) }
 
-        // It never fails, and the drawer has a file of what was written.
-        ensures ok { IsOk result }
-        ensures kept { KeepsUnder self.old self.new name.now (kept_closed (File object.entry.held) object.entry.faults (kept_under self.old name.now)) }
+        // It fails exactly where the sink had a fault. Else the drawer has a file of what was written.
+        ensures fails { is_err result ≡ not (nat_eq object.entry.faults 0) }
+        ensures kept { OnOk result (KeepsUnder self.old self.new name.now (kept_closed (closing.Put object.entry.held) object.entry.faults (kept_under self.old name.now))) }
+        ensures left { OnErr result (KeepsUnder self.old self.new name.now
+            (kept_closed (closing.GivenUp object.entry.held) (count_sum object.entry.faults 1) (kept_under self.old name.now))) }
+        ensures counts { HasSureCounts self.new self.old.in_faults self.old.out_faults self.old.log_faults }
+    {
+        let faults = object.faults();
+        if faults == 0 {
+            self.files
+                .close(name, Closing::Put(object.into_held()), faults);
+            return Ok(());
+        }
+        let given_up = Closing::GivenUp(object.into_held());
+        self.files.close(name, given_up, faults.saturating_add(1));
+        Err(Failed)
+    }
+
+    #[tactic(auto, using(crate::proofs::SureRooms::apart_closed, crate::proofs::SureRooms::closed_sort, crate::proofs::SureRooms::given_up_untouched, crate::proofs::SureRooms::output_counts, crate::proofs::SureRooms::output_failed_at))]
+    fn give_up_out(&mut self, name: &str, object: SureSink<ROOM>)
+        requires { (sure_room_view self.old).open_as name.now ≡ Some AsOutput }
+        ensures apart { SameBut (sure_room_view self.old) (sure_room_view self.new) (name.now ∷ []) }
+        ensures untouched { IsUntouched (sure_room_view self.old) (sure_room_view self.new) name.now }
+        ensures lefts { (sure_room_view self.new).lefts ≡ (sure_room_view self.old).lefts }
+        ensures closed { (sure_room_view self.new).open_as name.now ≡ None }
+        ensures counted { (sure_room_view self.new).out_faults name.now
+            ≡ count_sum ((sure_room_view self.old).out_faults name.now) object.entry.faults }
+        ensures failed_at { (sure_room_view self.new).failed_at name.now
+            ≤ max ((sure_room_view self.old).failed_at name.now) (length object.entry.held.buffer.items) }
+
+        // The drawer has what it had.
+        ensures kept { KeepsUnder self.old self.new name.now
+            (kept_closed (closing.GivenUp object.entry.held) object.entry.faults (kept_under self.old name.now)) }
         ensures counts { HasSureCounts self.new self.old.in_faults self.old.out_faults self.old.log_faults }
     {
         let faults = object.faults();
         self.files
-            .close(name, Stored::File(object.into_held()), faults);
-        Ok(())
+            .close(name, Closing::GivenUp(object.into_held()), faults);
     }
 
-    #[tactic(auto, using(crate::proofs::SureRooms::apart_closed, crate::proofs::SureRooms::closed_counts, crate::proofs::SureRooms::closed_sort, crate::proofs::SureRooms::closed_told, crate::proofs::SureRooms::closed_is_log, crate::proofs::SureRooms::closed_log))]
+    #[tactic(auto, using(crate::proofs::SureRooms::apart_closed, crate::proofs::SureRooms::closed_sort, crate::proofs::SureRooms::log_counts, crate::proofs::SureRooms::log_told, crate::proofs::SureRooms::log_is_log, crate::proofs::SureRooms::closed_log))]
     fn close_log(&mut self, name: &str, object: SureDisk<ROOM>)
         requires { (sure_room_view self.old).open_as name.now ≡ Some AsLog }
         ensures apart { SameBut (sure_room_view self.old) (sure_room_view self.new) (name.now ∷ []) }
@@ -240,11 +275,11 @@ impl<'a, const ROOM: usize> Room for SureRoom<'a, ROOM> {
             ≡ count_sum ((sure_room_view self.old).log_faults name.now) (sure_disk_view object.entry).faults }
 
         // The drawer has the disk as its closed log.
-        ensures kept { KeepsUnder self.old self.new name.now (kept_closed (Log object.entry) object.entry.faults (kept_under self.old name.now)) }
+        ensures kept { KeepsUnder self.old self.new name.now (kept_closed (closing.Log object.entry) object.entry.faults (kept_under self.old name.now)) }
         ensures counts { HasSureCounts self.new self.old.in_faults self.old.out_faults self.old.log_faults }
     {
         let faults = object.faults();
-        self.files.close(name, Stored::Log(object), faults);
+        self.files.close(name, Closing::Log(object), faults);
     }
 
     ghost use Rattle.outside_sure.specs.SureRoom.{kept_untold, kept_unlogged};

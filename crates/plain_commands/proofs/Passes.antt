@@ -17,17 +17,18 @@ use Rattle.console_lines.specs.declared.fault.Fault.{Fault}
 use Rattle.console_lines.specs.declared.fault.Fault.TheVariants.{Input, Full, Memory}
 use Rattle.console_lines.proofs.Ends.{told_once, told_not_unwritten, told_not_all, all_not_unwritten, out_not_console, result_done, result_line, result_front, result_no_output, result_cause}
 use Rattle.plain_commands.specs.Totals.{holding}
-use Rattle.output_files.specs.Outputs.{IsPartWritten}
+use Rattle.output_files.specs.Outputs.{IsOutputLeft}
+use Rattle.output_files.proofs.Parts.{left_since}
 use Rattle.plain_commands.specs.Loading.{IsFaultOfLoading, IsFullAt}
 use Rattle.plain_commands.specs.Passing.{exported, IsReady, IsPassed, IsPassedInPart, IsPassedUntold, IsPassDelivered, EndsDelivering, Passes}
 use Rattle.plain_commands.proofs.There.{there_more}
 use Rattle.plain_commands.specs.declared.ready.Ready.{Ready}
 
-module _ (library : Library) (bytes : List ℕ) (new : Option (List ℕ)) (ready : Ready) (core : Catalogued)
+module _ (library : Library) (bytes : List ℕ) (ready : Ready) (core : Catalogued)
     (is : IsReady library bytes ready) (holds : core ≡ holding ready.loaded.accepted) where
-  pub ended_whole : (told now : Option (List ℕ)) (end : End) → new ≡ Some (exported core.history) → Appends told now (string_bytes ready.text)
+  pub ended_whole : (new told now : Option (List ℕ)) (end : End) → new ≡ Some (exported core.history) → Appends told now (string_bytes ready.text)
       → end ≡ end_of (nat_lt 0 (length ready.loaded.refused)) → IsPassed library bytes new told now end
-  ended_whole told now end written wrote ended = record {
+  ended_whole new told now end written wrote ended = record {
     accepted = ready.loaded.accepted;
     refused = ready.loaded.refused;
     judged = is.loaded.judged;
@@ -37,18 +38,19 @@ module _ (library : Library) (bytes : List ℕ) (new : Option (List ℕ)) (ready
     end_is = ended;
   }
 
-  pub ended_in_part : (old : Option (List ℕ)) → IsPartWritten old new (exported core.history) → IsPassedInPart library bytes old new
-  ended_in_part old part = record {
+  pub ended_in_part : (before after : RoomView) (out : List ℕ) → IsOutputLeft before after out (exported core.history)
+      → IsPassedInPart library bytes before after out
+  ended_in_part before after out left = record {
     accepted = ready.loaded.accepted;
     refused = ready.loaded.refused;
     judged = is.loaded.judged;
     within = is.loaded.within;
-    part = subst (λ (c : Catalogued). IsPartWritten old new (exported c.history)) holds part;
+    left = subst (λ (c : Catalogued). IsOutputLeft before after out (exported c.history)) holds left;
   }
 
-  pub ended_untold : (told now : Option (List ℕ)) → new ≡ Some (exported core.history) → WritesFront told now (string_bytes ready.text)
+  pub ended_untold : (new told now : Option (List ℕ)) → new ≡ Some (exported core.history) → WritesFront told now (string_bytes ready.text)
       → IsPassedUntold library bytes new told now
-  ended_untold told now written wrote = record {
+  ended_untold new told now written wrote = record {
     accepted = ready.loaded.accepted;
     refused = ready.loaded.refused;
     judged = is.loaded.judged;
@@ -78,7 +80,7 @@ module _ (library : Library) (bytes out : List ℕ) (o : Outcome) where
     untold = λ also. absurd (told_not_unwritten o.end why Console is also);
   }
 
-  pub delivered_in_part : o.end ≡ out_unwritten → IsPassedInPart library bytes (o.old.file out) (o.new.file out) → IsPassDelivered library bytes out o
+  pub delivered_in_part : o.end ≡ out_unwritten → IsPassedInPart library bytes o.old o.new out → IsPassDelivered library bytes out o
   delivered_in_part ends is = record {
     whole = λ all. absurd (all_not_unwritten o.end Out all ends);
     part = λ also. is;
@@ -103,6 +105,16 @@ ends_told out o told = record {
   console_cause = result_cause told;
   no_report = (result_no_output told).1;
   silent = λ also. absurd ((result_no_output told).0 also);
+}
+
+part_since : (library : Library) (bytes : List ℕ) (old mid new : RoomView) (out : List ℕ) → SameBut old mid [] → IsPassedInPart library bytes mid new out
+    → IsPassedInPart library bytes old new out
+part_since library bytes old mid new out stays part = record {
+  accepted = part.accepted;
+  refused = part.refused;
+  judged = part.judged;
+  within = part.within;
+  left = left_since old mid new out (exported part.accepted) [] tt stays part.left;
 }
 
 pub no_fault_told : (end : End) (why : Fault) → TellsNoFault end → end ≡ Told why → ⊥
@@ -147,8 +159,7 @@ module _ (library : Library) (out : List ℕ) (o : Outcome) where
     silent = ends.silent;
     part = λ also tells.
         there_more (o.old.file library.file)
-        (λ bytes ready_is. subst (λ f. IsPassedInPart library bytes f (o.new.file out)) (stays.files out tt)
-        ((delivered library bytes (stays.tells ∙ tells) ready_is).part also)) (is tells);
+        (λ bytes ready_is. part_since library bytes o.old mid o.new out stays ((delivered library bytes (stays.tells ∙ tells) ready_is).part also)) (is tells);
     untold = λ also tells.
         there_more (o.old.file library.file) (λ bytes ready_is. (delivered library bytes (stays.tells ∙ tells) ready_is).untold also) (is tells);
   }

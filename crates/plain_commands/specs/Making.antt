@@ -2,6 +2,7 @@
 use Rattle.std.specs.Prelude.{◌≡◌, ◌⊎◌, ℕ, true, List, [], Some}
 use Rattle.std.specs.Io.KnownBytes.{Appends}
 use Rattle.outside.specs.Fault.{Rose}
+use Rattle.outside.specs.Room.{IsUntouched}
 use Rattle.outside.specs.Sink.{WritesFront}
 use Rattle.catalogue_rules.specs.Receipts.{receipts_behind}
 use Rattle.workload.specs.Workload.{workload_bytes}
@@ -14,7 +15,7 @@ use Rattle.console_lines.specs.declared.end.Unwritten.TheVariants.{Out, Report, 
 use Rattle.console_lines.specs.declared.fault.Fault.TheVariants.{Memory}
 use Rattle.marc_types.specs.Sums.{sums_of}
 use Rattle.marc_types.specs.declared.sums.Sums.{Sums}
-use Rattle.output_files.specs.Outputs.{IsPartWritten}
+use Rattle.output_files.specs.Outputs.{IsOutputLeft}
 
 -- the sums over the receipts of a workload's entries in an empty catalogue
 abbrev pub workload_sums : ℕ → ℕ → Sums
@@ -41,10 +42,10 @@ pub record Makes (seed count : ℕ) (out : List ℕ) (o : Outcome) : Type 0 wher
   pub out_cause : o.end ≡ out_unwritten → Rose (o.old.out_faults out) (o.new.out_faults out)
   pub console_cause : o.end ≡ console_unwritten → Rose o.faults o.faults_now
   pub silent : o.end ≡ out_unwritten → IsSilent o
-  -- OUT holds the workload; or, where it could not be written or memory ran out, it is as it was or holds a front
+  -- OUT holds the workload; where it could not be written, it is as it was or holds it; and where memory ran out, it is as it was
   pub made : (o.end ≡ Done) ⊎ (o.end ≡ console_unwritten) → o.old.tells ≡ true → o.new.file out ≡ Some (workload_bytes seed count)
-  pub part : (o.end ≡ out_unwritten) ⊎ (o.end ≡ Told Memory) → o.old.tells ≡ true
-      → IsPartWritten (o.old.file out) (o.new.file out) (workload_bytes seed count)
+  pub left : o.end ≡ out_unwritten → o.old.tells ≡ true → IsOutputLeft o.old o.new out (workload_bytes seed count)
+  pub untouched : o.end ≡ Told Memory → IsUntouched o.old o.new out
   -- the console was told the line of the workload, or a front of it where it could not be written
   pub line : o.end ≡ Done → Appends o.told o.now (workload_line seed count)
   pub front : o.end ≡ console_unwritten → WritesFront o.told o.now (workload_line seed count)

@@ -2,7 +2,7 @@
 use Rattle.std.specs.Prelude.{◌≡◌, ◌≢◌, ℕ, true, List, ◌++◌, length, nat_lt, Option, Some, IsSomeAnd, string_bytes, []}
 use Rattle.std.specs.Io.KnownBytes.{Appends}
 use Rattle.outside.specs.Fault.{Rose}
-use Rattle.outside.specs.Room.{SameBut}
+use Rattle.outside.specs.Room.{RoomView, SameBut}
 use Rattle.outside.specs.Sink.{WritesFront}
 use Rattle.marc_types.specs.declared.entry.Entry.{Entry}
 use Rattle.marc_stream.specs.Pieces.{items}
@@ -19,7 +19,7 @@ use Rattle.console_lines.specs.declared.end.End.{End}
 use Rattle.console_lines.specs.declared.end.End.TheVariants.{Told}
 use Rattle.console_lines.specs.declared.fault.Fault.{Fault}
 use Rattle.console_lines.specs.declared.fault.Fault.TheVariants.{Input, Full}
-use Rattle.output_files.specs.Outputs.{IsPartWritten}
+use Rattle.output_files.specs.Outputs.{IsOutputLeft}
 use Rattle.plain_commands.specs.Totals.{IsWithinLimits}
 use Rattle.plain_commands.specs.Loading.{IsFaultOfLoading, IsLoaded, IsFullAt}
 use Rattle.plain_commands.specs.declared.ready.Ready.{Ready}
@@ -48,13 +48,13 @@ pub record IsPassed (library : Library) (bytes : List ℕ) (written told now : O
   pub console : Appends told now (results library.file accepted refused)
   pub end_is : end ≡ end_of (nat_lt 0 (length refused))
 
--- OUT could not be written: it is as it was, or holds a front of the accepted entries' export
-pub record IsPassedInPart (library : Library) (bytes : List ℕ) (old new : Option (List ℕ)) : Type 0 where
+-- OUT could not be written: it is as it was, or holds the accepted entries' export
+pub record IsPassedInPart (library : Library) (bytes : List ℕ) (old new : RoomView) (out : List ℕ) : Type 0 where
   pub accepted : List Entry
   pub refused : List RefusedItem
   pub judged : IsJudged library.code 0 (items bytes) accepted refused
   pub within : IsWithinLimits accepted
-  pub part : IsPartWritten old new (exported accepted)
+  pub left : IsOutputLeft old new out (exported accepted)
 
 -- the console could not be written: OUT is written whole, and the console was told a front of the results
 pub record IsPassedUntold (library : Library) (bytes : List ℕ) (written told now : Option (List ℕ)) : Type 0 where
@@ -68,7 +68,7 @@ pub record IsPassedUntold (library : Library) (bytes : List ℕ) (written told n
 -- what there is after the delivery of a file with these bytes, by how it ends
 pub record IsPassDelivered (library : Library) (bytes out : List ℕ) (o : Outcome) : Type 0 where
   pub whole : IsAllDone o.end → IsPassed library bytes (o.new.file out) o.told o.now o.end
-  pub part : o.end ≡ out_unwritten → IsPassedInPart library bytes (o.old.file out) (o.new.file out)
+  pub part : o.end ≡ out_unwritten → IsPassedInPart library bytes o.old o.new out
   pub untold : o.end ≡ console_unwritten → IsPassedUntold library bytes (o.new.file out) o.told o.now
 
 -- Which of OUT and the console could not be written: each has its cause, and where OUT could not be, the console is as it was.
@@ -94,6 +94,6 @@ pub record Passes (library : Library) (out : List ℕ) (o : Outcome) : Type 0 wh
   -- where OUT could not be written the console is untouched; where the console could not, OUT is whole
   pub silent : o.end ≡ out_unwritten → IsSilent o
   pub part : o.end ≡ out_unwritten → o.old.tells ≡ true
-      → IsSomeAnd (o.old.file library.file) (λ bytes. IsPassedInPart library bytes (o.old.file out) (o.new.file out))
+      → IsSomeAnd (o.old.file library.file) (λ bytes. IsPassedInPart library bytes o.old o.new out)
   pub untold : o.end ≡ console_unwritten → o.old.tells ≡ true
       → IsSomeAnd (o.old.file library.file) (λ bytes. IsPassedUntold library bytes (o.new.file out) o.told o.now)

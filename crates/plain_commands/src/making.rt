@@ -1,10 +1,10 @@
 ghost use Rattle.marc_types.specs.Limits.{most_entries};
-ghost use Rattle.std.specs.Prelude.{◌≡◌, ◌≤◌, ℕ, List, true, Some, None, OnOk, ◌∷◌, []};
+ghost use Rattle.std.specs.Prelude.{◌≡◌, ◌≤◌, ℕ, List, true, Some, None, OnOk, IsErrOf, ◌∷◌, []};
 ghost use Rattle.outside.specs.Fault.{HasWriteCause};
-ghost use Rattle.outside.specs.Room.{SameBut};
+ghost use Rattle.outside.specs.Room.{SameBut, IsUntouched};
 ghost use Rattle.workload.specs.Workload.{workload_bytes};
 ghost use Rattle.console_lines.specs.Ends.{outcome};
-ghost use Rattle.output_files.specs.Outputs.{IsPartWritten};
+ghost use Rattle.output_files.specs.Outputs.{IsOutputLeft};
 ghost use Rattle.plain_commands.specs.Making.{Makes};
 
 use crate::summing::workload_text;
@@ -13,7 +13,7 @@ use marc_types::NoMemory;
 use outside::{Room, Sink, WriteFault};
 use std::alloc::Global;
 
-/// Writes a workload into the file of that name, which is closed again on every path.
+/// Writes a workload into the file of that name. It is whole then, or as it was: as where memory runs out amid the workload.
 fn write_workload<R: Room>(
     alloc: Global,
     room: &mut R,
@@ -27,14 +27,15 @@ fn write_workload<R: Room>(
     ensures closed { (R.seen room.new).open_as name.now ≡ None }
     ensures cause { HasWriteCause ((R.seen room.old).out_faults name.now) ((R.seen room.new).out_faults name.now) result }
     ensures bytes { OnOk result ((R.seen room.old).tells ≡ true → (R.seen room.new).file name.now ≡ Some (workload_bytes seed count)) }
-    ensures part { (R.seen room.old).tells ≡ true →
-        IsPartWritten ((R.seen room.old).file name.now) ((R.seen room.new).file name.now) (workload_bytes seed count) }
+    ensures left { (R.seen room.old).tells ≡ true → IsOutputLeft (R.seen room.old) (R.seen room.new) name.now (workload_bytes seed count) }
+    ensures untouched { IsErrOf result WriteFault.NoMemory → IsUntouched (R.seen room.old) (R.seen room.new) name.now }
 {
     let mut out = room.open_out(name)?;
-    let written = workload::make(alloc, seed, count, &mut out);
-    let closed = room.close_out(name, out);
-    written?;
-    closed?;
+    if let Err(fault) = workload::make(alloc, seed, count, &mut out) {
+        room.give_up_out(name, out);
+        return Err(fault);
+    }
+    room.close_out(name, out)?;
     Ok(())
 }
 

@@ -1,4 +1,3 @@
-pub mod Cuts
 pub mod Texts
 pub mod Fields
 pub mod Records

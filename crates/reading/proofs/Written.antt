@@ -21,27 +21,12 @@ use Rattle.iso2709_record.specs.Layout.{entry_count, tag_at, data_at}
 use Rattle.iso2709_record.specs.Raw.{coding_at, raw_of, raw_field, raw_fields, raw_record, raw_of_record}
 use Rattle.iso2709_record.specs.declared.raw.RawField.{RawField}
 use Rattle.iso2709_record.specs.declared.raw.RawRecord.{RawRecord}
+use Rattle.iso2709_record.specs.Texts.{HasUtf8Text, HasUtf8Texts}
+use Rattle.iso2709_record.proofs.FieldData.{subfields_are_utf8}
 use Rattle.iso2709_record.proofs.Each.{fields_valid, each_passes}
 use Rattle.iso2709_record.proofs.ReadAgain.{written_is_sound, written_holds}
 use Rattle.reading.specs.Reading.{is_marc8, is_known_coding, text_start, InUtf8, IsFieldAt, IsReadAs}
 use Rattle.reading.specs.Answers.{IsFieldOfText}
-use Rattle.reading.specs.Texts.{HasUtf8Text, HasUtf8Texts}
-
-subfield_is_utf8 : (s : Subfield) → is_subfield s ≡ true → IsUtf8 s.text → IsUtf8 (subfield_bytes s)
-unfolding subfield_bytes is_subfield
-subfield_is_utf8 s valid text =
-    let low : s.code < 128 = grind (arith, nat_tests, common_steps) in
-    let ascii : IsAscii (delimiter ∷ s.code ∷ []) = IsAscii-cons delimiter (s.code ∷ []) (omega arith) (IsAscii-cons s.code [] low IsAscii-nil) in
-    IsUtf8-append (delimiter ∷ s.code ∷ []) s.text (IsUtf8-from_ascii (delimiter ∷ s.code ∷ []) ascii) text
-
--- subfields are UTF-8 where their texts are
-subfields_are_utf8 : (subs : List Subfield) → list_all is_subfield subs ≡ true → All HasUtf8Text subs → IsUtf8 (flat_map subfield_bytes subs)
-subfields_are_utf8 [] valid texts = IsUtf8-nil
-subfields_are_utf8 (s ∷ subs) valid texts =
-    let parts = and_parts _ _ valid in
-    IsUtf8-append (subfield_bytes s) (flat_map subfield_bytes subs)
-    (subfield_is_utf8 s parts.0 (texts 0 s (omega arith)))
-    (subfields_are_utf8 subs parts.1 (λ k d within. texts (suc k) d (omega arith)))
 
 subfields_valid : (tag : Tag) (a b : ℕ) (subs : List Subfield) → is_field (Variable tag a b subs) ≡ true → list_all is_subfield subs ≡ true
 unfolding is_field

@@ -2,4 +2,3 @@ pub mod Reading
 pub mod Preparing
 pub mod Answers
 pub mod FieldTexts
-pub mod Texts

@@ -6,9 +6,8 @@ ghost use Rattle.iso2709_record.specs.Raw.{coding_at, has_no_terminator};
 ghost use Rattle.reading.specs.Reading.{is_known_coding, IsFieldAt};
 ghost use Rattle.reading.specs.Answers.{IsRefusedText, IsRefusedEntry, IsFieldOfText};
 
-use crate::subfields::subfields_of;
 use crate::text::text_of_entry;
-use iso2709_record::{Layout, field_of};
+use iso2709_record::{Layout, field_of, subfields_of};
 use marc_types::{Field, RecordFault, Tag};
 use std::alloc::Global;
 

@@ -1,5 +1,5 @@
 //! Laws of reading: each is the contract of a function that does nothing, or only looks at the texts of a record.
-ghost use Rattle.std.specs.Prelude.{◌≡◌, ℕ, List, All, IsTrue, IsUtf8};
+ghost use Rattle.std.specs.Prelude.{◌≡◌, ℕ, List, IsTrue};
 ghost use Rattle.marc_types.specs.declared.field.Leader.{Leader};
 ghost use Rattle.marc_types.specs.declared.field.Field.{Field};
 ghost use Rattle.marc_types.specs.declared.entry.Entry.{Entry};
@@ -7,9 +7,9 @@ ghost use Rattle.marc_types.specs.declared.refusal.Refusal.{Refusal};
 ghost use Rattle.iso2709_record.specs.Written.{record_bytes, fits};
 ghost use Rattle.reading.specs.Reading.{IsReadAs, IsRefusedAs};
 ghost use Rattle.reading.specs.Preparing.{MakesEntry, IsRefusedInFile};
-ghost use Rattle.reading.specs.Texts.{HasUtf8Text, HasUtf8Texts};
 
-use marc_types::{Field, Record, Subfields, Text};
+use iso2709_record::each_text_is_utf8;
+use marc_types::{Record, Text};
 
 /// A piece is read as one record at most, or refused for one reason at most, and never both. This is a law for proofs; the
 /// call does nothing.
@@ -41,36 +41,4 @@ pub fn a_written_record_reads_as_itself(rec: &Record)
     ensures { IsReadAs (record_bytes rec.now.leader rec.now.fields) rec.now.leader rec.now.fields }
 {
     each_text_is_utf8(rec);
-}
-
-/// Each text of a record is UTF-8: to look at it as a `&str` shows it. This is a law for proofs.
-pub fn each_text_is_utf8(rec: &Record)
-    ensures { All HasUtf8Texts rec.now.fields }
-{
-    for field in rec.fields.as_slice() {
-        texts_are_utf8(field);
-    }
-}
-
-fn texts_are_utf8(field: &Field)
-    ensures { HasUtf8Texts field.now }
-{
-    match field {
-        Field::Control { text, .. } => text_is_utf8(text),
-        Field::Variable { subs, .. } => subfields_are_utf8(subs),
-    }
-}
-
-fn subfields_are_utf8(subs: &Subfields)
-    ensures { All HasUtf8Text subs.now }
-{
-    for subfield in subs.as_slice() {
-        text_is_utf8(&subfield.text);
-    }
-}
-
-fn text_is_utf8(text: &Text)
-    ensures { IsUtf8 text.now }
-{
-    let _text = text.as_str();
 }

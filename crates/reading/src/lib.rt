@@ -8,5 +8,4 @@ mod entry;
 mod field;
 pub mod laws;
 mod record;
-mod subfields;
 mod text;

@@ -1,6 +1,5 @@
 -- A field at a place of a state, and a record, rows and a state with another in its place.
 use Rattle.std.specs.Prelude.{◌≡◌, ℕ, ◌<◌, true, List, map, length, slice_get, slice_set, if◌then◌else◌, Option}
-use Rattle.std.specs.Borrow.{Bor}
 use Rattle.std.specs.Option.{option_and_then}
 use Rattle.marc_types.specs.Valid.{is_record}
 use Rattle.marc_types.specs.declared.field.Field.{Field}
@@ -8,14 +7,10 @@ use Rattle.marc_types.specs.declared.key.Class.{Class}
 use Rattle.marc_types.specs.declared.key.Class.TheVariants.{Authority, Bibliographic}
 use Rattle.marc_types.specs.declared.key.Key.{Key}
 use Rattle.marc_types.specs.declared.key.Place.{Place}
-use Rattle.marc_types.specs.declared.entry.Kept.{Kept}
 use Rattle.marc_types.specs.Order.{same_key}
-use Rattle.catalogue_rules.specs.State.{KeptField, KeptRecord, Row, State, fields_of, kept_record}
+use Rattle.iso2709_record.specs.Written.{fits}
+use Rattle.catalogue_rules.specs.State.{KeptField, KeptRecord, Row, State, fields_of}
 use Rattle.catalogue_rules.specs.Receipt.{kept_under}
-
--- a row as it is lent
-abbrev pub shown_row : Bor Key × Bor Kept → Row
-shown_row row = (row.0.now, kept_record row.1.now)
 
 -- the state with other rows of one class
 abbrev pub with_rows : Class → List Row → State → State
@@ -29,6 +24,10 @@ with_field place h r = record { leader = r.leader; fields = slice_set r.fields p
 -- a record stays one with the field at that place, where it has the place
 abbrev pub StaysRecord : ℕ → Field → KeptRecord → Type 0
 StaysRecord place field r = place < length r.fields → is_record r.leader (slice_set (fields_of r) place field) ≡ true
+
+-- a record fits its written form with the field at that place, where it has the place
+abbrev pub StaysFit : ℕ → Field → KeptRecord → Type 0
+StaysFit place field r = place < length r.fields → fits (slice_set (fields_of r) place field) ≡ true
 
 -- the field and tie at a place, where there is one
 abbrev pub field_at : ℕ → KeptRecord → Option KeptField

@@ -5,7 +5,7 @@ use Rattle.marc_types.specs.declared.entry.Limits.{Limits}
 use Rattle.marc_types.specs.Limits.{greatest_limits}
 use Rattle.outside.specs.Disk.{DiskView, SameDisk, OnlyContent}
 use Rattle.outside.specs.Fault.{Rose}
-use Rattle.outside.specs.Room.{RoomView, AsLog, SameBut, bytes_or_none}
+use Rattle.outside.specs.Room.{RoomView, AsLog, SameBut, IsUntouched, bytes_or_none}
 use Rattle.commit_journal.specs.declared.format.TheConstants.{BLANK_LENGTH}
 use Rattle.commit_journal.specs.Log.{walk_of, version_of}
 use Rattle.commit_journal.specs.Journal.{EndsAt, LeavesLog, in_order}
@@ -65,12 +65,6 @@ IsOpenedAs room name d = IsOpenedFrom room name d.entries d.mark d.opened
 
 abbrev pub IsClosedAs : RoomView → List ℕ → DurableView → Type 0
 IsClosedAs room name d = IsClosedTo room name d.entries d.mark d.opened
-
--- the file of that name, and the log that was closed as it, are as they were
-pub record IsUntouched (old new : RoomView) (name : List ℕ) : Type 0 where
-  pub file : new.file name ≡ old.file name
-  pub is_log : new.has_log name ≡ old.has_log name
-  pub log : old.has_log name ≡ true → SameDisk (old.log name) (new.log name)
 
 -- the file of that name is the log that this disk was closed as, with its content and its moments
 pub record IsClosedDisk (disk : DiskView) (room : RoomView) (name : List ℕ) : Type 0 where

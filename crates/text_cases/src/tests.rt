@@ -8,4 +8,5 @@ mod of_marc_types;
 mod of_naco_form;
 mod of_selection;
 mod of_workload;
+mod of_written_record;
 mod steps;

@@ -6,11 +6,11 @@ use marc_types::Text;
 use outside_real::{FileRoom, FileSink, Intent, ProgressGate, Target};
 use program_help::slip_in;
 use std::alloc::Global;
-use std::io::ErrorKind;
+use std::io::{ErrorKind, IsTerminal};
 use std::process::ExitCode;
 use std::sync::Wait;
 use std::thread::Threads;
-use std::{env, io};
+use std::{env, io, process};
 use union_top::{Begun, begin, end, load};
 
 /// The exit status where there is no memory for the words of the command line.
@@ -108,7 +108,7 @@ fn command<H: Threads + Wait + Sync>(rt: &HostRuntime, threads: &H) -> io::Resul
     let alloc = rt.alloc();
     let words = words_of(rt)?;
     let (files, told, progress) = (rt.clone()?, rt.clone()?, rt.clone()?);
-    let mut room = FileRoom::new(files, alloc);
+    let mut room = FileRoom::new(files, alloc, process::id(rt.process()));
     let asked = request(alloc, &words);
     let writes_behind = is_run(&asked);
     room.intend(intent_of(alloc, &asked)?);
@@ -118,7 +118,7 @@ fn command<H: Threads + Wait + Sync>(rt: &HostRuntime, threads: &H) -> io::Resul
         Begun::Loading(loading) => {
             // Where there is no memory for the names, no progress is told.
             let names = names_of(alloc, loading.libraries()).unwrap_or(Vec::new(alloc));
-            let gate = ProgressGate::new(progress, names);
+            let gate = ProgressGate::new(progress, names, rt.stderr().is_terminal());
             let loaded = load(threads, alloc, loading, &gate);
             end(alloc, loaded, &mut room, &mut console)
         }

@@ -1,12 +1,12 @@
 -- What promises that are kept spare a command: a count of what holds more than is there and than is due did not rise.
-use Rattle.std.proofs.Common.{◌≡◌, ◌⊎◌, inl, inr, ℕ, ◌+◌, ◌<◌, ◌≤◌, max, List, ◌++◌, length, Option, Some, None, sym, ap, subst, ◌∙◌, arith}
+use Rattle.std.proofs.Common.{◌≡◌, ◌⊎◌, inl, inr, ℕ, ◌+◌, ◌≤◌, max, List, ◌++◌, length, Option, Some, None, ap, subst, ◌∙◌, arith}
 use Rattle.std.specs.Io.KnownBytes.{Appends}
 use Rattle.std.proofs.lemmas.List.{length-append}
-use Rattle.outside.specs.Room.{Promise, ReadsAlways, HoldsUpTo, IsPromiseKept, HasHeld, bytes_or_none}
+use Rattle.outside.specs.Room.{Promise, ReadsAlways, HoldsUpTo, IsPromiseKept, bytes_or_none}
 use Rattle.outside.specs.Sink.{WritesFront}
 use Rattle.commit_journal.specs.declared.format.TheConstants.{BLANK_LENGTH}
 use Rattle.command_words.specs.declared.library.Library.{Library}
-use Rattle.output_files.specs.Outputs.{IsPartWritten, AsItWas, Holds}
+use Rattle.output_files.specs.Outputs.{IsOutputLeft}
 use Rattle.room_files.specs.Journals.{log_bytes, KeepsHistory, Unopened, Opened}
 use Rattle.union_top.specs.Complete.{Around, Stayed, OutStayed, LogStayed, ConsoleStayed, InputsStayed, InStayed}
 use Rattle.union_top.specs.Sure.{AreReadAlways, HoldsOutput, HoldsLog, HoldsText}
@@ -35,31 +35,25 @@ module _ (a : Around) (promises : (n : List ℕ) → a.new.promise n ≡ a.old.p
   pub inputs_stayed : (libraries : List Library) → AreReadAlways a.old libraries → InputsStayed a libraries
   inputs_stayed libraries all k d within = in_stayed _ (all k d within)
 
-  -- a file that is shorter than what its name holds
-  no_faults : (name : List ℕ) (most : ℕ) → HasHeld a.new name most → length (bytes_or_none (a.new.file name)) < most
-      → (a.new.out_faults name ≡ 0) × (a.new.log_faults name ≡ 0)
-  no_faults name most (inl none) less = none
-  no_faults name most (inr full) less = absurd (omega (arith, full, less))
-
-  part_shorter : (name due : List ℕ) (h : HoldsOutput a.old name due) → IsPartWritten (a.old.file name) (a.new.file name) due
-      → length (bytes_or_none (a.new.file name)) < h.most
-  part_shorter name due h (AsItWas same) = subst (λ f. length (bytes_or_none f) < h.most) (sym same) h.there
-  part_shorter name due h (Holds front rest split is) =
-      let fewer = shorter due front rest split in
-      let all = h.due in
-      subst (λ f. length (bytes_or_none f) < h.most) (sym is) (omega (arith, fewer, all))
-
-  pub out_stayed : (name due : List ℕ) → HoldsOutput a.old name due → IsPartWritten (a.old.file name) (a.new.file name) due → OutStayed a name
-  out_stayed name due h part =
-      none_stayed (a.old.out_faults name) (a.new.out_faults name)
-      (no_faults name h.most (is_kept name (HoldsUpTo h.most) h.promised) (part_shorter name due h part)).0
+  -- an output that failed had no more bytes than are due
+  pub out_stayed : (name due : List ℕ) → HoldsOutput a.old name due → IsOutputLeft a.old a.new name due → OutStayed a name
+  out_stayed name due h left = either (is_kept name (HoldsUpTo h.most) h.promised).outs
+    where
+      either : (a.new.out_faults name ≡ 0) ⊎ (h.most ≤ a.new.failed_at name) → OutStayed a name
+      either (inl none) = none_stayed (a.old.out_faults name) (a.new.out_faults name) none
+      either (inr full) =
+          let before = h.failed in
+          let all = h.due in
+          let reached = left.failed_at in
+          absurd (omega (arith, full, before, all, reached))
 
   pub log_stayed : (name : List ℕ) (added : ℕ) → HoldsLog a.old name added
       → length (log_bytes a.new name) ≤ max BLANK_LENGTH (length (log_bytes a.old name)) + added → LogStayed a name
-  log_stayed name added h no_longer =
-      let all = h.due in
-      none_stayed (a.old.log_faults name) (a.new.log_faults name)
-      (no_faults name h.most (is_kept name (HoldsUpTo h.most) h.promised) (omega (arith, no_longer, all))).1
+  log_stayed name added h no_longer = either (is_kept name (HoldsUpTo h.most) h.promised).logs
+    where
+      either : (a.new.log_faults name ≡ 0) ⊎ (h.most ≤ length (log_bytes a.new name)) → LogStayed a name
+      either (inl none) = none_stayed (a.old.log_faults name) (a.new.log_faults name) none
+      either (inr full) = let all = h.due in absurd (omega (arith, full, no_longer, all))
 
   -- a log that was as long stays as long
   pub same_stayed : (name : List ℕ) (added : ℕ) → HoldsLog a.old name added → a.new.file name ≡ a.old.file name → LogStayed a name

@@ -14,10 +14,10 @@ use Rattle.durable_catalogue.specs.Logs.{IsLogOf, HasHistory}
 use Rattle.room_files.specs.Journals.{journal_limits, log_bytes}
 use Rattle.room_files.proofs.Histories.{reading_once}
 use Rattle.archive_commands.specs.Archives.{HasFittingHistory}
-use Rattle.journal_migration.specs.Migrations.{Begins, AreWithin, IsFit, IsUnmigrated}
-use Rattle.journal_migration.specs.declared.fault.MigrateFault.{MigrateFault}
-use Rattle.journal_migration.specs.declared.fault.MigrateFault.TheVariants as migrating
-use Rattle.migrate_command.specs.Faults.{fault_of_migrating}
+use Rattle.migrate_command.specs.Migrations.{Begins, AreWithin, IsFit, IsUnmigrated}
+use Rattle.migrate_command.specs.declared.fault.MigrateFault.{MigrateFault}
+use Rattle.migrate_command.specs.declared.fault.MigrateFault.TheVariants as migrating
+use Rattle.migrate_command.specs.Told.{fault_of_migrating}
 use Rattle.migrate_command.specs.Migrates.{EndsMigrating, WhyNotFrom, NotOpened, Newest, WhyNotInto, Migrates}
 use Rattle.union_top.specs.Fits.{FitsMigrate}
 use Rattle.union_top.proofs.Unopened.{may_be, no_journal, opening_well}

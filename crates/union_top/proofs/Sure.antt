@@ -24,20 +24,20 @@ use Rattle.durable_catalogue.specs.Images.{framed_lengths}
 use Rattle.durable_catalogue.specs.Logs.{IsLogOf, HasHistory}
 use Rattle.durable_catalogue.proofs.Framed.{framed_append}
 use Rattle.entry_record.specs.History.{IsWithin}
-use Rattle.output_files.specs.Outputs.{IsPartWritten}
+use Rattle.output_files.specs.Outputs.{IsOutputLeft}
 use Rattle.room_files.specs.Journals.{journal_limits, log_bytes, KeepsHistory}
 use Rattle.archive_commands.specs.Reads as reads
 use Rattle.archive_commands.specs.Reads.{ReadsJournal}
 use Rattle.match_command.specs.Telling.{matches_due}
 use Rattle.plain_commands.specs.Making.{Makes, workload_line}
 use Rattle.plain_commands.specs.Passing.{Passes, IsPassedInPart, IsPassedUntold, exported, results}
-use Rattle.journal_input.specs.Contents.{IsVerified}
+use Rattle.journal_verification.specs.Contents.{IsVerified}
 use Rattle.journal_verification.specs.Verifying.{Verifies, IsToldInPart, verified_lines}
 use Rattle.catalogue_rules.specs.Settle.{state_of}
 use Rattle.file_holdings.specs.Files.{AreHoldings}
 use Rattle.holdings_command.specs.Attaching as attaching
 use Rattle.holdings_command.specs.Attaching.{AttachesHoldings, IsDelivered, OutFailed, RestFailed, ConsoleFailed, Whole, IsAttached}
-use Rattle.journal_migration.specs.Migrations.{IsFit, IsAmid, Before, Behind}
+use Rattle.migrate_command.specs.Migrations.{IsFit, IsAmid, Before, Behind}
 use Rattle.migrate_command.specs.Migrates as migrates
 use Rattle.migrate_command.specs.Migrates.{Migrates, BringsInto, IsDeviceOf, migrated_line}
 use Rattle.journal_loading.specs.Inputs.{IsInputFault}
@@ -109,9 +109,9 @@ module _ (o : Outcome) (promises : (n : List ℕ) → o.new.promise n ≡ o.old.
     sure_pass =
         passes_well o words out ends f
         (λ is.
-        let part : IsPassedInPart f.library f.alone.bytes (o.old.file out) (o.new.file out) =
-        subst (λ file. IsSomeAnd file (λ bytes. IsPassedInPart f.library bytes (o.old.file out) (o.new.file out))) f.alone.there (p.part is f.tells) in
-        out_stayed a promises kept out (exported part.accepted) (h.output (pass_case part.accepted part.refused part.judged)) part.part (p.out_cause is))
+        let part : IsPassedInPart f.library f.alone.bytes o.old o.new out =
+        subst (λ file. IsSomeAnd file (λ bytes. IsPassedInPart f.library bytes o.old o.new out)) f.alone.there (p.part is f.tells) in
+        out_stayed a promises kept out (exported part.accepted) (h.output (pass_case part.accepted part.refused part.judged)) part.left (p.out_cause is))
         (λ is.
         let part : IsPassedUntold f.library f.alone.bytes (o.new.file out) o.told o.now =
         subst (λ file. IsSomeAnd file (λ bytes. IsPassedUntold f.library bytes (o.new.file out) o.told o.now)) f.alone.there (p.untold is f.tells) in
@@ -122,17 +122,17 @@ module _ (o : Outcome) (promises : (n : List ℕ) → o.new.promise n ≡ o.old.
   sure_make : (seed count : ℕ) (out : List ℕ) → Makes seed count out o → IsSureMake seed count out a → EndsWell o.end
   sure_make seed count out m h =
       makes_well o seed count out m
-      (λ is. out_stayed a promises kept out (workload_bytes seed count) h.output (m.part (inl is) h.tells) (m.out_cause is))
+      (λ is. out_stayed a promises kept out (workload_bytes seed count) h.output (m.left is h.tells) (m.out_cause is))
       (λ is. text_stayed a (workload_line seed count) h.console (m.front is) (m.console_cause is))
 
   -- an output that is due of a history
   no_out : (due : List Entry → List ℕ) (journal out : List ℕ) → FitsReading o.old journal → IsSureReading due journal out a
       → ((entries : List Entry) → o.end ≡ out_unwritten → o.old.tells ≡ true → HasHistory entries (log_bytes o.old journal)
-      → IsPartWritten (o.old.file out) (o.new.file out) (due entries))
+      → IsOutputLeft o.old o.new out (due entries))
       → (o.end ≡ out_unwritten → Rose (o.old.out_faults out) (o.new.out_faults out)) → Never o out_unwritten
-  no_out due journal out f h part cause is =
+  no_out due journal out f h left cause is =
       ∥∥₁_elim f.history ⊥_prop (λ (one : (entries : List Entry) × IsLogOf entries (log_bytes o.old journal) × IsWithin journal_limits entries).
-      out_stayed a promises kept out (due one.0) (h.output one.0 ∣ one.1 ∣₁) (part one.0 is f.tells ∣ one.1 ∣₁) (cause is))
+      out_stayed a promises kept out (due one.0) (h.output one.0 ∣ one.1 ∣₁) (left one.0 is f.tells ∣ one.1 ∣₁) (cause is))
 
   sure_read : (journal out : List ℕ) (due : List Entry → List ℕ) → ReadsJournal journal out due o → FitsReading o.old journal
       → IsSureReading due journal out a → EndsWell o.end
@@ -154,21 +154,21 @@ module _ (o : Outcome) (promises : (n : List ℕ) → o.new.promise n ≡ o.old.
     all_done : o.end ≡ end_of due.refused → IsAllDone o.end
     all_done end = subst IsAllDone (sym end) (all_of due.refused)
 
-    at_out : o.end ≡ out_unwritten → IsDelivered due out rest o → IsPartWritten (o.old.file out) (o.new.file out) due.out
-    at_out is (OutFailed end part rest_stays silent) = part
-    at_out is (RestFailed end whole part silent) = absurd (out_not_report o.end is end)
+    at_out : o.end ≡ out_unwritten → IsDelivered due out rest o → IsOutputLeft o.old o.new out due.out
+    at_out is (OutFailed end left rest_stays silent) = left
+    at_out is (RestFailed end whole left silent) = absurd (out_not_report o.end is end)
     at_out is (ConsoleFailed end whole rest_whole front) = absurd (out_not_console o.end is end)
     at_out is (Whole end whole rest_whole told) = absurd (all_not_unwritten o.end unwritten.Out (all_done end) is)
 
-    at_rest : o.end ≡ report_unwritten → IsDelivered due out rest o → IsPartWritten (o.old.file rest) (o.new.file rest) due.rest
-    at_rest is (OutFailed end part rest_stays silent) = absurd (out_not_report o.end end is)
-    at_rest is (RestFailed end whole part silent) = part
+    at_rest : o.end ≡ report_unwritten → IsDelivered due out rest o → IsOutputLeft o.old o.new rest due.rest
+    at_rest is (OutFailed end left rest_stays silent) = absurd (out_not_report o.end end is)
+    at_rest is (RestFailed end whole left silent) = left
     at_rest is (ConsoleFailed end whole rest_whole front) = absurd (report_not_console o.end is end)
     at_rest is (Whole end whole rest_whole told) = absurd (all_not_unwritten o.end unwritten.Report (all_done end) is)
 
     at_console : o.end ≡ console_unwritten → IsDelivered due out rest o → WritesFront o.told o.now due.text
-    at_console is (OutFailed end part rest_stays silent) = absurd (out_not_console o.end end is)
-    at_console is (RestFailed end whole part silent) = absurd (report_not_console o.end end is)
+    at_console is (OutFailed end left rest_stays silent) = absurd (out_not_console o.end end is)
+    at_console is (RestFailed end whole left silent) = absurd (report_not_console o.end end is)
     at_console is (ConsoleFailed end whole rest_whole front) = front
     at_console is (Whole end whole rest_whole told) = absurd (all_not_unwritten o.end unwritten.Console (all_done end) is)
 
@@ -280,7 +280,7 @@ module _ (o : Outcome) (promises : (n : List ℕ) → o.new.promise n ≡ o.old.
       runs_well o libraries journal out report r f
       (λ is.
       let in_out = r.in_out is f.tells in
-      out_stayed a promises kept out _ (h.output (case in_out.merged)) in_out.part (r.out_cause is))
+      out_stayed a promises kept out _ (h.output (case in_out.merged)) in_out.left (r.out_cause is))
       (λ is.
       let in_report = r.in_report is f.tells in
       out_stayed a promises kept report _ (h.report_output (case in_report.merged)) in_report.outputs.report_is (r.report_cause is))

@@ -11,7 +11,7 @@ use Rattle.durable_catalogue.specs.declared.fault.OpenFault.TheVariants as openi
 use Rattle.durable_catalogue.specs.Openings as openings
 use Rattle.durable_catalogue.specs.Openings.{IsUnopened}
 use Rattle.room_files.specs.Journals.{journal_limits}
-use Rattle.journal_input.specs.Contents.{IsNoJournal, NoGate, NoPayload}
+use Rattle.journal_verification.specs.Contents.{IsNoJournal, NoGate, NoPayload}
 use Rattle.journal_verification.specs.Verifying.{EndsVerifying, Verifies}
 use Rattle.program_help.specs.Telling.{EndsTelling, Tells}
 use Rattle.union_top.specs.Fits.{FitsVerify}

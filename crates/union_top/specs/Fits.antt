@@ -14,7 +14,7 @@ use Rattle.entry_record.specs.History.{entries_size}
 use Rattle.durable_catalogue.specs.Logs.{HasHistory}
 use Rattle.room_files.specs.Journals.{journal_limits, log_bytes}
 use Rattle.archive_commands.specs.Archives.{HasFittingHistory}
-use Rattle.journal_migration.specs.Migrations.{IsFit}
+use Rattle.migrate_command.specs.Migrations.{IsFit}
 use Rattle.plain_commands.specs.Totals.{IsWithinLimits}
 use Rattle.loading_commands.specs.Merged.{AreJudged}
 

@@ -1,9 +1,9 @@
 -- A command over objects that keep a promise: an input has no fault; an output, a log or the console has none before it has so many
--- bytes, and those are more than it has and than is due there. The rules are this project's own.
+-- bytes, and those are more than is due there, of a log and the console behind what they have. The rules are this project's own.
 use Rattle.std.specs.Prelude.{◌≡◌, ◌⊎◌, ℕ, ◌+◌, ◌<◌, ◌≤◌, max, true, List, [], ◌∷◌, ◌++◌, length, All, Option, Some, None, IsSomeAnd}
 use Rattle.std.specs.List.{sum_by}
 use Rattle.marc_types.specs.declared.entry.Entry.{Entry}
-use Rattle.outside.specs.Room.{RoomView, ReadsAlways, HoldsUpTo, bytes_or_none}
+use Rattle.outside.specs.Room.{RoomView, ReadsAlways, HoldsUpTo}
 use Rattle.marc_stream.specs.Pieces.{items}
 use Rattle.workload.specs.Workload.{workload_bytes}
 use Rattle.commit_journal.specs.declared.format.TheConstants.{BLANK_LENGTH}
@@ -18,8 +18,8 @@ use Rattle.room_files.specs.Journals.{log_bytes}
 use Rattle.archive_commands.specs.Reads as reads
 use Rattle.plain_commands.specs.Making.{workload_line}
 use Rattle.plain_commands.specs.Passing.{results, exported}
-use Rattle.journal_input.specs.Contents.{IsVerified}
-use Rattle.journal_input.specs.declared.verified.Verified.{Verified}
+use Rattle.journal_verification.specs.Contents.{IsVerified}
+use Rattle.journal_verification.specs.declared.verified.Verified.{Verified}
 use Rattle.journal_verification.specs.Verifying.{verified_lines}
 use Rattle.holdings.specs.declared.holding.Holding.{Holding}
 use Rattle.file_holdings.specs.Files.{AreHoldings}
@@ -38,11 +38,11 @@ use Rattle.union_top.specs.Complete.{Around}
 abbrev pub AreReadAlways : RoomView → List Library → Type 0
 AreReadAlways room libraries = All (λ library. room.promise library.file ≡ ReadsAlways) libraries
 
--- the room promises that the output of that name holds more bytes than these, and than its file has now
+-- the room promises that the output of that name holds more bytes than these, and than an output of it had that failed
 pub record HoldsOutput (room : RoomView) (name bytes : List ℕ) : Type 0 where
   pub most : ℕ
   pub promised : room.promise name ≡ HoldsUpTo most
-  pub there : length (bytes_or_none (room.file name)) < most
+  pub failed : room.failed_at name < most
   pub due : length bytes < most
 
 -- the room promises that the log of that name holds more than so many bytes behind those of now, or behind a blank log

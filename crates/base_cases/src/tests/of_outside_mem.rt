@@ -2,10 +2,10 @@ ghost use Rattle.std.specs.Prelude.{◌≡◌, None, OnOk};
 ghost use Rattle.outside_mem.specs.Room.{room_view};
 
 use super::steps::{
-    assert_read, len, opens_input, opens_log, read_twice, sync, write_all, write_at,
+    assert_read, give_up, len, opens_input, opens_log, read_twice, sync, write, write_all, write_at,
 };
-use outside::{Failed, Room, Sink, Source};
-use outside_mem::{MemDisk, MemRoom, MemSink, MemSource};
+use outside::{Failed, FileCounts, Note, Notes, Progress, RefusedPiece, Room, Sink, Source};
+use outside_mem::{MemDisk, MemNotes, MemRoom, MemSink, MemSource};
 use std::alloc::Global;
 use std::process::Abort;
 use std::test::Fail;
@@ -89,6 +89,55 @@ fn is_told_when_closed(room: &mut MemRoom, name: &str, bytes: &[u8]) -> Result<b
 fn a_room_keeps_what_is_closed(rt: HostRuntime) -> Result<(), Fail> {
     let mut room = MemRoom::new(rt.alloc());
     assert!(rt; is_told_when_closed(&mut room, "out", b"more")?);
+    Ok(())
+}
+
+#[test]
+fn an_output_is_whole_or_not_at_all(rt: HostRuntime) -> Result<(), Fail> {
+    let alloc = rt.alloc();
+    let mut room = MemRoom::new(alloc);
+    put(alloc, &mut room, "out", b"old")?;
+    assert!(rt; give_up(&mut room, "out", b"new") == Some(Ok(())));
+    assert!(rt; has(&room, "out", b"old"));
+    fail(&mut room, "out", 1)?;
+    assert!(rt; write(&mut room, "out", b"new") == Some(Err(Failed)));
+    assert!(rt; has(&room, "out", b"old"));
+    fail(&mut room, "out", 0)?;
+    assert!(rt; write(&mut room, "out", b"new") == Some(Err(Failed)));
+    assert!(rt; has(&room, "out", b"old"));
+    Ok(())
+}
+
+#[test]
+fn notes_are_kept_as_lines(rt: HostRuntime) -> Result<(), Fail> {
+    let mut notes = MemNotes::new(rt.alloc());
+    notes.tell(&Note::Refused(RefusedPiece {
+        file: "a.mrc",
+        ordinal: 2,
+        offset: 40,
+        details: "bad leader",
+    }));
+    notes.tell(&Note::Counted(FileCounts {
+        file: "a.mrc",
+        new: 1,
+        replaced: 2,
+        deleted: 3,
+        missed: 4,
+    }));
+    notes.tell(&Note::Progress(Progress::Opening {
+        journal: "j",
+        bytes: 5,
+        of: 6,
+    }));
+    assert_eq!(rt; notes.lost(), 0);
+    let lines = notes.lines();
+    assert_eq!(rt; lines.len(), 3);
+    assert_eq!(rt; lines[0].as_str(), "a.mrc: piece 2 at byte 40: bad leader");
+    assert_eq!(rt;
+        lines[1].as_str(),
+        "a.mrc: new 1, replaced 2, deleted 3, deletions of no record 4"
+    );
+    assert_eq!(rt; lines[2].as_str(), "j: 5 of 6 bytes read");
     Ok(())
 }
 

@@ -14,6 +14,7 @@ use std::{env, fs, process};
 
 mod holding;
 mod slips;
+mod whole;
 
 // Each of these stands behind a function without a clause, so that a test's proof needn't know what the system's calls say.
 fn joined(alloc: Global, parts: &[&str]) -> Result<String, Fail> {
@@ -24,10 +25,14 @@ fn joined(alloc: Global, parts: &[&str]) -> Result<String, Fail> {
     Ok(text)
 }
 
+fn own_number(rt: &HostRuntime) -> u32 {
+    process::id(rt.process())
+}
+
 // The digits of the process's number, the last first.
 fn own_digits(rt: &HostRuntime) -> Result<String, Fail> {
     let mut digits = String::new(rt.alloc());
-    let mut number = process::id(rt.process());
+    let mut number = own_number(rt);
     for _ in 0..10 {
         digits.push((b'0' + (number % 10) as u8) as char)?;
         number /= 10;
@@ -238,7 +243,7 @@ fn assert_opens_and_closes<R: Room>(rt: &impl Abort, room: &mut R, name: &str)
 #[test]
 fn a_room_opens_and_closes_files(rt: HostRuntime) -> Result<(), Fail> {
     let path = path_of(&rt, "room")?;
-    let mut room = FileRoom::new(rt.clone()?, rt.alloc());
+    let mut room = FileRoom::new(rt.clone()?, rt.alloc(), own_number(&rt));
     assert_opens_and_closes(&rt, &mut room, &path);
     remove(&rt, path.as_str())
 }

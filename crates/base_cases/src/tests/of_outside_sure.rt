@@ -2,8 +2,8 @@ ghost use Rattle.std.specs.Prelude.{◌≡◌, None, IfOk};
 ghost use Rattle.outside_sure.specs.SureRoom.{sure_room_view};
 
 use super::steps::{
-    assert_read, cut, len, opens_input, opens_log, opens_output, read_twice, sync, write, write_at,
-    write_log,
+    assert_read, cut, give_up, len, opens_input, opens_log, opens_output, read_twice, sync, write,
+    write_at, write_log,
 };
 use outside::{Disk, Failed, Room, Sink};
 use outside_sure::{SureDisk, SureRoom, SureSink, SureSource};
@@ -136,18 +136,32 @@ fn a_sure_room_opens_no_name_that_it_lacks(rt: HostRuntime) -> Result<(), Fail> 
     Ok(())
 }
 
-/// It is no input, and is opened again, but not behind a fault.
+/// It is no input. An output that fails leaves it as it was, and it is opened again.
 #[test]
-fn a_drawer_is_written_and_filled_up(rt: HostRuntime) -> Result<(), Fail> {
+fn a_drawer_is_written_whole_or_not_at_all(rt: HostRuntime) -> Result<(), Fail> {
     let mut room = with_drawer(rt.alloc(), "out")?;
     assert!(rt; !opens_input(&mut room, "out"));
     assert!(rt; write(&mut room, "out", b"four") == Some(Ok(())));
     assert!(rt; has(&room, "out", b"four"));
-    assert!(rt; opens_output(&mut room, "out"));
     assert!(rt; write(&mut room, "out", b"fives") == Some(Err(Failed)));
-    assert!(rt; !opens_output(&mut room, "out"));
-    assert!(rt; !opens_log(&mut room, "out"));
-    assert!(rt; has(&room, "out", b"five"));
+    assert!(rt; has(&room, "out", b"four"));
+    assert!(rt; give_up(&mut room, "out", b"more") == Some(Ok(())));
+    assert!(rt; has(&room, "out", b"four"));
+    assert!(rt; opens_log(&mut room, "out"));
+    assert!(rt; write(&mut room, "out", b"new") == Some(Ok(())));
+    assert!(rt; has(&room, "out", b"new"));
+    Ok(())
+}
+
+/// A log that fails fills its drawer, which isn't opened again.
+#[test]
+fn a_drawer_is_filled_up_by_its_log(rt: HostRuntime) -> Result<(), Fail> {
+    let mut room = with_drawer(rt.alloc(), "log")?;
+    assert!(rt; write_log(&mut room, "log", b"fives") == Some(Err(Failed)));
+    assert!(rt; has(&room, "log", b"five"));
+    assert!(rt; !opens_output(&mut room, "log"));
+    assert!(rt; !opens_log(&mut room, "log"));
+    assert!(rt; has(&room, "log", b"five"));
     Ok(())
 }
 

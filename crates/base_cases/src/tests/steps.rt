@@ -95,6 +95,17 @@ pub(crate) fn write<R: Room>(room: &mut R, name: &str, piece: &[u8]) -> Option<R
     }
 }
 
+/// What one write to an output answers that is given up. None where it isn't opened.
+pub(crate) fn give_up<R: Room>(room: &mut R, name: &str, piece: &[u8]) -> Option<Result<(), Failed>>
+    requires { (R.seen room.old).open_as name.now ≡ None }
+    ensures { (R.seen room.new).open_as name.now ≡ None }
+{
+    let mut output = room.open_out(name).ok()?;
+    let answer = output.write_all(piece);
+    room.give_up_out(name, output);
+    Some(answer)
+}
+
 /// What one write at the start of the log answers. None where it isn't opened.
 pub(crate) fn write_log<R: Room>(
     room: &mut R,

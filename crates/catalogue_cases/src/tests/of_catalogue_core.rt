@@ -100,15 +100,13 @@ fn field_stands(
         field,
     };
     let engine = catalogue.engine();
-    let Some(at) = engine.field_under(&place) else {
+    let Some(found) = engine.field_under(alloc, &place)? else {
         return Ok(matches!(expected, Stands::Absent));
     };
+    let (at, tie) = found.parts();
     Ok(
-        match (
-            engine.standing(alloc, place.class, at.field, at.tie)?,
-            expected,
-        ) {
-            (Standing::Linked, Stands::Linked(number)) => is_linked_to(at.tie, number),
+        match (engine.standing(alloc, place.class, at, tie)?, expected) {
+            (Standing::Linked, Stands::Linked(number)) => is_linked_to(tie, number),
             (Standing::Ambiguous(keys), Stands::Ambiguous(numbers)) => {
                 are_numbers(keys.as_slice(), numbers)
             }

@@ -1,12 +1,12 @@
 use Rattle.std.proofs.Common.{◌≡◌, ◌≤◌, map}
 use Rattle.std.specs.Prelude.{is_some}
 use Rattle.outside.proofs.Fronts.{IsWriting}
-use Rattle.record_store.specs.Store.{shown_row}
 use Rattle.catalogue_rules.specs.State.{linkable_authorities, rows_of}
 use Rattle.catalogue_rules.specs.Output.{ambiguous_line}
 use Rattle.ambiguity_report.specs.Beside.{rows_lines}
 use Rattle.ambiguity_report.proofs.Counting.{AreCounting}
 use Rattle.ambiguity_report.proofs.ambiguous.write_ambiguous.Given as goal
+use Rattle.numbered_store.specs.Kept.{shown_row}
 
 abbrev pub invariant-loop-key : goal.invariant-loop-key
 invariant-loop-key g l = record {

@@ -1,10 +1,10 @@
 use Rattle.std.proofs.Common.{◌≡◌, ◌≤◌, map}
 use Rattle.std.specs.Prelude.{is_some}
 use Rattle.outside.proofs.Fronts.{IsWriting}
-use Rattle.record_store.specs.Store.{shown_row}
 use Rattle.catalogue_rules.specs.Output.{awaits_line}
 use Rattle.ambiguity_report.specs.Beside.{rows_lines}
 use Rattle.ambiguity_report.proofs.awaits.write_awaits.Given as goal
+use Rattle.numbered_store.specs.Kept.{shown_row}
 
 abbrev pub invariant-loop-key : goal.invariant-loop-key
 invariant-loop-key g l = record {

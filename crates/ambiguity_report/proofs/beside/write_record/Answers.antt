@@ -1,23 +1,8 @@
-use Rattle.std.proofs.Common.{◌∙◌, subst, arith}
-use Rattle.std.specs.Io.KnownBytes.{Appends}
-use Rattle.outside.specs.Sink.{WritesFront}
-use Rattle.outside.proofs.Fronts.{writing_more, writing_failed}
-use Rattle.ambiguity_report.proofs.Fields.{beside_next}
+use Rattle.std.proofs.Common.{◌∙◌}
 use Rattle.ambiguity_report.proofs.beside.write_record.Goals as goal
 
-pub returns-in_err-write_line-clause-front : goal.returns-in_err-write_line-clause-front
-returns-in_err-write_line-clause-front g c =
-    writing_failed _ _ _ _ _ _ _ c.loop-place.invariant.writing
-    (beside_next (g.B.Beside.field_line c.args.class c.args.key.now) c.args.fields.now c.args.besides.now c.loop-place.place _ c.in-Some.beside.now
-    (omega arith) c.index-fields-place.is c.in-Some.ensures.lookup.3.0 c.in-Some.ensures.lookup.1)
-    (subst (WritesFront _ _) (c.deref.ensures.value ∙ c.in_ok-make_line.ensures) c.write_line.ensures.front)
+pub returns-clause-bytes : goal.returns-clause-bytes
+returns-clause-bytes g c = rw (c.deref.ensures.value ∙ c.in-Ok.ensures) at c.write_fields.ensures.bytes
 
-pub loop-place-preserved : goal.loop-place-preserved
-loop-place-preserved g c = record {
-  writing = writing_more _ _ _ _ _ _ _ c.loop-place.invariant.writing
-      (beside_next (g.B.Beside.field_line c.args.class c.args.key.now) c.args.fields.now c.args.besides.now c.loop-place.place _ c.in-Some.beside.now
-      (omega arith) c.index-fields-place.is c.in-Some.ensures.lookup.3.0 c.in-Some.ensures.lookup.1)
-      (subst (Appends _ _) (c.deref.ensures.value ∙ c.in_ok-make_line.ensures) c.in_ok-write_line.ensures.bytes);
-  tells = c.in_ok-write_line.ensures.tells ∙ c.loop-place.invariant.tells;
-  later = omega (arith, c.in_ok-write_line.ensures.cause.later);
-}
+pub returns-clause-front : goal.returns-clause-front
+returns-clause-front g c = rw (c.deref.ensures.value ∙ c.in-Ok.ensures) at c.write_fields.ensures.front

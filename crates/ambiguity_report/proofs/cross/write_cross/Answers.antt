@@ -2,11 +2,11 @@ use Rattle.std.proofs.Common.{◌≡◌, refl, ap, map, subst, sym, ◌∙◌, a
 use Rattle.std.specs.List.{flat_map}
 use Rattle.catalogue_rules.specs.Output.{cross_lines}
 use Rattle.catalogue_rules.specs.State.{linkable_authorities}
-use Rattle.record_store.specs.Store.{shown_row}
 use Rattle.catalogue_tables.specs.Sharing.{keys_crossing, shown_keys}
 use Rattle.outside.proofs.Fronts.{IsWriting, writing_begun, writing_more, writing_failed}
 use Rattle.ambiguity_report.proofs.Scans.{cross_at, cross_by_rows, row_next}
 use Rattle.ambiguity_report.proofs.cross.write_cross.Goals as goal
+use Rattle.numbered_store.specs.Kept.{shown_row}
 
 pub loop-key-init : goal.loop-key-init
 loop-key-init g c =

@@ -2,11 +2,11 @@ use Rattle.std.proofs.Common.{◌≡◌, ◌≤◌, map}
 use Rattle.std.specs.Prelude.{is_some}
 use Rattle.std.specs.List.{flat_map}
 use Rattle.outside.proofs.Fronts.{IsWriting}
-use Rattle.record_store.specs.Store.{shown_row}
 use Rattle.catalogue_rules.specs.Output.{cross_lines}
 use Rattle.catalogue_rules.specs.State.{linkable_authorities}
 use Rattle.ambiguity_report.proofs.Scans.{cross_at}
 use Rattle.ambiguity_report.proofs.cross.write_cross.Given as goal
+use Rattle.numbered_store.specs.Kept.{shown_row}
 
 abbrev pub invariant-loop-key : goal.invariant-loop-key
 invariant-loop-key g l = record {

@@ -1,6 +1,6 @@
 use Rattle.std.proofs.Common.{subst}
 use Rattle.outside.proofs.Rooms.{same_but_none, same_but_then}
-use Rattle.output_files.specs.Outputs.{IsPartWritten}
+use Rattle.output_files.specs.Outputs.{IsOutputLeft}
 use Rattle.archive_commands.specs.Reads.{due_view, due_of}
 use Rattle.archive_commands.proofs.Rooms.{apart_closed, output_closed}
 use Rattle.archive_commands.proofs.writing.write_archive.Goals as goal
@@ -22,5 +22,5 @@ returns-clause-output g c =
     let due = due_of (due_view c.args.due) in
     output_closed old written new c.args.journal.now out (due c.args.archive.core.history) c.write_due-written.result
     c.requires.opened c.requires.free c.close_archive.ensures.apart c.write_due-written.ensures.closed
-    (λ told. subst (λ core. IsPartWritten (old.file out) (written.file out) (due core.history)) c.core.ensures.value (c.write_due-written.ensures.part told))
+    (λ told. subst (λ core. IsOutputLeft old written out (due core.history)) c.core.ensures.value (c.write_due-written.ensures.left told))
     c.write_due-written.ensures.cause

@@ -2,7 +2,7 @@
 ghost use Rattle.std.specs.Prelude.{◌≡◌, ℕ, List, None, IfOk};
 ghost use Rattle.outside_real.specs.View.{file_room_view};
 
-use super::{has, joined, make, path_of, remove};
+use super::{has, joined, make, own_number, path_of, remove};
 use crate::tests::steps::{len, opens_input, opens_log, opens_output, read_twice, write_all};
 use outside::{Failed, Room};
 use outside_real::FileRoom;
@@ -15,7 +15,7 @@ use std::test::Fail;
 fn room_of(rt: &HostRuntime) -> Result<FileRoom<HostRuntime>, Fail>
     ensures { IfOk result (λ room. (n : List ℕ) → (file_room_view room).open_as n ≡ None) }
 {
-    Ok(FileRoom::new(rt.clone()?, rt.alloc()))
+    Ok(FileRoom::new(rt.clone()?, rt.alloc(), own_number(rt)))
 }
 
 // Whether a log that one room opens can't be opened by another, as a log, as an input, and behind its closing as an output.

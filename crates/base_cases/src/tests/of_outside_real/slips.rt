@@ -2,7 +2,7 @@
 ghost use Rattle.std.specs.Prelude.{◌≡◌, ℕ, List, None, IfOk};
 ghost use Rattle.outside_real.specs.View.{file_room_view};
 
-use super::{has, make, path_of, remove};
+use super::{has, make, own_number, path_of, remove};
 use crate::tests::steps::{opens_log, opens_output};
 use outside_real::{FileRoom, Intent};
 use std::fs;
@@ -12,7 +12,7 @@ use std::test::Fail;
 fn room_of(rt: &HostRuntime) -> Result<FileRoom<HostRuntime>, Fail>
     ensures { IfOk result (λ room. (n : List ℕ) → (file_room_view room).open_as n ≡ None) }
 {
-    Ok(FileRoom::new(rt.clone()?, rt.alloc()))
+    Ok(FileRoom::new(rt.clone()?, rt.alloc(), own_number(rt)))
 }
 
 // Whether that can't be opened as an output, and has the bytes that it had.

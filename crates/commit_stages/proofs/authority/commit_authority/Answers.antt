@@ -1,4 +1,5 @@
 use Rattle.std.proofs.Common.{◌∙◌, ap, subst, List}
+use Rattle.entry_record.proofs.Admitted.{admitted_fits}
 use Rattle.catalogue_rules.specs.State.{linkable_authorities}
 use Rattle.catalogue_tables.specs.Lent.{shown_forms}
 use Rattle.numbering.specs.declared.seat.Seat.{Seat}
@@ -8,6 +9,9 @@ use Rattle.commit_stages.proofs.Course.{begun, begun_within, carried, carried_br
 use Rattle.commit_stages.proofs.Turning.{ahead_five, ahead_four, ahead_itself, ahead_then, ahead_three}
 use Rattle.commit_stages.proofs.Whole.{key_now, key_of_class, low, number_now, number_of_class, numbers_so, valid_now}
 use Rattle.commit_stages.proofs.authority.commit_authority.Goals as goal
+
+pub place-requires-clause-fit : goal.place-requires-clause-fit
+place-requires-clause-fit g c = admitted_fits c.args.item.now c.requires.commit.admitted
 
 pub known_authority-requires : goal.known_authority-requires
 known_authority-requires g c = low c.args.store.now c.args.item.now c.requires.commit c.args.number c.requires.number

@@ -1,5 +1,9 @@
+use Rattle.entry_record.proofs.Admitted.{admitted_fits}
 use Rattle.commit_stages.proofs.Alone.{alone_brought, alone_committed, alone_key, alone_middle, alone_number, alone_numbers, alone_within}
 use Rattle.commit_stages.proofs.bibliographic.commit_bibliographic.Goals as goal
+
+pub place-requires-clause-fit : goal.place-requires-clause-fit
+place-requires-clause-fit g c = admitted_fits c.args.item.now c.requires.commit.admitted
 
 pub settle_brought-requires-clause-number : goal.settle_brought-requires-clause-number
 settle_brought-requires-clause-number g c = alone_number c.args.store.now c.args.item.now c.requires.commit c.args.number c.requires.number c.place.new.self c.place.ensures.ahead

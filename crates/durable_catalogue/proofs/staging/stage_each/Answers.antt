@@ -1,8 +1,8 @@
 use Rattle.std.proofs.Common.{◌∷◌, ◌++◌, ◌∙◌, [], sym, subst}
 use Rattle.std.proofs.lemmas.Iterator.Adapters.{YieldsList-from_vec}
 use Rattle.std.proofs.lemmas.Iterator.Consumers.{YieldsList-so_far, YieldsList-turn}
-use Rattle.durable_catalogue.proofs.Loads.{map_same}
 use Rattle.durable_catalogue.proofs.Stages.{AreStaged, has_room, none_staged, one_staged}
+use Rattle.durable_catalogue.proofs.Takings.{map_same}
 use Rattle.durable_catalogue.proofs.staging.stage_each.Goals as goal
 
 pub loop-item-init : goal.loop-item-init

@@ -14,7 +14,7 @@ returns-in-Ok-open-clause-log g c =
 pub returns-in-Ok-open-clause-taken : goal.returns-in-Ok-open-clause-taken
 returns-in-Ok-open-clause-taken g c =
     let log = log_bytes (g.R.Room.seen c.args.room.now) c.args.name.now in
-    is_also (g.T.EntryTaker.has c.open.new.taker) (λ entries. (bytes : List ℕ) → (g.R.Log.Disk.seen c.in-Ok.log).content ≡ Some bytes → HasHistory entries bytes)
+    is_also (g.T.EntryTaker.has c.args.taker.now c.open.new.taker) (λ entries. (bytes : List ℕ) → (g.R.Log.Disk.seen c.in-Ok.log).content ≡ Some bytes → HasHistory entries bytes)
     (λ entries. (g.R.Room.seen c.args.room.now).tells ≡ true → HasHistory entries log) journal_limits
     (λ entries has told. has log (c.in-Ok.ensures.bytes told)) c.in-Ok-open.ensures.taken
 

@@ -8,7 +8,7 @@ returns-clause-bytes g c =
     let kept = kept_keys (option_copied c.args.code) in
     c.write_selected.ensures.bytes kept (c.new-kept.ensures.selects kept (search rules))
 
-pub returns-clause-part : goal.returns-clause-part
-returns-clause-part g c told =
+pub returns-clause-left : goal.returns-clause-left
+returns-clause-left g c told =
     let kept = kept_keys (option_copied c.args.code) in
-    c.write_selected.ensures.part kept (c.new-kept.ensures.selects kept (search rules)) told
+    c.write_selected.ensures.left kept (c.new-kept.ensures.selects kept (search rules)) told

@@ -1,22 +1,16 @@
 use Rattle.std.proofs.Common.{ap, map, sym, ◌∙◌, arith}
 use Rattle.std.specs.Option.{option_copied}
 use Rattle.outside.proofs.Fronts.{writing_begun, writing_more, writing_failed}
-use Rattle.record_store.specs.Store.{shown_row}
 use Rattle.holdings_export.specs.Output.{shelf_or_none}
-use Rattle.holdings_export.proofs.Written.{each_fits, first_fits, rest_fits, next_with_holdings, next_without}
+use Rattle.holdings_export.proofs.Written.{next_with_holdings, next_without}
 use Rattle.holdings_export.proofs.export.write_rows.Goals as goal
+use Rattle.numbered_store.specs.Kept.{shown_row}
 
 pub loop-key-init : goal.loop-key-init
-loop-key-init g c =
-    let begins = ap (map shown_row) c.into_iter-key-iterator.ensures.into_iter_gives.0 in
-    record {
-      writing = λ kept selects. rw begins (writing_begun _ _);
-      fit = rw begins (each_fits _ c.requires.fit);
-      later = omega arith;
-    }
-
-pub write_record-requires : goal.write_record-requires
-write_record-requires g c = first_fits (shelf_or_none (option_copied c.args.groups)) _ _ _ _ (ap (map shown_row) c.in-Some.ensures.steps) c.loop-key.invariant.fit
+loop-key-init g c = record {
+  writing = λ kept selects. rw (ap (map shown_row) c.into_iter-key-iterator.ensures.into_iter_gives.0) (writing_begun _ _);
+  later = omega arith;
+}
 
 pub loop-key-preserved-in-Continue-1 : goal.loop-key-preserved-in-Continue-1
 loop-key-preserved-in-Continue-1 g c = record {
@@ -24,7 +18,6 @@ loop-key-preserved-in-Continue-1 g c = record {
       writing_more _ _ _ _ _ _ _ (c.loop-key.invariant.writing kept selects)
       (next_with_holdings (shelf_or_none (option_copied c.args.groups)) _ _ _ _ (ap (map shown_row) c.in-Some.ensures.steps) kept (sym (c.keeps.ensures kept selects) ∙ c.if-keeps.true))
       c.in_ok-write_record.ensures.bytes;
-  fit = rest_fits (shelf_or_none (option_copied c.args.groups)) _ _ _ _ (ap (map shown_row) c.in-Some.ensures.steps) c.loop-key.invariant.fit;
   later = omega arith;
 }
 
@@ -39,6 +32,5 @@ loop-key-preserved g c = record {
   writing = λ kept selects.
       rw (← (next_without (shelf_or_none (option_copied c.args.groups)) _ _ _ _ (ap (map shown_row) c.in-Some.ensures.steps) kept (sym (c.keeps.ensures kept selects) ∙ c.if-keeps.false)))
       (c.loop-key.invariant.writing kept selects);
-  fit = rest_fits (shelf_or_none (option_copied c.args.groups)) _ _ _ _ (ap (map shown_row) c.in-Some.ensures.steps) c.loop-key.invariant.fit;
   later = omega arith;
 }

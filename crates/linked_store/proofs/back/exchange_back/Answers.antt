@@ -1,6 +1,6 @@
 use Rattle.std.proofs.Common.{refl, ap}
 use Rattle.std.specs.Option.{option_map}
-use Rattle.catalogue_rules.specs.State.{kept_record}
+use Rattle.numbered_store.specs.Kept.{kept_record}
 use Rattle.numbered_store.specs.Numbered.{Numbered}
 use Rattle.linked_store.specs.Contents.{ToRecord}
 use Rattle.linked_store.specs.Frames.{contents_of}

@@ -6,9 +6,6 @@ use Rattle.linked_store.proofs.back.forget.Goals as goal
 pub returns-in-Exchanged : goal.returns-in-Exchanged
 returns-in-Exchanged c = gone_stored (step_of c.args.change) c.args.tables.now
 
-pub returns-in-Swapped : goal.returns-in-Swapped
-returns-in-Swapped c = gone_stored (step_of c.args.change) c.args.tables.now
-
 pub returns-in-Relinked : goal.returns-in-Relinked
 returns-in-Relinked c =
     rw c.in-Relinked.is

@@ -9,7 +9,7 @@ returns-clause-output g c =
     let written = c.write_table-written.ensures in
     output_closed (seen c.args.room.now) (seen c.write_table-written.new.room) (seen c.close_history.new.room) c.args.journal.now c.args.out.now
     (lines_of (matches_of c.args.table.now)) c.write_table-written.result c.requires.opened c.requires.free c.close_history.ensures.apart
-    written.closed written.part written.cause
+    written.closed written.left written.cause
 
 pub returns-clause-memory : goal.returns-clause-memory
 returns-clause-memory g c ran_out =

@@ -3,8 +3,8 @@ use Rattle.outside.specs.Room.{bytes_or_none}
 use Rattle.outside.proofs.Rooms.{same_but_itself}
 use Rattle.console_lines.specs.declared.fault.Fault.TheVariants.{Device}
 use Rattle.room_files.specs.Journals.{log_bytes}
-use Rattle.journal_migration.specs.declared.fault.MigrateFault.TheVariants as migrating
-use Rattle.migrate_command.specs.Faults.{fault_of_migrating}
+use Rattle.migrate_command.specs.declared.fault.MigrateFault.TheVariants as migrating
+use Rattle.migrate_command.specs.Told.{fault_of_migrating}
 use Rattle.migrate_command.specs.Bringing.{Newest, Refused}
 use Rattle.room_files.proofs.Journals.{unopened_keeps, keeps_where}
 use Rattle.migrate_command.proofs.Endings.{migrating_device}

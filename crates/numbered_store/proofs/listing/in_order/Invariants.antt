@@ -1,5 +1,5 @@
 use Rattle.std.proofs.Common.{◌≡◌, ◌-◌, length, map}
-use Rattle.record_store.specs.Store.{shown_row}
+use Rattle.numbered_store.specs.Kept.{shown_row}
 use Rattle.numbered_store.proofs.Listed.{rows_from}
 use Rattle.numbered_store.proofs.listing.in_order.Given as goal
 

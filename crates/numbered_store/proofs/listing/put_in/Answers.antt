@@ -1,5 +1,5 @@
 use Rattle.std.proofs.Common.{◌∙◌, ap, map}
-use Rattle.record_store.specs.Store.{shown_row}
+use Rattle.numbered_store.specs.Kept.{shown_row}
 use Rattle.numbered_store.specs.Rows.{with_slot}
 use Rattle.numbered_store.proofs.Listed.{shown_insert}
 use Rattle.numbered_store.proofs.listing.put_in.Goals as goal

@@ -1,7 +1,7 @@
 use Rattle.std.proofs.Common.{◌∙◌, ◌+◌, ap, sym, subst, arith, if◌then◌else◌}
 use Rattle.std.specs.Option.{is_some, option_map}
 use Rattle.std.specs.Prelude.{slice_get}
-use Rattle.catalogue_rules.specs.State.{kept_record}
+use Rattle.numbered_store.specs.Kept.{kept_record}
 use Rattle.numbered_store.specs.Rows.{HaveSlots, count_in, rows_by, with_row}
 use Rattle.numbered_store.proofs.Shelving.{have_set, rows_exchanged, row_held, rows_back, count_set, count_there}
 use Rattle.numbered_store.proofs.slots.exchange_slot.Goals as goal

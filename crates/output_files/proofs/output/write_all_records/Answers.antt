@@ -2,6 +2,6 @@ use Rattle.std.proofs.Common.{rules}
 use Rattle.catalogue_rules.specs.Output.{all_keys}
 use Rattle.output_files.proofs.output.write_all_records.Goals as goal
 
-pub returns-clause-part : goal.returns-clause-part
-returns-clause-part g c told =
-    c.write_export.ensures.part all_keys (c.new-everything.ensures.selects all_keys (search rules)) told
+pub returns-clause-left : goal.returns-clause-left
+returns-clause-left g c told =
+    c.write_export.ensures.left all_keys (c.new-everything.ensures.selects all_keys (search rules)) told

@@ -11,7 +11,7 @@ returns-in_err-push-clause-err c =
     let new = record old { fails = c.push.new.self } in
     on_err _ ((name : List ℕ) → IsPlaceOf files name c.args.place → (n : List ℕ) → file_in (set files c.args.place new) n ≡ file_in files n)
     (λ name at. changes_nothing files (set files c.args.place new) name (changes_fails files name c.args.place old new (file_in files name).fails at value refl
-    (rw (is_under files name c.args.place old at value) c.in_err-push.ensures.items) refl refl))
+    (rw (is_under files name c.args.place old at value) c.in_err-push.ensures.items) refl refl refl))
 
 pub returns-clause-ok : goal.returns-clause-ok
 returns-clause-ok c name at =
@@ -19,4 +19,4 @@ returns-clause-ok c name at =
     let files = c.args.files.now.items in
     let value = c.index_mut-file.ensures.value in
     changes_fails files name c.args.place old (record old { fails = c.push.new.self }) _ at value refl
-    (rw (is_under files name c.args.place old at value) c.in_ok-push.ensures.items) refl refl
+    (rw (is_under files name c.args.place old at value) c.in_ok-push.ensures.items) refl refl refl

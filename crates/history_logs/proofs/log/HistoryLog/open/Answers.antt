@@ -30,7 +30,7 @@ returns-in_ok-journal-in-Ok-clause-taken g c =
     let found = c.in_ok-found.ensures.found in
     let frames = c.in_ok-found.frames in
     let version = number_of c.version.result in
-    is_also (g.T.EntryTaker.has c.take_within.new.taker) (IsHistory version [] (payloads_of c.into_vec.result.items))
+    is_also (g.T.EntryTaker.has c.args.taker.now c.take_within.new.taker) (IsHistory version [] (payloads_of c.into_vec.result.items))
     (λ entries. (log : List ℕ) → (g.D.Disk.seen c.args.disk).content ≡ Some log → HasHistory entries log) c.args.limits
     (λ entries held log told.
     ∣ reading log frames version entries (found.was log told) (found.named log told ∙ ap number_of (sym c.version.ensures))

@@ -1,8 +1,7 @@
 use Rattle.std.proofs.Common.{refl}
 use Rattle.std.specs.Option.{option_map}
-use Rattle.catalogue_rules.specs.State.{kept_record}
-use Rattle.numbered_store.proofs.Growing.{number_stays}
-use Rattle.linked_store.proofs.Framed.{goes_none, goes_exchanged, steps_noted}
+use Rattle.numbered_store.specs.Kept.{kept_record}
+use Rattle.linked_store.proofs.Framed.{goes_none, goes_exchanged, number_stays, steps_noted}
 use Rattle.linked_store.proofs.frame.Frame.exchange.Goals as goal
 
 pub returns-in_err-reserve-clause-goes : goal.returns-in_err-reserve-clause-goes

@@ -1,13 +1,13 @@
 use Rattle.std.proofs.Common.{◌≡◌, subst}
 use Rattle.std.specs.Option.{option_map}
 use Rattle.marc_types.specs.declared.key.Class.{Class}
-use Rattle.catalogue_rules.specs.State.{kept_record}
 use Rattle.linked_store.specs.Contents.{ToRecord, apply}
 use Rattle.linked_store.specs.Frames.{contents}
 use Rattle.linked_store.specs.Placing.{IsReseated}
 use Rattle.linked_store.proofs.Framed.{goes_then}
 use Rattle.linked_store.proofs.Seated.{placed_on, reseated}
 use Rattle.linked_store.proofs.frame.Frame.place.Goals as goal
+use Rattle.numbered_store.specs.Kept.{kept_record}
 
 pub returns-in_err-seat_rows-clause-goes : goal.returns-in_err-seat_rows-clause-goes
 returns-in_err-seat_rows-clause-goes c = goes_then c.args.self.now c.clear.new.self c.seat_rows.new.self c.clear.ensures.goes c.seat_rows.ensures.goes

@@ -1,0 +1,25 @@
+-- The heading of a record, by the place where it stands, and one that was decoded.
+use Rattle.std.specs.Prelude.{◌≡◌, ℕ, ◌<◌, Bool, true, false}
+use Rattle.std.specs.Option.{option_map_or}
+use Rattle.marc_types.specs.declared.field.Field.{Field}
+use Rattle.marc_types.specs.declared.form.Kind.{Kind}
+use Rattle.entry_record.specs.Authority.{is_heading}
+use Rattle.catalogue_rules.specs.State.{KeptRecord}
+use Rattle.record_store.specs.Store.{field_at}
+use Rattle.commit_stages.specs.declared.heading.OwnHeading.{OwnHeading}
+
+abbrev pub own_heading : OwnHeading → Kind × Field
+own_heading heading = (heading.kind, heading.field)
+
+-- a heading stands at the place
+abbrev pub is_heading_at : KeptRecord → ℕ → Bool
+is_heading_at r place = option_map_or (λ h. is_heading h.field) (field_at place r) false
+
+-- none stands before the place
+abbrev pub HasNoHeadingBefore : KeptRecord → ℕ → Type 0
+HasNoHeadingBefore r place = (i : ℕ) → i < place → is_heading_at r i ≡ false
+
+-- the first one stands there
+pub record IsFirstHeading (r : KeptRecord) (place : ℕ) : Type 0 where
+  pub is : is_heading_at r place ≡ true
+  pub none_before : HasNoHeadingBefore r place

@@ -1,5 +1,0 @@
-pub mod Comings
-pub mod Gates
-pub mod Walks
-pub mod Headers
-pub mod Verifying

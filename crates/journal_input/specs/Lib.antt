@@ -1,4 +1,0 @@
-pub mod Coming
-pub mod Gates
-pub mod Walking
-pub mod Contents

@@ -1,5 +1,0 @@
-use Rattle.journal_migration.proofs.Fronts.{AreSame}
-use Rattle.journal_migration.proofs.front.begins.Given as goal
-
-abbrev pub invariant-loop-at : goal.invariant-loop-at
-invariant-loop-at l = AreSame l.history l.items l.at

@@ -1,0 +1,34 @@
+-- What a journal has, and what is no journal.
+use Rattle.std.specs.Prelude.{◌≡◌, ℕ, ◌+◌, List, [], length, nat_le, nat_lt, if◌then◌else◌, Option, Some, None, Ok, Err}
+use Rattle.marc_types.specs.declared.entry.Entry.{Entry}
+use Rattle.commit_journal.specs.declared.frame.Frame.{Frame}
+use Rattle.commit_journal.specs.declared.format.TheConstants.{BLANK_LENGTH}
+use Rattle.commit_journal.specs.Log.{frames_of, version_of, walk_of}
+use Rattle.entry_history.specs.Payloads.{IsHistory}
+use Rattle.journal_verification.specs.Walking.{payloads_of, IsBadFrame}
+use Rattle.journal_verification.specs.declared.verified.Verified.{Verified}
+
+-- bytes stand behind the closed gate at that place
+abbrev pub torn_behind : ℕ → ℕ → Option ℕ
+torn_behind place bytes = if nat_lt (place + 1) bytes then Some place else None
+
+-- the place of the closed gate behind which bytes stand that are no part of the log; a blank log has none
+abbrev pub torn_of : List ℕ → Option ℕ
+torn_of log = if nat_le (length log) BLANK_LENGTH then None else torn_behind (walk_of log).place (length log)
+
+-- A log is a journal, and this is what it has: its version, the entries of its history, its frames and its bytes.
+pub record IsVerified (log : List ℕ) (v : Verified) : Type 0 where
+  pub history : List Entry
+  pub found : List Frame
+  pub frames_are : frames_of log ≡ Ok found
+  pub holds : IsHistory (version_of log) [] (payloads_of found) history
+  pub version : v.version ≡ version_of log
+  pub entries : v.entries ≡ length history
+  pub frames : v.frames ≡ length found
+  pub bytes : v.bytes ≡ length log
+  pub torn : v.torn ≡ torn_of log
+
+-- nothing that is a journal stands at that place, or it is the gate of a payload that isn't valid
+pub data IsNoJournal (log : List ℕ) (place : ℕ) : Type 0 where
+  NoGate : frames_of log ≡ Err place → IsNoJournal log place
+  NoPayload : (frames : List Frame) → frames_of log ≡ Ok frames → IsBadFrame (version_of log) frames place → IsNoJournal log place

@@ -1,0 +1,104 @@
+ghost use Rattle.std.specs.Prelude.{◌≡◌, ◌≤◌, ℕ, List, length, Some, None, IfOk, IfErr, OnOk, IsErrOf};
+ghost use Rattle.commit_journal.specs.Log.{header_fault, version_of_header};
+ghost use Rattle.commit_journal.specs.Versions.{number_of};
+ghost use Rattle.journal_verification.specs.Coming.{Comes, HasVerifyCause};
+ghost use Rattle.journal_verification.specs.Contents.{torn_behind, IsVerified, IsNoJournal};
+
+use crate::coming::Coming;
+use crate::fault::VerifyFault;
+use crate::walking::take_frames;
+use commit_journal::{BLANK_LENGTH, HEADER_BYTES, Version, header_version};
+use outside::Source;
+use std::alloc::Global;
+
+/// What a journal has.
+#[derive(Clone, Copy, Debug, PartialEq, Eq)]
+pub struct Verified {
+    pub version: u8,
+    pub entries: u64,
+    pub frames: u64,
+    pub bytes: u64,
+    /// The place of the closed gate behind which bytes stand that are no part of the journal.
+    pub torn: Option<u64>,
+}
+
+/// What a blank log of so many bytes has.
+fn blank(bytes: usize) -> Verified
+    ensures { result ≡ record { version = 2; entries = 0; frames = 0; bytes = bytes; torn = None } }
+{
+    Verified {
+        version: 2,
+        entries: 0,
+        frames: 0,
+        bytes: bytes as u64,
+        torn: None,
+    }
+}
+
+/// The place of the closed gate, where of so many bytes some stand behind it.
+fn torn_at(place: u64, bytes: u64) -> Option<u64>
+    ensures { result ≡ torn_behind place bytes }
+{
+    if bytes.saturating_sub(place) > 1 {
+        Some(place)
+    } else {
+        None
+    }
+}
+
+/// The version that a journal's first bytes name, or the place of the first byte of its header that is wrong.
+#[tactic(auto, using(commit_journal::proofs::Logs::says_front))]
+fn version_in(bytes: &[u8]) -> Result<Version, u64>
+    requires { 16 ≤ length bytes.now }
+    ensures right { OnOk result (header_fault bytes.now ≡ None) }
+    ensures version { IfOk result (λ version. number_of version ≡ version_of_header bytes.now) }
+    ensures wrong { IfErr result (λ place. header_fault bytes.now ≡ Some place) }
+{
+    let mut header = [0; HEADER_BYTES];
+    header.copy_from_slice(&bytes[..HEADER_BYTES]);
+    header_version(&header)
+}
+
+/// What the journal has whose bytes come.
+fn verify_coming<S: Source>(alloc: Global, coming: &mut Coming<S>) -> Result<Verified, VerifyFault>
+    requires { coming.old.place ≡ 0 }
+    ensures verified { IfOk result (λ v. (log : List ℕ) → Comes coming.old.window.items (S.left coming.old.source) log → IsVerified log v) }
+    ensures lost { (wrong : ℕ) → IsErrOf result (VerifyFault.NotAJournal wrong) → (log : List ℕ) →
+        Comes coming.old.window.items (S.left coming.old.source) log → IsNoJournal log wrong }
+    ensures cause { HasVerifyCause (S.faults coming.old.source) (S.faults coming.new.source) result }
+{
+    if !coming.fill(BLANK_LENGTH as usize + 1)? {
+        return Ok(blank(coming.window().len()));
+    }
+    let version = match version_in(coming.window()) {
+        Ok(version) => version,
+        Err(place) => return Err(VerifyFault::NotAJournal(place)),
+    };
+    coming.pass(HEADER_BYTES);
+    let found = match take_frames(alloc, version, coming) {
+        Ok(found) => found,
+        Err(fault) => return Err(fault),
+    };
+    let place = coming.place();
+    let bytes = coming.total()?;
+    Ok(Verified {
+        version: version.number(),
+        entries: found.entries,
+        frames: found.frames,
+        bytes,
+        torn: torn_at(place, bytes),
+    })
+}
+
+/// Reads a journal as an input, from its first byte to its last, and gives the input back: what it has, or why it is none. It
+/// keeps one frame, and the entries.
+pub fn verify_source<S: Source>(alloc: Global, source: S) -> (Result<Verified, VerifyFault>, S)
+    ensures verified { IfOk result.0 (λ v. (log : List ℕ) → S.left source ≡ Some log → IsVerified log v) }
+    ensures lost { (wrong : ℕ) → IsErrOf result.0 (VerifyFault.NotAJournal wrong) → (log : List ℕ) → S.left source ≡ Some log
+        → IsNoJournal log wrong }
+    ensures cause { HasVerifyCause (S.faults source) (S.faults result.1) result.0 }
+{
+    let mut coming = Coming::new(alloc, source);
+    let verified = verify_coming(alloc, &mut coming);
+    (verified, coming.close())
+}

@@ -1,5 +1,0 @@
-use Rattle.std.proofs.Common.{subst, IsUtf8}
-use Rattle.reading.proofs.laws.text_is_utf8.Goals as goal
-
-pub returns : goal.returns
-returns c = subst IsUtf8 c.as_str-text.ensures c.as_str-text.utf8
