@@ -25,7 +25,7 @@ none .
 
 echo '# a full disk'
 mkdir disk
-if mount -t tmpfs -o size=256k none disk 2>/dev/null; then
+if mount -t tmpfs -o size=64k none disk 2>/dev/null; then
     cp yesterday disk/out
     union_cat export u.jnl disk/out 2>err; [ $? -eq 4 ] || bad 'a full disk has another status than 4'
     told 'disk/out: no space left'; same disk/out; none disk
@@ -44,7 +44,7 @@ same out; none .
 
 # amid FILE: exports the large journal to it in the background, and stops that once its new file is there; its number is in pid then.
 amid() {
-    union_cat export many.jnl "$1" 2>err-amid & pid=$!
+    "$program" export many.jnl "$1" 2>err-amid & pid=$!
     for _ in $(seq 1 6000); do
         if [ -n "$(find . -maxdepth 1 -name ".$1.union_cat.$pid")" ]; then kill -STOP $pid; return 0; fi
         kill -0 $pid 2>/dev/null || break
