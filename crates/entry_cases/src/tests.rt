@@ -1,3 +1,4 @@
+mod of_checkpoint;
 mod of_entry_history;
 mod of_entry_payload;
 mod of_entry_record;

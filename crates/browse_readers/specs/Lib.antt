@@ -1,0 +1,2 @@
+pub mod Browsing
+pub mod Rules

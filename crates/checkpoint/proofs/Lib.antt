@@ -1,0 +1,13 @@
+pub mod Bounds
+pub mod Framing
+pub mod FromBytes
+pub mod Going
+pub mod Keying
+pub mod Kept
+pub mod Lists
+pub mod Once
+pub mod Rowing
+pub mod Sizing
+pub mod Sorts
+pub mod Tying
+pub mod Wholes

@@ -1,0 +1,6 @@
+pub mod Brought
+pub mod Former
+pub mod Members
+pub mod Ordered
+pub mod Pages
+pub mod Tables

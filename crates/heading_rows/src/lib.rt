@@ -1,0 +1,13 @@
+//! The established headings of a catalogue as rows in order, and a table of them that each entry changes.
+#![tactic(auto)]
+
+pub use heading::Heading;
+pub use row::{BrowsePage, BrowseRow, BrowseRows};
+pub use table::Table;
+
+mod heading;
+pub mod laws;
+mod listing;
+mod row;
+mod shared_row;
+mod table;

@@ -1,0 +1,71 @@
+//! A table of rows that each entry changes.
+ghost use Rattle.std.specs.Prelude.{◌≡◌, IfOk, OnOk, OnErr};
+ghost use Rattle.heading_rows.specs.Listing.{empty_table, page_at, take_entry};
+
+use crate::heading::{Change, Heading};
+use crate::listing::Listing;
+use crate::row::BrowsePage;
+use marc_types::{Form, NoMemory};
+use std::alloc::Global;
+use std::marker::Model;
+
+/// The rows that a list of entries leads to, without a catalogue. Contracts see how many entries it has taken, and the authorities
+/// that are there with their rows.
+#[derive(Drop)]
+pub struct Table {
+    listing: Listing,
+    upto: u64,
+}
+
+impl Model for Table {
+    ghost use Rattle.heading_rows.specs.Listing.{BrowseTable};
+
+    ghost Value = { BrowseTable };
+
+    ghost view = { λ t. record { upto = t.upto; listing = t.listing } };
+}
+
+impl Table {
+    /// No entry was taken.
+    pub fn new(alloc: Global) -> Table
+        ensures { result ≡ empty_table }
+    {
+        Table {
+            listing: Listing::new(alloc),
+            upto: 0,
+        }
+    }
+
+    /// Takes an entry. Want of memory changes nothing; it is told too where the number of entries would pass a u64.
+    pub fn put(&mut self, alloc: Global, heading: &Heading) -> Result<(), NoMemory>
+        ensures ok { OnOk result (self.new ≡ take_entry self.old heading.now) }
+        ensures err { OnErr result (self.new ≡ self.old) }
+    {
+        let upto = self.upto.checked_add(1).ok_or(NoMemory)?;
+        match &heading.change {
+            Change::Nothing => {}
+            Change::TakenAway => self.listing.take_away(alloc, &heading.key)?,
+            Change::Kept(row) => self.listing.keep(alloc, &heading.key, row)?,
+        }
+        self.upto = upto;
+        Ok(())
+    }
+
+    /// How many entries were taken.
+    pub fn upto(&self) -> u64
+        ensures { result ≡ self.now.upto }
+    {
+        self.upto
+    }
+
+    /// The first rows whose form isn't before a form, so many of them, and how many entries were taken.
+    pub fn page(&self, alloc: Global, from: &Form, most: u32) -> Result<BrowsePage, NoMemory>
+        ensures { IfOk result (λ page. page ≡ page_at self.now from.now most) }
+    {
+        let rows = self.listing.page(alloc, from, most)?;
+        Ok(BrowsePage {
+            upto: self.upto,
+            rows,
+        })
+    }
+}

@@ -1,0 +1,3 @@
+pub mod Adjacent
+pub mod Classes
+pub mod Sounds
