@@ -12,7 +12,7 @@ mkdir -p "$work/crates/commit_bench/src" "$proofs/commit_all" "$proofs/count_wor
 cp "$here/main.rt.txt" "$work/crates/commit_bench/src/main.rt"
 cp "$here/commit_all.antt.txt" "$proofs/commit_all/Invariants.antt"
 cp "$here/count_workload.antt.txt" "$proofs/count_workload/Invariants.antt"
-echo "commit_bench: catalogue_core record_store plain_commands entry_record marc_types" >>"$work/crates.txt"
+echo "commit_bench: catalogue_core plain_commands catalogue_rules entry_record marc_types" >>"$work/crates.txt"
 cd "$work/crates/commit_bench"
 rt run >/dev/null
 /usr/bin/time -f "%e s, %M KB" ./out/commit_bench

@@ -1,5 +1,6 @@
 #!/usr/bin/env python3
-"""Checks that the words, the text of help and the man page name the same commands.
+"""Checks that the words, the text of help and the man page name the same commands; and that `version`, the man page and CHANGELOG.md
+name the same version.
 
 Run it at the top of the repository. Where `man` is there it also has to find nothing to warn of in the page."""
 
@@ -33,6 +34,16 @@ def names_of_page():
     return synopsis, re.findall(r"^\.TP\n\.BI? (\w+)", commands, re.M)
 
 
+def versions():
+    """The version that `version` tells, that of the page's head, and the newest of CHANGELOG.md."""
+    texts = Path("crates/program_help/src/texts.rt").read_text()
+    return {
+        "version": re.search(r'THIS_VERSION: &str = "union_cat (\S+)', texts).group(1),
+        "the page's head": re.search(r'^\.TH .*"union_cat (\S+)"', Path("docs/union_cat.1").read_text(), re.M).group(1),
+        "CHANGELOG.md": re.search(r"^## (\d\S*)", Path("CHANGELOG.md").read_text(), re.M).group(1),
+    }
+
+
 def warnings_of_page():
     """What `man` has to say against the page."""
     if shutil.which("man") is None:
@@ -48,10 +59,13 @@ def main():
     found = {"help": lines, "the topics of help": topics, "the page's synopsis": synopsis, "the page's commands": heads}
     bad = [f"{name}: {sorted(names)}" for name, names in found.items() if sorted(names) != words]
     bad += [warning for warning in [warnings_of_page().strip()] if warning]
+    told = versions()
+    if len(set(told.values())) != 1:
+        bad.append(f"versions: {told}")
     if bad:
         print(f"the words: {words}", *bad, sep="\n")
         return 1
-    print(f"{len(words)} commands, named alike")
+    print(f"{len(words)} commands, named alike; version {told['version']}")
     return 0
 
 

@@ -7,7 +7,7 @@ ghost use Rattle.marc_types.specs.declared.field.Tag.{Tag as AnyTag};
 ghost use Rattle.marc_types.specs.Fields.{tag_of};
 ghost use Rattle.marc_types.specs.declared.key.Class.{Class as AnyClass};
 ghost use Rattle.marc_types.specs.declared.key.Key.{Key as AnyKey};
-ghost use Rattle.record_store.specs.Store.{field_at};
+ghost use Rattle.catalogue_rules.specs.Store.{field_at};
 ghost use Rattle.ambiguity_report.specs.Beside.{lines_beside, tags_of};
 ghost use Rattle.numbered_store.specs.Kept.{kept_record};
 

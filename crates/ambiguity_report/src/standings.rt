@@ -1,7 +1,7 @@
 //! How the fields of a record stand.
 ghost use Rattle.std.specs.Prelude.{◌≡◌, ◌++◌, map, option_map, option_to_list, IfOk, OnOk};
 ghost use Rattle.catalogue_rules.specs.State.{linkable_authorities};
-ghost use Rattle.record_store.specs.Store.{field_at};
+ghost use Rattle.catalogue_rules.specs.Store.{field_at};
 ghost use Rattle.catalogue_tables.specs.Stands.{field_standing};
 ghost use Rattle.numbered_store.specs.Kept.{kept_record};
 

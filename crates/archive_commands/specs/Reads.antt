@@ -38,7 +38,7 @@ abbrev pub EndsReading : End → Type 0
 EndsReading Done = Unit {0}
 EndsReading Refused = ⊥
 EndsReading (Unwritten unwritten.Out) = Unit {0}
-EndsReading (Unwritten unwritten.Report) = ⊥
+EndsReading (Unwritten unwritten.Side) = ⊥
 EndsReading (Unwritten unwritten.Console) = ⊥
 EndsReading (Told Usage) = ⊥
 EndsReading (Told Input) = ⊥

@@ -1,11 +1,7 @@
 //! What is due of a catalogue, as a file.
 ghost use Rattle.std.specs.Prelude.{◌≡◌, ◌∷◌, [], true, Some, None, OnOk, IsErrOf};
-ghost use Rattle.std.specs.Option.{option_copied};
 ghost use Rattle.outside.specs.Fault.{HasWriteCause};
 ghost use Rattle.outside.specs.Room.{AsLog, SameBut};
-ghost use Rattle.catalogue_rules.specs.Settle.{state_of};
-ghost use Rattle.catalogue_rules.specs.Output.{export_of};
-ghost use Rattle.output_files.specs.Kept.{kept_keys};
 ghost use Rattle.output_files.specs.Outputs.{IsOutput, IsOutputLeft};
 ghost use Rattle.room_files.specs.Journals.{IsClosedDisk};
 ghost use Rattle.archive_commands.specs.Reads.{due_view, due_of};
@@ -13,37 +9,13 @@ ghost use Rattle.archive_commands.specs.Reads.{due_view, due_of};
 use crate::due::Due;
 use catalogue_core::Catalogue;
 use durable_catalogue::Archive;
-use marc_types::Key;
-use output_files::{is_kept, write_export, write_report_file};
+use output_files::{Export, report_bytes, write_document};
 use outside::{Room, WriteFault};
 use room_files::close_archive;
-use selection::Selection;
 use std::alloc::Global;
 
-/// Writes the records of a catalogue into the file `out`: all, or those under keys with that code.
-fn write_kept<R: Room>(
-    alloc: Global,
-    room: &mut R,
-    out: &str,
-    core: &Catalogue,
-    code: Option<&str>,
-) -> Result<(), WriteFault>
-    requires free { (R.seen room.old).open_as out.now ≡ None }
-    requires staged { core.now.staged ≡ [] }
-    ensures apart { SameBut (R.seen room.old) (R.seen room.new) (out.now ∷ []) }
-    ensures closed { (R.seen room.new).open_as out.now ≡ None }
-    ensures cause { HasWriteCause ((R.seen room.old).out_faults out.now) ((R.seen room.new).out_faults out.now) result }
-    ensures unbegun { IsErrOf result WriteFault.NoMemory → SameBut (R.seen room.old) (R.seen room.new) [] }
-    ensures bytes { OnOk result ((R.seen room.old).tells ≡ true →
-        (R.seen room.new).file out.now ≡ Some (export_of (kept_keys (option_copied code.entry)) (state_of core.now.history))) }
-    ensures left { (R.seen room.old).tells ≡ true → IsOutputLeft (R.seen room.old) (R.seen room.new) out.now
-        (export_of (kept_keys (option_copied code.entry)) (state_of core.now.history)) }
-{
-    let kept = Selection::new(|key: &Key| is_kept(key, code));
-    write_export(alloc, room, out, core, &kept)
-}
-
 /// Writes what is due of a catalogue into the file `out`. All memory is taken before that is begun.
+#[tactic(auto, using(outside::proofs::Rooms::same_but_itself))]
 fn write_due<R: Room>(
     alloc: Global,
     room: &mut R,
@@ -63,8 +35,14 @@ fn write_due<R: Room>(
         IsOutputLeft (R.seen room.old) (R.seen room.new) out.now (due_of (due_view due.entry) core.now.history) }
 {
     match due {
-        Due::Export(code) => write_kept(alloc, room, out, core, code),
-        Due::Report => write_report_file(alloc, room, out, core),
+        Due::Export(code) => match Export::of(alloc, core, code) {
+            Ok(export) => write_document(room, out, export),
+            Err(_) => Err(WriteFault::NoMemory),
+        },
+        Due::Report => match report_bytes(alloc, core) {
+            Ok(report) => write_document(room, out, report),
+            Err(_) => Err(WriteFault::NoMemory),
+        },
     }
 }
 

@@ -7,7 +7,7 @@ pub use reader::{BrowseReader, PageFault};
 pub use shared::Shared;
 pub use still::Still;
 pub use window::{Away, Window};
-pub use writer::{BrowseWriter, Headings, Readers, open_browse};
+pub use writer::{BrowseWriter, Readers, open_browse};
 
 mod board;
 mod book;

@@ -9,14 +9,12 @@ use crate::board::{Addition, Board};
 use crate::book::{Book, Front, Naming, Opened};
 use crate::reader::BrowseReader;
 use crate::shared::Shared;
-use heading_rows::{BrowsePage, Heading, Table};
+use heading_rows::{BrowsePage, Heading, Headings, Table};
 use left_right::{Absorb, WriteHandle};
 use marc_types::{Entry, Form, NoMemory, Sequence};
 use std::alloc::Global;
 use std::marker::Model;
 use std::sync::Wait;
-
-pub type Headings = Sequence<Heading>;
 
 pub type Readers<J> = Sequence<BrowseReader<Shared<J>>>;
 

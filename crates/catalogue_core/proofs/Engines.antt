@@ -13,7 +13,7 @@ use Rattle.catalogue_rules.specs.Receipt.{kept_under}
 use Rattle.catalogue_rules.specs.Settle.{arrival_of, state_after, state_of, step}
 use Rattle.catalogue_rules.specs.State.{KeptRecord, State, empty_state}
 use Rattle.catalogue_rules.specs.Valid.{IsValid}
-use Rattle.record_store.specs.Store.{field_at, field_under}
+use Rattle.catalogue_rules.specs.Store.{field_at, field_under}
 use Rattle.numbered_store.proofs.Shelving.{low_number}
 use Rattle.catalogue_tables.specs.Seam.{KeyLists, keys_in}
 use Rattle.linking_laws.specs.Middle.{AreAuthoritiesInOrder}

@@ -1,10 +1,10 @@
 -- What clauses see of a catalogue, and what its type keeps.
-use Rattle.std.specs.Prelude.{◌≡◌, ℕ, ◌+◌, ◌≤◌, Bool, true, false, ◌||◌, nat_lt, List, [], ◌∷◌, ◌++◌, length, map, take, drop, All}
+use Rattle.std.specs.Prelude.{◌≡◌, ℕ, ◌+◌, ◌≤◌, Bool, true, false, List, [], ◌∷◌, ◌++◌, length, map, take, drop, All}
 use Rattle.std.specs.declared.snapshot.Snapshot.{Snapshot}
 use Rattle.marc_types.specs.declared.entry.Entry.{Entry}
 use Rattle.marc_types.specs.declared.entry.Limits.{Limits}
 use Rattle.marc_types.specs.declared.entry.Receipt.{Receipt}
-use Rattle.entry_record.specs.History.{IsAdmitted, entry_size, entries_size, passes_limits}
+use Rattle.entry_record.specs.History.{IsAdmitted, entries_size, passes_limits}
 use Rattle.catalogue_rules.specs.Settle.{state_of}
 use Rattle.commit_stages.specs.declared.changes.Changes.{Changes}
 use Rattle.catalogue_core.specs.Engines.{Engined}

@@ -1,22 +1,21 @@
 //! A catalogue: its history, the entries that are staged behind it, and the state behind both.
-ghost use Rattle.std.specs.Prelude.{◌≡◌, ◌+◌, ◌^◌, ◌<◌, ◌≤◌, [], true, false, length, map, All, IfOk, OnOk, IfErr, OnErr};
-ghost use Rattle.std.specs.Option.{option_map, option_and_then};
-ghost use Rattle.record_store.specs.Store.{field_under};
-ghost use Rattle.catalogue_rules.specs.State.{linkable_authorities, rows_of};
+ghost use Rattle.std.specs.Prelude.{◌≡◌, ◌+◌, ◌^◌, ◌<◌, ◌≤◌, [], false, length, map, All, IfOk, OnOk, IfErr, OnErr};
+ghost use Rattle.std.specs.Option.{option_map};
+ghost use Rattle.catalogue_rules.specs.State.{rows_of};
 ghost use Rattle.entry_record.specs.History.{IsAdmitted, entries_size};
 ghost use Rattle.catalogue_rules.specs.Settle.{arrival_of, state_of};
 ghost use Rattle.catalogue_rules.specs.Receipt.{kept_under, receipt};
 ghost use Rattle.linking_laws.specs.Visits.{touched};
 ghost use Rattle.catalogue_core.specs.Catalogues.{receipt_with, all_entries, empty_catalogue, is_full, IsDue, with_staged, with_kept, without_staged, with_entry};
-ghost use Rattle.numbered_store.specs.Kept.{kept_record, shown_row};
+ghost use Rattle.numbered_store.specs.Kept.{kept_record};
 
 use crate::engine::Engine;
 use crate::limits::passes_limits;
+use catalogue_rules::Steps;
 use commit_stages::Changes;
 use entry_record::Prepared;
 use marc_types::{Class, Entry, Key, Limits, NoMemory, Receipt};
 use numbered_store::Kept;
-use record_store::Steps;
 use std::alloc::Global;
 use std::marker::Model;
 use std::snapshot::Snapshot;

@@ -1,7 +1,7 @@
 //! A catalogue's state, without its history.
-ghost use Rattle.std.specs.Prelude.{◌≡◌, ℕ, ◌+◌, ◌<◌, ◌≤◌, ◌^◌, length, map, IfOk, OnOk, OnErr, slice_get};
+ghost use Rattle.std.specs.Prelude.{◌≡◌, ℕ, ◌+◌, ◌<◌, ◌≤◌, ◌^◌, length, map, IfOk, OnOk, OnErr};
 ghost use Rattle.std.specs.Option.{option_map};
-ghost use Rattle.record_store.specs.Store.{field_at, field_under};
+ghost use Rattle.catalogue_rules.specs.Store.{field_at, field_under};
 ghost use Rattle.catalogue_rules.specs.State.{kept_field, linkable_authorities, rows_of};
 ghost use Rattle.catalogue_tables.specs.Sharing.{keys_crossing, keys_sharing, shown_keys};
 ghost use Rattle.catalogue_tables.specs.Stands.{field_standing};
@@ -10,16 +10,16 @@ ghost use Rattle.catalogue_rules.specs.Receipt.{kept_under, receipt_of};
 ghost use Rattle.catalogue_rules.specs.Valid.{IsValid};
 ghost use Rattle.linking_laws.specs.Visits.{touched};
 ghost use Rattle.commit_stages.specs.Receipts.{AreReceiptCounts};
-ghost use Rattle.catalogue_core.specs.Engines.{empty_engine};
+ghost use Rattle.catalogue_core.specs.Engines.{empty_engine, kept_engine};
 ghost use Rattle.numbered_store.specs.Kept.{found_field, kept_record, shown_row};
 
+use catalogue_rules::Steps;
 use catalogue_tables::Standing;
 use commit_stages::{Changes, commit_entry};
 use entry_record::Prepared;
-use linked_store::LinkedStore;
+use linked_store::ReadableStore;
 use marc_types::{Class, Field, Key, NoMemory, Place, Tie};
 use numbered_store::{FoundField, Kept, RowMap};
-use record_store::Steps;
 use std::alloc::Global;
 use std::marker::Model;
 use std::sync::ledger::Ledger;
@@ -27,7 +27,7 @@ use std::sync::ledger::Ledger;
 /// The state of a catalogue, and the one to which it can go back. Contracts see both.
 #[derive(Drop)]
 pub struct Engine {
-    store: LinkedStore,
+    store: ReadableStore,
 }
 
 impl Model for Engine {
@@ -46,8 +46,17 @@ impl Engine {
         ensures { result ≡ empty_engine }
     {
         Engine {
-            store: LinkedStore::new(alloc),
+            store: ReadableStore::new(alloc),
         }
+    }
+
+    /// An engine with the state of a store into which others have put the records. There is no way back behind that state.
+    pub fn from_store(mut store: ReadableStore) -> Engine
+        requires { IsValid store.state }
+        ensures { result ≡ kept_engine store.state }
+    {
+        store.keep();
+        Engine { store }
     }
 
     /// Takes the state to that behind one more entry: the entry's record comes into its key's place, links that can't stay are
@@ -68,7 +77,7 @@ impl Engine {
     {
         // what its type says of the entry is needed behind the commit
         let _entry = item.entry();
-        let changes = commit_entry(&mut self.store, alloc, item, steps)?;
+        let changes = commit_entry(self.store.as_linked_mut(), alloc, item, steps)?;
         Ok(changes)
     }
 

@@ -5,6 +5,7 @@ pub mod Fitting
 pub mod Kept
 pub mod Maps
 pub mod Once
+pub mod Places
 pub mod Proper
 pub mod Put
 pub mod Reach

@@ -7,5 +7,6 @@ pub mod Receipts
 pub mod Sameness
 pub mod Settle
 pub mod State
+pub mod Store
 pub mod Valid
 pub mod Worked

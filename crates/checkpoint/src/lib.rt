@@ -9,7 +9,7 @@ pub use part::Part;
 pub use parts::read_part;
 pub use point::{Point, SoFar};
 pub use points::read_point;
-pub use written::{append_row, begin_payload, end_payload};
+pub use written::{append_row, begin_payload, begin_rows, end_payload};
 
 mod fault;
 mod heads;

@@ -1,13 +1,13 @@
 //! What is written of checkpoints.
-ghost use Rattle.std.specs.Prelude.{◌≡◌, ◌≤◌, ◌++◌, length, All, IfOk, OnOk, OnErr, IfSome};
+ghost use Rattle.std.specs.Prelude.{◌≡◌, ◌≤◌, [], ◌++◌, length, All, IfOk, OnOk, OnErr, IfSome};
 ghost use Rattle.numbered_store.specs.Kept.{blanks, kept_record};
 ghost use Rattle.checkpoint.specs.Format.{coded, key_bytes, optional_key_bytes, flag, tie_flags, tie_bytes, class_byte, head_bytes, ties_of, kept_bytes, part_bytes};
 ghost use Rattle.checkpoint.specs.Parts.{IsProperKey, IsProperTie};
 ghost use Rattle.checkpoint.specs.Reading.{ties_bytes};
-ghost use Rattle.checkpoint.specs.declared.part.Part.TheVariants.{Begin, End};
+ghost use Rattle.checkpoint.specs.declared.part.Part.TheVariants.{Begin, Rows, End};
 
 use crate::heads::{AUTHORITY, BIBLIOGRAPHIC};
-use crate::parts::{BEGIN, END};
+use crate::parts::{BEGIN, END, ROWS};
 use marc_types::{Class, Key, NoMemory, Tie, TiedKey};
 use numbered_store::Kept;
 use std::alloc::Global;
@@ -169,6 +169,16 @@ pub fn begin_payload() -> [u8; 1]
     ensures { result ≡ part_bytes Begin }
 {
     [BEGIN]
+}
+
+/// The payload of no kept record yet: each that is appended to it stands in it.
+#[tactic(auto, unfolding(crate::specs::Format::part_bytes))]
+pub fn begin_rows(alloc: Global) -> Result<Vec<u8>, NoMemory>
+    ensures { IfOk result (λ made. made.items ≡ part_bytes (Rows [])) }
+{
+    let mut made = Vec::new(alloc);
+    made.push(ROWS)?;
+    Ok(made)
 }
 
 /// The payload that ends a checkpoint behind so many entries, of so many records.

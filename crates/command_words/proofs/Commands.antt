@@ -16,7 +16,7 @@ use Rattle.command_words.specs.declared.library.Library.{Library}
 use Rattle.command_words.specs.declared.topic.Topic.{Topic}
 use Rattle.command_words.specs.declared.topic.Topic.TheVariants as topic
 use Rattle.command_words.specs.Topics.{topic_of}
-use Rattle.command_words.specs.Command.{Command, Pass, Run, Load, Export, Report, Make, Verify, Migrate, Matches, Holdings, Help, Version, is_name, differ, split_at_equals, library_of, are_libraries, is_free, number_upto, greatest_seed, are_two_names, are_three_names, as_pass, as_run, as_load, as_export, as_report, as_make, as_verify, as_migrate, as_matches, as_holdings, as_help, alone, is_version_flag, is_help_flag, only_telling, over_journal, behind_verb, asks_how, command_of, words_of_files, libraries_of, file_count, names_of, AreNames, IsBounded}
+use Rattle.command_words.specs.Command.{Command, Pass, Run, Load, Export, Report, Make, Verify, Migrate, Matches, Holdings, Checkpoint, Quick, Help, Version, is_name, differ, split_at_equals, library_of, are_libraries, is_free, number_upto, greatest_seed, are_two_names, are_three_names, are_logs_and_output, as_pass, as_run, as_load, as_export, as_report, as_make, as_verify, as_migrate, as_matches, as_holdings, as_checkpoint, as_quick, as_help, alone, is_version_flag, is_help_flag, only_telling, over_journal, behind_verb, asks_how, command_of, words_of_files, libraries_of, file_count, names_of, AreNames, IsBounded}
 
 -- a test and what it lets through
 if_some : {A : Type 0} (good : Bool) (a b : A) → (if good then Some a else None) ≡ Some b → (good ≡ true) × (a ≡ b)
@@ -248,6 +248,36 @@ migrate_is verb (old ∷ new ∷ []) c is =
     subst (IsCommand (verb ∷ old ∷ new ∷ [])) parts.1 (without_files (verb ∷ old ∷ new ∷ []) _ refl refl (two_names old new parts.0) tt)
 migrate_is verb (old ∷ new ∷ other ∷ rest) c is = cc
 
+checkpoint_is : (verb : List ℕ) (words : List (List ℕ)) (c : Command) → as_checkpoint words ≡ Some c → IsCommand (verb ∷ words) c
+checkpoint_is verb [] c is = cc
+checkpoint_is verb (journal ∷ []) c is = cc
+checkpoint_is verb (journal ∷ point ∷ []) c is =
+    let parts = if_some (are_two_names journal point) (Checkpoint journal point) c is in
+    subst (IsCommand (verb ∷ journal ∷ point ∷ [])) parts.1 (without_files (verb ∷ journal ∷ point ∷ []) _ refl refl (two_names journal point parts.0) tt)
+checkpoint_is verb (journal ∷ point ∷ other ∷ rest) c is = cc
+
+logs_and_output : (journal point out : List ℕ) → are_logs_and_output journal point out ≡ true → AreNames (journal ∷ point ∷ out ∷ [])
+logs_and_output journal point out good =
+    let three = and_parts _ (differ point out) good in
+    let two = and_parts _ (differ journal out) three.0 in
+    let one = and_parts (are_two_names journal point) (is_name out) two.0 in
+    let both = and_parts _ (differ journal point) one.0 in
+    let each = and_parts (is_name journal) (is_name point) both.0 in (
+      named journal each.0,
+      (apart journal point both.1, (apart journal out two.1, tt)),
+      (named point each.1, (apart point out three.1, tt), (named out one.1, tt, tt)),
+    )
+
+quick_is : (verb : List ℕ) (words : List (List ℕ)) (c : Command) → as_quick words ≡ Some c → IsCommand (verb ∷ words) c
+quick_is verb [] c is = cc
+quick_is verb (journal ∷ []) c is = cc
+quick_is verb (journal ∷ point ∷ []) c is = cc
+quick_is verb (journal ∷ point ∷ out ∷ []) c is =
+    let parts = if_some (are_logs_and_output journal point out) (Quick journal point out) c is in
+    subst (IsCommand (verb ∷ journal ∷ point ∷ out ∷ [])) parts.1
+    (without_files (verb ∷ journal ∷ point ∷ out ∷ []) _ refl refl (logs_and_output journal point out parts.0) tt)
+quick_is verb (journal ∷ point ∷ out ∷ other ∷ rest) c is = cc
+
 alone_is : (verb : List ℕ) (words : List (List ℕ)) (one : Command) (c : Command) → IsCommand (verb ∷ words) one → alone one words ≡ Some c
     → IsCommand (verb ∷ words) c
 alone_is verb [] one c good is = let same : one ≡ c = cc in subst (IsCommand (verb ∷ [])) same good
@@ -288,10 +318,12 @@ behind_is verb words c is =
     chosen (bytes_eq verb (codes "matches")) (as_matches words) _ c (matches_is verb words c) (
     chosen (bytes_eq verb (codes "holdings")) (as_holdings words) _ c (holdings_is verb words c) (
     chosen (bytes_eq verb (codes "migrate")) (as_migrate words) _ c (migrate_is verb words c) (
+    chosen (bytes_eq verb (codes "checkpoint")) (as_checkpoint words) _ c (checkpoint_is verb words c) (
+    chosen (bytes_eq verb (codes "quick")) (as_quick words) _ c (quick_is verb words c) (
     chosen (bytes_eq verb (codes "help")) (as_help words) _ c (help_is verb words c) (
     chosen (is_help_flag verb) (alone (Help topic.All) words) _ c (alone_is verb words (Help topic.All) c (a_help (verb ∷ words) topic.All)) (
     chosen (bytes_eq verb (codes "version")) (alone Version words) _ c (alone_is verb words Version c (a_version (verb ∷ words))) (
-    chosen (is_version_flag verb) (alone Version words) None c (alone_is verb words Version c (a_version (verb ∷ words))) (λ none. cc)))))))))))))) is
+    chosen (is_version_flag verb) (alone Version words) None c (alone_is verb words Version c (a_version (verb ∷ words))) (λ none. cc)))))))))))))))) is
 
 command_is : (words : List (List ℕ)) (c : Command) → command_of words ≡ Some c → IsCommand words c
 unfolding command_of

@@ -5,7 +5,7 @@ use Rattle.command_words.specs.Command.{Command, command_of, libraries_of, words
 use Rattle.command_words.specs.Command as command
 use Rattle.command_words.specs.declared.library.Library.{Library}
 use Rattle.command_words.specs.declared.asked.AloneRequest.{AloneRequest}
-use Rattle.command_words.specs.declared.asked.AloneRequest.TheVariants.{Pass, Export, Report, Make, Verify, Migrate, Matches, Holdings, Help, Version}
+use Rattle.command_words.specs.declared.asked.AloneRequest.TheVariants.{Pass, Export, Report, Make, Verify, Migrate, Matches, Holdings, Checkpoint, Quick, Help, Version}
 use Rattle.command_words.specs.declared.asked.LoadRequest.{LoadRequest}
 use Rattle.command_words.specs.declared.asked.Outputs.{Outputs}
 use Rattle.command_words.specs.declared.asked.Request.{Request}
@@ -23,6 +23,8 @@ alone_asked (Verify journal) = command.Verify journal.now
 alone_asked (Matches journal out) = command.Matches journal.now out.now
 alone_asked (Holdings journal out rest library code) = command.Holdings journal.now out.now rest.now (option_copied code)
 alone_asked (Migrate old new) = command.Migrate old.now new.now
+alone_asked (Checkpoint journal point) = command.Checkpoint journal.now point.now
+alone_asked (Quick journal point out) = command.Quick journal.now point.now out.now
 alone_asked (Help topic) = command.Help topic
 alone_asked Version = command.Version
 
@@ -50,6 +52,8 @@ alone_libraries (Verify journal) = []
 alone_libraries (Matches journal out) = []
 alone_libraries (Holdings journal out rest library code) = library ∷ []
 alone_libraries (Migrate old new) = []
+alone_libraries (Checkpoint journal point) = []
+alone_libraries (Quick journal point out) = []
 alone_libraries (Help topic) = []
 alone_libraries Version = []
 
@@ -88,6 +92,8 @@ IsFileless (Verify journal) = Unit {0}
 IsFileless (Matches journal out) = Unit {0}
 IsFileless (Holdings journal out rest library code) = ⊥
 IsFileless (Migrate old new) = Unit {0}
+IsFileless (Checkpoint journal point) = Unit {0}
+IsFileless (Quick journal point out) = Unit {0}
 IsFileless (Help topic) = Unit {0}
 IsFileless Version = Unit {0}
 

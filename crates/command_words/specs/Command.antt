@@ -34,6 +34,10 @@ pub data Command : Type 0 where
   Holdings : List ℕ → List ℕ → List ℕ → Option (List ℕ) → Command
   -- `migrate OLD NEW`: the history of the journal OLD into the journal NEW
   Migrate : List ℕ → List ℕ → Command
+  -- `checkpoint JOURNAL POINT`: a checkpoint of the journal's catalogue behind the log POINT
+  Checkpoint : List ℕ → List ℕ → Command
+  -- `quick JOURNAL POINT OUT`: the export into the file OUT, from POINT's last checkpoint and the entries behind it
+  Quick : List ℕ → List ℕ → List ℕ → Command
   -- `help`, or `help COMMAND`: how the commands are used, or that one
   Help : Topic → Command
   -- `version`: which version of the program this is
@@ -148,6 +152,18 @@ abbrev pub as_migrate : List (List ℕ) → Option Command
 as_migrate (old ∷ new ∷ []) = command_if (are_two_names old new) (Migrate old new)
 as_migrate words = None
 
+abbrev pub as_checkpoint : List (List ℕ) → Option Command
+as_checkpoint (journal ∷ point ∷ []) = command_if (are_two_names journal point) (Checkpoint journal point)
+as_checkpoint words = None
+
+-- the names of two logs and an output that come without files
+abbrev pub are_logs_and_output : List ℕ → List ℕ → List ℕ → Bool
+are_logs_and_output journal point out = are_two_names journal point && is_name out && differ journal out && differ point out
+
+abbrev pub as_quick : List (List ℕ) → Option Command
+as_quick (journal ∷ point ∷ out ∷ []) = command_if (are_logs_and_output journal point out) (Quick journal point out)
+as_quick words = None
+
 -- a word that asks for the version, as it does in other programs
 abbrev pub is_version_flag : List ℕ → Bool
 is_version_flag word = bytes_eq word (codes "--version") || bytes_eq word (codes "-V")
@@ -184,6 +200,8 @@ over_journal verb words =
     else if bytes_eq verb (codes "matches") then as_matches words
     else if bytes_eq verb (codes "holdings") then as_holdings words
     else if bytes_eq verb (codes "migrate") then as_migrate words
+    else if bytes_eq verb (codes "checkpoint") then as_checkpoint words
+    else if bytes_eq verb (codes "quick") then as_quick words
     else only_telling verb words
 
 -- the command of a verb and the words behind it
@@ -218,6 +236,8 @@ words_of_files words (Some (Verify journal)) = []
 words_of_files words (Some (Matches journal out)) = []
 words_of_files words (Some (Holdings journal out rest code)) = take 1 (drop 4 words)
 words_of_files words (Some (Migrate old new)) = []
+words_of_files words (Some (Checkpoint journal point)) = []
+words_of_files words (Some (Quick journal point out)) = []
 words_of_files words (Some (Help topic)) = []
 words_of_files words (Some Version) = []
 
@@ -237,6 +257,8 @@ file_count (Verify journal) = 0
 file_count (Matches journal out) = 0
 file_count (Holdings journal out rest code) = 1
 file_count (Migrate old new) = 0
+file_count (Checkpoint journal point) = 0
+file_count (Quick journal point out) = 0
 file_count (Help topic) = 0
 file_count Version = 0
 
@@ -252,6 +274,8 @@ ReadsFiles (Verify journal) = ⊥
 ReadsFiles (Matches journal out) = ⊥
 ReadsFiles (Holdings journal out rest code) = Unit {0}
 ReadsFiles (Migrate old new) = ⊥
+ReadsFiles (Checkpoint journal point) = ⊥
+ReadsFiles (Quick journal point out) = ⊥
 ReadsFiles (Help topic) = ⊥
 ReadsFiles Version = ⊥
 
@@ -267,6 +291,8 @@ names_of (Verify journal) = []
 names_of (Matches journal out) = journal ∷ out ∷ []
 names_of (Holdings journal out rest code) = journal ∷ out ∷ rest ∷ []
 names_of (Migrate old new) = old ∷ new ∷ []
+names_of (Checkpoint journal point) = journal ∷ point ∷ []
+names_of (Quick journal point out) = journal ∷ point ∷ out ∷ []
 names_of (Help topic) = []
 names_of Version = []
 
@@ -287,5 +313,7 @@ IsBounded (Verify journal) = Unit {0}
 IsBounded (Matches journal out) = Unit {0}
 IsBounded (Holdings journal out rest code) = Unit {0}
 IsBounded (Migrate old new) = Unit {0}
+IsBounded (Checkpoint journal point) = Unit {0}
+IsBounded (Quick journal point out) = Unit {0}
 IsBounded (Help topic) = Unit {0}
 IsBounded Version = Unit {0}

@@ -2,7 +2,7 @@
 use Rattle.std.specs.Prelude.{ℕ, List, Option, Some, None, codes, if◌then◌else◌}
 use Rattle.std.specs.Str.{bytes_eq}
 use Rattle.command_words.specs.declared.topic.Topic.{Topic}
-use Rattle.command_words.specs.declared.topic.Topic.TheVariants.{Pass, Run, Load, Export, Report, Make, Verify, Migrate, Matches, Holdings, Help, Version, Statuses}
+use Rattle.command_words.specs.declared.topic.Topic.TheVariants.{Pass, Run, Load, Export, Report, Make, Verify, Migrate, Matches, Holdings, Checkpoint, Quick, Help, Version, Statuses}
 
 -- the command that a word names, or another topic
 unfoldable pub topic_of : List ℕ → Option Topic
@@ -17,6 +17,8 @@ topic_of word =
     else if bytes_eq word (codes "migrate") then Some Migrate
     else if bytes_eq word (codes "matches") then Some Matches
     else if bytes_eq word (codes "holdings") then Some Holdings
+    else if bytes_eq word (codes "checkpoint") then Some Checkpoint
+    else if bytes_eq word (codes "quick") then Some Quick
     else if bytes_eq word (codes "help") then Some Help
     else if bytes_eq word (codes "version") then Some Version
     else if bytes_eq word (codes "statuses") then Some Statuses

@@ -59,6 +59,17 @@ pub enum AloneRequest<'a> {
         old: &'a str,
         new: &'a str,
     },
+    /// Put a checkpoint of the journal's catalogue behind the log `point`.
+    Checkpoint {
+        journal: &'a str,
+        point: &'a str,
+    },
+    /// Write the journal's records into the file `out`, from the last checkpoint of the log `point` and the entries behind it.
+    Quick {
+        journal: &'a str,
+        point: &'a str,
+        out: &'a str,
+    },
     /// Tell how the commands are used, or one of them.
     Help {
         topic: Topic,

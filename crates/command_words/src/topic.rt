@@ -16,6 +16,8 @@ pub enum Topic {
     Migrate,
     Matches,
     Holdings,
+    Checkpoint,
+    Quick,
     Help,
     Version,
     /// The exit statuses of all commands.
@@ -38,6 +40,8 @@ pub fn named_topic(word: &str) -> Option<Topic>
         "migrate" => Some(Topic::Migrate),
         "matches" => Some(Topic::Matches),
         "holdings" => Some(Topic::Holdings),
+        "checkpoint" => Some(Topic::Checkpoint),
+        "quick" => Some(Topic::Quick),
         "help" => Some(Topic::Help),
         "version" => Some(Topic::Version),
         "statuses" => Some(Topic::Statuses),

@@ -1,7 +1,7 @@
 ghost use Rattle.std.specs.Prelude.{◌≡◌, ◌∷◌, ℕ, true, List, Option, None, Some, map, IfSome, IfOk, IfErr, MatchOption, is_some, option_map};
 ghost use Rattle.std.specs.List.{list_all};
 ghost use Rattle.marc_types.specs.Valid.{is_code, is_digit};
-ghost use Rattle.command_words.specs.Command.{Command, library_of, are_libraries, is_free, differ, split_at_equals, number_upto, as_pass, as_run, as_load, as_export, as_report, as_make, as_verify, as_migrate, as_matches, as_holdings, as_help, alone, only_telling, over_journal, behind_verb, asks_how, is_help_flag, is_version_flag, are_two_names, are_three_names, command_of, Help};
+ghost use Rattle.command_words.specs.Command.{Command, library_of, are_libraries, is_free, differ, split_at_equals, number_upto, as_pass, as_run, as_load, as_export, as_report, as_make, as_verify, as_migrate, as_matches, as_holdings, as_checkpoint, as_quick, as_help, alone, only_telling, over_journal, behind_verb, asks_how, is_help_flag, is_version_flag, are_two_names, are_three_names, are_logs_and_output, command_of, Help};
 ghost use Rattle.command_words.specs.Topics.{topic_of};
 ghost use Rattle.command_words.specs.Asked.{alone_asked, AsksAlone, AsksFor, IsAskedBy, IsFileless, IsUnasked};
 
@@ -303,6 +303,41 @@ fn migrate(words: &[Text]) -> Option<AloneRequest<'_>>
     }
 }
 
+fn checkpoint(words: &[Text]) -> Option<AloneRequest<'_>>
+    ensures { AsksAlone result (as_checkpoint words.now) }
+{
+    match words {
+        [journal, point] if are_two_names(journal.as_str(), point.as_str()) => {
+            Some(AloneRequest::Checkpoint {
+                journal: journal.as_str(),
+                point: point.as_str(),
+            })
+        }
+        _ => None,
+    }
+}
+
+/// Whether two logs and an output may have these names, where the command reads no file.
+fn are_logs_and_output(journal: &str, point: &str, out: &str) -> bool
+    ensures { result ≡ are_logs_and_output journal.now point.now out.now }
+{
+    are_two_names(journal, point) && !out.is_empty() && journal != out && point != out
+}
+
+fn quick(words: &[Text]) -> Option<AloneRequest<'_>>
+    ensures { AsksAlone result (as_quick words.now) }
+{
+    let [journal, point, out] = words else {
+        return None;
+    };
+    let (journal, point, out) = (journal.as_str(), point.as_str(), out.as_str());
+    are_logs_and_output(journal, point, out).then_some(AloneRequest::Quick {
+        journal,
+        point,
+        out,
+    })
+}
+
 /// Whether a word asks for the version, as it does in other programs.
 fn is_version_flag(word: &str) -> bool
     ensures { result ≡ is_version_flag word.now }
@@ -374,6 +409,8 @@ fn over_journal<'a>(alloc: Global, verb: &str, rest: &'a [Text]) -> Result<Reque
         "matches" => alone(matches(rest)),
         "holdings" => holdings(alloc, rest),
         "migrate" => alone(migrate(rest)),
+        "checkpoint" => alone(checkpoint(rest)),
+        "quick" => alone(quick(rest)),
         verb => alone(told(verb, rest)),
     }
 }

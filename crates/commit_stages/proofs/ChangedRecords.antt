@@ -22,7 +22,7 @@ use Rattle.form_index.specs.Order.{key_at}
 use Rattle.catalogue_rules.specs.Receipt.{is_committed, kept_under, same_class}
 use Rattle.catalogue_rules.specs.Settle.{Arrival, arrival_of, step}
 use Rattle.catalogue_rules.specs.State.{KeptField, KeptRecord, State}
-use Rattle.record_store.specs.Store.{field_at}
+use Rattle.catalogue_rules.specs.Store.{field_at}
 use Rattle.catalogue_tables.specs.Seam.{AreDistinct, HasKey, keys_in, place_at}
 use Rattle.catalogue_tables.proofs.Seams.{key_numbered}
 use Rattle.linking_laws.specs.Changes.{carry_of_commit, choose_of_commit, differs_at, drop_of_commit, is_changed_by_stages, state_dropped, state_own_settled}

@@ -18,7 +18,7 @@ use Rattle.catalogue_rules.specs.Valid.{IsRow}
 use Rattle.catalogue_rules.proofs.Elements.{Each}
 use Rattle.catalogue_rules.proofs.Fit.{IsFit}
 use Rattle.catalogue_rules.proofs.Proper.{all_fit}
-use Rattle.record_store.specs.Store.{StaysFit, StaysRecord}
+use Rattle.catalogue_rules.specs.Store.{StaysFit, StaysRecord}
 use Rattle.catalogue_tables.specs.Seam.{AreDistinct, HasKey, place_at}
 use Rattle.linking_laws.specs.Middle.{AreAuthoritiesInOrder, CanDrop, CanDropOn, IsSparedRightly, IsTiedButTo, IsWithinReach}
 use Rattle.linking_laws.specs.Partway.{AreOrdered, IsNext, IsSteady, is_place_among}

@@ -12,7 +12,7 @@ use Rattle.catalogue_rules.specs.State.{KeptField, KeptRecord, linkable_authorit
 use Rattle.catalogue_rules.specs.Choice.{choice}
 use Rattle.catalogue_rules.specs.Settle.{settle_field, take_choice}
 use Rattle.catalogue_tables.specs.Choosing.{chosen_for}
-use Rattle.record_store.specs.Store.{field_at}
+use Rattle.catalogue_rules.specs.Store.{field_at}
 use Rattle.numbered_store.specs.Kept.{found_field}
 use Rattle.numbered_store.specs.declared.kept.FoundField.{FoundField}
 use Rattle.linked_store.specs.Linked.{Linked, field_of, record_at}

@@ -14,7 +14,7 @@ use Rattle.heading_fields.specs.Tables.{authority_kind_of}
 use Rattle.entry_record.specs.Authority.{heading_of, is_heading}
 use Rattle.catalogue_rules.specs.State.{KeptField, KeptRecord, fields_of}
 use Rattle.catalogue_rules.proofs.Elements.{Each, find_found}
-use Rattle.record_store.specs.Store.{field_at}
+use Rattle.catalogue_rules.specs.Store.{field_at}
 use Rattle.field_settling.specs.Held.{governing_of, with_kind}
 use Rattle.commit_stages.specs.Headings.{HasNoHeadingBefore, IsFirstHeading, own_heading}
 use Rattle.commit_stages.specs.declared.heading.OwnHeading.{OwnHeading}

@@ -21,7 +21,7 @@ use Rattle.form_index.specs.Order.{key_at}
 use Rattle.catalogue_rules.specs.State.{KeptField, KeptRecord, Row, State, fields_of, linkable_authorities, new_field, rows_of}
 use Rattle.catalogue_rules.specs.Settle.{settle_field}
 use Rattle.catalogue_rules.specs.Receipt.{kept_under}
-use Rattle.record_store.specs.Store.{field_at, field_under}
+use Rattle.catalogue_rules.specs.Store.{field_at, field_under}
 use Rattle.catalogue_tables.specs.Seam.{HasKey, KeyLists, keys_in, place_at}
 use Rattle.linking_laws.specs.Middle.{IsMiddle}
 use Rattle.linking_laws.specs.Partway.{AreOwnDone, HasAtMost, changed_among, is_place_among, own_places, same_place}

@@ -28,3 +28,4 @@ pub mod Parts
 pub mod Staging
 pub mod Whole
 pub mod Course
+pub mod OwnRecords

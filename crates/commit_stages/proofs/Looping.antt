@@ -10,7 +10,7 @@ use Rattle.marc_types.specs.declared.key.Place.{Place}
 use Rattle.entry_record.specs.Authority.{Linkable}
 use Rattle.numbering.specs.declared.seat.Seat.{Seat}
 use Rattle.catalogue_rules.specs.State.{KeptField, State}
-use Rattle.record_store.specs.Store.{field_under}
+use Rattle.catalogue_rules.specs.Store.{field_under}
 use Rattle.catalogue_tables.specs.Seam.{HasKey, KeyLists, place_at}
 use Rattle.linking_laws.specs.Middle.{IsEitherStage, IsMiddleWith}
 use Rattle.linking_laws.specs.Partway.{IsPartway, IsWhole, same_place, is_place_among, changed_among}

@@ -13,14 +13,14 @@ use Rattle.numbering.specs.Seats.{same_seat, seat_Decides}
 use Rattle.numbering.specs.declared.seat.Seat.{Seat}
 use Rattle.catalogue_rules.specs.Sameness.{same_kept}
 use Rattle.catalogue_rules.specs.State.{KeptField}
-use Rattle.record_store.specs.Store.{field_under}
+use Rattle.catalogue_rules.specs.Store.{field_under}
 use Rattle.catalogue_tables.specs.Seam.{AreDistinct, HasKey, KeyLists, place_at, seat_of}
 use Rattle.catalogue_tables.proofs.Seams.{noted_more, seat_alike, seat_back}
 use Rattle.linking_laws.specs.Partway.{IsPartway, IsWhole, is_place_among, same_place}
 use Rattle.field_settling.specs.Held.{held_as}
 use Rattle.field_settling.specs.declared.held.Held.{Held}
 use Rattle.linked_store.specs.Linked.{IsAhead, Linked, ListsSeats, field_of}
-use Rattle.commit_stages.specs.Noted.{AreNoted, NotesChanges, brings_another, changes_at, noted_with}
+use Rattle.commit_stages.specs.Noted.{AreNoted, NotesChanges, changes_at, is_another, noted_for, noted_with}
 use Rattle.commit_stages.specs.Turns.{IsMadeOf}
 use Rattle.commit_stages.proofs.Looping.{listed_next, next_still, one_more}
 use Rattle.commit_stages.proofs.Sames.{kept_alike}
@@ -31,23 +31,24 @@ seat_laws = decided same_seat seat_Decides
 
 -- ---- one turn
 
--- something else than what stands there is brought exactly where the stage changes it
-pub brings_change : (change : Class → KeptField → KeptField) (seat : Seat) (x : Linked) (made : Option Held) → IsMadeOf change seat x made → brings_another made x seat ≡ changes_at change x seat
-brings_change change seat x None is = by (field_of seat x) refl
-  where
-    by : (o : Option KeptField) → field_of seat x ≡ o → false ≡ option_map_or (λ h. not (same_kept h (change seat.class h))) o false
-    by None there = refl
-    by (Some h) there = sym (ap (λ (g : KeptField). not (same_kept h g)) (is h there) ∙ ap not (kept_alike h))
-brings_change change seat x (Some held) is = by (field_of seat x) refl
-  where
-    by : (o : Option KeptField) → field_of seat x ≡ o
-        → option_map_or (λ h. not (same_kept h (held_as held))) o false ≡ option_map_or (λ h. not (same_kept h (change seat.class h))) o false
-    by None there = refl
-    by (Some h) there = ap (λ (g : KeptField). not (same_kept h g)) (is.made_is h there)
+-- something else than what was found is to come exactly where the stage changes it
+changes_there : (change : Class → KeptField → KeptField) (seat : Seat) (x : Linked) (h : KeptField) → field_of seat x ≡ Some h → changes_at change x seat ≡ not (same_kept h (change seat.class h))
+changes_there change seat x h there = ap (λ (o : Option KeptField). option_map_or (λ k. not (same_kept k (change seat.class k))) o false) there
 
-pub notes_made : (change : Class → KeptField → KeptField) (seat : Seat) (x : Linked) (made : Option Held) (before now : List Seat)
-    → now ≡ (if brings_another made x seat then with_thing same_seat before seat else before) → IsMadeOf change seat x made → now ≡ noted_with change x seat before
-notes_made change seat x made before now is made_of = is ∙ ap (λ (b : Bool). if b then with_thing same_seat before seat else before) (brings_change change seat x made made_of)
+another_change : (change : Class → KeptField → KeptField) (seat : Seat) (x : Linked) (h : KeptField) (made : Option Held) → field_of seat x ≡ Some h → IsMadeOf change seat x made
+    → is_another made h ≡ changes_at change x seat
+another_change change seat x h None there is = sym (changes_there change seat x h there ∙ ap (λ (g : KeptField). not (same_kept h g)) (is h there) ∙ ap not (kept_alike h))
+another_change change seat x h (Some held) there is = ap (λ (g : KeptField). not (same_kept h g)) (is.made_is h there) ∙ sym (changes_there change seat x h there)
+
+pub notes_made : (change : Class → KeptField → KeptField) (seat : Seat) (x : Linked) (h : KeptField) (made : Option Held) (before now : List Seat)
+    → now ≡ noted_for made h seat before → Some h ≡ field_of seat x → IsMadeOf change seat x made → now ≡ noted_with change x seat before
+notes_made change seat x h made before now is there made_of =
+    is ∙ ap (λ (b : Bool). if b then with_thing same_seat before seat else before) (another_change change seat x h made (sym there) made_of)
+
+-- where no field stands, nothing is noted
+pub notes_nothing : (change : Class → KeptField → KeptField) (seat : Seat) (x : Linked) (before : List Seat) → None ≡ field_of seat x → before ≡ noted_with change x seat before
+notes_nothing change seat x before none =
+    ap (λ (o : Option KeptField). if option_map_or (λ k. not (same_kept k (change seat.class k))) o false then with_thing same_seat before seat else before) none
 
 -- ---- members of a list that grows
 

@@ -15,7 +15,7 @@ use Rattle.entry_record.specs.Identity.{is_deletion}
 use Rattle.numbering.specs.declared.seat.Seat.{Seat}
 use Rattle.catalogue_rules.specs.Choice.{has_key}
 use Rattle.catalogue_rules.specs.Receipt.{kept_under}
-use Rattle.catalogue_rules.specs.Settle.{Arrival, arrival_of, place, step}
+use Rattle.catalogue_rules.specs.Settle.{Arrival, arrival_of, step}
 use Rattle.catalogue_rules.specs.State.{KeptField, KeptRecord, State, each_field, each_in_record, linkable_authorities, new_field, new_record}
 use Rattle.catalogue_tables.specs.Following.{authority_brought}
 use Rattle.catalogue_tables.proofs.Comings.{placing_exchanges}

@@ -19,7 +19,7 @@ use Rattle.catalogue_rules.specs.Valid.{EachField, IsTied, IsRow}
 use Rattle.catalogue_rules.proofs.Elements.{Each}
 use Rattle.catalogue_rules.proofs.Fit.{IsFit}
 use Rattle.catalogue_rules.proofs.Proper.{all_fit}
-use Rattle.record_store.specs.Store.{StaysFit, StaysRecord, field_at, field_under}
+use Rattle.catalogue_rules.specs.Store.{StaysFit, StaysRecord, field_at, field_under}
 use Rattle.catalogue_tables.specs.Seam.{HasKey, place_at}
 use Rattle.linking_laws.specs.Middle.{IsEitherStage, IsMiddleWith, IsWithinReach}
 use Rattle.linking_laws.specs.Partway.{IsSteady}

@@ -9,7 +9,7 @@ use Rattle.entry_record.specs.Authority.{Linkable}
 use Rattle.numbering.specs.declared.seat.Seat.{Seat}
 use Rattle.numbering.proofs.Numberlaws.{keeps_itself}
 use Rattle.catalogue_rules.specs.State.{KeptField, each_field}
-use Rattle.record_store.specs.Store.{field_under}
+use Rattle.catalogue_rules.specs.Store.{field_under}
 use Rattle.catalogue_tables.specs.Seam.{HasKey, KeyLists, place_at}
 use Rattle.catalogue_tables.proofs.Seams.{keeps_then}
 use Rattle.linking_laws.specs.Middle.{CanDrop, CanDropOn, IsDroppedOn, IsEitherStage, IsMiddleWith}

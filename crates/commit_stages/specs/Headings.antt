@@ -5,7 +5,7 @@ use Rattle.marc_types.specs.declared.field.Field.{Field}
 use Rattle.marc_types.specs.declared.form.Kind.{Kind}
 use Rattle.entry_record.specs.Authority.{is_heading}
 use Rattle.catalogue_rules.specs.State.{KeptRecord}
-use Rattle.record_store.specs.Store.{field_at}
+use Rattle.catalogue_rules.specs.Store.{field_at}
 use Rattle.commit_stages.specs.declared.heading.OwnHeading.{OwnHeading}
 
 abbrev pub own_heading : OwnHeading → Kind × Field

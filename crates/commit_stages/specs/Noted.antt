@@ -19,9 +19,13 @@ use Rattle.linked_store.specs.Linked.{Linked, field_of}
 abbrev pub changes_at : (Class → KeptField → KeptField) → Linked → Seat → Bool
 changes_at change x seat = option_map_or (λ h. not (same_kept h (change seat.class h))) (field_of seat x) false
 
--- there is something to come to the seat, and it isn't the field that stands there
-abbrev pub brings_another : Option Held → Linked → Seat → Bool
-brings_another made x seat = option_map_or (λ held. option_map_or (λ h. not (same_kept h (held_as held))) (field_of seat x) false) made false
+-- there is something to come, and it isn't the field that was found
+abbrev pub is_another : Option Held → KeptField → Bool
+is_another made h = option_map_or (λ held. not (same_kept h (held_as held))) made false
+
+-- the seat is noted too, where that is so
+abbrev pub noted_for : Option Held → KeptField → Seat → List Seat → List Seat
+noted_for made h seat noted = if is_another made h then with_thing same_seat noted seat else noted
 
 -- the seat is noted too, where the stage changes its field
 abbrev pub noted_with : (Class → KeptField → KeptField) → Linked → Seat → List Seat → List Seat

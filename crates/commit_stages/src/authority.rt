@@ -23,12 +23,12 @@ use crate::changed::count_records;
 use crate::changes::Changes;
 use crate::stages::{carry_heading, drop_ended, settle_brought};
 use crate::touched::settle_touched;
+use catalogue_rules::Steps;
 use catalogue_tables::KnownAuthority;
 use entry_record::Preparation;
 use linked_store::LinkedStore;
 use marc_types::{Class, Form, NoMemory, Record};
 use numbering::Numbering;
-use record_store::Steps;
 use std::alloc::Global;
 use std::sync::ledger::Ledger;
 
@@ -53,11 +53,11 @@ pub(crate) fn commit_authority<L: Ledger>(
     store.each_record_has_a_number();
     let known = store.known_authority(alloc, number)?;
     let ending = links_that_end(known.as_ref(), item);
-    store.place(alloc, number, rec, item)?;
+    let own = store.place(alloc, number, rec, item)?;
     let mut noted = Numbering::new(alloc);
     drop_ended(store, alloc, number, item, ending, &mut noted, steps)?;
-    carry_heading(store, alloc, number, item, &mut noted, steps)?;
-    let counts = settle_brought(store, alloc, number, item, steps)?;
+    carry_heading(store, alloc, number, own, item, &mut noted, steps)?;
+    let counts = settle_brought(store, alloc, number, own, item, steps)?;
     let forms = forms_then_and_now(alloc, known_forms(&known), item)?;
     settle_touched(store, alloc, number, &forms, &mut noted, steps)?;
     store.each_key_has_one_number();

@@ -13,10 +13,10 @@ ghost use Rattle.commit_stages.specs.Receipts.{AreReceiptCounts};
 
 use crate::changes::Changes;
 use crate::stages::settle_brought;
+use catalogue_rules::Steps;
 use entry_record::Preparation;
 use linked_store::LinkedStore;
 use marc_types::{NoMemory, Record};
-use record_store::Steps;
 use std::alloc::Global;
 use std::sync::ledger::Ledger;
 
@@ -37,8 +37,8 @@ pub(crate) fn commit_bibliographic<L: Ledger>(
     ensures ahead { IsAhead store.old store.new }
     ensures visits { steps.new ≤ steps.old + touched store.old.state item.now }
 {
-    store.place(alloc, number, rec, item)?;
-    let counts = settle_brought(store, alloc, number, item, steps)?;
+    let own = store.place(alloc, number, rec, item)?;
+    let counts = settle_brought(store, alloc, number, own, item, steps)?;
     Ok(Changes {
         linked: counts.linked,
         ambiguous: counts.ambiguous,

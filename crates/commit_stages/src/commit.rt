@@ -11,10 +11,10 @@ ghost use Rattle.commit_stages.specs.Receipts.{AreReceiptCounts};
 use crate::authority::commit_authority;
 use crate::bibliographic::commit_bibliographic;
 use crate::changes::Changes;
+use catalogue_rules::Steps;
 use entry_record::{Preparation, Prepared};
 use linked_store::LinkedStore;
 use marc_types::{Class, NoMemory, Record};
-use record_store::Steps;
 use std::alloc::Global;
 use std::sync::ledger::Ledger;
 

@@ -12,20 +12,21 @@ ghost use Rattle.commit_stages.specs.Turns.{IsCarriedOut, IsMadeOf, IsToDo, IsTu
 ghost use Rattle.commit_stages.specs.Dropping.{IsDropTurn, drop_ending, dropping_of, ending_visits, successor_to};
 
 use crate::ending::{EndingLinks, dropped_from};
-use crate::exchanging::exchange_noted;
+use crate::exchanging::exchange_made;
+use crate::noting::note_change;
 use crate::visiting::{lent, visit_field};
+use catalogue_rules::Steps;
 use field_settling::Held;
 use linked_store::LinkedStore;
 use marc_types::NoMemory;
 use numbering::{Numbering, Seat};
-use record_store::Steps;
 use std::alloc::Global;
 use std::sync::ledger::Ledger;
 
 /// Each link to the authority ends, or only those by the base; a field that awaits its key awaits the successor, where there is
 /// one. Each field that changes so is given its choice, and its seat is noted. Where memory ends, the caller can take back what was
 /// done.
-pub(crate) fn drop_links<L: Ledger>(
+pub fn drop_links<L: Ledger>(
     store: &mut LinkedStore,
     alloc: Global,
     number: u32,
@@ -91,27 +92,31 @@ fn drop_at<L: Ledger>(
     ensures ahead { IsAhead store.old store.new }
     ensures visits { steps.new ≤ steps.old + visits_at (ending_visits links.entry (linkable_authorities store.old.state)) store.old seat }
 {
-    let made = dropped(store, alloc, seat, links, steps)?;
-    exchange_noted(store, alloc, seat, made, noted)
+    let made = dropped(store, alloc, seat, links, noted, steps)?;
+    exchange_made(store, alloc, seat, made)
 }
 
-// What dropping makes of the field at a seat.
+// What dropping makes of the field at a seat, which is noted where that is another one.
 fn dropped<L: Ledger>(
     store: &LinkedStore,
     alloc: Global,
     seat: Seat,
     links: EndingLinks<'_>,
+    noted: &mut Numbering<Seat>,
     steps: &mut Steps<L>,
 ) -> Result<Option<Held>, NoMemory>
     requires to_do { IsToDo (dropped_at links.key.now (successor_to links)) seat store.now }
     requires turn { IsDropTurn (dropping_of links) links.key.now seat store.now }
     ensures made { IfOk result (IsMadeOf (drop_ending links.entry (linkable_authorities store.now.state)) seat store.now) }
+    ensures noted { OnOk result (noted.new ≡ noted_with (drop_ending links.entry (linkable_authorities store.now.state)) store.now seat noted.old) }
     ensures visits { steps.new ≤ steps.old + visits_at (ending_visits links.entry (linkable_authorities store.now.state)) store.now seat }
 {
     match visit_field(store, alloc, seat, steps)? {
         Some(found) => {
             let at = lent(&found);
-            dropped_from(store, alloc, seat.class, at, links, steps)
+            let made = dropped_from(store, alloc, seat.class, at, links, steps)?;
+            note_change(alloc, seat, at, &made, noted)?;
+            Ok(made)
         }
         None => Ok(None),
     }

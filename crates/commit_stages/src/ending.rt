@@ -14,20 +14,20 @@ ghost use Rattle.commit_stages.specs.Dropping.{IsChangedTo, drop_ending, ending_
 
 use crate::settling::settle_made;
 use crate::visiting::FieldAt;
+use catalogue_rules::Steps;
 use field_settling::{Held, await_key, end_link};
 use linked_store::LinkedStore;
 use marc_types::{Class, Key, NoMemory, Tie, TiedKey};
-use record_store::Steps;
 use std::alloc::Global;
 use std::sync::ledger::Ledger;
 
 /// The links to an authority that its commit ends, and the key that what is linked to it or awaits it is handed on to.
 #[derive(Clone, Copy, Debug)]
-pub(crate) struct EndingLinks<'a> {
-    pub(crate) key: &'a Key,
+pub struct EndingLinks<'a> {
+    pub key: &'a Key,
     /// Only the links by the base end.
-    pub(crate) only_base: bool,
-    pub(crate) successor: Option<&'a Key>,
+    pub only_base: bool,
+    pub successor: Option<&'a Key>,
 }
 
 fn is_key(key: &Key, other: &Option<TiedKey>) -> bool

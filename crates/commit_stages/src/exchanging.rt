@@ -4,16 +4,13 @@ ghost use Rattle.marc_types.specs.declared.key.Class.{Class as AnyClass};
 ghost use Rattle.catalogue_rules.specs.State.{KeptField};
 ghost use Rattle.field_settling.specs.Held.{held_as};
 ghost use Rattle.linking_laws.specs.Partway.{AreOrdered};
-ghost use Rattle.catalogue_tables.specs.Seam.{HasKey};
 ghost use Rattle.linked_store.specs.Linked.{IsAhead, SuitsSeat};
-ghost use Rattle.commit_stages.specs.Noted.{noted_with};
 ghost use Rattle.commit_stages.specs.Turns.{IsMadeOf, IsTurned};
 
-use crate::noting::note_change;
 use field_settling::Held;
 use linked_store::LinkedStore;
 use marc_types::NoMemory;
-use numbering::{Numbering, Seat};
+use numbering::Seat;
 use std::alloc::Global;
 
 /// Puts what a stage makes of a seat's field into the seat; none stands for the field that is there.
@@ -33,25 +30,4 @@ pub(crate) fn exchange_made(
         Some(held) => store.exchange_field(alloc, seat, held.field, held.tie),
         None => Ok(()),
     }
-}
-
-/// The same, and the seat is noted where another field comes to it than stands there.
-pub(crate) fn exchange_noted(
-    store: &mut LinkedStore,
-    alloc: Global,
-    seat: Seat,
-    made: Option<Held>,
-    noted: &mut Numbering<Seat>,
-) -> Result<(), NoMemory>
-    requires known { HasKey store.old.keys seat }
-    requires suits { IfSome made (λ held. SuitsSeat seat (held_as held) store.old) }
-    requires ordered { AreOrdered store.old.state }
-    ensures ok { OnOk result ((change : AnyClass → KeptField → KeptField) → IsMadeOf change seat store.old made → IsTurned change seat store.old store.new) }
-    ensures noted { OnOk result ((change : AnyClass → KeptField → KeptField) → IsMadeOf change seat store.old made
-        → noted.new ≡ noted_with change store.old seat noted.old) }
-    ensures err { OnErr result (store.new.state ≡ store.old.state) }
-    ensures ahead { IsAhead store.old store.new }
-{
-    note_change(store, alloc, seat, &made, noted)?;
-    exchange_made(store, alloc, seat, made)
 }

@@ -4,20 +4,21 @@ ghost use Rattle.marc_types.specs.Fields.{tag_of};
 ghost use Rattle.marc_types.specs.Valid.{is_field};
 ghost use Rattle.marc_types.specs.declared.key.Class.TheVariants.{Authority as AnAuthority};
 ghost use Rattle.catalogue_rules.specs.State.{fields_of};
-ghost use Rattle.record_store.specs.Store.{field_at};
+ghost use Rattle.catalogue_rules.specs.Store.{field_at};
 ghost use Rattle.field_settling.specs.Held.{governing_of, heading_as, with_kind};
 ghost use Rattle.numbered_store.specs.Kept.{kept_record};
 ghost use Rattle.linked_store.specs.Linked.{IsNumber};
+ghost use Rattle.linked_store.specs.Placing.{own_record};
 ghost use Rattle.commit_stages.specs.Choosing.{heading_under};
 ghost use Rattle.commit_stages.specs.Headings.{HasNoHeadingBefore, IsFirstHeading, is_heading_at, own_heading};
 
 use crate::heading::OwnHeading;
+use catalogue_rules::Steps;
 use field_settling::Heading;
 use heading_fields::authority_kind;
-use linked_store::LinkedStore;
+use linked_store::{LinkedStore, OwnRecord};
 use marc_types::{Class, NoMemory, Tag};
 use numbered_store::Kept;
-use record_store::Steps;
 use std::alloc::Global;
 use std::sync::ledger::Ledger;
 
@@ -32,16 +33,18 @@ impl OwnHeading {
     }
 }
 
-/// The heading of the authority under the key that has the number, for those who only read. It counts no visit.
+/// The heading of the authority that the commit has put under the number. It counts no visit.
 pub(crate) fn look_at_heading(
     store: &LinkedStore,
     alloc: Global,
     number: u32,
+    own: OwnRecord,
 ) -> Result<Option<OwnHeading>, NoMemory>
-    requires { IsNumber AnAuthority number store.now.keys }
+    requires number { IsNumber AnAuthority number store.now.keys }
+    requires own { own ≡ own_record AnAuthority number }
     ensures { IfOk result (λ heading. option_map own_heading heading ≡ heading_under number store.now) }
 {
-    match store.look(Class::Authority, number) {
+    match store.look_at_own(own) {
         Some(kept) => decoded_heading(alloc, kept),
         None => Ok(None),
     }
@@ -65,9 +68,9 @@ pub(crate) fn visit_heading<L: Ledger>(
     }
 }
 
-// The first 1XX of a record, with the kind that its tag says. The tags alone are read on the way to it.
+/// The first 1XX of a record, with the kind that its tag says. The tags alone are read on the way to it.
 #[tactic(auto, using(crate::proofs::Headed::governing_first, crate::proofs::Headed::governing_none))]
-fn decoded_heading(alloc: Global, kept: &Kept) -> Result<Option<OwnHeading>, NoMemory>
+pub fn decoded_heading(alloc: Global, kept: &Kept) -> Result<Option<OwnHeading>, NoMemory>
     ensures { IfOk result (λ heading. option_map own_heading heading ≡ governing_of (fields_of (kept_record kept.now))) }
 {
     match heading_place(kept) {

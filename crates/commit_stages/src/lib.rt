@@ -5,8 +5,14 @@
 //! exchanges it.
 #![tactic(auto)]
 
+pub use carrying::carry;
 pub use changes::Changes;
 pub use commit::commit_entry;
+pub use dropping::drop_links;
+pub use ending::EndingLinks;
+pub use heading::OwnHeading;
+pub use headings::decoded_heading;
+pub use touched::settle_touched;
 
 mod authority;
 mod bibliographic;

@@ -1,63 +1,36 @@
 //! The seats whose field a stage makes into another one are noted.
-ghost use Rattle.std.specs.Prelude.{◌≡◌, IfOk, OnOk, false, not, if◌then◌else◌};
-ghost use Rattle.std.specs.Option.{option_map_or};
-ghost use Rattle.catalogue_rules.specs.Sameness.{same_kept};
-ghost use Rattle.catalogue_tables.specs.Seam.{HasKey};
-ghost use Rattle.field_settling.specs.Held.{held_as};
-ghost use Rattle.linked_store.specs.Linked.{field_of};
-ghost use Rattle.numbering.specs.Numbers.{with_thing};
-ghost use Rattle.numbering.specs.Seats.{same_seat};
-ghost use Rattle.commit_stages.specs.Noted.{brings_another};
+ghost use Rattle.std.specs.Prelude.{◌≡◌, OnOk};
+ghost use Rattle.commit_stages.specs.Fields.{field_as};
+ghost use Rattle.commit_stages.specs.Noted.{is_another, noted_for};
 
-use crate::visiting::{lent, look_at_field};
+use crate::visiting::FieldAt;
 use field_settling::Held;
-use linked_store::LinkedStore;
 use marc_types::NoMemory;
 use numbering::{Numbering, Seat};
 use std::alloc::Global;
 
-/// Notes the seat where another field is to come to it than stands there.
+/// Notes the seat where another field is to come to it than was found there.
 pub(crate) fn note_change(
-    store: &LinkedStore,
     alloc: Global,
     seat: Seat,
+    at: FieldAt<'_>,
     made: &Option<Held>,
     noted: &mut Numbering<Seat>,
 ) -> Result<(), NoMemory>
-    requires { HasKey store.now.keys seat }
-    ensures { OnOk result (noted.new ≡ (if brings_another made.now store.now seat then with_thing same_seat noted.old seat else noted.old)) }
+    ensures { OnOk result (noted.new ≡ noted_for made.now (field_as at.entry) seat noted.old) }
 {
-    if is_change(store, alloc, seat, made)? {
+    if is_another(at, made) {
         noted.add(alloc, &seat)?;
     }
     Ok(())
 }
 
-fn is_change(
-    store: &LinkedStore,
-    alloc: Global,
-    seat: Seat,
-    made: &Option<Held>,
-) -> Result<bool, NoMemory>
-    requires { HasKey store.now.keys seat }
-    ensures { IfOk result (λ changes. changes ≡ brings_another made.now store.now seat) }
+// Whether there is something to come, and it is another field than was found, or has another tie.
+fn is_another(at: FieldAt<'_>, made: &Option<Held>) -> bool
+    ensures { result ≡ is_another made.now (field_as at.entry) }
 {
     match made {
-        Some(held) => is_another(store, alloc, seat, held),
-        None => Ok(false),
-    }
-}
-
-// Whether the field that stands at the seat is another one, or has another tie.
-fn is_another(store: &LinkedStore, alloc: Global, seat: Seat, held: &Held) -> Result<bool, NoMemory>
-    requires { HasKey store.now.keys seat }
-    ensures { IfOk result (λ is. is ≡ option_map_or (λ h. not (same_kept h (held_as held.now))) (field_of seat store.now) false) }
-{
-    match look_at_field(store, alloc, seat)? {
-        Some(found) => {
-            let at = lent(&found);
-            Ok(!held.is(at.field, at.tie))
-        }
-        None => Ok(false),
+        Some(held) => !held.is(at.field, at.tie),
+        None => false,
     }
 }

@@ -6,6 +6,7 @@ ghost use Rattle.catalogue_rules.specs.State.{KeptField, fields_of, linkable_aut
 ghost use Rattle.linking_laws.specs.Middle.{IsMiddle};
 ghost use Rattle.linking_laws.specs.Visits.{own_visits};
 ghost use Rattle.linked_store.specs.Linked.{IsAhead, IsNumber, field_of, key_of, record_at};
+ghost use Rattle.linked_store.specs.Placing.{own_record};
 ghost use Rattle.commit_stages.specs.Turns.{IsMadeOf, IsToDo, IsTurned, visits_at};
 ghost use Rattle.commit_stages.specs.Standing.{stands_settled};
 ghost use Rattle.commit_stages.specs.Counted.{AreCountsOf};
@@ -17,10 +18,10 @@ use crate::exchanging::exchange_made;
 use crate::settled::{Settled, Stands};
 use crate::settling::settle_with_standing;
 use crate::visiting::{heading_found, lent};
-use linked_store::LinkedStore;
+use catalogue_rules::Steps;
+use linked_store::{LinkedStore, OwnRecord};
 use marc_types::{Class, NoMemory};
 use numbering::Seat;
-use record_store::Steps;
 use std::alloc::Global;
 use std::sync::ledger::Ledger;
 
@@ -31,9 +32,11 @@ pub(crate) fn settle_own<L: Ledger>(
     alloc: Global,
     class: Class,
     number: u32,
+    own: OwnRecord,
     steps: &mut Steps<L>,
 ) -> Result<HeadingCounts, NoMemory>
     requires number { IsNumber class number store.old.keys }
+    requires own { own ≡ own_record class number }
     requires came { AreAsCame class number store.old }
     requires middle { IsMiddle store.old.state }
     ensures ok { OnOk result (IsOwnSettled (linkable_authorities store.old.state) class (key_of class number store.old.keys) store.old store.new) }
@@ -43,7 +46,7 @@ pub(crate) fn settle_own<L: Ledger>(
         steps.new ≤ steps.old + own_visits_of all class (key_of class number store.old.keys) store.old.state }
 {
     is_proper(store, class, number);
-    let places = places_in(store, class, number);
+    let places = places_in(store, class, number, own);
     let mut counts = HeadingCounts {
         linked: 0,
         ambiguous: 0,
@@ -55,18 +58,19 @@ pub(crate) fn settle_own<L: Ledger>(
             number,
             field: place,
         };
-        let stands = settle_own_at(store, alloc, seat, steps)?;
+        let stands = settle_own_at(store, alloc, own, seat, steps)?;
         counts = counted(counts, stands);
     }
     Ok(counts)
 }
 
 // How many fields the record under the key that has the number has.
-fn places_in(store: &LinkedStore, class: Class, number: u32) -> u32
-    requires { IsNumber class number store.now.keys }
+fn places_in(store: &LinkedStore, class: Class, number: u32, own: OwnRecord) -> u32
+    requires number { IsNumber class number store.now.keys }
+    requires own { own ≡ own_record class number }
     ensures { result ≡ length (fields_in class number store.now) }
 {
-    match store.look(class, number) {
+    match store.look_at_own(own) {
         Some(kept) => kept.field_count(),
         None => 0,
     }
@@ -76,10 +80,12 @@ fn places_in(store: &LinkedStore, class: Class, number: u32) -> u32
 fn settle_own_at<L: Ledger>(
     store: &mut LinkedStore,
     alloc: Global,
+    own: OwnRecord,
     seat: Seat,
     steps: &mut Steps<L>,
 ) -> Result<Stands, NoMemory>
     requires to_do { IsToDo has_no_link seat store.old }
+    requires own { own ≡ own_record seat.class seat.number }
     requires middle { IsMiddle store.old.state }
     ensures ok { OnOk result (IsTurned (settle_field (linkable_authorities store.old.state)) seat store.old store.new) }
     ensures stands { IfOk result (λ stands. (h : KeptField) → field_of seat store.old ≡ Some h
@@ -87,7 +93,7 @@ fn settle_own_at<L: Ledger>(
     ensures ahead { IsAhead store.old store.new }
     ensures visits { steps.new ≤ steps.old + visits_at (own_visits (linkable_authorities store.old.state)) store.old seat }
 {
-    let settled = settled_own(store, alloc, seat, steps)?;
+    let settled = settled_own(store, alloc, own, seat, steps)?;
     exchange_made(store, alloc, seat, settled.made)?;
     Ok(settled.stands)
 }
@@ -96,10 +102,12 @@ fn settle_own_at<L: Ledger>(
 fn settled_own<L: Ledger>(
     store: &LinkedStore,
     alloc: Global,
+    own: OwnRecord,
     seat: Seat,
     steps: &mut Steps<L>,
 ) -> Result<Settled, NoMemory>
     requires to_do { IsToDo has_no_link seat store.now }
+    requires own { own ≡ own_record seat.class seat.number }
     requires middle { IsMiddle store.now.state }
     ensures made { IfOk result (λ settled. IsMadeOf (settle_field (linkable_authorities store.now.state)) seat store.now settled.made) }
     ensures stands { IfOk result (λ settled. (h : KeptField) → field_of seat store.now ≡ Some h
@@ -107,7 +115,7 @@ fn settled_own<L: Ledger>(
     ensures visits { steps.new ≤ steps.old + visits_at (own_visits (linkable_authorities store.now.state)) store.now seat }
 {
     is_proper(store, seat.class, seat.number);
-    match heading_found(store, alloc, seat)? {
+    match heading_found(store, alloc, own, seat)? {
         Some(found) => {
             let at = lent(&found);
             settle_with_standing(store, alloc, seat, at, steps)

@@ -17,12 +17,12 @@ ghost use Rattle.commit_stages.specs.Standing.{stands_settled};
 use crate::headings::visit_heading;
 use crate::settled::{Settled, Stands};
 use crate::visiting::FieldAt;
+use catalogue_rules::Steps;
 use catalogue_tables::{Chosen, heading_form};
 use field_settling::{Held, link_to};
 use linked_store::LinkedStore;
 use marc_types::{Class, Field, NoMemory};
 use numbering::Seat;
-use record_store::Steps;
 use std::alloc::Global;
 use std::sync::ledger::Ledger;
 

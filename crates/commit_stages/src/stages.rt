@@ -13,6 +13,7 @@ ghost use Rattle.linking_laws.specs.Stages.{carry_by, successor_in};
 ghost use Rattle.linking_laws.specs.Visits.{carry_visits};
 ghost use Rattle.linking_laws.specs.Weights.{sum_fields};
 ghost use Rattle.linked_store.specs.Linked.{IsAhead, IsNumber, key_of};
+ghost use Rattle.linked_store.specs.Placing.{own_record};
 ghost use Rattle.commit_stages.specs.Turns.{IsCarriedOut};
 ghost use Rattle.commit_stages.specs.OwnFields.{IsOwnSettled, own_visits_of};
 ghost use Rattle.commit_stages.specs.Noted.{NotesChanges};
@@ -24,11 +25,11 @@ use crate::counts::HeadingCounts;
 use crate::dropping::drop_links;
 use crate::ending::EndingLinks;
 use crate::own::settle_own;
+use catalogue_rules::Steps;
 use entry_record::Preparation;
-use linked_store::LinkedStore;
+use linked_store::{LinkedStore, OwnRecord};
 use marc_types::NoMemory;
 use numbering::{Numbering, Seat};
-use record_store::Steps;
 use std::alloc::Global;
 use std::sync::ledger::Ledger;
 
@@ -81,12 +82,14 @@ pub(crate) fn carry_heading<L: Ledger>(
     store: &mut LinkedStore,
     alloc: Global,
     number: u32,
+    own: OwnRecord,
     item: &Preparation,
     noted: &mut Numbering<Seat>,
     steps: &mut Steps<L>,
 ) -> Result<(), NoMemory>
     requires admitted { IsAdmitted item.now }
     requires class { item.now.class ≡ AnAuthority }
+    requires placed { own ≡ own_record item.now.class number }
     requires number { IsNumber AnAuthority number store.old.keys }
     requires key { key_of AnAuthority number store.old.keys ≡ item.now.key }
     requires own { find (has_key item.now.key) (linkable_authorities store.old.state) ≡ authority_brought (arrival_of item.now) }
@@ -98,7 +101,7 @@ pub(crate) fn carry_heading<L: Ledger>(
     ensures visits { steps.new ≤ steps.old + sum_fields (carry_visits item.now.key (authority_brought (arrival_of item.now))) store.old.state }
 {
     match brought_heading(item) {
-        Some(_) => carry(store, alloc, number, item.key(), noted, steps),
+        Some(_) => carry(store, alloc, number, own, item.key(), noted, steps),
         None => Ok(()),
     }
 }
@@ -108,10 +111,12 @@ pub(crate) fn settle_brought<L: Ledger>(
     store: &mut LinkedStore,
     alloc: Global,
     number: u32,
+    own: OwnRecord,
     item: &Preparation,
     steps: &mut Steps<L>,
 ) -> Result<HeadingCounts, NoMemory>
     requires number { IsNumber item.now.class number store.old.keys }
+    requires placed { own ≡ own_record item.now.class number }
     requires key { key_of item.now.class number store.old.keys ≡ item.now.key }
     requires came { IsBrought number item.now store.old }
     requires middle { IsMiddle store.old.state }
@@ -127,5 +132,5 @@ pub(crate) fn settle_brought<L: Ledger>(
             unlinked: 0,
         });
     }
-    settle_own(store, alloc, item.class(), number, steps)
+    settle_own(store, alloc, item.class(), number, own, steps)
 }

@@ -13,15 +13,15 @@ ghost use Rattle.commit_stages.specs.Noted.{NotesChanges};
 ghost use Rattle.commit_stages.specs.Turns.{IsCarriedOut};
 
 use crate::waiting::settle_at;
+use catalogue_rules::Steps;
 use linked_store::LinkedStore;
 use marc_types::{Form, NoMemory};
 use numbering::{Numbering, Seat};
-use record_store::Steps;
 use std::alloc::Global;
 use std::sync::ledger::Ledger;
 
 /// Each field that waits for the authority, or for one of the forms, is given its choice. The seats whose field changes are noted.
-pub(crate) fn settle_touched<L: Ledger>(
+pub fn settle_touched<L: Ledger>(
     store: &mut LinkedStore,
     alloc: Global,
     number: u32,

@@ -2,18 +2,19 @@
 ghost use Rattle.std.specs.Prelude.{◌≡◌, ◌+◌, false, IfOk, option_map};
 ghost use Rattle.std.specs.Option.{option_map_or};
 ghost use Rattle.marc_types.specs.Fields.{tag_of};
-ghost use Rattle.record_store.specs.Store.{field_at};
+ghost use Rattle.catalogue_rules.specs.Store.{field_at};
 ghost use Rattle.catalogue_tables.specs.Seam.{HasKey};
 ghost use Rattle.numbered_store.specs.Kept.{found_field, kept_record};
 ghost use Rattle.linked_store.specs.Holding.{can_be_heading};
 ghost use Rattle.linked_store.specs.Linked.{field_of};
+ghost use Rattle.linked_store.specs.Placing.{own_record};
 ghost use Rattle.commit_stages.specs.Fields.{FindsHeading, IsProperAt, field_as};
 
-use linked_store::{LinkedStore, can_be_heading};
+use catalogue_rules::Steps;
+use linked_store::{LinkedStore, OwnRecord, can_be_heading};
 use marc_types::{Class, Field, NoMemory, Tie};
 use numbered_store::{FoundField, Kept};
 use numbering::Seat;
-use record_store::Steps;
 use std::alloc::Global;
 use std::sync::ledger::Ledger;
 
@@ -50,31 +51,19 @@ pub(crate) fn visit_field<'a, L: Ledger>(
     }
 }
 
-/// The field that stands at a seat, for those who only read. It counts no visit.
-pub(crate) fn look_at_field(
-    store: &LinkedStore,
-    alloc: Global,
-    seat: Seat,
-) -> Result<Option<FoundField<'_>>, NoMemory>
-    requires { HasKey store.now.keys seat }
-    ensures { IfOk result (λ found. option_map found_field found ≡ field_of seat store.now) }
-{
-    match store.look(seat.class, seat.number) {
-        Some(kept) => kept.found_at(alloc, seat.field),
-        None => Ok(None),
-    }
-}
-
-/// The field that stands at a seat, where its tag is one of a heading: no other one is decoded. It counts no visit.
+/// The field that stands at a seat of the commit's own record, where its tag is one of a heading: no other one is decoded. It counts
+/// no visit.
 pub(crate) fn heading_found(
     store: &LinkedStore,
     alloc: Global,
+    own: OwnRecord,
     seat: Seat,
 ) -> Result<Option<FoundField<'_>>, NoMemory>
-    requires { HasKey store.now.keys seat }
+    requires known { HasKey store.now.keys seat }
+    requires own { own ≡ own_record seat.class seat.number }
     ensures { IfOk result (λ found. FindsHeading seat.class (field_of seat store.now) (option_map found_field found)) }
 {
-    match store.look(seat.class, seat.number) {
+    match store.look_at_own(own) {
         Some(kept) => heading_in(alloc, seat.class, kept, seat.field),
         None => Ok(None),
     }

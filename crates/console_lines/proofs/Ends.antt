@@ -4,12 +4,12 @@ use Rattle.std.specs.Io.KnownBytes.{Appends}
 use Rattle.outside.specs.Fault.{Rose}
 use Rattle.outside.specs.Sink.{WritesFront}
 use Rattle.outside.proofs.Fronts.{front_all}
-use Rattle.console_lines.specs.Ends.{end_of, IsAllDone, TellsNoFault, IsResultTold, ResultTold, ResultUntold, out_unwritten, report_unwritten, console_unwritten}
+use Rattle.console_lines.specs.Ends.{end_of, IsAllDone, TellsNoFault, IsResultTold, ResultTold, ResultUntold, out_unwritten, side_unwritten, console_unwritten}
 use Rattle.console_lines.specs.declared.fault.Fault.{Fault}
 use Rattle.console_lines.specs.declared.end.End.{End}
 use Rattle.console_lines.specs.declared.end.End.TheVariants.{Done, Unwritten, Told}
 use Rattle.console_lines.specs.declared.end.Unwritten.{Unwritten as Which}
-use Rattle.console_lines.specs.declared.end.Unwritten.TheVariants.{Out, Report, Console}
+use Rattle.console_lines.specs.declared.end.Unwritten.TheVariants.{Out, Side, Console}
 
 -- a command tells one fault
 pub told_once : (end : End) (one other : Fault) → end ≡ Told one → end ≡ Told other → one ≡ other
@@ -34,11 +34,11 @@ unwritten_once end one other is also = let both : Unwritten one ≡ Unwritten ot
 pub out_not_console : (end : End) → end ≡ Unwritten Out → end ≡ Unwritten Console → ⊥
 out_not_console end is also = let no : Out ≡ Console = unwritten_once end Out Console is also in cc
 
-pub out_not_report : (end : End) → end ≡ Unwritten Out → end ≡ Unwritten Report → ⊥
-out_not_report end is also = let no : Out ≡ Report = unwritten_once end Out Report is also in cc
+pub out_not_side : (end : End) → end ≡ Unwritten Out → end ≡ Unwritten Side → ⊥
+out_not_side end is also = let no : Out ≡ Side = unwritten_once end Out Side is also in cc
 
-pub report_not_console : (end : End) → end ≡ Unwritten Report → end ≡ Unwritten Console → ⊥
-report_not_console end is also = let no : Report ≡ Console = unwritten_once end Report Console is also in cc
+pub side_not_console : (end : End) → end ≡ Unwritten Side → end ≡ Unwritten Console → ⊥
+side_not_console end is also = let no : Side ≡ Console = unwritten_once end Side Console is also in cc
 
 pub never_told : (end : End) (why : Fault) → TellsNoFault end → end ≡ Told why → ⊥
 never_told end why untold is = subst TellsNoFault is untold
@@ -77,9 +77,9 @@ module _ {old new : Option (List ℕ)} {before now : ℕ} {text : List ℕ} {ref
   result_console which (ResultTold is line) also = absurd (all_not_unwritten (end_of refused) which (all_of refused) (sym is ∙ also))
   result_console which (ResultUntold is rose front) also = unwritten_once end which Console also is
 
-  pub result_no_output : IsResultTold old new before now text refused end → (end ≢ out_unwritten) × (end ≢ report_unwritten)
+  pub result_no_output : IsResultTold old new before now text refused end → (end ≢ out_unwritten) × (end ≢ side_unwritten)
   result_no_output told =
-      ((λ also. let no : Out ≡ Console = result_console Out told also in cc), (λ also. let no : Report ≡ Console = result_console Report told also in cc))
+      ((λ also. let no : Out ≡ Console = result_console Out told also in cc), (λ also. let no : Side ≡ Console = result_console Side told also in cc))
 
   pub result_cause : IsResultTold old new before now text refused end → end ≡ console_unwritten → Rose before now
   result_cause (ResultTold is line) also = absurd (all_not_unwritten (end_of refused) Console (all_of refused) (sym is ∙ also))

@@ -8,7 +8,7 @@ use Rattle.console_lines.specs.Faults.{fault_status, fault_line, IsFaultTold}
 use Rattle.console_lines.specs.declared.fault.Fault.{Fault}
 use Rattle.console_lines.specs.declared.end.End.{End}
 use Rattle.console_lines.specs.declared.end.End.TheVariants.{Done, Refused, Unwritten, Told}
-use Rattle.console_lines.specs.declared.end.Unwritten.TheVariants.{Out, Report, Console}
+use Rattle.console_lines.specs.declared.end.Unwritten.TheVariants.{Out, Side, Console}
 
 abbrev pub end_status : End → ℕ
 end_status Done = 0
@@ -16,12 +16,12 @@ end_status Refused = 1
 end_status (Unwritten which) = 4
 end_status (Told fault) = fault_status fault
 
--- the ends where the file OUT, the file REPORT or the console could not be written
+-- the ends where the file OUT, the side output (REPORT, or REST) or the console could not be written
 abbrev pub out_unwritten : End
 out_unwritten = Unwritten Out
 
-abbrev pub report_unwritten : End
-report_unwritten = Unwritten Report
+abbrev pub side_unwritten : End
+side_unwritten = Unwritten Side
 
 abbrev pub console_unwritten : End
 console_unwritten = Unwritten Console

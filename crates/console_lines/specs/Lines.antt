@@ -70,3 +70,11 @@ totals_line file t =
 -- the line of a workload: how many records were made, and the sums over their receipts in an empty catalogue
 unfoldable pub made_line : ℕ → Sums → List ℕ
 made_line count s = codes "made " ++ decimal count ++ sums_text s
+
+-- the line of a checkpoint: how many entries the journal has
+abbrev pub checkpoint_line : ℕ → List ℕ
+checkpoint_line count = codes "checkpoint " ++ decimal count ++ line_end
+
+-- the line of an export that a checkpoint spared so many entries, of how many
+abbrev pub resumed_line : ℕ → ℕ → List ℕ
+resumed_line taken count = codes "resumed " ++ decimal taken ++ (codes " of " ++ decimal count ++ line_end)

@@ -8,8 +8,8 @@ use crate::fault::Fault;
 pub enum Unwritten {
     /// The file OUT.
     Out,
-    /// The file REPORT.
-    Report,
+    /// The side output: the file REPORT, or REST.
+    Side,
     /// The console.
     Console,
 }

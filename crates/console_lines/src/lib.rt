@@ -4,7 +4,7 @@
 pub use end::{End, OutputsFault, Unwritten};
 pub use ending::{end_of_output, end_of_outputs, tell_result};
 pub use fault::{Fault, tell};
-pub use numbered::write_numbered;
+pub use numbered::{write_checkpoint, write_numbered, write_resumed};
 pub use results::{made_line, refused_lines, results_text, totals_line};
 pub use totals::Totals;
 

@@ -6,6 +6,7 @@ pub mod Frames
 pub mod Histories
 pub mod Images
 pub mod Keeping
+pub mod KeptNews
 pub mod Lastings
 pub mod Loads
 pub mod Opened

@@ -1,3 +1,4 @@
+pub mod Asked
 pub mod Calls
 pub mod Durables
 pub mod Faults
@@ -5,6 +6,7 @@ pub mod Images
 pub mod Lasting
 pub mod Loading
 pub mod Logs
+pub mod News
 pub mod Opened
 pub mod Openings
 pub mod Questions

@@ -1,5 +1,6 @@
 //! A catalogue over a journal.
-ghost use Rattle.std.specs.Prelude.{◌≡◌, ◌≢◌, ℕ, ◌++◌, List, [], true, false, Some, is_some, length, All, IfOk, IfErr, OnOk, OnErr, None, ◌≤◌};
+ghost use Rattle.std.specs.Prelude.{◌≡◌, ◌≢◌, ℕ, ◌++◌, List, [], true, false, Some, is_some, length, All, IfOk, IfErr, IfSome, OnOk, OnErr, None, ◌≤◌};
+ghost use Rattle.std.proofs.Props.{props};
 ghost use Rattle.marc_types.specs.declared.entry.Entry.{Entry};
 ghost use Rattle.marc_types.specs.declared.entry.CommitFault.TheVariants.{DeviceFault};
 ghost use Rattle.outside.specs.Disk.{LeavesOnly};
@@ -17,12 +18,14 @@ ghost use Rattle.durable_catalogue.specs.declared.fault.OpenFault.{OpenFault};
 ghost use Rattle.durable_catalogue.specs.Opened.{IsOpenedDisk, IsRefusedDisk};
 ghost use Rattle.durable_catalogue.specs.Images.{HoldsEntries, HasCommitOrNot};
 ghost use Rattle.durable_catalogue.specs.Lasting.{GoesOn};
+ghost use Rattle.durable_catalogue.specs.News.{IsNewsOf, kept_or_begun, start_of};
 ghost use Rattle.durable_catalogue.specs.Durables.{mark_of, marked, events, is_taken, TookNothing, opening, IsKept, IsLeft, IsLostBy, IsSameOpening};
 
 use crate::fitting::fitting_part;
 use crate::loading::{Loaded, load};
+use crate::news::{News, add_news, cut_news};
 use crate::opening::{find_log, refuse_log, take_log};
-use crate::seen::{Seen, look_at};
+use crate::question::{Ask, Told, tell_since, tell_status};
 use crate::staging::stage_all;
 use crate::{Memory, OpenFault};
 use catalogue_core::Catalogue;
@@ -30,7 +33,7 @@ use catalogue_lock::Object;
 use commit_journal::Journal;
 use entry_history::laws::each_can_stand_in_a_payload;
 use entry_history::{Batch, BatchReply, Event, Receipts};
-use marc_types::{CommitFault, Limits, NoMemory, Place};
+use marc_types::{CommitFault, Limits, NoMemory};
 use outside::Disk;
 use std::alloc::Global;
 use std::marker::Brand;
@@ -49,6 +52,8 @@ pub struct Durable<D: Disk> {
     opened: u64,
     // The frame that a device failed to take.
     mark: Option<Snapshot<Batch>>,
+    // The entries that were committed since news was asked for.
+    news: Option<News>,
     // The disk as it was handed over, and as the journal's opening left it.
     before: Snapshot<D>,
     first: Snapshot<Journal<D>>,
@@ -56,6 +61,7 @@ pub struct Durable<D: Disk> {
     ghost newest: { journal.version ≡ Two },
     ghost broken: { journal.broken ≡ is_some mark },
     ghost follows: { CanFollow core.history run },
+    ghost is_news: { IfSome news (IsNewsOf core.history) } by { Prim.hlevel props },
     ghost kept: { IsKept opened core.history (marked (mark_of mark)) (D.seen before.value) (D.seen first.value.disk) (D.seen journal.disk) },
     ghost rose: { is_some mark ≡ true → Rose (D.seen before.value).faults (D.seen journal.disk).faults },
     ghost few: { length (marked (mark_of mark)) ≤ 32 },
@@ -82,6 +88,7 @@ impl<D: Disk> Durable<D> {
         ensures version { IfOk result (λ d. (log : List ℕ) → (D.seen disk).content ≡ Some log → version_of log ≡ 2) }
         ensures within { IfOk result (λ d. IsWithin limits d.core.history) }
         ensures unmarked { IfOk result (λ d. mark_of d.mark ≡ None) }
+        ensures unasked { IfOk result (λ d. d.news ≡ None) }
 
         // What the origin has: the limits, the run that comes next, the number of entries, and the disk as it was.
         ensures limits { IfOk result (λ d. d.core.limits ≡ limits) }
@@ -110,11 +117,29 @@ impl<D: Disk> Durable<D> {
                     run,
                     opened,
                     mark: None,
+                    news: None,
                     before,
                     first,
                 })
             }
             Err(fault) => Err(refuse_log(found, fault)),
+        }
+    }
+
+    /// From now on the headings of all entries that are committed are kept, so that these can be asked for, if they weren't already.
+    pub fn keep_news(&mut self)
+        ensures news { self.new.news ≡ Some (kept_or_begun self.old.news (length self.old.core.history)) }
+
+        // Nothing else changes.
+        ensures core { self.new.core ≡ self.old.core }
+        ensures mark { self.new.mark ≡ self.old.mark }
+        ensures journal { self.new.journal ≡ self.old.journal }
+        ensures stays { IsSameOpening self.old.core.limits self.old.run self.old.opened self.new.core.limits self.new.run self.new.opened }
+        ensures before { self.new.before ≡ self.old.before }
+        ensures first { self.new.first ≡ self.old.first }
+    {
+        if self.news.is_none() {
+            self.news = Some(News::new(self.alloc, self.core.history_len()));
         }
     }
 
@@ -176,13 +201,21 @@ impl<D: Disk> Durable<D> {
         ensures later { (D.seen self.old.journal.disk).moment ≤ (D.seen self.new.journal.disk).moment }
         ensures cause { IfErr result (λ fault. fault ≡ DeviceFault → Rose (D.seen self.old.journal.disk).faults (D.seen self.new.journal.disk).faults) }
         ensures stays { IsSameOpening self.old.core.limits self.old.run self.old.opened self.new.core.limits self.new.run self.new.opened }
+        ensures news { start_of self.new.news ≡ start_of self.old.news }
         ensures before { self.new.before ≡ self.old.before }
         ensures first { self.new.first ≡ self.old.first }
     {
         let mark = Snapshot::of(&frame);
-        each_can_stand_in_a_payload(frame.items());
+        let count = frame.len();
+        let prepared = frame.items();
+        each_can_stand_in_a_payload(prepared);
+        // before anything is written, so that want of memory changes nothing
+        let Ok(()) = add_news(alloc, &mut self.news, prepared) else {
+            return Err(CommitFault::NoMemory);
+        };
         let (items, payload) = frame.into_parts();
         let Ok(receipts) = stage_all::<Brand>(&mut self.core, alloc, items, Blank::new(1)) else {
+            cut_news(&mut self.news, count);
             return Err(CommitFault::NoMemory);
         };
         let appended = self.journal.append(payload.as_slice());
@@ -193,6 +226,7 @@ impl<D: Disk> Durable<D> {
             }
             Err(_) => {
                 self.core.undo();
+                cut_news(&mut self.news, count);
                 self.mark = Some(mark);
                 Err(CommitFault::DeviceFault)
             }
@@ -235,6 +269,7 @@ impl<D: Disk> Durable<D> {
         // A device fault comes only where the count of faults rose; what the opening left stays.
         ensures cause { result.end ≡ Some DeviceFault → Rose (D.seen self.old.journal.disk).faults (D.seen self.new.journal.disk).faults }
         ensures stays { IsSameOpening self.old.core.limits self.old.run self.old.opened self.new.core.limits self.new.run self.new.opened }
+        ensures news { start_of self.new.news ≡ start_of self.old.news }
         ensures before { self.new.before ≡ self.old.before }
         ensures first { self.new.first ≡ self.old.first }
     {
@@ -260,12 +295,13 @@ impl<D: Disk> Durable<D> {
 }
 
 /// Its items are the committed entries, and the mark where a device failed; a call is a batch that isn't empty; a question
-/// is the place of a field.
+/// is how a field stands, or which entries there are from a place on.
 impl<D: Disk> Object for Durable<D> {
     ghost use Rattle.std.specs.Prelude.{◌≢◌, []};
     ghost use Rattle.entry_history.specs.Commits.{IsCommit};
-    ghost use Rattle.durable_catalogue.specs.Durables.{Opening, mark_of, events, opening};
-    ghost use Rattle.durable_catalogue.specs.Questions.{IsSeen};
+    ghost use Rattle.durable_catalogue.specs.Durables.{mark_of, events, opening};
+    ghost use Rattle.durable_catalogue.specs.News.{start_of};
+    ghost use Rattle.durable_catalogue.specs.Asked.{Beginning, IsAnswered};
 
     type Item = Event;
 
@@ -273,29 +309,35 @@ impl<D: Disk> Object for Durable<D> {
 
     type Reply = BatchReply;
 
-    type Question = Place;
+    type Question = Ask;
 
-    type Answer = Result<Seen, NoMemory>;
+    type Answer = Result<Told, NoMemory>;
 
-    ghost Origin = { Opening };
+    ghost Origin = { Beginning };
 
     ghost history = { λ d. events d.core.history (mark_of d.mark) };
 
-    ghost origin = { λ d. opening d.core.limits d.run d.opened (D.seen d.before.value) (D.seen d.first.value.disk) };
+    ghost origin = { λ d. record {
+      opening = opening d.core.limits d.run d.opened (D.seen d.before.value) (D.seen d.first.value.disk);
+      news = start_of d.news;
+    } };
 
     ghost takes = { λ batch. batch ≢ [] };
 
-    ghost replies = { λ o before batch reply added. IsCommit o.origin before batch reply added };
+    ghost replies = { λ o before batch reply added. IsCommit o.opening.origin before batch reply added };
 
-    ghost answers = { λ o history place answer. IsSeen history place answer };
+    ghost answers = { λ o history question answer. IsAnswered o.news history question answer };
 
     fn apply(&mut self, batch: Batch) -> BatchReply {
         let alloc = self.alloc;
         self.commit(alloc, batch)
     }
 
-    fn look(&self, place: &Place) -> Result<Seen, NoMemory> {
-        look_at(self.alloc, &self.core, place)
+    fn look(&self, question: &Ask) -> Result<Told, NoMemory> {
+        match question {
+            Ask::Status(place) => tell_status(self.alloc, &self.core, place),
+            Ask::Since { from, most } => tell_since(self.alloc, &self.news, *from, *most),
+        }
     }
 
     fn count(&self) -> u64 {

@@ -6,6 +6,7 @@ pub use durable::Durable;
 pub use fault::{OpenFault, open_fault};
 pub use memory::Memory;
 pub use opening::{find_log, refuse_log, take_log};
+pub use question::{Ask, Told};
 pub use seen::Seen;
 pub use taking::{EntryTaker, Reading, take_frames};
 
@@ -16,7 +17,9 @@ mod fitting;
 pub mod laws;
 mod loading;
 mod memory;
+mod news;
 mod opening;
+mod question;
 mod seen;
 mod staging;
 mod taking;

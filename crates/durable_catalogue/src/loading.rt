@@ -12,10 +12,10 @@ ghost use Rattle.durable_catalogue.specs.Openings.{IsUnloaded, IsUnread, catalog
 use crate::OpenFault;
 use crate::taking::{EntryTaker, Passing, take_frames};
 use catalogue_core::{Catalogue, CoreFault};
+use catalogue_rules::Steps;
 use commit_journal::{Frame, Version};
 use entry_record::Prepared;
 use marc_types::{Limits, NoMemory};
-use record_store::Steps;
 use std::alloc::Global;
 use std::marker::Brand;
 use std::sync::ledger::{Blank, Ledger};

@@ -5,10 +5,10 @@ ghost use Rattle.catalogue_rules.specs.Receipts.{receipts_behind};
 ghost use Rattle.durable_catalogue.specs.Staged.{with_all_staged};
 
 use catalogue_core::Catalogue;
+use catalogue_rules::Steps;
 use entry_history::Receipts;
 use entry_record::Prepared;
 use marc_types::NoMemory;
-use record_store::Steps;
 use std::alloc::Global;
 use std::sync::ledger::{Blank, Ledger};
 

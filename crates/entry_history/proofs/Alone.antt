@@ -1,17 +1,20 @@
 -- The payload of one entry, and what is read back of it.
-use Rattle.std.proofs.Common.{◌≡◌, ◌∙◌, ℕ, zero, suc, ◌≤◌, List, [], ◌∷◌, ◌++◌, length, refl, sym, ap, arith, append_assoc}
+use Rattle.std.proofs.Common.{◌≡◌, ◌∙◌, ℕ, zero, suc, ◌+◌, ◌<◌, ◌≤◌, ◌^◌, List, [], ◌∷◌, ◌++◌, length, refl, sym, ap, subst, arith, append_assoc, length-append}
 use Rattle.std.specs.Int.{w32, w64, to_be_bytes}
 use Rattle.std.specs.List.{All}
 use Rattle.iso2709_record.proofs.Spelled.{parts_same}
 use Rattle.marc_types.specs.declared.entry.Entry.{Entry}
 use Rattle.entry_history.specs.Format.{payload_head, entry_bytes, payload_bytes, payload_of}
-use Rattle.entry_history.specs.Payloads.{IsEntry, IsOf, CanFollow, Holds, Newer}
+use Rattle.entry_history.specs.Alone.{IsPayload, copies}
+use Rattle.entry_history.specs.Payloads.{IsEntry, IsOf, CanFollow, HoldsNow, Holds, Newer, Older}
+use Rattle.entry_history.specs.Readers.{HasExtent}
+use Rattle.entry_history.specs.declared.extent.Extent.{Extent}
 use Rattle.entry_history.proofs.Spelled.{long_once, short_once, entry_once}
 use Rattle.entry_history.proofs.Histories.{holds_once}
 use Rattle.entry_history.proofs.Batches.{length-alone, entry_bounded}
 use Rattle.entry_record.proofs.Admitted.{admitted_library}
-use Rattle.entry_record.specs.History.{IsAdmitted}
-use Rattle.std.specs.Prelude.{Bool, IsTrue, ◌↔◌}
+use Rattle.entry_record.specs.History.{IsAdmitted, last_run}
+use Rattle.std.specs.Prelude.{Bool, IsTrue, ◌↔◌, IfOk, Result, Ok, Err}
 
 -- an entry is of its own run, loader and library
 own : (e : Entry) → All (IsOf e.run e.loader e.library) (e ∷ [])
@@ -70,3 +73,55 @@ payload_some e payload is = omega (arith, ap length is, length-alone e)
 
 pub payload_small : (e : Entry) (payload : List ℕ) → IsAdmitted e → payload ≡ payload_of e → length payload ≤ 100041
 payload_small e payload h is = omega (arith, ap length is, length-alone e, entry_bounded e h, admitted_library e h)
+
+-- ---- an entry behind as many of its run as the run needs before it
+
+copies_long : (n : ℕ) (e : Entry) → length (copies n e) ≡ n
+copies_long zero e = refl
+copies_long (suc n) e = ap suc (copies_long n e)
+
+copies_run : (n : ℕ) (e : Entry) → last_run (copies (suc n) e) ≡ e.run
+copies_run zero e = refl
+copies_run (suc n) e = copies_run n e
+
+own_copies_run : (n : ℕ) (e : Entry) → e.run ≡ n → last_run (copies n e) ≡ n
+own_copies_run zero e is = refl
+own_copies_run (suc n) e is = copies_run n e ∙ is
+
+pub extent_of_copies : (e : Entry) (run : ℕ) → e.run ≡ run → HasExtent (copies e.run e) (record { count = run; last_run = run })
+extent_of_copies e run is = record { count_is = sym is ∙ sym (copies_long e.run e); last_is = sym is ∙ sym (own_copies_run e.run e refl) }
+
+follows_copies : (e : Entry) → CanFollow (copies e.run e) e.run
+follows_copies e = record { rises = omega (arith, own_copies_run e.run e refl); bounded = omega (arith, copies_long e.run e) }
+
+-- what is read there is the entry
+pub read_alone_is : (e : Entry) (items : List Entry) (payload : List ℕ) → IsPayload e payload → HoldsNow (copies e.run e) items payload → items ≡ e ∷ []
+read_alone_is e items payload of holds =
+    read_back (copies e.run e) items e of.entry (follows_copies e) (subst (Holds 2 (copies e.run e) items) of.is (Newer refl holds))
+
+held_now : (before entries : List Entry) (payload : List ℕ) → Holds 2 before entries payload → HoldsNow before entries payload
+held_now before entries payload (Newer is holds) = holds
+held_now before entries payload (Older is holds) = absurd (cc)
+
+-- and something is
+pub none_refused : (e : Entry) (payload : List ℕ) → IsPayload e payload → ((entries : List Entry) → HoldsNow (copies e.run e) entries payload → ⊥) → ⊥
+none_refused e payload of none =
+    none (e ∷ []) (held_now (copies e.run e) (e ∷ []) payload (subst (Holds 2 (copies e.run e) (e ∷ [])) (sym of.is) (held_alone (copies e.run e) e of.entry (follows_copies e))))
+
+-- a payload begins with the run of its entry
+pub run_first : (e : Entry) (payload rest : List ℕ) (run : ℕ) → IsPayload e payload → payload ≡ to_be_bytes w64 run ++ rest → run < 2 ^ 64 → e.run ≡ run
+run_first e payload rest run of is fits = (long_once e.run run _ rest of.entry.run_fits fits (sym (parts e) ∙ sym of.is ∙ is)).0
+
+pub run_there : (e : Entry) (payload : List ℕ) → IsPayload e payload → length payload < 8 → ⊥
+run_there e payload of short = absurd (omega (arith, short, ap length of.is, length-alone e))
+
+pub only_one : (item e : Entry) (items : List Entry) (payload : List ℕ) → item ∷ [] ≡ items → items ≡ e ∷ [] → IsPayload e payload → IsPayload item payload
+only_one item e items payload only is of = subst (λ x. IsPayload x payload) (sym (cons_entry item e (only ∙ is))) of
+  where
+    cons_entry : (a b : Entry) → a ∷ [] ≡ b ∷ [] → a ≡ b
+    cons_entry a b same = cc
+
+-- an entry whose payload it is, is the entry
+pub of_one_entry : {F : Type 0} (e : Entry) (payload : List ℕ) (result : Result Entry F) → IsPayload e payload → IfOk result (λ item. IsPayload item payload) → IfOk result (λ item. item ≡ e)
+of_one_entry e payload (Ok item) of is = payload_once item e is.entry of.entry (sym is.is ∙ of.is)
+of_one_entry e payload (Err fault) of is = tt

@@ -1,9 +1,16 @@
 //! An entry of which its payload alone is kept.
-ghost use Rattle.std.specs.Prelude.{◌≡◌, ◌≤◌, ◌↔◌, length, IsTrue, IfOk};
+ghost use Rattle.std.specs.Prelude.{◌≡◌, ◌≤◌, ◌↔◌, [], ◌∷◌, length, IsTrue, IfOk};
+ghost use Rattle.marc_types.specs.declared.entry.Entry.{Entry as AnyEntry};
+ghost use Rattle.entry_history.specs.Alone.{IsPayload, HoldsOne, copies};
 ghost use Rattle.entry_history.specs.Format.{payload_of};
 ghost use Rattle.entry_history.specs.Payloads.{IsEntry};
+ghost use Rattle.entry_history.specs.Readers.{HasExtent};
 
+use crate::EntryFault;
+use crate::extent::Extent;
 use crate::laws::can_stand_in_a_payload;
+use crate::numbers::long_number;
+use crate::payload::read_payload;
 use crate::written::payload;
 use entry_record::Prepared;
 use marc_types::{Entry, NoMemory};
@@ -36,6 +43,43 @@ fn are_equal(one: &[u8], other: &[u8]) -> bool
     one == other
 }
 
+/// How far a history goes that the entry of a payload can follow: that of as many entries of its run as the run needs before it.
+fn extent_before(payload: &[u8]) -> Extent
+    ensures { (e : AnyEntry) → IsPayload e payload.now → HasExtent (copies e.run e) result }
+{
+    let run = match long_number(payload) {
+        Some((run, _behind)) => run,
+        None => 0,
+    };
+    Extent {
+        count: run,
+        last_run: run,
+    }
+}
+
+fn only(items: Vec<Prepared>) -> Prepared
+    requires { length items.items ≡ 1 }
+    ensures { result ∷ [] ≡ items.items }
+{
+    let mut items = items;
+    match items.pop() {
+        Some(item) => item,
+        None => unreachable!(),
+    }
+}
+
+/// The entry of a payload that holds it alone.
+fn read_alone(alloc: Global, payload: &[u8]) -> Result<Prepared, NoMemory>
+    requires { HoldsOne payload.now }
+    ensures { IfOk result (λ item. IsPayload item payload.now) }
+{
+    match read_payload(alloc, extent_before(payload), payload) {
+        Ok(items) => Ok(only(items)),
+        Err(EntryFault::NoMemory) => Err(NoMemory),
+        Err(EntryFault::BadEntry) => unreachable!(),
+    }
+}
+
 impl EntryPayload {
     /// That of a prepared entry.
     pub fn of(alloc: Global, item: &Prepared) -> Result<Self, NoMemory>
@@ -57,6 +101,13 @@ impl EntryPayload {
         ensures entry { IsEntry self.now }
     {
         self.payload.as_slice()
+    }
+
+    /// The entry, prepared again from its payload.
+    pub fn prepare(&self, alloc: Global) -> Result<Prepared, NoMemory>
+        ensures { IfOk result (λ item. item ≡ self.now) }
+    {
+        read_alone(alloc, self.payload())
     }
 
     /// Whether it is that of this item's entry.

@@ -1,4 +1,5 @@
 pub mod Brought
+pub mod Crosses
 pub mod Former
 pub mod Members
 pub mod Ordered

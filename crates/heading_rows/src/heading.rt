@@ -5,11 +5,12 @@ ghost use Rattle.catalogue_rules.specs.Settle.{arrival_of};
 ghost use Rattle.heading_rows.specs.Listing.{change_of, row_in};
 
 use crate::shared_row::SharedRow;
-use entry_record::Preparation;
-use marc_types::{Class, Entry, Key, NoMemory, TryCopy};
+use entry_record::{Preparation, Prepared};
+use marc_types::{Class, Entry, Key, NoMemory, Sequence, TryCopy};
 use std::alloc::Global;
 use std::marker::Model;
 use std::snapshot::Snapshot;
+use std::sync::Arc;
 
 /// What an entry does to the authorities that are there.
 #[derive(Drop)]
@@ -19,15 +20,15 @@ pub(crate) enum Change {
     Kept(Option<SharedRow>),
 }
 
-/// What a table of rows takes of an entry: its key, and what it does to the authority there. Contracts see it as the whole entry.
+/// The key of an entry, and what it does to the authority there. Contracts see it as the whole entry.
 #[derive(Drop)]
-pub struct Heading {
+pub(crate) struct KeyedChange {
     whole: Snapshot<Entry>,
     pub(crate) key: Key,
     pub(crate) change: Change,
 }
 
-impl Model for Heading {
+impl Model for KeyedChange {
     ghost use Rattle.std.specs.Prelude.{◌≡◌};
     ghost use Rattle.marc_types.specs.declared.entry.Entry.{Entry};
     ghost use Rattle.catalogue_rules.specs.Settle.{arrival_of};
@@ -51,6 +52,7 @@ fn established_row(alloc: Global, preparation: &Preparation) -> Result<Option<Sh
     }
 }
 
+/// What an entry does to the authorities, of what was prepared of it.
 #[tactic(auto, unfolding(crate::specs::Listing::change_of))]
 fn change_of(alloc: Global, preparation: &Preparation) -> Result<Change, NoMemory>
     ensures { IfOk result (λ change. change ≡ change_of (arrival_of preparation.now)) }
@@ -66,21 +68,60 @@ fn change_of(alloc: Global, preparation: &Preparation) -> Result<Change, NoMemor
     }
 }
 
+/// The same, of an entry that was prepared for a commit.
+#[tactic(auto, unfolding(crate::specs::Listing::change_of))]
+fn change_by(alloc: Global, item: &Prepared) -> Result<Change, NoMemory>
+    ensures { IfOk result (λ change. change ≡ change_of (arrival_of item.now)) }
+{
+    match item.entry().class {
+        // a publication does nothing here, and isn't copied
+        Class::Bibliographic => Ok(Change::Nothing),
+        Class::Authority => {
+            let (_, preparation) = item.copy(alloc)?.into_parts();
+            change_of(alloc, &preparation)
+        }
+    }
+}
+
+/// What a table of rows takes of an entry. It stands once in memory, however many have it. Contracts see it as the whole entry.
+#[derive(Drop)]
+pub struct Heading {
+    keyed: Arc<KeyedChange, Global>,
+}
+
+impl Model for Heading {
+    ghost use Rattle.marc_types.specs.declared.entry.Entry.{Entry};
+
+    ghost Value = { Entry };
+
+    ghost view = { λ h. h.keyed.value };
+}
+
+/// What a table takes of entries in a row.
+pub type Headings = Sequence<Heading>;
+
 impl Heading {
-    /// What a table takes of an entry that was prepared for a commit.
-    pub fn of_preparation(
-        alloc: Global,
-        whole: Snapshot<Entry>,
-        preparation: &Preparation,
-    ) -> Result<Heading, NoMemory>
-        requires { whole.value ≡ preparation.now }
-        ensures { IfOk result (λ heading. heading ≡ preparation.now) }
+    /// The heading of an entry that does this.
+    fn of_change(alloc: Global, entry: &Entry, change: Change) -> Result<Heading, NoMemory>
+        requires { change ≡ change_of (arrival_of entry.now) }
+        ensures { IfOk result (λ heading. heading ≡ entry.now) }
     {
+        let keyed = KeyedChange {
+            whole: Snapshot::of(entry),
+            key: entry.key.copy(alloc)?,
+            change,
+        };
         Ok(Heading {
-            whole,
-            key: preparation.key().copy(alloc)?,
-            change: change_of(alloc, preparation)?,
+            keyed: Arc::new(alloc, keyed)?,
         })
+    }
+
+    /// What a table takes of an entry that was prepared for a commit.
+    pub fn of_prepared(alloc: Global, item: &Prepared) -> Result<Heading, NoMemory>
+        ensures { IfOk result (λ heading. heading ≡ item.now) }
+    {
+        let change = change_by(alloc, item)?;
+        Heading::of_change(alloc, item.entry(), change)
     }
 
     /// What a table takes of an entry.
@@ -90,10 +131,22 @@ impl Heading {
         let key = entry.key.copy(alloc)?;
         let rec = entry.rec.copy(alloc)?;
         let (_, preparation) = Preparation::of_record(alloc, entry.class, key, rec)?;
+        let change = change_of(alloc, &preparation)?;
+        Heading::of_change(alloc, entry, change)
+    }
+
+    /// The same, for one more owner. It takes no memory; there is a greatest number of owners.
+    pub fn again(&self) -> Result<Heading, NoMemory>
+        ensures { IfOk result (λ twin. twin ≡ self.now) }
+    {
         Ok(Heading {
-            whole: Snapshot::of(entry),
-            key: entry.key.copy(alloc)?,
-            change: change_of(alloc, &preparation)?,
+            keyed: Arc::try_clone(&self.keyed)?,
         })
+    }
+
+    pub(crate) fn keyed(&self) -> &KeyedChange
+        ensures { result.now ≡ self.now }
+    {
+        &self.keyed
     }
 }

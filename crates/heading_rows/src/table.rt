@@ -2,7 +2,7 @@
 ghost use Rattle.std.specs.Prelude.{◌≡◌, IfOk, OnOk, OnErr};
 ghost use Rattle.heading_rows.specs.Listing.{empty_table, page_at, take_entry};
 
-use crate::heading::{Change, Heading};
+use crate::heading::{Change, Heading, KeyedChange};
 use crate::listing::Listing;
 use crate::row::BrowsePage;
 use marc_types::{Form, NoMemory};
@@ -42,10 +42,11 @@ impl Table {
         ensures err { OnErr result (self.new ≡ self.old) }
     {
         let upto = self.upto.checked_add(1).ok_or(NoMemory)?;
-        match &heading.change {
+        let KeyedChange { key, change, .. } = heading.keyed();
+        match change {
             Change::Nothing => {}
-            Change::TakenAway => self.listing.take_away(alloc, &heading.key)?,
-            Change::Kept(row) => self.listing.keep(alloc, &heading.key, row)?,
+            Change::TakenAway => self.listing.take_away(alloc, key)?,
+            Change::Kept(row) => self.listing.keep(alloc, key, row)?,
         }
         self.upto = upto;
         Ok(())

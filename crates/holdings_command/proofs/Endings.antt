@@ -17,7 +17,7 @@ use Rattle.console_lines.specs.Ends.{Outcome, IsTold, TellsNoFault, IsSilent, Is
 use Rattle.console_lines.specs.declared.end.End.{End}
 use Rattle.console_lines.specs.declared.end.End.TheVariants.{Done, Refused, Unwritten as NotWritten, Told}
 use Rattle.console_lines.specs.declared.end.Unwritten.{Unwritten}
-use Rattle.console_lines.specs.declared.end.Unwritten.TheVariants.{Out, Report, Console}
+use Rattle.console_lines.specs.declared.end.Unwritten.TheVariants.{Out, Side, Console}
 use Rattle.console_lines.specs.declared.end.OutputsFault.{OutputsFault}
 use Rattle.console_lines.specs.declared.end.OutputsFault.TheVariants.{NoMemory as RanOut, Unwritten as NotBoth}
 use Rattle.console_lines.specs.declared.fault.Fault.{Fault}
@@ -37,7 +37,7 @@ use Rattle.holdings_export.specs.Output.{holdings_export, holdings_rest}
 use Rattle.holdings_command.specs.Lines.{holdings_results}
 use Rattle.holdings_command.specs.Shelving.{IsFaultOfShelving}
 use Rattle.holdings_command.specs.Ready.{IsReady}
-use Rattle.holdings_command.specs.Outputs.{AreWritten, AreStopped, AtFirst, AtSecond}
+use Rattle.output_files.specs.Outputs.{AreWritten, AreStopped, AtFirst, AtSecond}
 use Rattle.holdings_command.specs.Attaching.{rest_unwritten, EndsAttaching, Due, due_of, IsDelivered, OutFailed, RestFailed, ConsoleFailed, Whole, IsAttached, AttachesHoldings}
 use Rattle.holdings_command.specs.declared.ready.Ready.{Ready}
 use Rattle.holdings_command.proofs.OnShelves.{there_more}
@@ -142,7 +142,7 @@ module _ (journal out rest : List ℕ) (library : Library) (code : Option (List 
         device = λ also. cause (opening_device reason (told_once o.end fault Device is also));
         input = λ also. absurd (opening_input reason (told_once o.end fault Input is also));
         out_cause = λ also. absurd (told_not_unwritten o.end fault Out is also);
-        rest_cause = λ also. absurd (told_not_unwritten o.end fault Report is also);
+        rest_cause = λ also. absurd (told_not_unwritten o.end fault Side is also);
         console_cause = λ also. absurd (told_not_unwritten o.end fault Console is also);
         history = λ behind. absurd (not_behind behind);
         durable = λ behind. absurd (not_behind behind);
@@ -151,7 +151,7 @@ module _ (journal out rest : List ℕ) (library : Library) (code : Option (List 
     where
       told_not_stopped : (why : Fault) → o.end ≡ Told why → (o.end ≡ out_unwritten) ⊎ (o.end ≡ rest_unwritten) → ⊥
       told_not_stopped why is (inl also) = told_not_unwritten o.end why Out is also
-      told_not_stopped why is (inr also) = told_not_unwritten o.end why Report is also
+      told_not_stopped why is (inr also) = told_not_unwritten o.end why Side is also
 
       not_behind : TellsNoFault o.end ⊎ (o.end ≡ Told Input) → ⊥
       not_behind (inl untold) = never_told o.end (fault_of_opening reason) untold is
@@ -190,7 +190,7 @@ module _ (journal out rest : List ℕ) (library : Library) (code : Option (List 
       device = λ also. absurd (subst IsFaultOfShelving (told_once o.end why Device is also) kind);
       input = λ also. cause (told_once o.end why Input is also);
       out_cause = λ also. absurd (told_not_unwritten o.end why Out is also);
-      rest_cause = λ also. absurd (told_not_unwritten o.end why Report is also);
+      rest_cause = λ also. absurd (told_not_unwritten o.end why Side is also);
       console_cause = λ also. absurd (told_not_unwritten o.end why Console is also);
       history = λ behind tells. fitting_history history (log_bytes o.old journal) (r.has tells) r.within;
       durable = λ behind tells. r.durable tells;
@@ -199,7 +199,7 @@ module _ (journal out rest : List ℕ) (library : Library) (code : Option (List 
       where
         told_not_stopped : (o.end ≡ out_unwritten) ⊎ (o.end ≡ rest_unwritten) → ⊥
         told_not_stopped (inl also) = told_not_unwritten o.end why Out is also
-        told_not_stopped (inr also) = told_not_unwritten o.end why Report is also
+        told_not_stopped (inr also) = told_not_unwritten o.end why Side is also
 
     -- what is due was delivered, as far as it could be
     pub attaches : TellsNoFault o.end → (o.end ≡ out_unwritten → SameBut o.old o.new (journal ∷ out ∷ [])) → ((o.end ≡ out_unwritten) ⊎ (o.end ≡ rest_unwritten) → IsSilent o)
@@ -238,14 +238,14 @@ module _ (journal out rest : List ℕ) (library : Library) (code : Option (List 
           let here : o.end ≡ out_unwritten = end ∙ ap NotWritten first in
           let untouched : o.new.file rest ≡ o.old.file rest = alone.files rest ((λ e. no_journal (sym e)), ((λ e. no_out (sym e)), tt)) in
           attaches (subst TellsNoFault (sym end) tt) (λ also. alone) (λ either. silent) (λ also. up)
-          (λ also. let no : Out ≡ Report = unwritten_once o.end Out Report here also in cc)
+          (λ also. let no : Out ≡ Side = unwritten_once o.end Out Side here also in cc)
           (λ also. let no : Out ≡ Console = unwritten_once o.end Out Console here also in cc) ready is
           (λ bytes tells. OutFailed here (left tells) untouched silent)
       attaches_stopped which no_journal no_out end silent (AtSecond second up whole left) =
           let here : o.end ≡ rest_unwritten = end ∙ ap NotWritten second in
-          attaches (subst TellsNoFault (sym end) tt) (λ also. let no : Report ≡ Out = unwritten_once o.end Report Out here also in cc) (λ either. silent)
-          (λ also. let no : Report ≡ Out = unwritten_once o.end Report Out here also in cc) (λ also. up)
-          (λ also. let no : Report ≡ Console = unwritten_once o.end Report Console here also in cc) ready is
+          attaches (subst TellsNoFault (sym end) tt) (λ also. let no : Side ≡ Out = unwritten_once o.end Side Out here also in cc) (λ either. silent)
+          (λ also. let no : Side ≡ Out = unwritten_once o.end Side Out here also in cc) (λ also. up)
+          (λ also. let no : Side ≡ Console = unwritten_once o.end Side Console here also in cc) ready is
           (λ bytes tells. RestFailed here (whole tells) (left tells) silent)
 
       -- both were written, and the console was told the text or a front of it
@@ -267,8 +267,8 @@ module _ (journal out rest : List ℕ) (library : Library) (code : Option (List 
               → AreWritten out rest (holdings_export (kept_keys code) (state_of history) ready.shelf) (holdings_rest (state_of history) ready.shelf) o.new
               → IsResultTold o.told o.now o.faults o.faults_now (string_bytes ready.text) ready.refused o.end
               → IsDelivered (ready_due library code bytes (state_of history) ready out rest o) out rest o
-          delivered bytes are (ResultTold end line) = Whole end are.whole are.rest_whole line
-          delivered bytes are (ResultUntold end up front) = ConsoleFailed end are.whole are.rest_whole front
+          delivered bytes are (ResultTold end line) = Whole end are.whole are.side_whole line
+          delivered bytes are (ResultUntold end up front) = ConsoleFailed end are.whole are.side_whole front
 
       -- the outputs were written or not, and the console told
       pub attaches_ended : {T : Type 0} → (written : Result T OutputsFault) → journal ≢ rest → out ≢ rest

@@ -6,11 +6,9 @@ use Rattle.marc_types.specs.Order.{text_Decides}
 use Rattle.outside.specs.Fault.{Rose}
 use Rattle.outside.specs.Room.{RoomView, SameBut}
 use Rattle.outside.proofs.Rooms.{same_but_first, same_but_more, same_but_none, same_but_then}
-use Rattle.output_files.specs.Outputs.{IsOutputLeft}
+use Rattle.output_files.specs.Outputs.{IsOutputLeft, AreWritten, AreStopped, AtFirst, AtSecond}
 use Rattle.output_files.proofs.Parts.{left_since, left_until}
 use Rattle.console_lines.specs.declared.end.Unwritten.{Unwritten}
-use Rattle.console_lines.specs.declared.end.Unwritten.TheVariants.{Out, Report}
-use Rattle.holdings_command.specs.Outputs.{AreWritten, AreStopped, AtFirst, AtSecond}
 
 same_or_not : (a b : List ℕ) → (a ≡ b) ⊎ (a ≢ b)
 same_or_not a b = let same = text_Decides a b in decided (bytes_eq a b) same.0 same.1
@@ -38,19 +36,6 @@ closed_one old new a apart at_a free name = decided (same_or_not name a)
     decided : (name ≡ a) ⊎ (name ≢ a) → new.open_as name ≡ None
     decided (inl is) = subst (λ n. new.open_as n ≡ None) (sym is) at_a
     decided (inr other) = apart.open_names name (other, tt) ∙ free name
-
--- two outputs, one written after the other
-pub first_apart : (old new : RoomView) (out rest : List ℕ) → SameBut old new (out ∷ []) → SameBut old new (out ∷ rest ∷ [])
-first_apart old new out rest first = same_but_first old new out (rest ∷ []) first
-
-pub both_apart : (old mid new : RoomView) (out rest : List ℕ) → SameBut old mid (out ∷ []) → SameBut mid new (rest ∷ []) → SameBut old new (out ∷ rest ∷ [])
-both_apart old mid new out rest first second =
-    let names : List (List ℕ) = out ∷ rest ∷ [] in
-    same_but_then old mid new names (first_apart old mid out rest first) (same_but_more mid new (rest ∷ []) names (λ n other. other.1) second)
-
--- the second output, where the first was written
-pub second_is_free : (old mid : RoomView) (out rest : List ℕ) → out ≢ rest → SameBut old mid (out ∷ []) → old.open_as rest ≡ None → mid.open_as rest ≡ None
-second_is_free old mid out rest differ first free = first.open_names rest ((λ e. differ (sym e)), tt) ∙ free
 
 -- the journal was opened and closed again, and nothing else changed
 pub opened_alone : (old opened read new : RoomView) (journal : List ℕ) → SameBut old opened (journal ∷ []) → SameBut opened read []
@@ -107,7 +92,7 @@ module _ (old opened read written new : RoomView) (journal out rest : List ℕ) 
     pub all_written : (read.tells ≡ true → AreWritten out rest due due_rest written) → old.tells ≡ true → AreWritten out rest due due_rest new
     all_written are tells = record {
       whole = whole out no_out due (are (read_tells tells)).whole;
-      rest_whole = whole rest no_rest due_rest (are (read_tells tells)).rest_whole;
+      side_whole = whole rest no_rest due_rest (are (read_tells tells)).side_whole;
     }
 
     pub all_stopped : (which : Unwritten) → AreStopped (out ∷ []) out rest due due_rest read written which
@@ -123,30 +108,3 @@ pub read_there : (P : List ℕ → Type 0) (old opened : RoomView) (journal file
     → (opened.tells ≡ true → IsSomeAnd (opened.file file) P) → old.tells ≡ true → IsSomeAnd (old.file file) P
 read_there P old opened journal file differ apart there tells =
     subst (λ f. IsSomeAnd f P) (apart.files file (differ, tt)) (there (apart.tells ∙ tells))
-
--- two outputs, of which the first was written
-module _ (old mid new : RoomView) (out rest : List ℕ) (differ : out ≢ rest) (first : SameBut old mid (out ∷ [])) (second : SameBut mid new (rest ∷ [])) where
-  pub first_stays : new.file out ≡ mid.file out
-  first_stays = second.files out (differ, tt)
-
-  pub first_closed : mid.open_as out ≡ None → new.open_as out ≡ None
-  first_closed closed = second.open_names out (differ, tt) ∙ closed
-
-  pub both_written : (due due_rest : List ℕ) → (old.tells ≡ true → mid.file out ≡ Some due) → (mid.tells ≡ true → new.file rest ≡ Some due_rest)
-      → old.tells ≡ true → AreWritten out rest due due_rest new
-  both_written due due_rest whole rest_whole tells = record {
-    whole = first_stays ∙ whole tells;
-    rest_whole = rest_whole (first.tells ∙ tells);
-  }
-
-  pub second_failed : (due due_rest : List ℕ) → (old.tells ≡ true → mid.file out ≡ Some due) → Rose (mid.out_faults rest) (new.out_faults rest)
-      → (mid.tells ≡ true → IsOutputLeft mid new rest due_rest) → AreStopped (out ∷ []) out rest due due_rest old new Report
-  second_failed due due_rest whole up left =
-      AtSecond refl (omega (arith, first.outs rest, up)) (λ tells. first_stays ∙ whole tells)
-      (λ tells. left_since old mid new rest due_rest (out ∷ []) ((λ e. differ (sym e)), tt) first (left (first.tells ∙ tells)))
-
--- the first could not be written
-pub first_failed : (old new : RoomView) (out rest : List ℕ) (due due_rest : List ℕ) → SameBut old new (out ∷ [])
-    → Rose (old.out_faults out) (new.out_faults out) → (old.tells ≡ true → IsOutputLeft old new out due)
-    → AreStopped (out ∷ []) out rest due due_rest old new Out
-first_failed old new out rest due due_rest apart up left = AtFirst refl up left apart

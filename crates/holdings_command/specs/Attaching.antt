@@ -10,7 +10,7 @@ use Rattle.command_words.specs.declared.library.Library.{Library}
 use Rattle.catalogue_rules.specs.State.{State}
 use Rattle.catalogue_rules.specs.Settle.{state_of}
 use Rattle.durable_catalogue.specs.Logs.{HasHistory}
-use Rattle.console_lines.specs.Ends.{Outcome, IsTold, TellsNoFault, IsSilent, end_of, out_unwritten, report_unwritten, console_unwritten}
+use Rattle.console_lines.specs.Ends.{Outcome, IsTold, TellsNoFault, IsSilent, end_of, out_unwritten, side_unwritten, console_unwritten}
 use Rattle.console_lines.specs.declared.end.End.{End}
 use Rattle.console_lines.specs.declared.end.End.TheVariants.{Done, Refused, Unwritten, Told}
 use Rattle.console_lines.specs.declared.fault.Fault.{Fault}
@@ -26,9 +26,9 @@ use Rattle.file_holdings.specs.declared.refused.RefusedHolding.{RefusedHolding}
 use Rattle.holdings_export.specs.Output.{holdings_export, holdings_rest}
 use Rattle.holdings_command.specs.Lines.{holdings_results}
 
--- the end where REST could not be written: it is the second output, as REPORT is that of `run`
+-- the end where REST, the side output, could not be written
 abbrev pub rest_unwritten : End
-rest_unwritten = report_unwritten
+rest_unwritten = side_unwritten
 
 -- how it ends: a log of an older version is read too
 abbrev pub EndsAttaching : End → Type 0

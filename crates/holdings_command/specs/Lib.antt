@@ -1,5 +1,4 @@
 pub mod Shelving
 pub mod Lines
 pub mod Ready
-pub mod Outputs
 pub mod Attaching

@@ -8,7 +8,7 @@ use Rattle.outside.specs.Sink.{WritesFront}
 use Rattle.console_lines.specs.Ends.{Outcome, IsTold, console_unwritten}
 use Rattle.console_lines.specs.declared.end.End.{End}
 use Rattle.console_lines.specs.declared.end.End.TheVariants.{Done, Refused, Unwritten, Told}
-use Rattle.console_lines.specs.declared.end.Unwritten.TheVariants.{Out, Report, Console}
+use Rattle.console_lines.specs.declared.end.Unwritten.TheVariants.{Out, Side, Console}
 use Rattle.console_lines.specs.declared.fault.Fault.{Fault}
 use Rattle.console_lines.specs.declared.fault.Fault.TheVariants.{Usage, Input, Device, NotAJournal, Full, Memory, OldVersion, OtherHistory}
 use Rattle.journal_verification.specs.Contents.{IsVerified, IsNoJournal}
@@ -34,7 +34,7 @@ abbrev pub EndsVerifying : End → Type 0
 EndsVerifying Done = Unit {0}
 EndsVerifying Refused = ⊥
 EndsVerifying (Unwritten Out) = ⊥
-EndsVerifying (Unwritten Report) = ⊥
+EndsVerifying (Unwritten Side) = ⊥
 EndsVerifying (Unwritten Console) = Unit {0}
 EndsVerifying (Told Usage) = ⊥
 EndsVerifying (Told Input) = Unit {0}

@@ -3,7 +3,10 @@
 
 pub use order::are_in_order;
 pub use row::{KeptRow, KeptRows};
+pub use sound::is_sound;
 
 pub mod laws;
 mod order;
+mod reach;
 mod row;
+mod sound;

@@ -15,7 +15,7 @@ use Rattle.numbering.specs.declared.seat.Seat.{Seat}
 use Rattle.numbering.proofs.Numberlaws.{keeps_itself}
 use Rattle.entry_record.specs.Authority.{Linkable}
 use Rattle.catalogue_rules.specs.State.{KeptField, State, linkable_authorities, rows_of}
-use Rattle.record_store.specs.Store.{field_under, with_rows}
+use Rattle.catalogue_rules.specs.Store.{field_under, with_rows}
 use Rattle.numbered_store.specs.Numbered.{Numbered, keys_in as keys_by, with_field_of}
 use Rattle.numbered_store.specs.Rows.{with_row_field}
 use Rattle.link_table.specs.Links.{is_linked, leads_to}

@@ -14,7 +14,7 @@ use Rattle.numbering.specs.declared.seat.Seat.{Seat}
 use Rattle.numbering.proofs.Numberlaws.{alike, number_below}
 use Rattle.catalogue_rules.specs.State.{KeptField, KeptRecord, State}
 use Rattle.catalogue_rules.specs.Receipt.{kept_under}
-use Rattle.record_store.specs.Store.{StaysFit, StaysRecord, field_at, field_under}
+use Rattle.catalogue_rules.specs.Store.{StaysFit, StaysRecord, field_at, field_under}
 use Rattle.numbered_store.specs.Numbered.{Numbered, SuitsSeat as SuitsByNumber, field_of as field_by_number}
 use Rattle.wait_table.specs.Waits.{forms_of, has}
 use Rattle.wait_table.specs.declared.waiting.Asked.{Asked}

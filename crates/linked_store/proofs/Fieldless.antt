@@ -16,7 +16,7 @@ use Rattle.numbering.specs.Numbers.{IsNumberOf}
 use Rattle.numbering.specs.declared.seat.Seat.{Seat}
 use Rattle.catalogue_rules.specs.Receipt.{kept_under}
 use Rattle.catalogue_rules.specs.State.{KeptField, KeptRecord}
-use Rattle.record_store.specs.Store.{field_at, field_under}
+use Rattle.catalogue_rules.specs.Store.{field_at, field_under}
 use Rattle.wait_table.specs.Waits.{asks, asks_form, forms_of, has}
 use Rattle.wait_table.specs.declared.waiting.Asked.{Asked}
 use Rattle.wait_table.specs.declared.waiting.Asked.TheVariants.{One, Two}

@@ -27,15 +27,21 @@ two_begins false true zero None subject none = refl
 two_begins false true zero (Some kind) subject none = absurd (false≢true (sym none))
 two_begins false false zero name subject none = refl
 
--- read from the left, as from the right
-or_again : (x y z : Bool) → (x || y || z) ≡ (x || (y || z))
-or_again true y z = refl
-or_again false y z = refl
+-- any of the beginnings, as the rules read them
+one_or : (x : Bool) → (x || false) ≡ x
+one_or true = refl
+one_or false = refl
+
+three_or : (x y z : Bool) → (x || (y || (z || false))) ≡ (x || y || z)
+three_or true y z = refl
+three_or false true z = refl
+three_or false false z = one_or z
 
 pub no_heading : (class : Class) (f : Field) → can_be_heading class (tag_of f) ≡ false → kind_of class f ≡ None
 unfolding kind_by_tag any_kind
 no_heading class (Control tag text) none = refl
-no_heading Authority (Variable tag ind1 ind2 subs) none = one_begin (tag.a == 53) (any_kind tag.b tag.c) none
+no_heading Authority (Variable tag ind1 ind2 subs) none =
+    one_begin (tag.a == 53) (any_kind tag.b tag.c) (ap (λ (b : Bool). b && is_some (any_kind tag.b tag.c)) (sym (one_or (tag.a == 53))) ∙ none)
 no_heading Bibliographic (Variable tag ind1 ind2 subs) none =
     two_begins (tag.a == 54) ((tag.a == 49) || (tag.a == 55) || (tag.a == 56)) (ind2 == 48) (name_kind tag.b tag.c) (subject_kind tag.b tag.c)
-    (ap (λ (b : Bool). ((tag.a == 54) || b) && is_some (any_kind tag.b tag.c)) (or_again (tag.a == 49) (tag.a == 55) (tag.a == 56)) ∙ none)
+    (ap (λ (b : Bool). ((tag.a == 54) || b) && is_some (any_kind tag.b tag.c)) (sym (three_or (tag.a == 49) (tag.a == 55) (tag.a == 56))) ∙ none)

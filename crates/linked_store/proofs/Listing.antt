@@ -18,7 +18,7 @@ use Rattle.catalogue_rules.specs.State.{KeptField, State, linkable_authorities}
 use Rattle.link_table.specs.Links.{is_linked}
 use Rattle.wait_table.specs.Waits.{names}
 use Rattle.catalogue_rules.specs.Settle.{is_linked_to}
-use Rattle.record_store.specs.Store.{field_under}
+use Rattle.catalogue_rules.specs.Store.{field_under}
 use Rattle.place_names.specs.Listed.{ListsEach}
 use Rattle.linking_laws.specs.Tables.{Agree, Tables, dropped_at, holds_at, index_row, linked_at}
 use Rattle.linking_laws.specs.Visits.{waits_for_key}

@@ -31,7 +31,7 @@ use Rattle.catalogue_rules.proofs.States.{IsFitArrival, fit_entry}
 use Rattle.entry_record.specs.History.{IsAdmitted}
 use Rattle.linking_laws.specs.Middle.{AreAuthoritiesInOrder}
 use Rattle.std.proofs.lemmas.List.Elements.{All-from_recursion, recursion_from_All}
-use Rattle.record_store.specs.Store.{field_at, field_under, with_rows}
+use Rattle.catalogue_rules.specs.Store.{field_at, field_under, with_rows}
 use Rattle.numbered_store.specs.Numbered.{Numbered, key_at as key_by_number, keys_in as keys_by, with_record}
 use Rattle.numbered_store.proofs.Shelving.{low_number}
 use Rattle.numbered_store.specs.Rows.{with_row}

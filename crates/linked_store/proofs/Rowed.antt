@@ -21,7 +21,7 @@ use Rattle.entry_record.specs.Authority.{base_form, full_form, heading_kind, is_
 use Rattle.catalogue_rules.specs.Choice.{asks_base, takes_subdivisions}
 use Rattle.catalogue_rules.specs.Settle.{awaits_key}
 use Rattle.catalogue_rules.specs.State.{KeptField}
-use Rattle.record_store.specs.Store.{field_under}
+use Rattle.catalogue_rules.specs.Store.{field_under}
 use Rattle.wait_table.specs.Waits.{asks, asks_form, forms_of, has, names, names_key as names_numbered}
 use Rattle.wait_table.specs.declared.waiting.Asked.{Asked}
 use Rattle.wait_table.specs.declared.waiting.Asked.TheVariants.{One, Two}

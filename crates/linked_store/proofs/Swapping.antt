@@ -10,7 +10,7 @@ use Rattle.marc_types.specs.declared.key.Key.{Key}
 use Rattle.numbering.specs.declared.seat.Seat.{Seat}
 use Rattle.iso2709_record.specs.Written.{fits}
 use Rattle.catalogue_rules.specs.State.{KeptField, KeptRecord, fields_of, rows_of}
-use Rattle.record_store.specs.Store.{StaysFit, StaysRecord, field_at, with_field}
+use Rattle.catalogue_rules.specs.Store.{StaysFit, StaysRecord, field_at, with_field}
 use Rattle.numbered_store.specs.Kept.{kept_record}
 use Rattle.numbered_store.specs.Numbered.{IsNumber, Numbered, SuitsSeat, field_of, keys_in, record_at, with_field_of, with_record}
 use Rattle.numbered_store.specs.Rows.{row_under}

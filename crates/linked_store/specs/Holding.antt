@@ -1,5 +1,6 @@
 -- Which of the two tables can have a row of a seat: the field that stands there tells.
-use Rattle.std.specs.Prelude.{◌≡◌, ℕ, ◌==◌, ◌||◌, ◌&&◌, Bool, Option, None, is_some, if◌then◌else◌}
+use Rattle.std.specs.Prelude.{◌≡◌, ℕ, ◌==◌, ◌&&◌, Bool, List, Option, None, is_some, codes, if◌then◌else◌}
+use Rattle.std.specs.List.{list_any}
 use Rattle.std.specs.Option.{option_map_or}
 use Rattle.marc_types.specs.declared.key.Class.{Class}
 use Rattle.marc_types.specs.declared.key.Class.TheVariants.{Authority, Bibliographic}
@@ -16,9 +17,12 @@ use Rattle.linked_store.specs.declared.held.RowHeld.{RowHeld}
 use Rattle.linked_store.specs.declared.held.RowHeld.TheVariants.{Link, Waiting, Nothing}
 
 -- the first characters of headings' tags
+abbrev pub heading_beginnings : Class → List ℕ
+heading_beginnings Authority = codes "5"
+heading_beginnings Bibliographic = codes "6178"
+
 abbrev pub begins_heading : Class → ℕ → Bool
-begins_heading Authority a = a == 53
-begins_heading Bibliographic a = (a == 54) || ((a == 49) || ((a == 55) || (a == 56)))
+begins_heading class a = list_any (λ c. a == c) (heading_beginnings class)
 
 -- a field with the tag can be a heading: it begins as a heading's, and ends as that of a kind
 abbrev pub can_be_heading : Class → Tag → Bool

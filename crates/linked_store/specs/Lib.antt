@@ -1,3 +1,4 @@
+pub mod Agreement
 pub mod Contents
 pub mod Fielding
 pub mod Frames

@@ -11,7 +11,7 @@ use Rattle.heading_fields.specs.Tables.{is_subdividable}
 use Rattle.numbering.specs.declared.seat.Seat.{Seat}
 use Rattle.catalogue_rules.specs.State.{KeptField, KeptRecord, State, empty_state}
 use Rattle.catalogue_rules.specs.Receipt.{kept_under}
-use Rattle.record_store.specs.Store.{StaysFit, StaysRecord, field_under}
+use Rattle.catalogue_rules.specs.Store.{StaysFit, StaysRecord, field_under}
 use Rattle.linking_laws.specs.Partway.{IsSteady}
 use Rattle.linking_laws.specs.Tables.{IsListing}
 use Rattle.form_index.specs.Order.{key_at}

@@ -19,6 +19,7 @@ use Rattle.linked_store.specs.Fielding.{IsRowFor}
 use Rattle.linked_store.specs.Frames.{contents}
 use Rattle.linked_store.specs.Turns.{IsWaitingOf, row_lent}
 use Rattle.linked_store.specs.declared.frame.Frame.{Frame}
+use Rattle.linked_store.specs.declared.own.OwnRecord.{OwnRecord}
 use Rattle.linked_store.specs.declared.seating.FieldRow.{FieldRow}
 use Rattle.linked_store.specs.declared.turns.LentRow.{LentRow}
 use Rattle.linked_store.specs.declared.turns.Row.{Row}
@@ -29,6 +30,10 @@ record_brought a = if is_deletion a.leader then None else Some (new_record a.lea
 
 abbrev pub fields_brought : Arrival → List Field
 fields_brought a = if is_deletion a.leader then [] else a.fields
+
+-- what a commit gets of the record that it placed
+abbrev pub own_record : Class → ℕ → OwnRecord
+own_record class number = record { class = class; number = number }
 
 -- ---- the index
 

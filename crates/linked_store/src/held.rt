@@ -5,7 +5,7 @@ ghost use Rattle.heading_fields.specs.Tables.{any_kind};
 ghost use Rattle.catalogue_rules.specs.State.{new_tie};
 ghost use Rattle.numbered_store.specs.Kept.{kept_record};
 ghost use Rattle.numbered_store.specs.Numbered.{field_of};
-ghost use Rattle.record_store.specs.Store.{field_at};
+ghost use Rattle.catalogue_rules.specs.Store.{field_at};
 ghost use Rattle.linked_store.specs.Holding.{begins_heading, can_be_heading, row_held, row_held_by};
 
 use crate::frame::Frame;

@@ -3,6 +3,8 @@
 #![tactic(auto)]
 
 pub use held::can_be_heading;
+pub use own::OwnRecord;
+pub use readable::ReadableStore;
 pub use store::LinkedStore;
 
 mod back;
@@ -14,7 +16,9 @@ mod held;
 pub mod laws;
 mod lending;
 mod lists;
+mod own;
 mod placing;
+mod readable;
 mod rows;
 mod seating;
 mod standings;

@@ -10,48 +10,46 @@ ghost use Rattle.numbered_store.specs.Kept.{kept_record};
 ghost use Rattle.linking_laws.specs.Commits.{placed_by};
 ghost use Rattle.linking_laws.specs.Partway.{HasAtMost};
 ghost use Rattle.linked_store.specs.Linked.{IsAhead, IsNumber, IsUnchanged, key_of};
-ghost use Rattle.linked_store.specs.Placing.{AreRowsOf, IsRowAt, fields_brought, noted_rows, record_brought};
+ghost use Rattle.linked_store.specs.Placing.{AreRowsOf, IsRowAt, fields_brought, noted_rows, own_record, record_brought};
 ghost use Rattle.linked_store.specs.Turns.{row_lent};
 
 use crate::back::go_back;
 use crate::lending::{LentForms, lent_forms};
+use crate::own::OwnRecord;
 use crate::seating::FieldRow;
 use crate::store::LinkedStore;
 use crate::turns::LentRow;
 use crate::wanted::named;
 use entry_record::Preparation;
-use marc_types::{Class, Field, NoMemory, Record, Tie};
-use numbered_store::Kept;
+use marc_types::{Class, Field, NoMemory, Record};
+use numbered_store::{Kept, NEW_TIE};
 use std::alloc::Global;
 use written_record::WrittenRecord;
 
-// A record comes in with no link, no field whole, and nothing awaited.
-const NEW_TIE: Tie = Tie {
-    key: None,
-    whole: false,
-    awaits: None,
-};
-
 impl LinkedStore {
     /// Puts an entry's record under its key, in place of the one that stood there; a deletion takes that away. The fields stand as
-    /// they came, with no link. The keys that they name get numbers, also where memory ends; the record is gone then.
+    /// they came, with no link. The keys that they name get numbers, also where memory ends; the record is gone then. The caller may
+    /// look at what it placed.
     pub fn place(
         &mut self,
         alloc: Global,
         number: u32,
         rec: Record,
         item: &Preparation,
-    ) -> Result<(), NoMemory>
+    ) -> Result<OwnRecord, NoMemory>
         requires own { rec ≡ item.now.rec }
         requires fit { IsTrue (fits item.now.rec.fields) }
         requires number { IsNumberOf same_key (keys_in item.now.class self.old.keys) item.now.key number }
         ensures ok { OnOk result (self.new.state ≡ placed_by item.now.class self.old.state item.now) }
+        ensures own { IfOk result (λ own. own ≡ own_record item.now.class number) }
         ensures err { OnErr result (self.new.state ≡ self.old.state) }
         ensures ahead { IsAhead self.old self.new }
     {
         let rows = self.rows_for(alloc, brought(&rec, item), item)?;
         let kept = kept_of(alloc, rec, item)?;
-        self.put(alloc, number, kept, rows, item)
+        self.put(alloc, number, kept, rows, item)?;
+        let class = item.class();
+        Ok(OwnRecord { class, number })
     }
 
     // What the seats of the fields that the entry brings are to wait for.

@@ -1,7 +1,7 @@
-//! How fields and authorities stand to each other, for those who only read.
+//! How fields and authorities stand to each other, for those who only read: `ReadableStore` hands it on.
 ghost use Rattle.std.specs.Prelude.{◌≡◌, IfOk, IsSome, option_map};
 ghost use Rattle.catalogue_rules.specs.State.{kept_field, linkable_authorities};
-ghost use Rattle.record_store.specs.Store.{field_at};
+ghost use Rattle.catalogue_rules.specs.Store.{field_at};
 ghost use Rattle.numbered_store.specs.Kept.{kept_record};
 ghost use Rattle.catalogue_tables.specs.Sharing.{keys_crossing, keys_sharing, shown_keys};
 ghost use Rattle.catalogue_tables.specs.Stands.{field_standing};
@@ -16,7 +16,7 @@ use std::alloc::Global;
 
 impl LinkedStore {
     /// How a field with its tie stands, by the tables alone. It visits no record.
-    pub fn standing(
+    pub(crate) fn standing(
         &self,
         alloc: Global,
         class: Class,
@@ -33,7 +33,7 @@ impl LinkedStore {
 
     /// How the field at a place of a record stands, if there is one. It is decoded only where it isn't linked and can be a heading.
     #[tactic(auto, using(crate::proofs::Stood::tag_there, crate::proofs::Stood::no_tag_stands))]
-    pub fn standing_at(
+    pub(crate) fn standing_at(
         &self,
         alloc: Global,
         class: Class,
@@ -96,7 +96,7 @@ impl LinkedStore {
 
     /// The keys of all authorities whose heading has the form of that of a key's authority, in key order; none where the key has no
     /// authority that fields can be linked to. It visits no record.
-    pub fn sharing(&self, alloc: Global, key: &Key) -> Result<Vec<&Key>, NoMemory>
+    pub(crate) fn sharing(&self, alloc: Global, key: &Key) -> Result<Vec<&Key>, NoMemory>
         requires { AreAuthoritiesInOrder self.now.state }
         ensures { IfOk result (λ found. shown_keys found.items ≡ keys_sharing key.now (linkable_authorities self.now.state)) }
     {
@@ -106,7 +106,7 @@ impl LinkedStore {
 
     /// The keys of the other authorities under whose heading a key's authority is found, in key order; none where the key has no
     /// authority that fields can be linked to. It visits no record.
-    pub fn crossing(&self, alloc: Global, key: &Key) -> Result<Vec<&Key>, NoMemory>
+    pub(crate) fn crossing(&self, alloc: Global, key: &Key) -> Result<Vec<&Key>, NoMemory>
         requires { AreAuthoritiesInOrder self.now.state }
         ensures { IfOk result (λ found. shown_keys found.items ≡ keys_crossing key.now (linkable_authorities self.now.state)) }
     {

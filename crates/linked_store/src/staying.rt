@@ -5,7 +5,7 @@ ghost use Rattle.catalogue_tables.specs.Seam.{HasKey, place_at};
 ghost use Rattle.linking_laws.specs.Partway.{swapped};
 ghost use Rattle.numbered_store.specs.Kept.{kept_record};
 ghost use Rattle.numbered_store.specs.Numbered.{field_of as field_by_number};
-ghost use Rattle.record_store.specs.Store.{field_at};
+ghost use Rattle.catalogue_rules.specs.Store.{field_at};
 ghost use Rattle.linked_store.specs.Linked.{IsAhead, SuitsSeat, field_of};
 ghost use Rattle.linked_store.specs.Staying.{is_linked_alike, same_link};
 

@@ -13,10 +13,10 @@ ghost use Rattle.numbered_store.specs.Rows.{IsProper};
 ghost use Rattle.linked_store.specs.Linked.{IsNumber, IsUnchanged, empty_linked, key_of, record_at};
 
 use crate::frame::Frame;
+use catalogue_rules::Steps;
 use catalogue_tables::CatalogueTables;
 use marc_types::{Class, Key, NoMemory};
 use numbered_store::{Kept, NumberedStore, RowMap};
-use record_store::Steps;
 use std::alloc::Global;
 use std::marker::Model;
 use std::sync::ledger::Ledger;
@@ -43,7 +43,7 @@ impl Model for LinkedStore {
 
 impl LinkedStore {
     /// No records, and nothing to go back to.
-    pub fn new(alloc: Global) -> LinkedStore
+    pub(crate) fn new(alloc: Global) -> LinkedStore
         ensures { result ≡ empty_linked }
     {
         let frame = Frame {
@@ -88,8 +88,8 @@ impl LinkedStore {
         self.frame.store.number(alloc, class, key)
     }
 
-    /// The record under the key that has the number, for those who only read. It counts no step.
-    pub fn look(&self, class: Class, number: u32) -> Option<&Kept>
+    // The record under the key that has the number, for those who only read. It counts no step.
+    pub(crate) fn look(&self, class: Class, number: u32) -> Option<&Kept>
         requires { IsNumber class number self.now.keys }
         ensures { option_map (λ kept. kept_record kept.now) result ≡ record_at class number self.now }
     {
@@ -105,8 +105,8 @@ impl LinkedStore {
         self.frame.store.visit(class, number, steps)
     }
 
-    /// The records of a class in key order, for those who only read. It is made anew at each call.
-    pub fn rows(&self, alloc: Global, class: Class) -> Result<RowMap<'_>, NoMemory>
+    // The records of a class in key order, for those who only read. It is made anew at each call.
+    pub(crate) fn rows(&self, alloc: Global, class: Class) -> Result<RowMap<'_>, NoMemory>
         ensures { IfOk result (λ rows. map shown_row rows.entries ≡ rows_of class self.now.state) }
     {
         self.frame.store.rows(alloc, class)

@@ -16,7 +16,7 @@ use Rattle.catalogue_rules.specs.State.{KeptField, State, linkable_authorities, 
 use Rattle.catalogue_rules.specs.Choice.{has_key, Choice, Link, Unlinked, choice_among, is_established, is_see_from_form, by_form, by_number, by_base_form, takes_subdivisions, asks_base, choice}
 use Rattle.marc_types.specs.Order.{same_form}
 use Rattle.catalogue_rules.specs.Settle.{is_linked_to, Arrival}
-use Rattle.record_store.specs.Store.{field_under, field_at}
+use Rattle.catalogue_rules.specs.Store.{field_under, field_at}
 use Rattle.linking_laws.specs.Waiting.{is_form_among, asked_forms, names_key, is_named, is_waiting_for}
 use Rattle.linking_laws.specs.Stages.{carry_field, carry_by}
 use Rattle.linking_laws.specs.Visits.{waits_for_key}

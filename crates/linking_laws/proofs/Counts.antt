@@ -29,8 +29,8 @@ use Rattle.catalogue_rules.specs.Receipt.{kept_under, same_class, is_committed, 
 use Rattle.catalogue_rules.specs.Sameness.{same_kept}
 use Rattle.catalogue_rules.specs.Valid.{IsAscending, IsValid}
 use Rattle.catalogue_rules.proofs.Elements.{Each, each_weaker}
-use Rattle.record_store.proofs.Places.{IsBelow, lookup_below}
-use Rattle.record_store.specs.Store.{field_at, field_under}
+use Rattle.catalogue_rules.proofs.Places.{IsBelow, lookup_below}
+use Rattle.catalogue_rules.specs.Store.{field_at, field_under}
 use Rattle.linking_laws.specs.Behind.{placed_in, placed, ended_by, loosened_by, record_behind, state_behind}
 use Rattle.linking_laws.specs.Commits.{CanBeCommitted}
 use Rattle.linking_laws.specs.Receipts.{is_key_among, AreDistinct, IsExchanged, place_in, AreChanged, AreChangedBy, AreOwnCounts, receipt_by, count_fields, StayKept, count_own}

@@ -14,7 +14,7 @@ use Rattle.catalogue_rules.specs.Sameness.{same_kept}
 use Rattle.catalogue_rules.specs.Settle.{arrival_of, settle_field, step}
 use Rattle.catalogue_rules.proofs.Put.{tied_but}
 use Rattle.catalogue_rules.proofs.Rows.{other_place}
-use Rattle.record_store.specs.Store.{field_at, field_under}
+use Rattle.catalogue_rules.specs.Store.{field_at, field_under}
 use Rattle.linking_laws.specs.Changes.{IsLeftByStages, are_exchanged, carry_of_commit, choose_of_commit, drop_of_commit, is_changed_by_stages, is_exchanged_at, state_carried, state_dropped, state_own_settled}
 use Rattle.linking_laws.specs.Commits.{CanBeCommitted, IsSound, authorities_behind, dropping_of, field_behind, field_staged, forms_of_commit, placed_by, state_staged}
 use Rattle.linking_laws.specs.Receipts.{IsExchanged}

@@ -12,7 +12,7 @@ use Rattle.marc_types.specs.declared.key.Place.{Place}
 use Rattle.marc_types.specs.Order.{same_key}
 use Rattle.catalogue_rules.specs.State.{KeptField, KeptRecord, Row, State, rows_of, each_in_record, each_in_row, each_field}
 use Rattle.catalogue_rules.specs.Receipt.{same_class}
-use Rattle.record_store.specs.Store.{field_at, field_under, with_field, with_field_under, with_rows}
+use Rattle.catalogue_rules.specs.Store.{field_at, field_under, with_field, with_field_under, with_rows}
 use Rattle.linking_laws.specs.Partway.{same_place, swapped, row_outline, outlines}
 
 -- ---- one list of fields

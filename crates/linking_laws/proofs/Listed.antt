@@ -16,7 +16,7 @@ use Rattle.entry_record.specs.Authority.{Linkable, is_heading_field}
 use Rattle.catalogue_rules.specs.State.{KeptField, State, linkable_authorities}
 use Rattle.catalogue_rules.specs.Settle.{is_linked_to, awaits_key, await, settle_unlinked, settle_field}
 use Rattle.catalogue_rules.specs.Valid.{EachField}
-use Rattle.record_store.specs.Store.{field_under}
+use Rattle.catalogue_rules.specs.Store.{field_under}
 use Rattle.linking_laws.specs.Middle.{IsTiedButTo, CanDrop}
 use Rattle.linking_laws.specs.Partway.{same_place, is_place_among, IsWhole}
 use Rattle.linking_laws.specs.Stages.{Dropping, DropNone, DropBases, DropAll, drop_field, drop_by, carry_by, choose_field, carry_field}

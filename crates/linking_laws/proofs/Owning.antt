@@ -18,7 +18,7 @@ use Rattle.catalogue_rules.proofs.Elements.{Each}
 use Rattle.catalogue_rules.proofs.Put.{tied_new}
 use Rattle.catalogue_rules.proofs.Rows.{ascend_place, each_place}
 use Rattle.catalogue_rules.proofs.States.{fit_entry}
-use Rattle.record_store.specs.Store.{field_at, field_under}
+use Rattle.catalogue_rules.specs.Store.{field_at, field_under}
 use Rattle.linking_laws.specs.Commits.{CanBeCommitted, placed_by}
 use Rattle.linking_laws.specs.Middle.{IsMiddleWith}
 use Rattle.linking_laws.specs.Partway.{is_place_among, is_place_of, row_outline, outlines, changed_among, AreOrdered, AreOwnDone, IsPartway}

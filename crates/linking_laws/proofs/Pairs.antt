@@ -16,8 +16,8 @@ use Rattle.marc_types.specs.Order.{same_key}
 use Rattle.entry_record.specs.Authority.{Linkable, is_heading, is_see_from, heading_of, is_tracing_of, see_from_forms, full_form, linkable_kind, linkable_with, linkable_by, linkable_of}
 use Rattle.catalogue_rules.specs.State.{KeptField, Row, row_linkable}
 use Rattle.catalogue_rules.specs.Valid.{IsAscending}
-use Rattle.record_store.specs.Store.{field_at}
-use Rattle.record_store.proofs.Places.{IsBelow, lookup_below}
+use Rattle.catalogue_rules.specs.Store.{field_at}
+use Rattle.catalogue_rules.proofs.Places.{IsBelow, lookup_below}
 use Rattle.linking_laws.specs.Partway.{IsSteady, row_outline}
 use Rattle.linking_laws.proofs.Others.{own_key}
 

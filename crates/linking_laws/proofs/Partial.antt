@@ -16,7 +16,7 @@ use Rattle.catalogue_rules.specs.State.{KeptField, Row, State, linkable_authorit
 use Rattle.catalogue_rules.specs.Receipt.{same_class}
 use Rattle.catalogue_rules.specs.Valid.{IsAscending}
 use Rattle.std.proofs.lemmas.Bool.{and_parts}
-use Rattle.record_store.specs.Store.{field_under}
+use Rattle.catalogue_rules.specs.Store.{field_under}
 use Rattle.linking_laws.specs.Partway.{same_place, is_place_among, swapped, row_outline, outlines, changed_among, AreOrdered, IsNext, IsPartway, IsWhole, IsSteady, IsSteadyChange}
 use Rattle.linking_laws.proofs.Exchanges.{field_swapped, outlines_swapped, field_each, outlines_each}
 use Rattle.linking_laws.proofs.Heart.{any_append}

@@ -37,7 +37,7 @@ use Rattle.catalogue_rules.proofs.Settled.{field_done}
 use Rattle.catalogue_rules.proofs.States.{link_of_heading}
 use Rattle.catalogue_rules.proofs.Steady as steady
 use Rattle.catalogue_rules.proofs.Steady.{linkable_stays, linkables_stay}
-use Rattle.record_store.specs.Store.{StaysRecord}
+use Rattle.catalogue_rules.specs.Store.{StaysRecord}
 use Rattle.linking_laws.specs.Middle.{IsWithinReach, IsMiddle, IsLeftOrSettled, IsEitherStage, IsMiddleWith, IsVisited}
 use Rattle.linking_laws.specs.Stages.{carry_by, choose_field, in_own_row, settle_own}
 use Rattle.linking_laws.specs.Waiting.{is_waiting_for}

@@ -13,7 +13,7 @@ use Rattle.entry_record.specs.Authority.{Linkable}
 use Rattle.catalogue_rules.specs.State.{KeptField, KeptRecord, Row, State, rows_of, linkable_authorities}
 use Rattle.catalogue_rules.specs.Valid.{IsTied}
 use Rattle.catalogue_rules.proofs.Elements.{Each, each_weaker}
-use Rattle.record_store.specs.Store.{field_at, field_under}
+use Rattle.catalogue_rules.specs.Store.{field_at, field_under}
 use Rattle.linking_laws.specs.Middle.{IsMiddleWith, IsEitherStage, IsTiedButTo, IsSparedRightly, CanDrop}
 use Rattle.linking_laws.specs.Partway.{IsSteadyChange}
 use Rattle.linking_laws.specs.Stages.{Dropping, drop_by}

@@ -10,7 +10,7 @@ use Rattle.marc_types.specs.declared.key.Key.{Key}
 use Rattle.marc_types.specs.declared.key.Place.{Place}
 use Rattle.catalogue_rules.specs.State.{KeptField, KeptRecord, State}
 use Rattle.catalogue_rules.specs.Receipt.{kept_under, same_class}
-use Rattle.record_store.specs.Store.{field_at, field_under}
+use Rattle.catalogue_rules.specs.Store.{field_at, field_under}
 use Rattle.linking_laws.specs.Partway.{same_place, is_place_among, is_place_of, own_places, AreOwnDone, HasAtMost}
 use Rattle.linking_laws.specs.Receipts.{place_in}
 use Rattle.linking_laws.proofs.Heart.{any_append}

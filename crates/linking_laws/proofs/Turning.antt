@@ -22,7 +22,7 @@ use Rattle.catalogue_rules.proofs.Fit.{IsFit}
 use Rattle.catalogue_rules.proofs.Fitting.{row_fits}
 use Rattle.catalogue_rules.proofs.Proper.{all_fit}
 use Rattle.catalogue_rules.proofs.Put.{tied_but}
-use Rattle.record_store.specs.Store.{StaysFit, StaysRecord, field_at, field_under, with_field, with_field_under, with_rows}
+use Rattle.catalogue_rules.specs.Store.{StaysFit, StaysRecord, field_at, field_under, with_field, with_field_under, with_rows}
 use Rattle.linking_laws.specs.Middle.{IsWithinReach, IsMiddle, IsLeftOrSettled, IsEitherStage, IsMiddleWith, IsTiedButTo, IsSparedRightly, CanDrop, CanDropOn, IsDroppedOn, IsLentAt}
 use Rattle.linking_laws.specs.Partway.{same_place, is_place_among, swapped, IsNext, IsSteady}
 use Rattle.linking_laws.specs.Stages.{Dropping, drop_by}

@@ -12,7 +12,7 @@ use Rattle.marc_types.specs.declared.key.Key.{Key}
 use Rattle.marc_types.specs.declared.key.Place.{Place}
 use Rattle.marc_types.specs.Order.{same_key}
 use Rattle.catalogue_rules.specs.State.{KeptField, Row, State}
-use Rattle.record_store.specs.Store.{field_at}
+use Rattle.catalogue_rules.specs.Store.{field_at}
 use Rattle.linking_laws.specs.Partway.{same_place, is_place_among}
 use Rattle.linking_laws.specs.Receipts.{place_in}
 use Rattle.linking_laws.specs.Tables.{AreOnce}

@@ -8,7 +8,7 @@ use Rattle.catalogue_rules.specs.State.{KeptField, State, each_field}
 use Rattle.catalogue_rules.specs.Choice.{has_key}
 use Rattle.catalogue_rules.specs.Sameness.{same_kept}
 use Rattle.catalogue_rules.specs.Settle.{arrival_of}
-use Rattle.record_store.specs.Store.{field_under}
+use Rattle.catalogue_rules.specs.Store.{field_under}
 use Rattle.linking_laws.specs.Commits.{authorities_behind, dropping_of, forms_of_commit, placed_by}
 use Rattle.linking_laws.specs.Stages.{carry_by, choose_field, drop_by, settle_own, successor_in}
 use Rattle.linking_laws.specs.Tables.{holds_at}

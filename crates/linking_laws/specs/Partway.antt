@@ -12,7 +12,7 @@ use Rattle.marc_types.specs.Order.{same_key}
 use Rattle.catalogue_rules.specs.State.{KeptField, KeptRecord, Row, State, rows_of}
 use Rattle.catalogue_rules.specs.Receipt.{kept_under, same_class}
 use Rattle.catalogue_rules.specs.Valid.{IsAscending}
-use Rattle.record_store.specs.Store.{field_under, with_field_under, with_rows}
+use Rattle.catalogue_rules.specs.Store.{field_under, with_field_under, with_rows}
 
 abbrev pub same_place : Place → Place → Bool
 same_place p q = same_class p.class q.class && same_key p.key q.key && (p.field == q.field)

@@ -15,7 +15,7 @@ use Rattle.catalogue_rules.specs.Settle.{arrival_of}
 use Rattle.marc_types.specs.declared.entry.Receipt.{Receipt}
 use Rattle.catalogue_rules.specs.Receipt.{Standing, is_linked, is_ambiguous, is_unlinked, receipt_of, standing_of, kept_under, is_committed}
 use Rattle.catalogue_rules.specs.Sameness.{same_kept}
-use Rattle.record_store.specs.Store.{field_under}
+use Rattle.catalogue_rules.specs.Store.{field_under}
 use Rattle.linking_laws.specs.Commits.{placed_by}
 
 abbrev pub is_key_among : List Key → Key → Bool

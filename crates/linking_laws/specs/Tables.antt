@@ -14,7 +14,7 @@ use Rattle.catalogue_rules.specs.Receipt.{is_committed}
 use Rattle.entry_record.specs.Authority.{Linkable, is_bare, heading_kind, full_form, base_form, is_valid_key}
 use Rattle.catalogue_rules.specs.State.{KeptField, State, linkable_authorities}
 use Rattle.catalogue_rules.specs.Settle.{is_linked_to, Arrival}
-use Rattle.record_store.specs.Store.{field_under}
+use Rattle.catalogue_rules.specs.Store.{field_under}
 use Rattle.linking_laws.specs.Waiting.{is_form_among, asked_forms}
 use Rattle.linking_laws.specs.Visits.{waits_for_key}
 use Rattle.linking_laws.specs.Partway.{same_place, is_place_among}

@@ -15,7 +15,7 @@ ghost use Rattle.linking_laws.specs.Stages.{Dropping, drop_by, carry_by, choose_
 ghost use Rattle.marc_types.specs.declared.field.Field.{Field};
 ghost use Rattle.marc_types.specs.declared.form.Form.{Form};
 ghost use Rattle.marc_types.specs.declared.key.Place.{Place};
-ghost use Rattle.record_store.specs.Store.{StaysFit, StaysRecord, field_under};
+ghost use Rattle.catalogue_rules.specs.Store.{StaysFit, StaysRecord, field_under};
 ghost use Rattle.catalogue_rules.specs.Receipt.{kept_under};
 ghost use Rattle.linking_laws.specs.Commits.{CanBeCommitted, dropping_of, placed_by};
 

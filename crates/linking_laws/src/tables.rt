@@ -19,7 +19,7 @@ ghost use Rattle.linking_laws.specs.Partway.{AreOrdered, IsNext, IsPartway, IsSt
 ghost use Rattle.linking_laws.specs.Middle.{AreAuthoritiesInOrder, IsMiddleWith};
 ghost use Rattle.linking_laws.specs.Stages.{carry_by};
 ghost use Rattle.marc_types.specs.declared.form.Form.{Form};
-ghost use Rattle.record_store.specs.Store.{field_under};
+ghost use Rattle.catalogue_rules.specs.Store.{field_under};
 ghost use Rattle.linking_laws.specs.Tables.{Tables, Agree, AreIndexed, IsRelisted, IsReplaced, choice_by_index, holds_at, is_waiting_by};
 
 /// Tables that agree with a state agree with the state in which one field and its rows are exchanged.

@@ -26,6 +26,7 @@ use Rattle.numbered_store.specs.contracts.shelf.Shelf as Shelf
 use Rattle.numbered_store.specs.contracts.store.NumberedStore as NumberedStore
 use Rattle.linked_store.specs.contracts.change.Change as Change
 use Rattle.linked_store.specs.contracts.frame.Frame as Frame
+use Rattle.linked_store.specs.contracts.readable.ReadableStore as ReadableStore
 use Rattle.linked_store.specs.contracts.store.LinkedStore as LinkedStore
 use Rattle.catalogue_core.specs.contracts.engine.Engine as Engine
 use Rattle.catalogue_core.specs.contracts.catalogue.Catalogue as Catalogue
@@ -100,10 +101,13 @@ frame_send = search (records_send, tables_send, change_send, Vec-send, sendable)
 store_send : IsSend LinkedStore.the_row
 store_send = search (frame_send, sendable) depth 40 fits 20000
 
+readable_send : IsSend ReadableStore.the_row
+readable_send = search (store_send, sendable) depth 40 fits 20000
+
 -- ---- the catalogue
 
 engine_send : IsSend Engine.the_row
-engine_send = search (store_send, sendable, crosses) depth 40 fits 20000
+engine_send = search (readable_send, sendable, crosses) depth 40 fits 20000
 
 pub catalogue_send : IsSend Catalogue.the_row
 catalogue_send = search (engine_send, sendable, crosses) depth 40 fits 20000

@@ -158,6 +158,22 @@ module _ {O S E C R Q A : Type 0} where
       → map f (tasks_in all) ≡ taken ++ map f (tasks_in left) → left ≡ [] → taken ≡ map f (tasks_in all)
   taken_all f all left taken so_far none = sym (so_far ∙ (ap (λ l. taken ++ map f (tasks_in l)) none ∙ append-nil taken))
 
+  -- the same behind what was there
+  pub behind_none : {Y : Type 0} (f : FileTask O S E C R Q A → Y) (all left : List (Option (FileTask O S E C R Q A))) (given : List Y)
+      → left ≡ all → given ++ map f (tasks_in all) ≡ given ++ map f (tasks_in left)
+  behind_none f all left given same = ap (λ l. given ++ map f (tasks_in l)) (sym same)
+
+  pub behind_one : {Y : Type 0} (f : FileTask O S E C R Q A → Y) (all left left' : List (Option (FileTask O S E C R Q A))) (given taken taken' : List Y)
+      (place : Option (FileTask O S E C R Q A)) (task : FileTask O S E C R Q A) → given ++ map f (tasks_in all) ≡ taken ++ map f (tasks_in left) → left ≡ place ∷ left'
+      → place ≡ Some task → taken' ≡ taken ++ f task ∷ [] → given ++ map f (tasks_in all) ≡ taken' ++ map f (tasks_in left')
+  behind_one f all left left' given taken taken' place task so_far next is pushed =
+      so_far ∙ (ap (λ l. taken ++ map f (tasks_in l)) (next ∙ ap (λ p. p ∷ left') is)
+      ∙ (sym (append_assoc taken (f task ∷ []) (map f (tasks_in left'))) ∙ ap (λ l. l ++ map f (tasks_in left')) (sym pushed)))
+
+  pub behind_all : {Y : Type 0} (f : FileTask O S E C R Q A → Y) (all left : List (Option (FileTask O S E C R Q A))) (given taken : List Y)
+      → given ++ map f (tasks_in all) ≡ taken ++ map f (tasks_in left) → left ≡ [] → taken ≡ given ++ map f (tasks_in all)
+  behind_all f all left given taken so_far none = sym (so_far ∙ (ap (λ l. taken ++ map f (tasks_in l)) none ∙ append-nil taken))
+
 -- there is such a result
 pub record HasResult (Is : FileResult → Type 0) (answer : Option FileResult) : Type 0 where
   pub result : FileResult

@@ -1,5 +1,5 @@
 -- Loading files under a lock, from its passes to the catalogue that it gives back.
-use Rattle.std.proofs.Common.{◌≡◌, ◌∙◌, ℕ, ◌<◌, ◌≤◌, List, map, length, Option, Some, None, refl, sym, ap, subst, arith}
+use Rattle.std.proofs.Common.{◌≡◌, ◌∙◌, ℕ, ◌≤◌, List, [], ◌++◌, map, length, Option, Some, None, refl, sym, ap, subst, arith}
 use Rattle.std.specs.Prelude.{All, IsTrue}
 use Rattle.std.specs.List.{range_with_len}
 use Rattle.std.proofs.lemmas.List.Elements.{All-from_recursion, recursion_from_All}
@@ -10,18 +10,22 @@ use Rattle.marc_types.specs.Valid.{is_code}
 use Rattle.entry_history.specs.Commits.{IsCommit}
 use Rattle.entry_history.specs.declared.event.Event.{Event}
 use Rattle.entry_history.specs.declared.reply.BatchReply.{BatchReply}
-use Rattle.catalogue_lock.specs.Passes.{Lock, Pass, Closed, IsPassOf, new_passes}
+use Rattle.catalogue_lock.specs.Passes.{Lock, Pass, Closed, IsPassOf}
 use Rattle.catalogue_lock.proofs.Numbers.{items_by-other}
 use Rattle.durable_catalogue.specs.Durables.{marked, events}
 use Rattle.loader_workers.specs.SideBySide.{CanLoad, LoadsTask, HasTask, Each}
 use Rattle.loader_workers.specs.Tasks.{task_of, tasks_from, tasks_in, results_of}
-use Rattle.loader_workers.specs.Files.{CanBeLoaded, IsLockOver, AreLoaded}
+use Rattle.loader_workers.specs.Files.{CanBeLoaded, IsLockOver, AreLoaded, first_passes}
 use Rattle.loader_workers.specs.declared.input.InputFile.{InputFile}
 use Rattle.loader_workers.specs.declared.result.FileResult.{FileResult}
 use Rattle.loader_workers.specs.declared.task.FileTask.{FileTask}
 use Rattle.loader_workers.proofs.Tasks.{AllDid, HasResult, all_did, at_places, tasks_at, tasks_can, tasks_count}
 use Rattle.loader_workers.proofs.FileDone.{origin_of, start_of, Did}
 use Rattle.loader_workers.proofs.AllDone.{DidSo, as_many, are_loaded, all_own}
+
+-- passes that are put behind no others
+pub none_given : {X : Type 0} (given all passes : List X) → given ≡ [] → all ≡ given ++ passes → all ≡ passes
+none_given given all passes none is = is ∙ ap (λ l. l ++ passes) none
 
 -- what an object of this origin replies
 abbrev pub replies_of : Limits → ℕ → List Event → List Entry → BatchReply → List Event → Type 0
@@ -30,7 +34,7 @@ replies_of limits run before batch reply added = IsCommit (record { limits = lim
 module _ {O S : Type 0} (before : List Entry) (mark : Option (List Entry)) (limits : Limits) (run : ℕ) (lock : Lock O) (passes : List (Pass O Event))
     (files : List (InputFile S)) (over : IsLockOver before mark limits run (length files) lock passes) (can : CanBeLoaded files) where
   starts : passes ≡ map (start_of lock before) (range_with_len 0 (length files))
-  starts = over.passes_are ∙ (ap (λ m. new_passes lock (events before m)) over.whole ∙ ap (λ n. map (start_of lock before) (range_with_len 0 n)) over.callers)
+  starts = over.passes_are ∙ ap (λ m. first_passes lock (events before m) (length files)) over.whole
 
   -- there are as many passes as files
   pub many_passes : length passes ≡ length files
@@ -83,12 +87,14 @@ module _ {O S : Type 0} (before : List Entry) (mark : Option (List Entry)) (limi
       pub own_passes : All (IsPassOf lock) passes_now
       own_passes = all_own limits lock before left bound faults files passes_now back results did
 
-      pub all_passes : length passes_now ≡ lock.callers
-      all_passes = as_many (DidSo limits lock before left bound faults) 0 files passes_now back results did ∙ sym over.callers
+      pub all_passes : length passes_now ≡ length files
+      all_passes = as_many (DidSo limits lock before left bound faults) 0 files passes_now back results did
 
-      pub loaded_under : (entries : List Entry) (mark_now : Option (List Entry)) → Closed lock.callers passes_now (events before mark) (events entries mark_now)
-          → length (marked mark_now) ≤ 32 → AreLoaded left faults limits before files back results entries mark_now
-      loaded_under entries mark_now closed few =
-          are_loaded limits lock before left bound faults lock.callers files passes_now back results did entries mark_now
-          (subst (λ m. Closed lock.callers passes_now (events before m) (events entries mark_now)) over.whole closed)
-          (subst (λ n. 0 < n) (sym over.callers) can.some) over.callers few
+      pub loaded_under : (entries : List Entry) (mark_now : Option (List Entry)) (callers : ℕ) → callers ≡ length files
+          → Closed callers passes_now (events before mark) (events entries mark_now) → length (marked mark_now) ≤ 32
+          → AreLoaded left faults limits before files back results entries mark_now
+      loaded_under entries mark_now callers same closed few =
+          are_loaded limits lock before left bound faults (length files) files passes_now back results did entries mark_now
+          (subst (λ m. Closed (length files) passes_now (events before m) (events entries mark_now)) over.whole
+          (subst (λ n. Closed n passes_now (events before mark) (events entries mark_now)) same closed))
+          can.some refl few

@@ -1,5 +1,6 @@
 -- What loading files side by side does to a catalogue over a journal. The rules are this project's own.
-use Rattle.std.specs.Prelude.{◌≡◌, ◌≢◌, ℕ, ◌+◌, ◌<◌, ◌≤◌, true, List, [], ◌∷◌, ◌++◌, length, All, Option, Some, None, is_some, IsTrue}
+use Rattle.std.specs.Prelude.{◌≡◌, ◌≢◌, ℕ, ◌+◌, ◌<◌, ◌≤◌, true, List, [], ◌∷◌, ◌++◌, map, length, All, Option, Some, None, is_some, IsTrue}
+use Rattle.std.specs.List.{range_with_len}
 use Rattle.marc_types.specs.declared.entry.Entry.{Entry}
 use Rattle.marc_types.specs.declared.entry.Limits.{Limits}
 use Rattle.marc_types.specs.Sums.{sums_of}
@@ -11,7 +12,8 @@ use Rattle.file_entries.specs.Files.{IsJudged}
 use Rattle.entry_record.specs.History.{brought_by, with_run, next_run}
 use Rattle.catalogue_rules.specs.Receipts.{receipts_of_loader}
 use Rattle.entry_history.specs.declared.event.Event.{Event}
-use Rattle.catalogue_lock.specs.Passes.{Lock, Pass, new_passes}
+use Rattle.catalogue_lock.specs.History.{numbered}
+use Rattle.catalogue_lock.specs.Passes.{Lock, Pass, new_pass}
 use Rattle.durable_catalogue.specs.Durables.{marked, events}
 use Rattle.loader_workers.specs.Loading.{IsCutShort}
 use Rattle.loader_workers.specs.Turns.{IsFullBehind}
@@ -57,12 +59,19 @@ pub record CanBeLoaded {S : Type 0} (files : List (InputFile S)) : Type 0 where
   pub few : length files ≤ 64
   pub proper : All (λ file. IsTrue (is_code file.code)) files
 
--- A lock was made over a catalogue of these entries, limits and run, of which no frame is in doubt, and these are its passes, one
+-- the first so many passes of a new lock
+abbrev pub first_passes : {O : Type 0} → Lock O → List Event → ℕ → List (Pass O Event)
+first_passes l brought count = map (new_pass l.id (Some l.opened) (numbered None brought)) (range_with_len 0 count)
+
+-- the pass behind so many
+abbrev pub extra_pass : {O : Type 0} → Lock O → List Event → ℕ → Pass O Event
+extra_pass l brought number = new_pass l.id (Some l.opened) (numbered None brought) number
+
+-- A lock was made over a catalogue of these entries, limits and run, of which no frame is in doubt, and these are its first passes, one
 -- for each of so many files.
 pub record IsLockOver {O : Type 0} (before : List Entry) (mark : Option (List Entry)) (limits : Limits) (run files : ℕ)
     (lock : Lock O) (passes : List (Pass O Event)) : Type 0 where
-  pub callers : lock.callers ≡ files
-  pub passes_are : passes ≡ new_passes lock (events before mark)
+  pub passes_are : passes ≡ first_passes lock (events before mark) files
   pub whole : mark ≡ None
   pub run_is : run ≡ next_run before
   pub few : limits.entries ≤ most_entries

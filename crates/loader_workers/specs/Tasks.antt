@@ -27,9 +27,9 @@ module _ {O S E C R Q A : Type 0} where
   abbrev pub results_of : List (FileTask O S E C R Q A) → List FileResult
   results_of tasks = flat_map (λ task. option_to_list task.result) tasks
 
-  -- nothing is in it yet, and there is room for so many files
-  pub record IsReserved (reserved : Reserved O S E C R Q A) (count : ℕ) : Type 0 where
+  -- nothing is in it yet, and there is room for so many files and passes
+  pub record IsReserved (reserved : Reserved O S E C R Q A) (count passes_count : ℕ) : Type 0 where
     pub places : (reserved.places.items ≡ []) × (count ≤ vec_capacity reserved.places)
     pub files : (reserved.files.items ≡ []) × (count ≤ vec_capacity reserved.files)
-    pub passes : (reserved.passes.items ≡ []) × (count ≤ vec_capacity reserved.passes)
+    pub passes : (reserved.passes.items ≡ []) × (passes_count ≤ vec_capacity reserved.passes)
     pub results : (reserved.results.items ≡ []) × (count ≤ vec_capacity reserved.results)

@@ -1,5 +1,5 @@
 //! Files become tasks and come back, in their order.
-ghost use Rattle.std.specs.Prelude.{◌≡◌, ◌≤◌, [], IfOk, IsSome, Some, All, length, map, vec_capacity};
+ghost use Rattle.std.specs.Prelude.{◌≡◌, ◌+◌, ◌≤◌, ◌++◌, [], IfOk, IsSome, Some, All, length, map, vec_capacity};
 ghost use Rattle.loader_workers.specs.SideBySide.{HasTask};
 ghost use Rattle.loader_workers.specs.Tasks.{tasks_from, tasks_in, results_of, IsReserved};
 
@@ -20,11 +20,11 @@ pub struct Reserved<O: Object, S> {
 }
 
 impl<O: Object, S> Reserved<O, S> {
-    /// Room for so many files.
-    pub fn new(alloc: Global, count: usize) -> Result<Reserved<O, S>, NoMemory>
-        ensures { IfOk result (λ reserved. IsReserved reserved count) }
+    /// Room for so many files, and for so many passes.
+    pub fn new(alloc: Global, count: usize, passes: usize) -> Result<Reserved<O, S>, NoMemory>
+        ensures { IfOk result (λ reserved. IsReserved reserved count passes) }
     {
-        let passes = Vec::with_capacity(alloc, count)?;
+        let passes = Vec::with_capacity(alloc, passes)?;
         let results = Vec::with_capacity(alloc, count)?;
         let files = Vec::with_capacity(alloc, count)?;
         let Ok(places) = Vec::with_capacity(alloc, count) else {
@@ -88,7 +88,8 @@ pub fn deal<O: Object, S>(
     places
 }
 
-/// Takes files, passes and results out of the tasks at these places, in their order. Each task has a result.
+/// Takes files, passes and results out of the tasks at these places, in their order, the passes behind those that are given. Each task
+/// has a result.
 pub fn take_apart<O: Object, S>(
     places: Vec<Option<FileTask<O, S>>>,
     files: Vec<InputFile<S>>,
@@ -97,10 +98,10 @@ pub fn take_apart<O: Object, S>(
 ) -> (InputFiles<S>, Passes<O>, Results)
     requires done { All (HasTask (λ task. IsSome task.result)) places.items }
     requires files { (files.items ≡ []) × (length places.items ≤ vec_capacity files) }
-    requires passes { (passes.items ≡ []) × (length places.items ≤ vec_capacity passes) }
+    requires passes { length passes.items + length places.items ≤ vec_capacity passes }
     requires results { (results.items ≡ []) × (length places.items ≤ vec_capacity results) }
     ensures files { result.0 ≡ map (λ task. task.file) (tasks_in places.items) }
-    ensures passes { result.1 ≡ map (λ task. task.pass) (tasks_in places.items) }
+    ensures passes { result.1 ≡ passes.items ++ map (λ task. task.pass) (tasks_in places.items) }
     ensures results { result.2 ≡ results_of (tasks_in places.items) }
 {
     let mut files = files;

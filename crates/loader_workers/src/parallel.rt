@@ -31,8 +31,9 @@ fn load_under<H: Threads + Wait + Sync, D: Disk + Send, S: Source + Send, G: Gat
     gate: &G,
 ) -> (Durable<D>, InputFiles<S>, Results)
     requires lock { IsLockOver lock.opened.core.history (mark_of lock.opened.mark) lock.opened.core.limits lock.opened.run (length files) lock passes }
+    requires callers { lock.callers ≡ length files }
     requires files { CanBeLoaded files }
-    requires reserved { IsReserved reserved (length files) }
+    requires reserved { IsReserved reserved (length files) (length files) }
     ensures loaded { AreLoaded S.left S.faults lock.opened.core.limits lock.opened.core.history files result.1 result.2
         result.0.core.history (mark_of result.0.mark) }
     ensures origin { (durable_view result.0).opened ≡ (durable_view lock.opened).opened }
@@ -82,7 +83,7 @@ pub fn load_files<H: Threads + Wait + Sync, D: Disk + Send, S: Source + Send, G:
     // What the opening left stays.
     ensures origin { (durable_view result.0).opened ≡ (durable_view durable).opened }
 {
-    let Ok(reserved) = Reserved::new(alloc, files.len()) else {
+    let Ok(reserved) = Reserved::new(alloc, files.len(), files.len()) else {
         return (durable, files, Err(NoMemory));
     };
     match HistoryLock::new(alloc, durable, files.len() as u32) {

@@ -12,15 +12,15 @@ use Rattle.command_words.specs.declared.library.Library.{Library}
 use Rattle.command_words.specs.Command.{AreNames}
 use Rattle.catalogue_rules.specs.Settle.{state_of}
 use Rattle.catalogue_rules.specs.Output.{export_of, all_keys}
-use Rattle.console_lines.specs.Ends.{Outcome, IsTold, IsSilent, IsResultTold, end_of, out_unwritten, report_unwritten}
+use Rattle.console_lines.specs.Ends.{Outcome, IsTold, IsSilent, IsResultTold, end_of, out_unwritten, side_unwritten}
 use Rattle.console_lines.specs.declared.end.End.TheVariants.{Told}
 use Rattle.console_lines.specs.declared.end.Unwritten.TheVariants as unwritten
 use Rattle.console_lines.specs.declared.fault.Fault.{Fault}
 use Rattle.console_lines.specs.declared.fault.Fault.TheVariants as fault
-use Rattle.console_lines.proofs.Ends.{told_once, told_not_unwritten, never_told, told_not_all, all_not_unwritten, out_not_console, out_not_report, report_not_console, result_untold, result_done, result_line, result_front, result_no_output, result_cause}
+use Rattle.console_lines.proofs.Ends.{told_once, told_not_unwritten, never_told, told_not_all, all_not_unwritten, out_not_console, out_not_side, side_not_console, result_untold, result_done, result_line, result_front, result_no_output, result_cause}
 use Rattle.loader_workers.specs.declared.result.FileResult.{FileResult}
 use Rattle.output_files.specs.Outputs.{IsOutputLeft}
-use Rattle.journal_loading.specs.Outcomes.{Fails}
+use Rattle.loading_commands.specs.Outcomes.{Fails}
 use Rattle.loading_commands.specs.Texts.{files_text, has_refused}
 use Rattle.loading_commands.specs.Runs.{EndsLoad, EndsRun, AreOutputs, AreOutAndLeft, WhyNotLoad, WhyNotRun, NoMemory, NoMemoryForReport}
 use Rattle.loading_commands.specs.Loading.{Loads, Runs}
@@ -72,7 +72,7 @@ module _ (libraries : List Library) (journal : List ℕ) (o : Outcome) where
     device = λ also. f.device (told_once o.end why fault.Device is also);
     input = λ also. f.input (told_once o.end why fault.Input is also);
     console_cause = λ also. absurd (told_not_unwritten o.end why unwritten.Console is also);
-    no_output = (told_not_unwritten o.end why unwritten.Out is, told_not_unwritten o.end why unwritten.Report is);
+    no_output = (told_not_unwritten o.end why unwritten.Out is, told_not_unwritten o.end why unwritten.Side is);
     whole = λ all. absurd (told_not_all o.end why is all);
     untold = λ also. absurd (told_not_unwritten o.end why unwritten.Console is also);
   }
@@ -118,13 +118,13 @@ module _ (libraries : List Library) (journal : List ℕ) (o : Outcome) where
           device = λ also. f.device (told_once o.end why fault.Device is also);
           input = λ also. f.input (told_once o.end why fault.Input is also);
           out_cause = λ also. absurd (no unwritten.Out is also);
-          report_cause = λ also. absurd (no unwritten.Report is also);
+          report_cause = λ also. absurd (no unwritten.Side is also);
           console_cause = λ also. absurd (no unwritten.Console is also);
           whole = λ all. absurd (told_not_all o.end why is all);
           no_report = λ either. no_report;
-          silent = neither (no unwritten.Out is) (no unwritten.Report is);
+          silent = neither (no unwritten.Out is) (no unwritten.Side is);
           in_out = λ also. absurd (no unwritten.Out is also);
-          in_report = λ also. absurd (no unwritten.Report is also);
+          in_report = λ also. absurd (no unwritten.Side is also);
           untold = λ also. absurd (no unwritten.Console is also);
         }
 
@@ -181,7 +181,7 @@ module _ (libraries : List Library) (journal : List ℕ) (o : Outcome) where
             device = λ also. absurd (no fault.Device also);
             input = λ also. absurd (no fault.Input also);
             out_cause = λ also. rose;
-            report_cause = λ also. absurd (out_not_report o.end is also);
+            report_cause = λ also. absurd (out_not_side o.end is also);
             console_cause = λ also. absurd (out_not_console o.end is also);
             whole = λ all. absurd (all_not_unwritten o.end unwritten.Out all is);
             no_report = λ either. apart;
@@ -189,14 +189,14 @@ module _ (libraries : List Library) (journal : List ℕ) (o : Outcome) where
             in_out = λ also tells.
                 let m = merged tells in
                 record { merged = m.merged; left = subst (λ es. IsOutputLeft o.old o.new out (export_of all_keys (state_of es))) m.entries_are (left tells) };
-            in_report = λ also. absurd (out_not_report o.end is also);
+            in_report = λ also. absurd (out_not_side o.end is also);
             untold = λ also. absurd (out_not_console o.end is also);
           }
 
-      pub runs_in_report : o.end ≡ report_unwritten → Rose (o.old.out_faults report) (o.new.out_faults report)
+      pub runs_in_report : o.end ≡ side_unwritten → Rose (o.old.out_faults report) (o.new.out_faults report)
           → (o.old.tells ≡ true → AreOutAndLeft o.old o.new out report entries) → Runs libraries journal out report o
       runs_in_report is rose left =
-          let no : (why : Fault) → o.end ≡ Told why → ⊥ = λ why also. told_not_unwritten o.end why unwritten.Report also is in record {
+          let no : (why : Fault) → o.end ≡ Told why → ⊥ = λ why also. told_not_unwritten o.end why unwritten.Side also is in record {
             ends = subst EndsRun (sym is) tt;
             told = λ why also. absurd (no why also);
             because = λ why also. absurd (no why also);
@@ -204,17 +204,17 @@ module _ (libraries : List Library) (journal : List ℕ) (o : Outcome) where
             untouched = λ why also. absurd (no why also);
             device = λ also. absurd (no fault.Device also);
             input = λ also. absurd (no fault.Input also);
-            out_cause = λ also. absurd (out_not_report o.end also is);
+            out_cause = λ also. absurd (out_not_side o.end also is);
             report_cause = λ also. rose;
-            console_cause = λ also. absurd (report_not_console o.end is also);
-            whole = λ all. absurd (all_not_unwritten o.end unwritten.Report all is);
-            no_report = neither (λ also. out_not_report o.end also is) (no fault.Memory);
+            console_cause = λ also. absurd (side_not_console o.end is also);
+            whole = λ all. absurd (all_not_unwritten o.end unwritten.Side all is);
+            no_report = neither (λ also. out_not_side o.end also is) (no fault.Memory);
             silent = λ either. silent;
-            in_out = λ also. absurd (out_not_report o.end also is);
+            in_out = λ also. absurd (out_not_side o.end also is);
             in_report = λ also tells.
                 let m = merged tells in
                 record { merged = m.merged; outputs = subst (AreOutAndLeft o.old o.new out report) m.entries_are (left tells) };
-            untold = λ also. absurd (report_not_console o.end is also);
+            untold = λ also. absurd (side_not_console o.end is also);
           }
 
 -- memory ran out behind loading: before OUT was begun, or before REPORT was

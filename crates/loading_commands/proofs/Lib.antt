@@ -1,3 +1,8 @@
+mod Opened
+mod LoadedFiles
+mod Begun
+mod Finished
+pub mod Kept
 mod Merging
 mod OneHistory
 mod Textual

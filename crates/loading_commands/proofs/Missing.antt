@@ -3,15 +3,15 @@ use Rattle.std.proofs.Common.{◌≡◌, ◌≢◌, ◌∙◌, ℕ, ◌+◌, tru
 use Rattle.marc_types.specs.declared.entry.Entry.{Entry}
 use Rattle.outside.specs.Room.{RoomView}
 use Rattle.command_words.specs.declared.library.Library.{Library}
-use Rattle.console_lines.specs.Ends.{TellsNoFault, out_unwritten, report_unwritten}
+use Rattle.console_lines.specs.Ends.{TellsNoFault, out_unwritten, side_unwritten}
 use Rattle.console_lines.specs.declared.end.End.{End}
 use Rattle.console_lines.specs.declared.end.End.TheVariants.{Done, Refused, Unwritten, Told}
 use Rattle.console_lines.specs.declared.end.Unwritten.TheVariants as unwritten
 use Rattle.console_lines.specs.declared.fault.Fault.{Fault}
 use Rattle.console_lines.specs.declared.fault.Fault.TheVariants as fault
 use Rattle.file_entries.specs.declared.refused.RefusedItem.{RefusedItem}
-use Rattle.journal_loading.specs.Outcomes.{IsFileMissing, HasSameHistory}
-use Rattle.journal_loading.proofs.Kept.{loading_keeps}
+use Rattle.loading_commands.specs.Outcomes.{IsFileMissing, HasSameHistory}
+use Rattle.loading_commands.proofs.Kept.{loading_keeps}
 use Rattle.loading_commands.specs.Merged.{AreJudged, NoFile, OneFile}
 use Rattle.loading_commands.specs.Runs.{IsToldOfLoading, EndsLoad, EndsRun, IsMergedLoad, WhyNotLoad, WhyNotRun}
 use Rattle.loading_commands.specs.Runs as runs
@@ -26,11 +26,11 @@ told_of_loading fault.Memory no_usage no_other = tt
 told_of_loading fault.OldVersion no_usage no_other = tt
 told_of_loading fault.OtherHistory no_usage no_other = absurd (no_other refl)
 
-pub loading_untold : (end : End) → TellsNoFault end → (end ≢ out_unwritten) × (end ≢ report_unwritten) → EndsLoad end
+pub loading_untold : (end : End) → TellsNoFault end → (end ≢ out_unwritten) × (end ≢ side_unwritten) → EndsLoad end
 loading_untold Done untold others = tt
 loading_untold Refused untold others = tt
 loading_untold (Unwritten unwritten.Out) untold others = absurd (others.0 refl)
-loading_untold (Unwritten unwritten.Report) untold others = absurd (others.1 refl)
+loading_untold (Unwritten unwritten.Side) untold others = absurd (others.1 refl)
 loading_untold (Unwritten unwritten.Console) untold others = tt
 loading_untold (Told why) untold others = absurd untold
 

@@ -18,7 +18,7 @@ use Rattle.durable_catalogue.proofs.Images.{front_of, whole_is}
 use Rattle.loader_workers.specs.declared.result.FileResult.{FileResult}
 use Rattle.durable_catalogue.specs.Views.{DurableView}
 use Rattle.room_files.specs.Journals.{journal_limits, log_bytes, IsOpenedFrom, IsClosedTo, IsClosedAs}
-use Rattle.journal_loading.specs.Outcomes.{IsLoadedWhole}
+use Rattle.loading_commands.specs.Outcomes.{IsLoadedWhole}
 use Rattle.loading_commands.specs.Merged.{IsOneHistory}
 use Rattle.loading_commands.specs.Console.{any_refused, refused_part}
 use Rattle.loading_commands.specs.Texts.{totals_text, files_text, has_refused}

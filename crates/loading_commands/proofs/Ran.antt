@@ -3,18 +3,18 @@ use Rattle.std.proofs.Common.{◌≡◌, ◌∙◌, ℕ, Bool, true, List, [], �
 use Rattle.outside.specs.Room.{RoomView, SameBut}
 use Rattle.command_words.specs.declared.library.Library.{Library}
 use Rattle.command_words.specs.Command.{AreNames}
-use Rattle.console_lines.specs.Ends.{Outcome, IsTold, IsSilent, IsResultTold, out_unwritten, report_unwritten}
+use Rattle.console_lines.specs.Ends.{Outcome, IsTold, IsSilent, IsResultTold, out_unwritten, side_unwritten}
 use Rattle.console_lines.specs.declared.end.End.TheVariants.{Unwritten as NotWritten, Told}
 use Rattle.console_lines.specs.declared.end.OutputsFault.{OutputsFault}
 use Rattle.console_lines.specs.declared.end.OutputsFault.TheVariants.{NoMemory, Unwritten}
 use Rattle.console_lines.specs.declared.end.Unwritten.{Unwritten as Which}
-use Rattle.console_lines.specs.declared.end.Unwritten.TheVariants.{Out, Report, Console}
+use Rattle.console_lines.specs.declared.end.Unwritten.TheVariants.{Out, Side, Console}
 use Rattle.console_lines.specs.declared.fault.Fault.TheVariants as fault
 use Rattle.entry_record.specs.History.{IsWithin}
 use Rattle.durable_catalogue.specs.Views.{DurableView}
 use Rattle.loader_workers.specs.declared.result.FileResult.{FileResult}
 use Rattle.room_files.specs.Journals.{IsClosedAs}
-use Rattle.journal_loading.specs.Outcomes.{IsLoadedWhole}
+use Rattle.loading_commands.specs.Outcomes.{IsLoadedWhole}
 use Rattle.loading_commands.specs.Outputs.{AreUnwritten}
 use Rattle.loading_commands.specs.Runs.{AreOutputs, WhyNotRun}
 use Rattle.loading_commands.specs.Texts.{files_text, has_refused}
@@ -46,11 +46,11 @@ module _ (libraries : List Library) (journal out report : List ℕ) (o : Outcome
       (in_out o.old mid wrote o.new journal out report d.entries names opened closing (Unwritten Out) are refl)
 
   -- REPORT was not
-  ran_to_report : AreUnwritten mid wrote out report d.entries (Unwritten Report) → o.end ≡ report_unwritten → IsSilent o → Runs libraries journal out report o
+  ran_to_report : AreUnwritten mid wrote out report d.entries (Unwritten Side) → o.end ≡ side_unwritten → IsSilent o → Runs libraries journal out report o
   ran_to_report are is silent =
       runs_in_report libraries journal o out report d.entries results silent merged is
-      (report_rose_too o.old mid wrote o.new journal out report d.entries names opened closing (Unwritten Report) are refl)
-      (in_report o.old mid wrote o.new journal out report d.entries names opened closing (Unwritten Report) are refl)
+      (report_rose_too o.old mid wrote o.new journal out report d.entries names opened closing (Unwritten Side) are refl)
+      (in_report o.old mid wrote o.new journal out report d.entries names opened closing (Unwritten Side) are refl)
 
   -- memory ran out before OUT, or before REPORT
   pub ran_to_memory : AreUnwritten mid wrote out report d.entries NoMemory → o.end ≡ Told fault.Memory → IsTold fault.Memory o → o.new.open_as journal ≡ None
@@ -74,8 +74,8 @@ module _ (libraries : List Library) (journal out report : List ℕ) (o : Outcome
       ran_whole (record { text = text; refused = refused; told = told; refused_is = refused_is; text_is = text_is }) outputs
   ran_ended (Err (Unwritten Out)) text refused text_is refused_is outputs are told unwritten silent memory tells closed =
       ran_to_out are (unwritten Out refl) (silent Out refl)
-  ran_ended (Err (Unwritten Report)) text refused text_is refused_is outputs are told unwritten silent memory tells closed =
-      ran_to_report are (unwritten Report refl) (silent Report refl)
+  ran_ended (Err (Unwritten Side)) text refused text_is refused_is outputs are told unwritten silent memory tells closed =
+      ran_to_report are (unwritten Side refl) (silent Side refl)
   ran_ended (Err (Unwritten Console)) text refused text_is refused_is outputs are told unwritten silent memory tells closed = absurd (are.no_console refl)
   ran_ended (Err NoMemory) text refused text_is refused_is outputs are told unwritten silent memory tells closed =
       ran_to_memory are (memory refl) (tells refl) closed

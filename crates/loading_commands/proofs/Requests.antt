@@ -9,8 +9,8 @@ use Rattle.command_words.specs.declared.asked.Outputs.{Outputs}
 use Rattle.console_lines.specs.Ends.{Outcome, IsTold}
 use Rattle.console_lines.specs.declared.end.End.TheVariants.{Told}
 use Rattle.console_lines.specs.declared.fault.Fault.{Fault}
-use Rattle.journal_loading.specs.Inputs.{IsProper}
-use Rattle.journal_loading.specs.Outcomes.{IsLoadingFault, Fails}
+use Rattle.loading_commands.specs.Inputs.{IsProper}
+use Rattle.loading_commands.specs.Outcomes.{IsLoadingFault, Fails}
 use Rattle.loading_commands.specs.Loading.{Loads, Runs, EndsWithOutputs, EndsLoading}
 use Rattle.loading_commands.specs.Runs.{NotLoaded}
 use Rattle.loading_commands.proofs.Ended.{loads_failed, runs_failed}

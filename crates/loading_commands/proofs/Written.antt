@@ -1,5 +1,5 @@
 -- What a run's outputs are, from what was written one after the other.
-use Rattle.std.proofs.Common.{◌≡◌, ◌≢◌, ◌⊎◌, inl, inr, ◌∙◌, ℕ, true, List, [], ◌∷◌, Some, refl, sym, arith}
+use Rattle.std.proofs.Common.{◌≡◌, ◌≢◌, ◌⊎◌, inl, inr, ◌∙◌, ℕ, true, List, [], ◌∷◌, Some, sym, arith}
 use Rattle.marc_types.specs.declared.entry.Entry.{Entry}
 use Rattle.outside.specs.Fault.{Rose}
 use Rattle.outside.specs.Room.{RoomView, SameBut}
@@ -9,7 +9,7 @@ use Rattle.catalogue_rules.specs.Output.{export_of, all_keys, report_of}
 use Rattle.command_words.specs.Command.{AreNames}
 use Rattle.console_lines.specs.declared.end.OutputsFault.{OutputsFault}
 use Rattle.console_lines.specs.declared.end.OutputsFault.TheVariants.{NoMemory, Unwritten}
-use Rattle.console_lines.specs.declared.end.Unwritten.TheVariants.{Out, Report}
+use Rattle.console_lines.specs.declared.end.Unwritten.TheVariants.{Out, Side}
 use Rattle.output_files.specs.Outputs.{IsOutputLeft}
 use Rattle.output_files.proofs.Parts.{left_since, left_until}
 use Rattle.loading_commands.specs.Outputs.{AreUnwritten}
@@ -25,52 +25,6 @@ module _ (old new : RoomView) (out report : List ℕ) (entries : List Entry) whe
     in_out = λ is. cc;
     in_report = λ is. cc;
     memory = λ is. inl apart;
-  }
-
-  pub out_failed : SameBut old new (out ∷ []) → Rose (old.out_faults out) (new.out_faults out)
-      → (old.tells ≡ true → IsOutputLeft old new out (export_of all_keys (state_of entries)))
-      → AreUnwritten old new out report entries (Unwritten Out)
-  out_failed apart rose left = record {
-    no_console = λ is. cc;
-    out_cause = λ is. rose;
-    report_cause = λ is. cc;
-    no_report = λ other. apart;
-    in_out = λ is. left;
-    in_report = λ is. cc;
-    memory = λ is. cc;
-  }
-
-  module _ (mid : RoomView) (differ : report ≢ out) (first : SameBut old mid (out ∷ [])) (second : SameBut mid new (report ∷ []))
-      (whole : old.tells ≡ true → mid.file out ≡ Some (export_of all_keys (state_of entries)))
-      (left : mid.tells ≡ true → IsOutputLeft mid new report (report_of (state_of entries))) where
-    out_and_left : old.tells ≡ true → AreOutAndLeft old new out report entries
-    out_and_left tells = record {
-      export = second.files out ((λ same. differ (sym same)), tt) ∙ whole tells;
-      report_is = left_since old mid new report (report_of (state_of entries)) (out ∷ []) (differ, tt) first (left (first.tells ∙ tells));
-    }
-
-    pub report_rose : Rose (mid.out_faults report) (new.out_faults report) → AreUnwritten old new out report entries (Unwritten Report)
-    report_rose rose = record {
-      no_console = λ is. cc;
-      out_cause = λ is. cc;
-      report_cause = λ is. let earlier = first.outs report in omega (arith, earlier, rose);
-      no_report = λ other. absurd (other refl);
-      in_out = λ is. cc;
-      in_report = λ is. out_and_left;
-      memory = λ is. cc;
-    }
-
-  -- memory ran out behind OUT, and nothing of REPORT is begun
-  pub report_unbegun : (mid : RoomView) → SameBut old mid (out ∷ []) → SameBut mid new []
-      → (old.tells ≡ true → mid.file out ≡ Some (export_of all_keys (state_of entries))) → AreUnwritten old new out report entries NoMemory
-  report_unbegun mid first unbegun whole = record {
-    no_console = λ is. cc;
-    out_cause = λ is. cc;
-    report_cause = λ is. cc;
-    no_report = λ other. same_but_then old mid new (out ∷ []) first (same_but_none mid new (out ∷ []) unbegun);
-    in_out = λ is. cc;
-    in_report = λ is. cc;
-    memory = λ is. inr (λ tells. unbegun.files out tt ∙ whole tells);
   }
 
 -- the same where a journal was opened before that and closed behind it
@@ -97,10 +51,10 @@ module _ (old mid wrote new : RoomView) (journal out report : List ℕ) (entries
     pub out_rose : why ≡ Unwritten Out → Rose (old.out_faults out) (new.out_faults out)
     out_rose is = rose_between out (are.out_cause is)
 
-    pub report_rose_too : why ≡ Unwritten Report → Rose (old.out_faults report) (new.out_faults report)
+    pub report_rose_too : why ≡ Unwritten Side → Rose (old.out_faults report) (new.out_faults report)
     report_rose_too is = rose_between report (are.report_cause is)
 
-    pub no_report : why ≢ Unwritten Report → SameBut old new (journal ∷ out ∷ [])
+    pub no_report : why ≢ Unwritten Side → SameBut old new (journal ∷ out ∷ [])
     no_report unfailed =
         let names_too = journal ∷ out ∷ [] in
         same_but_then old mid new names_too (same_but_more old mid (journal ∷ []) names_too (λ n other. (other.0, tt)) opened)
@@ -110,7 +64,7 @@ module _ (old mid wrote new : RoomView) (journal out report : List ℕ) (entries
     pub in_out : why ≡ Unwritten Out → old.tells ≡ true → IsOutputLeft old new out (export_of all_keys (state_of entries))
     in_out is tells = left_between out (export_of all_keys (state_of entries)) (λ same. names.1.0 (sym same)) (are.in_out is (opened.tells ∙ tells))
 
-    pub in_report : why ≡ Unwritten Report → old.tells ≡ true → AreOutAndLeft old new out report entries
+    pub in_report : why ≡ Unwritten Side → old.tells ≡ true → AreOutAndLeft old new out report entries
     in_report fails tells =
         let is = are.in_report fails (opened.tells ∙ tells) in record {
           export = out_is ∙ is.export;

@@ -1,3 +1,5 @@
+pub mod Inputs
+pub mod Outcomes
 pub mod Console
 pub mod Merged
 pub mod Texts

@@ -5,12 +5,12 @@ use Rattle.outside.specs.Room.{SameBut}
 use Rattle.command_words.specs.declared.library.Library.{Library}
 use Rattle.command_words.specs.declared.asked.LoadRequest.{LoadRequest}
 use Rattle.command_words.specs.declared.asked.Outputs.{Outputs}
-use Rattle.console_lines.specs.Ends.{Outcome, IsTold, IsAllDone, IsSilent, out_unwritten, report_unwritten, console_unwritten}
+use Rattle.console_lines.specs.Ends.{Outcome, IsTold, IsAllDone, IsSilent, out_unwritten, side_unwritten, console_unwritten}
 use Rattle.console_lines.specs.declared.end.End.TheVariants.{Told}
 use Rattle.console_lines.specs.declared.fault.Fault.{Fault}
 use Rattle.console_lines.specs.declared.fault.Fault.TheVariants.{Usage, Input, Device, Memory}
-use Rattle.journal_loading.specs.Inputs.{IsInputFault}
-use Rattle.journal_loading.specs.Outcomes.{IsFileMissing, HasSameHistory}
+use Rattle.loading_commands.specs.Inputs.{IsInputFault}
+use Rattle.loading_commands.specs.Outcomes.{IsFileMissing, HasSameHistory}
 use Rattle.loading_commands.specs.Runs.{EndsLoad, EndsRun, IsWholeLoad, IsUntoldLoad, IsWholeRun, IsRunInOut, IsRunInReport, IsUntoldRun, WhyNotLoad, WhyNotRun}
 
 -- The command `load`: the files of libraries into a journal.
@@ -25,7 +25,7 @@ pub record Loads (libraries : List Library) (journal : List ℕ) (o : Outcome) :
   pub device : o.end ≡ Told Device → Rose (o.old.log_faults journal) (o.new.log_faults journal)
   pub input : o.end ≡ Told Input → IsInputFault libraries o.old o.new
   pub console_cause : o.end ≡ console_unwritten → Rose o.faults o.faults_now
-  pub no_output : (o.end ≢ out_unwritten) × (o.end ≢ report_unwritten)
+  pub no_output : (o.end ≢ out_unwritten) × (o.end ≢ side_unwritten)
   -- without one to tell all files were loaded whole
   pub whole : IsAllDone o.end → o.old.tells ≡ true → IsWholeLoad o.old o.new journal libraries o.told o.now o.end
   pub untold : o.end ≡ console_unwritten → o.old.tells ≡ true → IsUntoldLoad o.old o.new journal libraries o.told o.now
@@ -43,17 +43,17 @@ pub record Runs (libraries : List Library) (journal out report : List ℕ) (o : 
   pub device : o.end ≡ Told Device → Rose (o.old.log_faults journal) (o.new.log_faults journal)
   pub input : o.end ≡ Told Input → IsInputFault libraries o.old o.new
   pub out_cause : o.end ≡ out_unwritten → Rose (o.old.out_faults out) (o.new.out_faults out)
-  pub report_cause : o.end ≡ report_unwritten → Rose (o.old.out_faults report) (o.new.out_faults report)
+  pub report_cause : o.end ≡ side_unwritten → Rose (o.old.out_faults report) (o.new.out_faults report)
   pub console_cause : o.end ≡ console_unwritten → Rose o.faults o.faults_now
   -- the headline
   pub whole : IsAllDone o.end → o.old.tells ≡ true → IsWholeRun o.old o.new journal out report libraries o.told o.now o.end
   -- nothing that comes behind an output that could not be written has begun: REPORT behind OUT, the console behind both; and REPORT
   -- isn't begun where memory runs out
   pub no_report : (o.end ≡ out_unwritten) ⊎ (o.end ≡ Told Memory) → SameBut o.old o.new (journal ∷ out ∷ [])
-  pub silent : (o.end ≡ out_unwritten) ⊎ (o.end ≡ report_unwritten) → IsSilent o
+  pub silent : (o.end ≡ out_unwritten) ⊎ (o.end ≡ side_unwritten) → IsSilent o
   -- and what comes before it is whole
   pub in_out : o.end ≡ out_unwritten → o.old.tells ≡ true → IsRunInOut o.old o.new journal out libraries
-  pub in_report : o.end ≡ report_unwritten → o.old.tells ≡ true → IsRunInReport o.old o.new journal out report libraries
+  pub in_report : o.end ≡ side_unwritten → o.old.tells ≡ true → IsRunInReport o.old o.new journal out report libraries
   pub untold : o.end ≡ console_unwritten → o.old.tells ≡ true → IsUntoldRun o.old o.new journal out report libraries o.told o.now
 
 -- How a command ends that loads files into a journal: as `load`, or, with outputs, as `run`.

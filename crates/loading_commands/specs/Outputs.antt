@@ -7,7 +7,7 @@ use Rattle.catalogue_rules.specs.Settle.{state_of}
 use Rattle.catalogue_rules.specs.Output.{export_of, all_keys}
 use Rattle.console_lines.specs.declared.end.OutputsFault.{OutputsFault}
 use Rattle.console_lines.specs.declared.end.OutputsFault.TheVariants.{NoMemory, Unwritten}
-use Rattle.console_lines.specs.declared.end.Unwritten.TheVariants.{Out, Report, Console}
+use Rattle.console_lines.specs.declared.end.Unwritten.TheVariants.{Out, Side, Console}
 use Rattle.output_files.specs.Outputs.{IsOutputLeft}
 use Rattle.loading_commands.specs.Runs.{AreOutAndLeft}
 
@@ -15,9 +15,9 @@ use Rattle.loading_commands.specs.Runs.{AreOutAndLeft}
 pub record AreUnwritten (old new : RoomView) (out report : List ℕ) (entries : List Entry) (why : OutputsFault) : Type 0 where
   pub no_console : why ≢ Unwritten Console
   pub out_cause : why ≡ Unwritten Out → Rose (old.out_faults out) (new.out_faults out)
-  pub report_cause : why ≡ Unwritten Report → Rose (old.out_faults report) (new.out_faults report)
-  pub no_report : why ≢ Unwritten Report → SameBut old new (out ∷ [])
+  pub report_cause : why ≡ Unwritten Side → Rose (old.out_faults report) (new.out_faults report)
+  pub no_report : why ≢ Unwritten Side → SameBut old new (out ∷ [])
   pub in_out : why ≡ Unwritten Out → old.tells ≡ true → IsOutputLeft old new out (export_of all_keys (state_of entries))
-  pub in_report : why ≡ Unwritten Report → old.tells ≡ true → AreOutAndLeft old new out report entries
+  pub in_report : why ≡ Unwritten Side → old.tells ≡ true → AreOutAndLeft old new out report entries
   -- memory ran out before anything was begun, or before REPORT was
   pub memory : why ≡ NoMemory → SameBut old new [] ⊎ (old.tells ≡ true → new.file out ≡ Some (export_of all_keys (state_of entries)))

@@ -15,7 +15,7 @@ use Rattle.console_lines.specs.declared.end.End.TheVariants.{Done, Refused, Unwr
 use Rattle.console_lines.specs.declared.end.Unwritten.TheVariants as unwritten
 use Rattle.console_lines.specs.declared.fault.Fault.TheVariants.{Usage, Input, Device, NotAJournal, Full, Memory, OldVersion, OtherHistory}
 use Rattle.output_files.specs.Outputs.{IsOutputLeft}
-use Rattle.journal_loading.specs.Outcomes.{IsLoadingFault}
+use Rattle.loading_commands.specs.Outcomes.{IsLoadingFault}
 use Rattle.loading_commands.specs.Merged.{IsOneHistory}
 use Rattle.loading_commands.specs.Console.{console_of, any_refused}
 
@@ -35,7 +35,7 @@ abbrev pub EndsLoad : End → Type 0
 EndsLoad Done = Unit {0}
 EndsLoad Refused = Unit {0}
 EndsLoad (Unwritten unwritten.Out) = ⊥
-EndsLoad (Unwritten unwritten.Report) = ⊥
+EndsLoad (Unwritten unwritten.Side) = ⊥
 EndsLoad (Unwritten unwritten.Console) = Unit {0}
 EndsLoad (Told why) = IsToldOfLoading why
 

@@ -4,14 +4,14 @@ ghost use Rattle.command_words.specs.Command.{AreNames};
 ghost use Rattle.console_lines.specs.Ends.{outcome};
 ghost use Rattle.durable_catalogue.specs.Views.{durable_view};
 ghost use Rattle.outside.specs.Room.{SameBut};
-ghost use Rattle.journal_loading.specs.Outcomes.{HasLoaded};
+ghost use Rattle.loading_commands.specs.Outcomes.{HasLoaded};
 ghost use Rattle.loading_commands.specs.Loading.{Loads, Runs};
 
+use crate::journal::LoadedJournal;
 use crate::outputs::write_outputs;
 use crate::texts::{files_text, has_refused};
 use command_words::Outputs;
 use console_lines::{End, Fault, end_of_outputs, tell, tell_result};
-use journal_loading::LoadedJournal;
 use marc_types::NoMemory;
 use outside::Room;
 use room_files::close_journal;

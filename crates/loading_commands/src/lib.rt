@@ -1,10 +1,14 @@
 //! The commands that load files into a journal: `load`, and `run`, which writes the journal's export and report too. Each is three
-//! calls: `begin` and `end` are here, and between them stands `journal_loading::load`, which has no room.
+//! calls, `begin`, `load` and `end`: `begin` and `end` have the room, and `load` between them has none.
 #![tactic(auto)]
 
+pub use journal::{Loaded, Loading, load};
 pub use loading::{begin, end};
 
 mod ending;
+mod faults;
+mod inputs;
+mod journal;
 mod loading;
 mod outputs;
 mod texts;

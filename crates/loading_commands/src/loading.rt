@@ -5,14 +5,14 @@ ghost use Rattle.command_words.specs.Asked.{load_asked};
 ghost use Rattle.console_lines.specs.Ends.{outcome};
 ghost use Rattle.durable_catalogue.specs.Views.{durable_view};
 ghost use Rattle.outside.specs.Room.{SameBut};
-ghost use Rattle.journal_loading.specs.Inputs.{IsProper};
-ghost use Rattle.journal_loading.specs.Outcomes.{HasBegun, IsWaiting, HasRead};
+ghost use Rattle.loading_commands.specs.Inputs.{IsProper};
+ghost use Rattle.loading_commands.specs.Outcomes.{HasBegun, IsWaiting, HasRead};
 ghost use Rattle.loading_commands.specs.Loading.{EndsLoading};
 
 use crate::ending::{end_load, end_run};
+use crate::journal::{Loaded, Loading, finish};
 use command_words::LoadRequest;
 use console_lines::{End, tell};
-use journal_loading::{Loaded, Loading, finish};
 use outside::Room;
 use std::alloc::Global;
 
@@ -40,7 +40,7 @@ pub fn begin<'a, R: Room>(
     ensures ends { IfErr result (λ end. EndsLoading asked.entry
         (outcome R.seen R.Out.written R.Out.faults room.old room.new console.old console.new end)) }
 {
-    match journal_loading::begin(alloc, room, asked) {
+    match crate::journal::begin(alloc, room, asked) {
         Ok(loading) => Ok(loading),
         Err(fault) => Err(tell(console, fault)),
     }

@@ -5,13 +5,14 @@ ghost use Rattle.loading_commands.specs.Outputs.{AreUnwritten};
 ghost use Rattle.loading_commands.specs.Runs.{AreOutputs};
 
 use catalogue_core::Catalogue;
-use console_lines::{OutputsFault, Unwritten};
-use output_files::{write_all_records, write_report_file};
-use outside::{Room, WriteFault};
+use console_lines::OutputsFault;
+use output_files::{Export, report_bytes, write_in_turn};
+use outside::Room;
 use std::alloc::Global;
 
-/// Writes the export of a catalogue into the file `out`, and then its report into the file `report`. Memory may run out before `out` is
-/// begun, or behind it before `report` is.
+/// Writes the export of a catalogue into the file `out`, and then its report into the file `report`. All memory is taken before either
+/// is begun.
+#[tactic(auto, using(outside::proofs::Rooms::same_but_itself, crate::proofs::Written::nothing_begun))]
 pub fn write_outputs<R: Room>(
     alloc: Global,
     room: &mut R,
@@ -29,14 +30,14 @@ pub fn write_outputs<R: Room>(
     ensures whole { OnOk result ((R.seen room.old).tells ≡ true → AreOutputs (R.seen room.new) out.now report.now core.now.history) }
     ensures unwritten { IfErr result (AreUnwritten (R.seen room.old) (R.seen room.new) out.now report.now core.now.history) }
 {
-    match write_all_records(alloc, room, out, core) {
-        Ok(()) => {}
-        Err(WriteFault::OutputFault) => return Err(OutputsFault::Unwritten(Unwritten::Out)),
-        Err(WriteFault::NoMemory) => return Err(OutputsFault::NoMemory),
-    }
-    match write_report_file(alloc, room, report, core) {
+    let Ok(made) = report_bytes(alloc, core) else {
+        return Err(OutputsFault::NoMemory);
+    };
+    let Ok(export) = Export::of(alloc, core, None) else {
+        return Err(OutputsFault::NoMemory);
+    };
+    match write_in_turn(room, out, export, report, made) {
         Ok(()) => Ok(()),
-        Err(WriteFault::OutputFault) => Err(OutputsFault::Unwritten(Unwritten::Report)),
-        Err(WriteFault::NoMemory) => Err(OutputsFault::NoMemory),
+        Err(which) => Err(OutputsFault::Unwritten(which)),
     }
 }

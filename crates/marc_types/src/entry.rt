@@ -1,5 +1,3 @@
-ghost use Rattle.std.specs.Prelude.{◌≡◌, ℕ, length};
-
 use crate::copying::{NoMemory, TryCopy};
 use crate::key::{Class, Key};
 use crate::record::Record;
@@ -18,14 +16,6 @@ pub struct Tie {
 }
 
 pub type Links = Sequence<Tie>;
-
-/// A record of the catalogue, with one tie per field.
-#[derive(Debug, Drop)]
-pub struct Kept {
-    pub rec: Record,
-    pub links: Links,
-    ghost tied: { length links ≡ length rec.fields },
-}
 
 /// A committed record: which loader brought it as which piece of its file (from 1), its class and key, in which run, and
 /// the library code of its file.
@@ -84,14 +74,6 @@ impl TryCopy for Tie {
             whole: self.whole,
             awaits: self.awaits.copy(alloc)?,
         })
-    }
-}
-
-impl TryCopy for Kept {
-    fn copy(&self, alloc: Global) -> Result<Self, NoMemory> {
-        let rec = self.rec.copy(alloc)?;
-        let links = self.links.copy(alloc)?;
-        Ok(Kept { rec, links })
     }
 }
 

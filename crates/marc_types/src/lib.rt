@@ -5,7 +5,7 @@
 #![tactic(auto)]
 
 pub use copying::{NoMemory, TryCopy};
-pub use entry::{CommitFault, Entries, Entry, Kept, Limits, Links, Receipt, Tie};
+pub use entry::{CommitFault, Entries, Entry, Limits, Links, Receipt, Tie};
 pub use field::{Field, Fields, Leader, Subfield, Subfields, Tag};
 pub use form::{Form, Forms, Item, Items, Kind};
 pub use key::{Class, Key, Keys, Place, Places};

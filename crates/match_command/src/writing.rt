@@ -1,6 +1,6 @@
 //! The lines of a table of numbers, as a file.
 ghost use Rattle.std.specs.Prelude.{◌≡◌, ◌∷◌, [], true, Some, None, OnOk, IsErrOf};
-ghost use Rattle.outside.specs.Fault.{HasCause, HasWriteCause};
+ghost use Rattle.outside.specs.Fault.{HasWriteCause};
 ghost use Rattle.outside.specs.Room.{AsLog, SameBut};
 ghost use Rattle.output_files.specs.Outputs.{IsOutput, IsOutputLeft};
 ghost use Rattle.room_files.specs.Journals.{IsClosedDisk};
@@ -8,27 +8,23 @@ ghost use Rattle.match_report.specs.Groups.{lines_of, matches_of};
 
 use history_logs::{HistoryLog, close_history};
 use match_report::{Groups, Matches};
-use outside::{Failed, Room, WriteFault};
+use output_files::{Document, write_document};
+use outside::{Room, Sink, WriteFault};
 use std::alloc::Global;
 
-/// Writes the lines of groups into the file of that name.
-fn write_groups<R: Room>(room: &mut R, name: &str, groups: &Groups<'_>) -> Result<(), Failed>
-    requires free { (R.seen room.old).open_as name.now ≡ None }
-    ensures apart { SameBut (R.seen room.old) (R.seen room.new) (name.now ∷ []) }
-    ensures closed { (R.seen room.new).open_as name.now ≡ None }
-    ensures cause { HasCause ((R.seen room.old).out_faults name.now) ((R.seen room.new).out_faults name.now) result }
+/// The lines of groups, as a document.
+#[derive(Drop)]
+struct GroupLines<'a> {
+    groups: Groups<'a>,
+}
 
-    // The file has all lines, or is as it was.
-    ensures bytes { OnOk result ((R.seen room.old).tells ≡ true →
-        (R.seen room.new).file name.now ≡ Some (lines_of groups.now)) }
-    ensures left { (R.seen room.old).tells ≡ true → IsOutputLeft (R.seen room.old) (R.seen room.new) name.now (lines_of groups.now) }
-{
-    let mut out = room.open_out(name)?;
-    if let Err(fault) = groups.write(&mut out) {
-        room.give_up_out(name, out);
-        return Err(fault);
+impl<'a> Document for GroupLines<'a> {
+    ghost due = { λ d. lines_of d.groups };
+
+    fn write_to<K: Sink>(self, out: &mut K) -> Result<(), WriteFault> {
+        self.groups.write(out)?;
+        Ok(())
     }
-    room.close_out(name, out)
 }
 
 /// Writes the lines of a table's groups into the file of that name. Only the finding of the groups takes memory, and without it no
@@ -50,13 +46,9 @@ fn write_table<R: Room>(
     ensures left { (R.seen room.old).tells ≡ true →
         IsOutputLeft (R.seen room.old) (R.seen room.new) name.now (lines_of (matches_of table.now)) }
 {
-    let groups = match table.groups(alloc) {
-        Ok(groups) => groups,
-        Err(_) => return Err(WriteFault::NoMemory),
-    };
-    match write_groups(room, name, &groups) {
-        Ok(()) => Ok(()),
-        Err(_) => Err(WriteFault::OutputFault),
+    match table.groups(alloc) {
+        Ok(groups) => write_document(room, name, GroupLines { groups }),
+        Err(_) => Err(WriteFault::NoMemory),
     }
 }
 

@@ -14,7 +14,7 @@ use Rattle.durable_catalogue.specs.declared.fault.OpenFault.TheVariants as openi
 use Rattle.console_lines.specs.Ends.{Outcome, IsTold, TellsNoFault, console_unwritten}
 use Rattle.console_lines.specs.declared.end.End.{End}
 use Rattle.console_lines.specs.declared.end.End.TheVariants.{Done, Refused, Unwritten, Told}
-use Rattle.console_lines.specs.declared.end.Unwritten.TheVariants.{Out, Report, Console}
+use Rattle.console_lines.specs.declared.end.Unwritten.TheVariants.{Out, Side, Console}
 use Rattle.console_lines.specs.declared.fault.Fault.{Fault}
 use Rattle.console_lines.specs.declared.fault.Fault.TheVariants.{Usage, Input, Device, NotAJournal, Full, Memory, OldVersion, OtherHistory}
 use Rattle.room_files.specs.Faults.{fault_of_opening}
@@ -29,7 +29,7 @@ abbrev pub EndsMigrating : End → Type 0
 EndsMigrating Done = Unit {0}
 EndsMigrating Refused = ⊥
 EndsMigrating (Unwritten Out) = ⊥
-EndsMigrating (Unwritten Report) = ⊥
+EndsMigrating (Unwritten Side) = ⊥
 EndsMigrating (Unwritten Console) = Unit {0}
 EndsMigrating (Told Usage) = ⊥
 EndsMigrating (Told Input) = ⊥

@@ -7,7 +7,7 @@ use Rattle.marc_types.specs.declared.key.Class.TheVariants.{Authority, Bibliogra
 use Rattle.marc_types.specs.declared.key.Key.{Key}
 use Rattle.numbering.specs.declared.seat.Seat.{Seat}
 use Rattle.catalogue_rules.specs.State.{KeptField, KeptRecord, Row, rows_of}
-use Rattle.record_store.specs.Store.{with_field, with_rows}
+use Rattle.catalogue_rules.specs.Store.{with_field, with_rows}
 use Rattle.numbered_store.specs.Numbered.{Numbered, key_at, numbered, record_at, with_field_of, with_record}
 use Rattle.numbered_store.specs.Rows.{Shelved, row_under, with_row, with_row_field}
 

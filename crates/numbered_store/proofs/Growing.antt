@@ -7,7 +7,7 @@ use Rattle.marc_types.specs.declared.key.Class.{Class}
 use Rattle.marc_types.specs.declared.key.Class.TheVariants.{Authority, Bibliographic}
 use Rattle.marc_types.specs.declared.key.Key.{Key}
 use Rattle.catalogue_rules.specs.State.{KeptRecord, rows_of}
-use Rattle.record_store.specs.Store.{with_rows}
+use Rattle.catalogue_rules.specs.Store.{with_rows}
 use Rattle.numbered_store.specs.Rows.{with_row}
 use Rattle.numbered_store.specs.Numbered.{Grows, IsNumber, Numbered, key_at, with_number, with_record}
 

@@ -13,7 +13,7 @@ use Rattle.std.proofs.lemmas.Map.{lookup-remove_entry}
 use Rattle.std.proofs.lemmas.Map.Keys.{IsDistinct-from_sorted, sorted_head, sorted_tail}
 use Rattle.marc_types.specs.Order.{key_cmp, key_cmp_total, key_Decides, same_key}
 use Rattle.marc_types.specs.declared.key.Key.{Key}
-use Rattle.record_store.proofs.Places.{IsBelow, IsInOrder, lookup_below, still_below}
+use Rattle.catalogue_rules.proofs.Places.{IsBelow, IsInOrder, lookup_below, still_below}
 use Rattle.catalogue_rules.specs.State.{KeptRecord, Row}
 use Rattle.numbered_store.specs.Rows.{in_key_order, with_row}
 

@@ -11,7 +11,7 @@ use Rattle.numbering.proofs.Numberlaws.{number_below}
 use Rattle.marc_types.specs.Order.{same_key}
 use Rattle.marc_types.specs.declared.key.Key.{Key}
 use Rattle.catalogue_rules.specs.State.{KeptField, KeptRecord}
-use Rattle.record_store.specs.Store.{with_field}
+use Rattle.catalogue_rules.specs.Store.{with_field}
 use Rattle.numbered_store.specs.Kept.{kept_record}
 use Rattle.numbered_store.specs.declared.kept.Kept.{Kept}
 use Rattle.numbered_store.specs.Rows.{HaveSlots, count_in, in_key_order, present, row_under, rows_by, slot_at, slot_records, with_row, with_row_field}

@@ -1,7 +1,7 @@
 -- Fields with their ties: read and changed at one place.
 use Rattle.std.proofs.Common.{◌≡◌, ℕ, zero, suc, ◌+◌, ◌-◌, ◌<◌, ◌≤◌, true, List, [], ◌∷◌, ◌++◌, append-nil, append_assoc, length, map, Option, Some, None, IfSome, refl, sym, ap, ◌∙◌, subst, arith}
 use mathlib.Core.Bool.{false≢true}
-use Rattle.std.specs.Prelude.{slice_get, slice_set, unwrap_or}
+use Rattle.std.specs.Prelude.{All, slice_get, slice_set, unwrap_or}
 use Rattle.std.specs.Option.{ForSome, is_some, option_map, option_map_or}
 use Rattle.marc_types.specs.Fields.{tag_of}
 use Rattle.marc_types.specs.Valid.{is_record}
@@ -9,8 +9,9 @@ use Rattle.marc_types.specs.declared.field.Field.{Field}
 use Rattle.marc_types.specs.declared.field.Leader.{Leader}
 use Rattle.marc_types.specs.declared.entry.Tie.{Tie}
 use Rattle.iso2709_record.specs.Written.{fits, record_bytes}
+use Rattle.iso2709_record.specs.Texts.{HasUtf8Texts}
 use Rattle.catalogue_rules.specs.State.{KeptField, KeptRecord, fields_of, kept_field, new_field, new_tie, tied}
-use Rattle.record_store.specs.Store.{with_field}
+use Rattle.catalogue_rules.specs.Store.{with_field}
 use Rattle.numbered_store.specs.Kept.{blanks, kept_record, tied_record, with_ties}
 use Rattle.numbered_store.specs.declared.kept.Kept.{Kept}
 
@@ -52,6 +53,10 @@ kept_long kept = long_by kept.written.fields kept.ties (are_tied kept)
 pub kept_bytes : (kept : Kept) → record_bytes kept.written.leader kept.written.fields ≡ record_bytes (kept_record kept).leader (fields_of (kept_record kept))
 unfolding kept_record
 kept_bytes kept = sym (ap (record_bytes kept.written.leader) (kept_fields kept))
+
+-- its texts are those of its written record
+pub utf8_of_kept : (kept : Kept) → All HasUtf8Texts kept.written.fields → All HasUtf8Texts (fields_of (kept_record kept))
+utf8_of_kept kept texts = subst (All HasUtf8Texts) (sym (kept_fields kept)) texts
 
 -- ---- one field
 

@@ -9,7 +9,7 @@ use Rattle.marc_types.specs.Order.{same_key}
 use Rattle.numbering.specs.declared.seat.Seat.{Seat}
 use Rattle.numbering.specs.Numbers.{with_thing}
 use Rattle.catalogue_rules.specs.State.{KeptField, KeptRecord, State, empty_state, rows_of}
-use Rattle.record_store.specs.Store.{StaysFit, StaysRecord, field_at, with_rows}
+use Rattle.catalogue_rules.specs.Store.{StaysFit, StaysRecord, field_at, with_rows}
 use Rattle.numbered_store.specs.Rows.{Shelved, row_under, with_row, with_row_field}
 
 -- the keys of each class; a key's number is its place in the list

@@ -8,7 +8,7 @@ use Rattle.marc_types.specs.Valid.{is_record}
 use Rattle.marc_types.specs.declared.key.Key.{Key}
 use Rattle.marc_types.specs.Order.{key_cmp, same_key}
 use Rattle.catalogue_rules.specs.State.{KeptField, KeptRecord, Row, fields_of}
-use Rattle.record_store.specs.Store.{with_field_under}
+use Rattle.catalogue_rules.specs.Store.{with_field_under}
 use Rattle.numbered_store.specs.Kept.{kept_record}
 use Rattle.numbered_store.specs.declared.kept.Kept.{Kept}
 

@@ -1,11 +1,12 @@
 //! A kept record's fields, each with its tie: read, and one exchanged for another.
-ghost use Rattle.std.specs.Prelude.{◌≡◌, ◌<◌, true, length, map, IfOk, IsTrue, MatchOption, Some, option_map, slice_get, slice_set, unwrap_or};
+ghost use Rattle.std.specs.Prelude.{◌≡◌, ◌<◌, true, length, map, All, IfOk, IsTrue, MatchOption, Some, option_map, slice_get, slice_set, unwrap_or};
 ghost use Rattle.std.specs.Option.{option_copied, option_map_or};
 ghost use Rattle.marc_types.specs.Fields.{tag_of};
 ghost use Rattle.marc_types.specs.Valid.{is_record};
 ghost use Rattle.iso2709_record.specs.Written.{fits, record_bytes};
+ghost use Rattle.iso2709_record.specs.Texts.{HasUtf8Texts};
 ghost use Rattle.catalogue_rules.specs.State.{fields_of, kept_field, new_field, new_record, new_tie};
-ghost use Rattle.record_store.specs.Store.{field_at, with_field};
+ghost use Rattle.catalogue_rules.specs.Store.{field_at, with_field};
 ghost use Rattle.numbered_store.specs.Kept.{blanks, found_field, kept_record, tied_record, with_ties};
 
 use crate::kept::{FoundField, Kept};
@@ -13,8 +14,8 @@ use marc_types::{Field, Links, NoMemory, Sequence, Tag, Tie, TryCopy};
 use std::alloc::Global;
 use written_record::WrittenRecord;
 
-// A record comes in with no link, no field whole, and nothing awaited.
-const NEW_TIE: Tie = Tie {
+/// The tie of a field that comes in: it isn't linked, nor whole, and awaits nothing.
+pub const NEW_TIE: Tie = Tie {
     key: None,
     whole: false,
     awaits: None,
@@ -51,6 +52,14 @@ impl Kept {
         ensures { result.now ≡ record_bytes (kept_record self.now).leader (fields_of (kept_record self.now)) }
     {
         self.written.as_bytes()
+    }
+
+    /// Each text is UTF-8. This is a law for proofs; the call does nothing.
+    #[tactic(auto, using(crate::proofs::Tied::utf8_of_kept))]
+    pub fn each_text_is_utf8(&self)
+        ensures { All HasUtf8Texts (fields_of (kept_record self.now)) }
+    {
+        self.written.each_text_is_utf8();
     }
 
     /// How many fields there are: there is room for 8331.

@@ -1,6 +1,7 @@
 //! The kept records of a catalogue, found by the numbers of their keys and exchanged in place.
 #![tactic(auto)]
 
+pub use fields::NEW_TIE;
 pub use kept::{FoundField, Kept};
 pub use listing::RowMap;
 pub use store::NumberedStore;

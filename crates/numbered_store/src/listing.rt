@@ -1,4 +1,4 @@
-ghost use Rattle.std.specs.Prelude.{◌≡◌, ◌<◌, length, map, IfOk, OnOk, slice_get};
+ghost use Rattle.std.specs.Prelude.{◌≡◌, ◌<◌, map, IfOk, OnOk, slice_get};
 ghost use Rattle.numbered_store.specs.Kept.{shown_row};
 ghost use Rattle.numbered_store.specs.Rows.{HaveSlots, rows_by, slot_at, with_slot};
 

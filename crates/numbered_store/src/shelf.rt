@@ -1,11 +1,11 @@
-ghost use Rattle.std.specs.Prelude.{◌≡◌, ℕ, ◌<◌, ◌^◌, true, [], length, map, IsSome, IfSome, IfOk, OnOk, OnErr, slice_get, Some, None, if◌then◌else◌};
+ghost use Rattle.std.specs.Prelude.{◌≡◌, ℕ, ◌<◌, ◌^◌, true, [], length, map, IsSome, IfSome, IfOk, OnOk, OnErr, slice_get, Some, None};
 ghost use Rattle.std.specs.Map.{lookup};
 ghost use Rattle.std.specs.Option.{option_map};
 ghost use Rattle.marc_types.specs.declared.key.Key.{Key as AnyKey};
 ghost use Rattle.marc_types.specs.Order.{same_key};
-ghost use Rattle.numbering.specs.Numbers.{is_known, number_of, with_thing, IsNumberOf};
+ghost use Rattle.numbering.specs.Numbers.{is_known, with_thing, IsNumberOf};
 ghost use Rattle.catalogue_rules.specs.State.{KeptField, KeptRecord};
-ghost use Rattle.record_store.specs.Store.{with_field};
+ghost use Rattle.catalogue_rules.specs.Store.{with_field};
 ghost use Rattle.numbered_store.specs.Kept.{kept_record, shown_row};
 ghost use Rattle.numbered_store.specs.Rows.{IsProper, row_under, with_row, with_row_field};
 

@@ -12,7 +12,7 @@ use Rattle.catalogue_core.specs.Catalogues.{Catalogued}
 use Rattle.console_lines.specs.Ends.{Outcome, IsTold, IsAllDone, TellsNoFault, IsResultTold, end_of, out_unwritten, console_unwritten}
 use Rattle.console_lines.specs.declared.end.End.{End}
 use Rattle.console_lines.specs.declared.end.End.TheVariants.{Told}
-use Rattle.console_lines.specs.declared.end.Unwritten.TheVariants.{Out, Report, Console}
+use Rattle.console_lines.specs.declared.end.Unwritten.TheVariants.{Out, Side, Console}
 use Rattle.console_lines.specs.declared.fault.Fault.{Fault}
 use Rattle.console_lines.specs.declared.fault.Fault.TheVariants.{Input, Full, Memory}
 use Rattle.console_lines.proofs.Ends.{told_once, told_not_unwritten, told_not_all, all_not_unwritten, out_not_console, result_done, result_line, result_front, result_no_output, result_cause}
@@ -103,7 +103,7 @@ pub ends_told : (out : List ℕ) (o : Outcome) {text : List ℕ} {refused : Bool
 ends_told out o told = record {
   out_cause = λ also. absurd ((result_no_output told).0 also);
   console_cause = result_cause told;
-  no_report = (result_no_output told).1;
+  no_side = (result_no_output told).1;
   silent = λ also. absurd ((result_no_output told).0 also);
 }
 
@@ -131,7 +131,7 @@ module _ (library : Library) (out : List ℕ) (o : Outcome) where
     input = λ also. input (told_once o.end why Input is also);
     out_cause = λ also. absurd (told_not_unwritten o.end why Out is also);
     console_cause = λ also. absurd (told_not_unwritten o.end why Console is also);
-    no_report = told_not_unwritten o.end why Report is;
+    no_side = told_not_unwritten o.end why Side is;
     full = λ also. full (told_once o.end why Full is also);
     whole = λ all. absurd (told_not_all o.end why is all);
     silent = λ also. absurd (told_not_unwritten o.end why Out is also);
@@ -152,7 +152,7 @@ module _ (library : Library) (out : List ℕ) (o : Outcome) where
     input = λ also. let is : Input ≡ Memory = (fault Input also).0 in cc;
     out_cause = λ also. let earlier = stays.outs out in let rose = ends.out_cause also in omega (arith, earlier, rose);
     console_cause = ends.console_cause;
-    no_report = ends.no_report;
+    no_side = ends.no_side;
     full = λ also. let is : Full ≡ Memory = (fault Full also).0 in cc;
     whole = λ all tells.
         there_more (o.old.file library.file) (λ bytes ready_is. (delivered library bytes (stays.tells ∙ tells) ready_is).whole all) (is tells);

@@ -11,7 +11,7 @@ use Rattle.console_lines.specs.Ends.{Outcome, IsTold, IsSilent, out_unwritten, c
 use Rattle.console_lines.specs.Lines.{made_line}
 use Rattle.console_lines.specs.declared.end.End.{End}
 use Rattle.console_lines.specs.declared.end.End.TheVariants.{Done, Refused, Unwritten, Told}
-use Rattle.console_lines.specs.declared.end.Unwritten.TheVariants.{Out, Report, Console}
+use Rattle.console_lines.specs.declared.end.Unwritten.TheVariants.{Out, Side, Console}
 use Rattle.console_lines.specs.declared.fault.Fault.TheVariants.{Memory}
 use Rattle.marc_types.specs.Sums.{sums_of}
 use Rattle.marc_types.specs.declared.sums.Sums.{Sums}
@@ -30,7 +30,7 @@ abbrev pub EndsMaking : End → Type 0
 EndsMaking Done = Unit {0}
 EndsMaking Refused = ⊥
 EndsMaking (Unwritten Out) = Unit {0}
-EndsMaking (Unwritten Report) = ⊥
+EndsMaking (Unwritten Side) = ⊥
 EndsMaking (Unwritten Console) = Unit {0}
 EndsMaking (Told why) = why ≡ Memory
 

@@ -12,7 +12,7 @@ use Rattle.catalogue_rules.specs.Settle.{state_of}
 use Rattle.catalogue_rules.specs.Output.{export_of, all_keys}
 use Rattle.file_entries.specs.Files.{IsJudged}
 use Rattle.file_entries.specs.declared.refused.RefusedItem.{RefusedItem}
-use Rattle.console_lines.specs.Ends.{Outcome, IsTold, IsAllDone, IsSilent, end_of, out_unwritten, report_unwritten, console_unwritten}
+use Rattle.console_lines.specs.Ends.{Outcome, IsTold, IsAllDone, IsSilent, end_of, out_unwritten, side_unwritten, console_unwritten}
 use Rattle.console_lines.specs.Lines.{refused_lines, totals_line}
 use Rattle.console_lines.specs.Totals.{totals_of}
 use Rattle.console_lines.specs.declared.end.End.{End}
@@ -75,7 +75,7 @@ pub record IsPassDelivered (library : Library) (bytes out : List ℕ) (o : Outco
 pub record EndsDelivering (out : List ℕ) (o : Outcome) : Type 0 where
   pub out_cause : o.end ≡ out_unwritten → Rose (o.old.out_faults out) (o.new.out_faults out)
   pub console_cause : o.end ≡ console_unwritten → Rose o.faults o.faults_now
-  pub no_report : o.end ≢ report_unwritten
+  pub no_side : o.end ≢ side_unwritten
   pub silent : o.end ≡ out_unwritten → IsSilent o
 
 -- The command `pass`: one file through an empty catalogue, into the file OUT.
@@ -86,7 +86,7 @@ pub record Passes (library : Library) (out : List ℕ) (o : Outcome) : Type 0 wh
   pub input : o.end ≡ Told Input → Rose (o.old.in_faults library.file) (o.new.in_faults library.file)
   pub out_cause : o.end ≡ out_unwritten → Rose (o.old.out_faults out) (o.new.out_faults out)
   pub console_cause : o.end ≡ console_unwritten → Rose o.faults o.faults_now
-  pub no_report : o.end ≢ report_unwritten
+  pub no_side : o.end ≢ side_unwritten
   pub full : o.end ≡ Told Full → o.old.tells ≡ true → IsSomeAnd (o.old.file library.file) (λ bytes. IsFullAt library.code (items bytes))
   -- the file was there, and was passed
   pub whole : IsAllDone o.end → o.old.tells ≡ true

@@ -6,11 +6,11 @@ ghost use Rattle.plain_commands.specs.Totals.{holding, IsWithinLimits};
 ghost use Rattle.plain_commands.specs.Loading.{nothing_loaded, lacks_room, with_accepted, with_refused};
 
 use catalogue_core::{Catalogue, CoreFault};
+use catalogue_rules::Steps;
 use console_lines::Totals;
 use entry_record::Prepared;
 use file_entries::RefusedItem;
 use marc_types::{Limits, NoMemory, Sums};
-use record_store::Steps;
 use std::alloc::Global;
 use std::marker::Model;
 use std::sync::ledger::Ledger;

@@ -9,11 +9,11 @@ ghost use Rattle.plain_commands.specs.Loading.{IsFaultOfLoading, IsLoaded, IsFul
 
 use crate::loaded::Loaded;
 use catalogue_core::CoreFault;
+use catalogue_rules::Steps;
 use console_lines::Fault;
 use file_entries::{FileEntries, NextEntry};
 use marc_types::{NoMemory, Text};
 use outside::{Room, Source};
-use record_store::Steps;
 use std::alloc::Global;
 use std::marker::Brand;
 use std::sync::ledger::{Blank, Ledger};

@@ -1,42 +1,45 @@
 ghost use Rattle.marc_types.specs.Limits.{most_entries};
-ghost use Rattle.std.specs.Prelude.{◌≡◌, ◌≤◌, ℕ, List, true, Some, None, OnOk, IsErrOf, ◌∷◌, []};
-ghost use Rattle.outside.specs.Fault.{HasWriteCause};
-ghost use Rattle.outside.specs.Room.{SameBut, IsUntouched};
-ghost use Rattle.workload.specs.Workload.{workload_bytes};
+ghost use Rattle.std.specs.Prelude.{◌≡◌, ◌≤◌, ℕ, List, None, ◌∷◌, []};
+ghost use Rattle.outside.specs.Room.{SameBut};
 ghost use Rattle.console_lines.specs.Ends.{outcome};
-ghost use Rattle.output_files.specs.Outputs.{IsOutputLeft};
 ghost use Rattle.plain_commands.specs.Making.{Makes};
 
 use crate::summing::workload_text;
 use console_lines::{End, Fault, Unwritten, tell};
 use marc_types::NoMemory;
+use output_files::{Document, write_document};
 use outside::{Room, Sink, WriteFault};
 use std::alloc::Global;
+use std::marker::Model;
 
-/// Writes a workload into the file of that name. It is whole then, or as it was: as where memory runs out amid the workload.
-fn write_workload<R: Room>(
+/// A workload of at most 1,048,576 records, as a document: each record is made when it is written. Contracts see its bytes.
+#[derive(Drop)]
+struct Workload {
     alloc: Global,
-    room: &mut R,
-    name: &str,
     seed: u64,
     count: u64,
-) -> Result<(), WriteFault>
-    requires few { count ≤ most_entries }
-    requires free { (R.seen room.old).open_as name.now ≡ None }
-    ensures apart { SameBut (R.seen room.old) (R.seen room.new) (name.now ∷ []) }
-    ensures closed { (R.seen room.new).open_as name.now ≡ None }
-    ensures cause { HasWriteCause ((R.seen room.old).out_faults name.now) ((R.seen room.new).out_faults name.now) result }
-    ensures bytes { OnOk result ((R.seen room.old).tells ≡ true → (R.seen room.new).file name.now ≡ Some (workload_bytes seed count)) }
-    ensures left { (R.seen room.old).tells ≡ true → IsOutputLeft (R.seen room.old) (R.seen room.new) name.now (workload_bytes seed count) }
-    ensures untouched { IsErrOf result WriteFault.NoMemory → IsUntouched (R.seen room.old) (R.seen room.new) name.now }
-{
-    let mut out = room.open_out(name)?;
-    if let Err(fault) = workload::make(alloc, seed, count, &mut out) {
-        room.give_up_out(name, out);
-        return Err(fault);
+}
+
+impl Model for Workload {
+    ghost use Rattle.std.specs.Prelude.{List, ℕ, ◌≤◌};
+    ghost use Rattle.marc_types.specs.Limits.{most_entries};
+    ghost use Rattle.workload.specs.Workload.{workload_bytes};
+
+    ghost Value = { List ℕ };
+
+    ghost view = { λ w. workload_bytes w.seed w.count };
+
+    ghost invariant = { λ w. w.count ≤ most_entries };
+}
+
+impl Document for Workload {
+    ghost due = { λ workload. workload };
+
+    ghost takes_memory = { λ _. Unit {0} };
+
+    fn write_to<K: Sink>(self, out: &mut K) -> Result<(), WriteFault> {
+        workload::make(self.alloc, self.seed, self.count, out)
     }
-    room.close_out(name, out)?;
-    Ok(())
 }
 
 /// The command `make`: writes a workload of at most 1,048,576 records into the file `out`, and tells what their commits to an
@@ -61,7 +64,7 @@ pub fn make<R: Room>(
         Ok(text) => text,
         Err(NoMemory) => return tell(console, Fault::Memory),
     };
-    match write_workload(alloc, room, out, seed, count) {
+    match write_document(room, out, Workload { alloc, seed, count }) {
         Ok(()) => {}
         Err(WriteFault::OutputFault) => return End::Unwritten(Unwritten::Out),
         Err(WriteFault::NoMemory) => return tell(console, Fault::Memory),

@@ -8,12 +8,14 @@ ghost use Rattle.plain_commands.specs.Passing.{IsReady, IsPassDelivered, EndsDel
 use crate::ready::{Ready, prepare};
 use command_words::Library;
 use console_lines::{End, Fault, Unwritten, tell, tell_result};
-use output_files::write_all_records;
+use marc_types::NoMemory;
+use output_files::{Export, write_document};
 use outside::{Room, Sink, WriteFault};
 use std::alloc::Global;
 use std::mem;
 
 /// Writes the export into the file `out`, and then tells the console.
+#[tactic(auto, using(outside::proofs::Rooms::same_but_itself))]
 fn deliver<R: Room>(
     alloc: Global,
     room: &mut R,
@@ -38,7 +40,11 @@ fn deliver<R: Room>(
         IsPassDelivered library bytes out.now
         (outcome R.seen R.Out.written R.Out.faults room.old room.new console.old console.new result) }
 {
-    match write_all_records(alloc, room, out, ready.loaded.core()) {
+    let export = match Export::of(alloc, ready.loaded.core(), None) {
+        Ok(export) => export,
+        Err(NoMemory) => return tell(console, Fault::Memory),
+    };
+    match write_document(room, out, export) {
         Ok(()) => tell_result(console, ready.text.as_str(), ready.loaded.has_refused()),
         Err(WriteFault::OutputFault) => End::Unwritten(Unwritten::Out),
         Err(WriteFault::NoMemory) => tell(console, Fault::Memory),

@@ -6,10 +6,10 @@ use Rattle.outside.specs.Sink.{WritesFront}
 use Rattle.console_lines.specs.Ends.{Outcome, console_unwritten}
 use Rattle.console_lines.specs.declared.end.End.{End}
 use Rattle.console_lines.specs.declared.end.End.TheVariants.{Done, Refused, Unwritten, Told}
-use Rattle.console_lines.specs.declared.end.Unwritten.TheVariants.{Out, Report, Console}
+use Rattle.console_lines.specs.declared.end.Unwritten.TheVariants.{Out, Side, Console}
 use Rattle.command_words.specs.declared.topic.Topic.{Topic}
 use Rattle.command_words.specs.declared.topic.Topic.TheVariants as topic
-use Rattle.program_help.specs.declared.texts.TheConstants.{ALL, PASS, RUN, LOAD, EXPORT, REPORT, MAKE, VERIFY, MATCHES, HOLDINGS, MIGRATE, HELP, VERSION, STATUSES, THIS_VERSION}
+use Rattle.program_help.specs.declared.texts.TheConstants.{ALL, PASS, RUN, LOAD, EXPORT, REPORT, MAKE, VERIFY, MATCHES, HOLDINGS, MIGRATE, CHECKPOINT, QUICK, HELP, VERSION, STATUSES, THIS_VERSION}
 
 -- the text of a topic
 abbrev pub help_text : Topic → List ℕ
@@ -24,6 +24,8 @@ help_text topic.Verify = VERIFY.now
 help_text topic.Matches = MATCHES.now
 help_text topic.Holdings = HOLDINGS.now
 help_text topic.Migrate = MIGRATE.now
+help_text topic.Checkpoint = CHECKPOINT.now
+help_text topic.Quick = QUICK.now
 help_text topic.Help = HELP.now
 help_text topic.Version = VERSION.now
 help_text topic.Statuses = STATUSES.now
@@ -37,7 +39,7 @@ abbrev pub EndsTelling : End → Type 0
 EndsTelling Done = Unit {0}
 EndsTelling Refused = ⊥
 EndsTelling (Unwritten Out) = ⊥
-EndsTelling (Unwritten Report) = ⊥
+EndsTelling (Unwritten Side) = ⊥
 EndsTelling (Unwritten Console) = Unit {0}
 EndsTelling (Told fault) = ⊥
 

@@ -76,9 +76,21 @@ enum Files {
     Many,
 }
 
-const VERBS: [&str; 12] = [
-    "pass", "run", "load", "export", "report", "make", "verify", "migrate", "matches", "holdings",
-    "help", "version",
+const VERBS: [&str; 14] = [
+    "pass",
+    "run",
+    "load",
+    "export",
+    "report",
+    "make",
+    "verify",
+    "migrate",
+    "matches",
+    "holdings",
+    "checkpoint",
+    "quick",
+    "help",
+    "version",
 ];
 
 /// What is wrong with words that are no command.
@@ -115,8 +127,10 @@ fn form_of(topic: Topic) -> Form {
         Topic::Run => (3, Files::Many, false),
         Topic::Load => (1, Files::Many, false),
         Topic::Export => (2, Files::None, true),
-        Topic::Report | Topic::Matches | Topic::Migrate => (2, Files::None, false),
-        Topic::Make => (3, Files::None, false),
+        Topic::Report | Topic::Matches | Topic::Migrate | Topic::Checkpoint => {
+            (2, Files::None, false)
+        }
+        Topic::Make | Topic::Quick => (3, Files::None, false),
         Topic::Verify => (1, Files::None, false),
         Topic::Holdings => (3, Files::One, true),
         Topic::Help | Topic::All | Topic::Version | Topic::Statuses => (0, Files::None, false),

@@ -22,6 +22,8 @@ pub(crate) fn text_of(topic: Topic) -> &'static str
         Topic::Matches => texts::MATCHES,
         Topic::Holdings => texts::HOLDINGS,
         Topic::Migrate => texts::MIGRATE,
+        Topic::Checkpoint => texts::CHECKPOINT,
+        Topic::Quick => texts::QUICK,
         Topic::Help => texts::HELP,
         Topic::Version => texts::VERSION,
         Topic::Statuses => texts::STATUSES,

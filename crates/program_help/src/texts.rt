@@ -13,6 +13,8 @@ verify JOURNAL                       tell what the journal has; write nothing
 matches JOURNAL OUT                  write which records share a number
 holdings JOURNAL OUT REST CODE=FILE  write the records with a file's holdings
 migrate OLD NEW                      bring a journal of version 1 into a new one
+checkpoint JOURNAL POINT             keep the journal's catalogue behind POINT
+quick JOURNAL POINT OUT              export from POINT's last checkpoint on
 help [COMMAND]                       tell this, or how that command is used
 version                              tell the program's version
 ";
@@ -168,6 +170,35 @@ than a catalogue takes; 8 memory ran out; 9 OLD isn't of version 1, or NEW is;
 Example: union_cat migrate old.jnl union.jnl
 ";
 
+pub const CHECKPOINT: &str = "union_cat checkpoint JOURNAL POINT
+
+Puts a checkpoint of the journal's catalogue behind those that POINT has, for
+quick. Nothing shortens POINT: a new one is made and moved over the old.
+Writes: POINT, which is made if it isn't there; on the console a line with the
+number of the journal's entries. JOURNAL is only put in order, and made if it
+isn't there.
+Status: 0 POINT has it; 2 wrong words; 4 POINT has it, but the console couldn't
+be written; 5 the disk of JOURNAL or POINT failed; 6 JOURNAL is no journal, or
+POINT has no checkpoints, but something else; 7 JOURNAL has more than a
+catalogue takes; 8 memory ran out; 9 POINT is of version 1.
+Example: union_cat checkpoint union.jnl union.pnt
+";
+
+pub const QUICK: &str = "union_cat quick JOURNAL POINT OUT
+
+Writes the journal's records in the order of their keys, as export does, but
+begins with POINT's last checkpoint and takes only the entries behind it. With
+none that fits it takes all. POINT must be JOURNAL's own: that isn't checked.
+Writes: OUT; on the console a line with the number of entries that the
+checkpoint spared, and that of all. JOURNAL is only put in order, POINT is only
+read; each is made, empty, if it isn't there.
+Status: 0 all was written; 2 wrong words; 4 OUT or the console couldn't be
+written; 5 the disk of JOURNAL or POINT failed; 6 JOURNAL is no journal, or
+POINT has no checkpoints, but something else; 7 JOURNAL has more than a
+catalogue takes; 8 memory ran out; 9 POINT is of version 1.
+Example: union_cat quick union.jnl union.pnt all.out
+";
+
 pub const HELP: &str = "union_cat help
 union_cat help COMMAND
 union_cat help statuses
@@ -201,7 +232,7 @@ The exit statuses of all commands:
   6  the file is no journal, or a damaged one
   7  there are more records than a catalogue takes
   8  memory ran out
-  9  the journal is of version 1; in migrate: OLD isn't, or NEW is
+  9  the journal or POINT is of version 1; in migrate: OLD isn't, or NEW is
   10 in migrate: NEW has another history
 Standard error names the file and the cause.
 ";

@@ -10,7 +10,7 @@ use Rattle.command_words.specs.declared.asked.AloneRequest.{AloneRequest}
 use Rattle.command_words.specs.declared.asked.LoadRequest.{LoadRequest}
 use Rattle.command_words.specs.declared.asked.Outputs.{Outputs}
 use Rattle.command_words.specs.declared.asked.Request.TheVariants as request
-use Rattle.command_words.specs.Command.{Command, Pass, Run, Load, Export, Report, Make, Verify, Matches, Holdings, Migrate, Help, Version, command_of, libraries_of, file_count, names_of, AreNames, IsBounded, ReadsFiles}
+use Rattle.command_words.specs.Command.{Command, Pass, Run, Load, Export, Report, Make, Verify, Matches, Holdings, Migrate, Checkpoint, Quick, Help, Version, command_of, libraries_of, file_count, names_of, AreNames, IsBounded, ReadsFiles}
 use Rattle.command_words.specs.Asked.{alone_asked, load_asked, loading_of, AsksFor}
 use Rattle.console_lines.specs.Ends.{Outcome, IsTold}
 use Rattle.console_lines.specs.declared.end.End.TheVariants.{Told}
@@ -18,8 +18,8 @@ use Rattle.console_lines.specs.declared.fault.Fault.TheVariants as fault
 use Rattle.durable_catalogue.specs.declared.fault.OpenFault.TheVariants as opening
 use Rattle.room_files.proofs.Journals.{unopened_keeps}
 use Rattle.plain_commands.proofs.Passes.{passes_told}
-use Rattle.journal_loading.specs.Outcomes.{IsLoadingFault, NotBegun, Unopened}
-use Rattle.journal_loading.specs.Inputs.{AreLoadable, IsProper}
+use Rattle.loading_commands.specs.Outcomes.{IsLoadingFault, NotBegun, Unopened}
+use Rattle.loading_commands.specs.Inputs.{AreLoadable, IsProper}
 use Rattle.union_top.specs.Commands.{Ends, CarriesOut}
 use Rattle.loading_commands.specs.Loading.{Loads, Runs, EndsWithOutputs, EndsLoading}
 use Rattle.loading_commands.specs.Runs as runs
@@ -120,6 +120,8 @@ module _ (o : Outcome) (told : o.end ≡ Told fault.Memory) (tells : IsTold faul
       attaches_unopened journal out rest library code o opening.NoMemory told tells (same_but_none o.old o.new (journal ∷ []) stays) (λ old. cc) (λ room. tt)
       (λ room. unopened_keeps _ o.old o.new journal stays) (λ device. cc)
   unasked words (Migrate from into) takes = absurd takes
+  unasked words (Checkpoint journal point) takes = absurd takes
+  unasked words (Quick journal point out) takes = absurd takes
   unasked words (Help topic) takes = absurd takes
   unasked words Version takes = absurd takes
 

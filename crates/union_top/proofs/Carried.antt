@@ -1,5 +1,5 @@
 -- Words are carried out, by what the calls say.
-use Rattle.std.proofs.Common.{◌≡◌, ◌≢◌, ◌≤◌, ◌⊎◌, ◌∙◌, ℕ, List, [], Option, Some, None, refl, sym, ap, subst}
+use Rattle.std.proofs.Common.{◌≡◌, ◌≢◌, ◌≤◌, ◌⊎◌, ◌∙◌, ℕ, true, List, [], Option, Some, None, refl, sym, ap, subst}
 use Rattle.outside.specs.Room.{RoomView, SameBut, IsPromiseKept}
 use Rattle.outside.proofs.Rooms.{same_but_itself}
 use Rattle.command_words.specs.Command.{Command, command_of, names_of}
@@ -12,11 +12,13 @@ use Rattle.console_lines.specs.declared.end.End.TheVariants.{Told}
 use Rattle.console_lines.specs.declared.fault.Fault.{Fault}
 use Rattle.console_lines.specs.declared.fault.Fault.TheVariants.{Usage}
 use Rattle.union_top.specs.Commands.{Ends, CarriesOut}
-use Rattle.union_top.specs.Complete.{Around, IsUnhindered}
+use Rattle.union_top.specs.Complete.{Around, CountsStayed, IsUnhindered}
+use Rattle.union_top.specs.Misfits.{RefusesMisfits}
 use Rattle.union_top.specs.Sure.{IsSure}
 use Rattle.union_top.specs.Carried.{AreCarriedOut, unasked_fault}
 use Rattle.union_top.proofs.Asked.{carried_unasked, wanting}
 use Rattle.union_top.proofs.Complete.{complete, around_of, two_is_usage, same_command}
+use Rattle.union_top.proofs.Refusing.{refuses}
 use Rattle.union_top.proofs.Sure.{sure}
 
 module _ (words : List (List ℕ)) (status : ℕ) (a : Around) (o : End → Outcome) (end : End) (status_is : status ≡ end_status end) where
@@ -30,14 +32,17 @@ module _ (words : List (List ℕ)) (status : ℕ) (a : Around) (o : End → Outc
     ends = λ command asks. let both : None ≡ Some command = sym none ∙ asks in cc;
     complete = λ command asks u. let both : None ≡ Some command = sym none ∙ asks in cc;
     sure = λ command asks u. let both : None ≡ Some command = sym none ∙ asks in cc;
+    misfits = λ command asks tells s. let both : None ≡ Some command = sym none ∙ asks in cc;
   }
 
   pub command_carried : (asked : Command) → command_of words ≡ Some asked → end ≢ Told Usage → SameBut a.old a.new (names_of asked)
       → Ends words asked (o end)
       → ((command : Command) → Ends words command (o end) → IsUnhindered words command a → (end_status end ≤ 1) ⊎ (end_status end ≡ 8))
       → ((command : Command) → Ends words command (o end) → IsSure words command a → (end_status end ≤ 1) ⊎ (end_status end ≡ 8))
+      → (a.old.tells ≡ true → (command : Command) → Ends words command (o end) → CountsStayed words command a
+      → RefusesMisfits words command a.old (end_status end))
       → AreCarriedOut words status a o
-  command_carried asked asks other apart ends well sure = record {
+  command_carried asked asks other apart ends well sure refuses = record {
     usage = (λ two. absurd (other (two_is_usage end (sym status_is ∙ two))), λ none. let both : None ≡ Some asked = sym none ∙ asks in cc);
     unchanged = λ two. absurd (other (two_is_usage end (sym status_is ∙ two)));
     usage_told = λ two. absurd (other (two_is_usage end (sym status_is ∙ two)));
@@ -45,6 +50,7 @@ module _ (words : List (List ℕ)) (status : ℕ) (a : Around) (o : End → Outc
     ends = λ command is. (end, status_is, ends_of command is);
     complete = λ command is u. subst (λ s. (s ≤ 1) ⊎ (s ≡ 8)) (sym status_is) (well command (ends_of command is) u);
     sure = λ command is u. subst (λ s. (s ≤ 1) ⊎ (s ≡ 8)) (sym status_is) (sure command (ends_of command is) u);
+    misfits = λ command is tells s. subst (RefusesMisfits words command a.old) (sym status_is) (refuses tells command (ends_of command is) s);
   }
     where
       ends_of : (command : Command) → command_of words ≡ Some command → Ends words command (o end)
@@ -58,6 +64,7 @@ carried_out words asked o end status status_is asks did is kept =
     command_carried words status (around_of (o end)) o end status_is asked asks (λ usage. did.no_usage (is ∙ usage)) did.apart did.ends
     (λ command ends u. subst (λ e. (end_status e ≤ 1) ⊎ (end_status e ≡ 8)) is (complete (o end) words command ends u))
     (λ command ends u. subst (λ e. (end_status e ≤ 1) ⊎ (end_status e ≡ 8)) is (sure (o end) did.apart.promises kept words command ends u))
+    (λ tells command ends s. subst (λ e. RefusesMisfits words command (o end).old (end_status e)) is (refuses (o end) tells words command ends s))
 
 -- words that ask for nothing that can be done are carried out once the console was told why
 module _ (room : RoomView) (told now : Option (List ℕ)) (faults faults_now : ℕ) where

@@ -3,20 +3,21 @@ use Rattle.std.proofs.Common.{◌≡◌, ◌⊎◌, inl, inr, ℕ, zero, suc, �
 use Rattle.std.specs.Prelude.{All, slice_get}
 use Rattle.std.proofs.lemmas.List.Elements.{All-head, All-tail}
 use Rattle.command_words.specs.declared.library.Library.{Library}
-use Rattle.command_words.specs.Command.{Command, Pass, Run, Load, Export, Report, Make, Verify, Matches, Holdings, Migrate, Help, Version, libraries_of}
+use Rattle.command_words.specs.Command.{Command, Pass, Run, Load, Export, Report, Make, Verify, Matches, Holdings, Migrate, Checkpoint, Quick, Help, Version, libraries_of}
 use Rattle.console_lines.specs.Ends.{Outcome, end_status}
 use Rattle.console_lines.specs.declared.end.End.{End}
 use Rattle.console_lines.specs.declared.end.End.TheVariants.{Done, Refused, Unwritten, Told}
 use Rattle.console_lines.specs.declared.fault.Fault.TheVariants as fault
 use Rattle.archive_commands.specs.Reads as reading
 use Rattle.match_command.specs.Telling.{matches_due}
-use Rattle.journal_loading.specs.Inputs.{IsInputFault}
+use Rattle.loading_commands.specs.Inputs.{IsInputFault}
 use Rattle.program_help.specs.Telling.{help_text, version_text}
 use Rattle.union_top.specs.Commands.{Ends}
 use Rattle.union_top.specs.Complete.{Around, InStayed, InputsStayed, IsUnhindered}
 use Rattle.union_top.proofs.Fitting.{EndsWell, well_status, passes_well, makes_well, reads_well, attaches_well, loads_well, runs_well}
 use Rattle.union_top.proofs.Untroubled.{verify_well, tells_well}
 use Rattle.union_top.proofs.Migrated.{migrates_well}
+use Rattle.union_top.proofs.Pointed.{checkpoints_well, quick_well}
 
 -- an element of a list of which all are so
 at_index : {A : Type 0} (P : A → Type 0) (xs : List A) (n : ℕ) (x : A) → All P xs → slice_get xs n ≡ Some x → P x
@@ -73,6 +74,10 @@ module _ (o : Outcome) where
       (λ is. s.1 (a.device is))
   ends_well words (Migrate from into) m u =
       migrates_well o from into m u.fits (λ is. neither u.stayed.0 u.stayed.1 (m.device is)) (λ is. u.stayed.2 (m.console is))
+  ends_well words (Checkpoint journal point) c u =
+      checkpoints_well o journal point c u.fits u.stayed.0 u.stayed.1 (λ is. u.stayed.2 (c.console is))
+  ends_well words (Quick journal point out) q u =
+      quick_well o journal point out q u.fits u.stayed.0 u.stayed.1 (λ is. u.stayed.2 (q.out_cause is)) (λ is. u.stayed.3 (q.console is))
   ends_well words (Help topic) t u = tells_well o (help_text topic) t (λ is. u.stayed (t.cause is))
   ends_well words Version t u = tells_well o version_text t (λ is. u.stayed (t.cause is))
 

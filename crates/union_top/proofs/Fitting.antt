@@ -13,7 +13,7 @@ use Rattle.entry_record.specs.History.{entry_size, entries_size}
 use Rattle.file_entries.specs.Files.{IsJudged, Accepts}
 use Rattle.file_entries.proofs.Every.{every_judged}
 use Rattle.file_entries.specs.declared.refused.RefusedItem.{RefusedItem}
-use Rattle.console_lines.specs.Ends.{Outcome, IsAllDone, end_status, out_unwritten, report_unwritten, console_unwritten}
+use Rattle.console_lines.specs.Ends.{Outcome, IsAllDone, end_status, out_unwritten, side_unwritten, console_unwritten}
 use Rattle.console_lines.specs.declared.end.End.{End}
 use Rattle.console_lines.specs.declared.end.End.TheVariants.{Done, Refused, Unwritten, Told}
 use Rattle.console_lines.specs.declared.end.Unwritten.TheVariants as unwritten
@@ -46,12 +46,12 @@ well_status (Unwritten which) (inr memory) = cc
 well_status (Told why) (inl all) = absurd all
 well_status (Told why) (inr memory) = inr (ap end_status memory)
 
-by_end : (end : End) → (end ≡ out_unwritten → ⊥) → (end ≡ report_unwritten → ⊥) → (end ≡ console_unwritten → ⊥)
+by_end : (end : End) → (end ≡ out_unwritten → ⊥) → (end ≡ side_unwritten → ⊥) → (end ≡ console_unwritten → ⊥)
     → ((why : Fault) → end ≡ Told why → why ≡ fault.Memory) → EndsWell end
 by_end Done out report console told = inl tt
 by_end Refused out report console told = inl tt
 by_end (Unwritten unwritten.Out) out report console told = absurd (out refl)
-by_end (Unwritten unwritten.Report) out report console told = absurd (report refl)
+by_end (Unwritten unwritten.Side) out report console told = absurd (report refl)
 by_end (Unwritten unwritten.Console) out report console told = absurd (console refl)
 by_end (Told why) out report console told = inr (ap Told (told why refl))
 
@@ -107,7 +107,7 @@ module _ (o : Outcome) where
   passes_well words out ends f no_out no_console no_input =
       let p = ends f.library f.named in
       let j = every_judged f.library.code 0 (items f.alone.bytes) in
-      by_end o.end no_out p.no_report no_console
+      by_end o.end no_out p.no_side no_console
       (λ why is. pass_why why (p.told why is).1 (λ same. no_input (is ∙ ap Told same))
       (λ same. never_full_at f.library.code (items f.alone.bytes) j.accepted j.refused j.judged (f.alone.within j.accepted j.refused j.judged)
       (subst (λ file. IsSomeAnd file (λ bytes. IsFullAt f.library.code (items bytes))) f.alone.there (p.full (is ∙ ap Told same) f.tells))))
@@ -126,7 +126,7 @@ module _ (o : Outcome) where
       (may_be (log_bytes o.old journal) w.reason f.history (w.so f.tells)) (λ device. no_device (is ∙ ap Told (w.is ∙ device))))
 
   pub attaches_well : (words : List (List ℕ)) (journal out rest : List ℕ) (code : Option (List ℕ)) → Ends words (Holdings journal out rest code) o
-      → FitsHoldings o.old journal (libraries_of words) → Never out_unwritten → Never report_unwritten → Never console_unwritten
+      → FitsHoldings o.old journal (libraries_of words) → Never out_unwritten → Never side_unwritten → Never console_unwritten
       → Never (Told fault.Input) → Never (Told fault.Device) → EndsWell o.end
   attaches_well words journal out rest code ends f no_out no_rest no_console no_input no_device =
       let a = ends f.library f.named in
@@ -145,7 +145,7 @@ module _ (o : Outcome) where
       (λ same. no_input (is ∙ ap Told same)) (λ same. no_device (is ∙ ap Told same)))
 
   pub runs_well : (libraries : List Library) (journal out report : List ℕ) → Runs libraries journal out report o → FitsLoad o.old journal libraries
-      → Never out_unwritten → Never report_unwritten → Never console_unwritten → Never (Told fault.Input) → Never (Told fault.Device) → EndsWell o.end
+      → Never out_unwritten → Never side_unwritten → Never console_unwritten → Never (Told fault.Input) → Never (Told fault.Device) → EndsWell o.end
   runs_well libraries journal out report r f no_out no_report no_console no_input no_device =
       let fits = fits_judged o.old journal libraries f.together in
       by_end o.end no_out no_report no_console

@@ -1,4 +1,6 @@
 mod Migrated
+mod Pointed
+mod Pointing
 mod Weights
 mod Made
 mod Crowded
@@ -12,4 +14,6 @@ mod Complete
 mod Held
 mod Sure
 mod Asked
+mod Misfits
+mod Refusing
 mod Carried

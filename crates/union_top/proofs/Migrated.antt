@@ -6,7 +6,7 @@ use Rattle.outside.specs.Room.{SameBut}
 use Rattle.console_lines.specs.Ends.{Outcome, IsAllDone, console_unwritten}
 use Rattle.console_lines.specs.declared.end.End.{End}
 use Rattle.console_lines.specs.declared.end.End.TheVariants.{Done, Refused, Unwritten, Told}
-use Rattle.console_lines.specs.declared.end.Unwritten.TheVariants.{Out, Report, Console}
+use Rattle.console_lines.specs.declared.end.Unwritten.TheVariants.{Out, Side, Console}
 use Rattle.console_lines.specs.declared.fault.Fault.{Fault}
 use Rattle.console_lines.specs.declared.fault.Fault.TheVariants as fault
 use Rattle.commit_journal.specs.Log.{version_of}
@@ -28,7 +28,7 @@ migrated_well : (end : End) → EndsMigrating end → (end ≡ console_unwritten
 migrated_well Done kind console told = inl tt
 migrated_well Refused kind console told = absurd kind
 migrated_well (Unwritten Out) kind console told = absurd kind
-migrated_well (Unwritten Report) kind console told = absurd kind
+migrated_well (Unwritten Side) kind console told = absurd kind
 migrated_well (Unwritten Console) kind console told = absurd (console refl)
 migrated_well (Told why) kind console told = inr (ap Told (told why refl))
 

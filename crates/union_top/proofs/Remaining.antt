@@ -18,7 +18,7 @@ use Rattle.loader_workers.specs.declared.result.FileResult.{FileResult}
 use Rattle.room_files.specs.Journals.{journal_limits, log_bytes}
 use Rattle.archive_commands.specs.Archives.{HasFittingHistory}
 use Rattle.archive_commands.proofs.Histories.{fitting_history}
-use Rattle.journal_loading.specs.Outcomes.{IsLoadedInPart, IsUnbegun, Unopened, Unbegun, IsLoadingFault, NotBegun, InPart, any_ends, loading_fault}
+use Rattle.loading_commands.specs.Outcomes.{IsLoadedInPart, IsUnbegun, Unopened, Unbegun, IsLoadingFault, NotBegun, InPart, any_ends, loading_fault}
 use Rattle.room_files.specs.Faults.{fault_of_opening}
 use Rattle.room_files.proofs.Histories.{reading_once}
 use Rattle.loading_commands.specs.Runs.{WhyNotLoad, WhyNotRun}

@@ -11,14 +11,14 @@ use Rattle.marc_stream.specs.Pieces.{items}
 use Rattle.workload.specs.Workload.{workload_bytes}
 use Rattle.commit_journal.specs.declared.format.TheConstants.{BLANK_LENGTH}
 use Rattle.command_words.specs.declared.library.Library.{Library}
-use Rattle.command_words.specs.Command.{Command, Pass, Run, Load, Export, Report, Make, Verify, Matches, Holdings, Migrate, Help, Version, libraries_of}
+use Rattle.command_words.specs.Command.{Command, Pass, Run, Load, Export, Report, Make, Verify, Matches, Holdings, Migrate, Checkpoint, Quick, Help, Version, libraries_of}
 use Rattle.file_entries.specs.Files.{IsJudged}
 use Rattle.file_entries.specs.declared.refused.RefusedItem.{RefusedItem}
-use Rattle.console_lines.specs.Ends.{Outcome, IsAllDone, TellsNoFault, end_of, end_status, out_unwritten, report_unwritten, console_unwritten}
+use Rattle.console_lines.specs.Ends.{Outcome, IsAllDone, TellsNoFault, end_of, end_status, out_unwritten, side_unwritten, console_unwritten}
 use Rattle.console_lines.specs.declared.end.End.TheVariants.{Told}
 use Rattle.console_lines.specs.declared.end.Unwritten.TheVariants as unwritten
 use Rattle.console_lines.specs.declared.fault.Fault.TheVariants as fault
-use Rattle.console_lines.proofs.Ends.{out_not_console, out_not_report, report_not_console, all_not_unwritten, all_of}
+use Rattle.console_lines.proofs.Ends.{out_not_console, out_not_side, side_not_console, all_not_unwritten, all_of}
 use Rattle.durable_catalogue.specs.declared.fault.OpenFault.TheVariants as opening
 use Rattle.durable_catalogue.specs.Images.{framed_lengths}
 use Rattle.durable_catalogue.specs.Logs.{IsLogOf, HasHistory}
@@ -40,23 +40,26 @@ use Rattle.holdings_command.specs.Attaching.{AttachesHoldings, IsDelivered, OutF
 use Rattle.migrate_command.specs.Migrations.{IsFit, IsAmid, Before, Behind}
 use Rattle.migrate_command.specs.Migrates as migrates
 use Rattle.migrate_command.specs.Migrates.{Migrates, BringsInto, IsDeviceOf, migrated_line}
-use Rattle.journal_loading.specs.Inputs.{IsInputFault}
-use Rattle.journal_loading.specs.Outcomes as outcomes
-use Rattle.journal_loading.specs.Outcomes.{IsLoadingFault}
+use Rattle.console_lines.specs.Lines.{resumed_line}
+use Rattle.checkpoint_commands.specs.Quick.{ExportsQuickly, IsResumedFrom}
+use Rattle.loading_commands.specs.Inputs.{IsInputFault}
+use Rattle.loading_commands.specs.Outcomes as outcomes
+use Rattle.loading_commands.specs.Outcomes.{IsLoadingFault}
 use Rattle.program_help.specs.Telling.{help_text, version_text, Tells}
 use Rattle.loading_commands.specs.Loading.{Loads, Runs}
 use Rattle.loading_commands.specs.Runs as runs
 use Rattle.loading_commands.specs.Runs.{IsMergedLoad, WhyNotLoad, WhyNotRun}
 use Rattle.union_top.specs.Commands.{Ends}
-use Rattle.union_top.specs.Fits.{FitsPass, FitsLoad, FitsReading, FitsHoldings, FitsVerify, FitsMigrate}
+use Rattle.union_top.specs.Fits.{FitsPass, FitsLoad, FitsReading, FitsHoldings, FitsVerify, FitsMigrate, FitsPoint}
 use Rattle.union_top.specs.Complete.{Around, LogStayed}
-use Rattle.union_top.specs.Sure.{HoldsLog, HoldsText, PassCase, LoadCase, HoldingsCase, holdings_due, IsSurePass, IsSureMake, IsSureReading, IsSureVerify, IsSureHoldings, IsSureMigrate, IsSureLoad, IsSureRun, IsSure}
+use Rattle.union_top.specs.Sure.{HoldsLog, HoldsText, PassCase, LoadCase, HoldingsCase, holdings_due, IsSurePass, IsSureMake, IsSureReading, IsSureVerify, IsSureHoldings, IsSureMigrate, IsSureQuick, IsSureLoad, IsSureRun, IsSure}
 use Rattle.union_top.proofs.Complete.{around_of, one_stayed, none_failed, neither}
 use Rattle.union_top.proofs.Fitting.{EndsWell, well_status, Never, passes_well, makes_well, reads_well, attaches_well, loads_well, runs_well}
 use Rattle.union_top.proofs.Framed.{part_no_longer}
 use Rattle.union_top.proofs.Held.{in_stayed, inputs_stayed, out_stayed, log_stayed, same_stayed, kept_stayed, text_stayed}
 use Rattle.union_top.proofs.Judgements.{fits_judged}
 use Rattle.union_top.proofs.Migrated.{migrates_well}
+use Rattle.union_top.proofs.Pointed.{quick_well}
 use Rattle.union_top.proofs.Untroubled.{verify_well, tells_well}
 use mathlib.Core.HLevel.{⊥_prop}
 
@@ -156,19 +159,19 @@ module _ (o : Outcome) (promises : (n : List ℕ) → o.new.promise n ≡ o.old.
 
     at_out : o.end ≡ out_unwritten → IsDelivered due out rest o → IsOutputLeft o.old o.new out due.out
     at_out is (OutFailed end left rest_stays silent) = left
-    at_out is (RestFailed end whole left silent) = absurd (out_not_report o.end is end)
+    at_out is (RestFailed end whole left silent) = absurd (out_not_side o.end is end)
     at_out is (ConsoleFailed end whole rest_whole front) = absurd (out_not_console o.end is end)
     at_out is (Whole end whole rest_whole told) = absurd (all_not_unwritten o.end unwritten.Out (all_done end) is)
 
-    at_rest : o.end ≡ report_unwritten → IsDelivered due out rest o → IsOutputLeft o.old o.new rest due.rest
-    at_rest is (OutFailed end left rest_stays silent) = absurd (out_not_report o.end end is)
+    at_rest : o.end ≡ side_unwritten → IsDelivered due out rest o → IsOutputLeft o.old o.new rest due.rest
+    at_rest is (OutFailed end left rest_stays silent) = absurd (out_not_side o.end end is)
     at_rest is (RestFailed end whole left silent) = left
-    at_rest is (ConsoleFailed end whole rest_whole front) = absurd (report_not_console o.end is end)
-    at_rest is (Whole end whole rest_whole told) = absurd (all_not_unwritten o.end unwritten.Report (all_done end) is)
+    at_rest is (ConsoleFailed end whole rest_whole front) = absurd (side_not_console o.end is end)
+    at_rest is (Whole end whole rest_whole told) = absurd (all_not_unwritten o.end unwritten.Side (all_done end) is)
 
     at_console : o.end ≡ console_unwritten → IsDelivered due out rest o → WritesFront o.told o.now due.text
     at_console is (OutFailed end left rest_stays silent) = absurd (out_not_console o.end end is)
-    at_console is (RestFailed end whole left silent) = absurd (report_not_console o.end end is)
+    at_console is (RestFailed end whole left silent) = absurd (side_not_console o.end end is)
     at_console is (ConsoleFailed end whole rest_whole front) = front
     at_console is (Whole end whole rest_whole told) = absurd (all_not_unwritten o.end unwritten.Console (all_done end) is)
 
@@ -290,6 +293,18 @@ module _ (o : Outcome) (promises : (n : List ℕ) → o.new.promise n ≡ o.old.
       (λ is. no_input_fault libraries journal f h.load (r.input is))
       (λ is. run_stayed libraries journal f h.load out report (r.because fault.Device is f.tells) (r.device is))
 
+  sure_quick : (journal point out : List ℕ) → ExportsQuickly journal point out o → FitsPoint o.old journal point → IsSureQuick journal point out a
+      → EndsWell o.end
+  sure_quick journal point out q f h =
+      quick_well o journal point out q f (kept_stayed a promises kept (IsDeviceOf o journal) journal 0 h.log (q.keeps f.reading.tells))
+      (kept_stayed a promises kept (IsDeviceOf o point) point 0 h.point_log (q.point_keeps f.reading.tells))
+      (λ is.
+      let e = q.exported (subst TellsNoFault (sym is) tt) f.reading.tells in
+      out_stayed a promises kept out e.resumed.due (h.output e.resumed) (e.part is) (q.out_cause is))
+      (λ is.
+      let e = q.exported (subst TellsNoFault (sym is) tt) f.reading.tells in
+      text_stayed a (resumed_line e.resumed.taken (length e.resumed.history)) (h.console e.resumed) (e.front is) (q.console is))
+
   sure_text : (text : List ℕ) → Tells text o → HoldsText a text → EndsWell o.end
   sure_text text t h = tells_well o text t (λ is. text_stayed a text h (t.part is) (t.cause is))
 
@@ -304,6 +319,8 @@ module _ (o : Outcome) (promises : (n : List ℕ) → o.new.promise n ≡ o.old.
   ends_sure words (Matches journal out) r u = sure_read journal out matches_due r u.fits u.holds
   ends_sure words (Holdings journal out rest code) ends u = sure_holdings words journal out rest code ends u.fits u.holds
   ends_sure words (Migrate from into) m u = sure_migrate from into m u.fits u.holds
+  ends_sure words (Checkpoint journal point) c u = absurd u.holds
+  ends_sure words (Quick journal point out) q u = sure_quick journal point out q u.fits u.holds
   ends_sure words (Help topic) t u = sure_text (help_text topic) t u.holds
   ends_sure words Version t u = sure_text version_text t u.holds
 

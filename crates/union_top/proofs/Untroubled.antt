@@ -5,7 +5,7 @@ use Rattle.std.specs.Prelude.{IsSomeAnd}
 use Rattle.console_lines.specs.Ends.{Outcome, IsAllDone, console_unwritten}
 use Rattle.console_lines.specs.declared.end.End.{End}
 use Rattle.console_lines.specs.declared.end.End.TheVariants.{Done, Refused, Unwritten, Told}
-use Rattle.console_lines.specs.declared.end.Unwritten.TheVariants.{Out, Report, Console}
+use Rattle.console_lines.specs.declared.end.Unwritten.TheVariants.{Out, Side, Console}
 use Rattle.console_lines.specs.declared.fault.Fault.TheVariants as fault
 use Rattle.durable_catalogue.specs.declared.fault.OpenFault.TheVariants as opening
 use Rattle.durable_catalogue.specs.Openings as openings
@@ -37,7 +37,7 @@ verified_well : (end : End) → EndsVerifying end → (end ≡ console_unwritten
 verified_well Done kind console input none = inl tt
 verified_well Refused kind console input none = absurd kind
 verified_well (Unwritten Out) kind console input none = absurd kind
-verified_well (Unwritten Report) kind console input none = absurd kind
+verified_well (Unwritten Side) kind console input none = absurd kind
 verified_well (Unwritten Console) kind console input none = absurd (console refl)
 verified_well (Told fault.Usage) kind console input none = absurd kind
 verified_well (Told fault.Input) kind console input none = absurd (input refl)
@@ -52,7 +52,7 @@ told_well : (end : End) → EndsTelling end → (end ≡ console_unwritten → �
 told_well Done kind console = inl tt
 told_well Refused kind console = absurd kind
 told_well (Unwritten Out) kind console = absurd kind
-told_well (Unwritten Report) kind console = absurd kind
+told_well (Unwritten Side) kind console = absurd kind
 told_well (Unwritten Console) kind console = absurd (console refl)
 told_well (Told why) kind console = absurd kind
 

@@ -1,7 +1,7 @@
 -- What the beginning of a command comes to.
 use Rattle.std.specs.Prelude.{ℕ}
 use Rattle.outside.specs.declared.disk.Disk.{Ghosts}
-use Rattle.journal_loading.specs.declared.loading.Loading.{Loading as Open}
+use Rattle.loading_commands.specs.declared.journal.Loading.{Loading as Open}
 use Rattle.union_top.specs.declared.command.Begun.{Begun}
 use Rattle.union_top.specs.declared.command.Begun.TheVariants.{Ended, Loading}
 

@@ -2,7 +2,7 @@
 use Rattle.std.specs.Prelude.{◌≡◌, ◌≢◌, ℕ, List, [], ◌∷◌, None}
 use Rattle.outside.specs.Room.{SameBut}
 use Rattle.command_words.specs.declared.library.Library.{Library}
-use Rattle.command_words.specs.Command.{Command, Pass, Run, Load, Export, Report, Make, Verify, Matches, Holdings, Migrate, Help, Version, libraries_of, names_of}
+use Rattle.command_words.specs.Command.{Command, Pass, Run, Load, Export, Report, Make, Verify, Matches, Holdings, Migrate, Checkpoint, Quick, Help, Version, libraries_of, names_of}
 use Rattle.console_lines.specs.Ends.{Outcome, end_status}
 use Rattle.console_lines.specs.declared.end.End.{End}
 use Rattle.console_lines.specs.declared.end.End.TheVariants.{Told}
@@ -15,6 +15,8 @@ use Rattle.journal_verification.specs.Verifying.{Verifies}
 use Rattle.match_command.specs.Telling.{TellsMatches}
 use Rattle.holdings_command.specs.Attaching.{AttachesHoldings}
 use Rattle.migrate_command.specs.Migrates.{Migrates}
+use Rattle.checkpoint_commands.specs.Checkpoints.{Checkpoints}
+use Rattle.checkpoint_commands.specs.Quick.{ExportsQuickly}
 use Rattle.program_help.specs.Telling.{help_text, version_text, Tells}
 use Rattle.loading_commands.specs.Loading.{Loads, Runs}
 
@@ -30,6 +32,8 @@ Ends words (Verify journal) o = Verifies journal o
 Ends words (Matches journal out) o = TellsMatches journal out o
 Ends words (Holdings journal out rest code) o = (library : Library) → libraries_of words ≡ library ∷ [] → AttachesHoldings journal out rest library code o
 Ends words (Migrate from into) o = Migrates from into o
+Ends words (Checkpoint journal point) o = Checkpoints journal point o
+Ends words (Quick journal point out) o = ExportsQuickly journal point out o
 Ends words (Help topic) o = Tells (help_text topic) o
 Ends words Version o = Tells version_text o
 

@@ -3,7 +3,7 @@ use Rattle.std.specs.Prelude.{ℕ, List, All, Option}
 use Rattle.outside.specs.Fault.{Rose}
 use Rattle.outside.specs.Room.{RoomView}
 use Rattle.command_words.specs.declared.library.Library.{Library}
-use Rattle.command_words.specs.Command.{Command, Pass, Run, Load, Export, Report, Make, Verify, Matches, Holdings, Migrate, Help, Version, libraries_of}
+use Rattle.command_words.specs.Command.{Command, Pass, Run, Load, Export, Report, Make, Verify, Matches, Holdings, Migrate, Checkpoint, Quick, Help, Version, libraries_of}
 use Rattle.union_top.specs.Fits.{Fits}
 
 -- what the room and the console were before and after a command
@@ -60,6 +60,8 @@ CountsStayed words (Matches journal out) a = LogStayed a journal × OutStayed a 
 CountsStayed words (Holdings journal out rest code) a =
     InputsStayed a (libraries_of words) × LogStayed a journal × ConsoleStayed a × OutStayed a out × OutStayed a rest
 CountsStayed words (Migrate from into) a = LogStayed a from × LogStayed a into × ConsoleStayed a
+CountsStayed words (Checkpoint journal point) a = LogStayed a journal × LogStayed a point × ConsoleStayed a
+CountsStayed words (Quick journal point out) a = LogStayed a journal × LogStayed a point × OutStayed a out × ConsoleStayed a
 CountsStayed words (Help topic) a = ConsoleStayed a
 CountsStayed words Version a = ConsoleStayed a
 

@@ -1,13 +1,13 @@
 -- What fits a command: what the room has before it, of its files, of its journal's history, and of the limits. The rules are this
 -- project's own.
-use Rattle.std.specs.Prelude.{◌≡◌, ℕ, ◌+◌, ◌≤◌, true, List, [], ◌∷◌, length, All, Some, IsSome}
+use Rattle.std.specs.Prelude.{◌≡◌, ℕ, ◌+◌, ◌≤◌, true, List, [], ◌∷◌, length, All, Option, Some, IsSome}
 use Rattle.std.specs.List.{sum_by}
 use Rattle.marc_types.specs.declared.entry.Entry.{Entry}
 use Rattle.outside.specs.Room.{RoomView}
 use Rattle.marc_stream.specs.Pieces.{items}
 use Rattle.commit_journal.specs.Log.{version_of}
 use Rattle.command_words.specs.declared.library.Library.{Library}
-use Rattle.command_words.specs.Command.{Command, Pass, Run, Load, Export, Report, Make, Verify, Matches, Holdings, Migrate, Help, Version, libraries_of}
+use Rattle.command_words.specs.Command.{Command, Pass, Run, Load, Export, Report, Make, Verify, Matches, Holdings, Migrate, Checkpoint, Quick, Help, Version, libraries_of}
 use Rattle.file_entries.specs.Files.{IsJudged}
 use Rattle.file_entries.specs.declared.refused.RefusedItem.{RefusedItem}
 use Rattle.entry_record.specs.History.{entries_size}
@@ -15,6 +15,8 @@ use Rattle.durable_catalogue.specs.Logs.{HasHistory}
 use Rattle.room_files.specs.Journals.{journal_limits, log_bytes}
 use Rattle.archive_commands.specs.Archives.{HasFittingHistory}
 use Rattle.migrate_command.specs.Migrations.{IsFit}
+use Rattle.checkpoint.specs.declared.point.Point.{Point}
+use Rattle.checkpoint_commands.specs.PointLogs.{IsPointLog}
 use Rattle.plain_commands.specs.Totals.{IsWithinLimits}
 use Rattle.loading_commands.specs.Merged.{AreJudged}
 
@@ -77,6 +79,13 @@ pub record FitsMigrate (room : RoomView) (from into : List ℕ) : Type 0 where
   pub version : version_of (log_bytes room from) ≡ 1
   pub fits : ∥ IsFit journal_limits history entries (log_bytes room into) ∥₁
 
+-- a journal and a log of checkpoints, in a room that tells its files: that has checkpoints and nothing else, and is of version 2, as a blank
+-- log and none are
+pub record FitsPoint (room : RoomView) (journal point : List ℕ) : Type 0 where
+  pub reading : FitsReading room journal
+  pub last : Option Point
+  pub is : IsPointLog last (log_bytes room point)
+
 -- the command of some words: `make`, `help` and `version` fit any room
 abbrev pub Fits : List (List ℕ) → Command → RoomView → Type 0
 Fits words (Pass out) room = FitsPass room (libraries_of words)
@@ -89,5 +98,7 @@ Fits words (Verify journal) room = FitsVerify room journal
 Fits words (Matches journal out) room = FitsReading room journal
 Fits words (Holdings journal out rest code) room = FitsHoldings room journal (libraries_of words)
 Fits words (Migrate from into) room = FitsMigrate room from into
+Fits words (Checkpoint journal point) room = FitsPoint room journal point
+Fits words (Quick journal point out) room = FitsPoint room journal point
 Fits words (Help topic) room = Unit {0}
 Fits words Version room = Unit {0}

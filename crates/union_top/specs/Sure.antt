@@ -8,7 +8,7 @@ use Rattle.marc_stream.specs.Pieces.{items}
 use Rattle.workload.specs.Workload.{workload_bytes}
 use Rattle.commit_journal.specs.declared.format.TheConstants.{BLANK_LENGTH}
 use Rattle.command_words.specs.declared.library.Library.{Library}
-use Rattle.command_words.specs.Command.{Command, Pass, Run, Load, Export, Report, Make, Verify, Matches, Holdings, Migrate, Help, Version, libraries_of}
+use Rattle.command_words.specs.Command.{Command, Pass, Run, Load, Export, Report, Make, Verify, Matches, Holdings, Migrate, Checkpoint, Quick, Help, Version, libraries_of}
 use Rattle.file_entries.specs.Files.{IsJudged}
 use Rattle.file_entries.specs.declared.refused.RefusedItem.{RefusedItem}
 use Rattle.entry_record.specs.History.{IsMerged}
@@ -28,6 +28,8 @@ use Rattle.catalogue_rules.specs.Settle.{state_of}
 use Rattle.holdings_command.specs.Attaching as attaching
 use Rattle.match_command.specs.Telling.{matches_due}
 use Rattle.migrate_command.specs.Migrates.{migrated_line}
+use Rattle.console_lines.specs.Lines.{resumed_line}
+use Rattle.checkpoint_commands.specs.Quick.{IsResumedFrom}
 use Rattle.program_help.specs.Telling.{help_text, version_text}
 use Rattle.loading_commands.specs.Console.{console_of}
 use Rattle.loading_commands.specs.Merged.{AreJudged}
@@ -132,6 +134,13 @@ pub record IsSureMigrate (from into : List ℕ) (a : Around) : Type 0 where
       → HoldsLog a.old into (framed_lengths more)
   pub console : (history : List Entry) → HasHistory history (log_bytes a.old from) → HoldsText a (migrated_line (length history))
 
+-- both logs are only read, what is due of them is written, and the console is told of how many entries the checkpoint spared
+pub record IsSureQuick (journal point out : List ℕ) (a : Around) : Type 0 where
+  pub log : HoldsLog a.old journal 0
+  pub point_log : HoldsLog a.old point 0
+  pub output : (r : IsResumedFrom journal point a.old) → HoldsOutput a.old out r.due
+  pub console : (r : IsResumedFrom journal point a.old) → HoldsText a (resumed_line r.taken (length r.history))
+
 -- the files are read, the journal gains a frame for each accepted entry at most, and the console is told of the files
 pub record IsSureLoad (libraries : List Library) (journal : List ℕ) (a : Around) : Type 0 where
   pub inputs : AreReadAlways a.old libraries
@@ -145,7 +154,7 @@ pub record IsSureRun (libraries : List Library) (journal out report : List ℕ) 
   pub output : (c : LoadCase a.old journal libraries) → HoldsOutput a.old out (reads.due_of (reads.Export None) (c.before ++ c.added))
   pub report_output : (c : LoadCase a.old journal libraries) → HoldsOutput a.old report (reads.due_of reads.Report (c.before ++ c.added))
 
--- what the command of some words uses keeps its promise, and holds what is due
+-- what the command of some words uses keeps its promise, and holds what is due; of no room is it said that it holds a checkpoint
 abbrev pub HoldsAll : List (List ℕ) → Command → Around → Type 0
 HoldsAll words (Pass out) a = IsSurePass (libraries_of words) out a
 HoldsAll words (Run journal out report files) a = IsSureRun (libraries_of words) journal out report a
@@ -157,6 +166,8 @@ HoldsAll words (Verify journal) a = IsSureVerify journal a
 HoldsAll words (Matches journal out) a = IsSureReading matches_due journal out a
 HoldsAll words (Holdings journal out rest code) a = IsSureHoldings (libraries_of words) journal out rest code a
 HoldsAll words (Migrate from into) a = IsSureMigrate from into a
+HoldsAll words (Checkpoint journal point) a = ⊥
+HoldsAll words (Quick journal point out) a = IsSureQuick journal point out a
 HoldsAll words (Help topic) a = HoldsText a (help_text topic)
 HoldsAll words Version a = HoldsText a version_text
 

@@ -6,6 +6,7 @@ ghost use Rattle.console_lines.specs.Ends.{outcome};
 ghost use Rattle.union_top.specs.Commands.{CarriesOut};
 
 use archive_commands::{Due, read};
+use checkpoint_commands::{export_quickly, put_checkpoint};
 use command_words::laws::{files_are_named, names_are_apart, numbers_are_bounded};
 use command_words::{AloneRequest, Words};
 use console_lines::End;
@@ -53,6 +54,14 @@ pub fn carry_out<R: Room>(
             code,
         } => attach_holdings(alloc, room, console, journal, out, rest, &library, code),
         AloneRequest::Migrate { old, new } => migrate_journal(alloc, room, console, old, new),
+        AloneRequest::Checkpoint { journal, point } => {
+            put_checkpoint(alloc, room, console, journal, point)
+        }
+        AloneRequest::Quick {
+            journal,
+            point,
+            out,
+        } => export_quickly(alloc, room, console, journal, point, out),
         AloneRequest::Help { topic } => help(console, topic),
         AloneRequest::Version => version(console),
     }

@@ -3,7 +3,7 @@
 #![tactic(auto)]
 
 pub use command::{Begun, begin, end, run};
-pub use journal_loading::{Loaded, Loading, load};
+pub use loading_commands::{Loaded, Loading, load};
 
 mod asked_alone;
 mod command;

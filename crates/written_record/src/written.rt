@@ -105,7 +105,7 @@ impl WrittenRecord {
     }
 
     /// Each text is UTF-8. This is a law for proofs; the call does nothing.
-    fn each_text_is_utf8(&self)
+    pub fn each_text_is_utf8(&self)
         ensures { All HasUtf8Texts self.now.fields }
     {
         let _bytes = &self.bytes;

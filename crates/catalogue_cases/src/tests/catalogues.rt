@@ -4,10 +4,10 @@ ghost use Rattle.std.specs.Prelude.{◌≡◌, ◌<◌, [], IfOk, IsTrue};
 ghost use Rattle.marc_types.specs.Valid.{is_code};
 
 use catalogue_core::{Catalogue, CoreFault};
+use catalogue_rules::Steps;
 use entry_record::Prepared;
 use marc_types::{Limits, Receipt, RecordFault, Text, can_be_code};
 use reading::prepare;
-use record_store::Steps;
 use std::alloc::Global;
 use std::marker::Brand;
 use std::process::Abort;

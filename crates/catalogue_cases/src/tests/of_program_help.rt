@@ -4,7 +4,7 @@ use outside_mem::MemSink;
 use program_help::{help, version};
 use std::alloc::Global;
 
-const TOPICS: [(Topic, &str); 14] = [
+const TOPICS: [(Topic, &str); 16] = [
     (Topic::All, "union_cat, a union catalogue"),
     (Topic::Pass, "union_cat pass OUT CODE=FILE\n"),
     (
@@ -22,6 +22,8 @@ const TOPICS: [(Topic, &str); 14] = [
         "union_cat holdings JOURNAL OUT REST CODE=FILE\n",
     ),
     (Topic::Migrate, "union_cat migrate OLD NEW\n"),
+    (Topic::Checkpoint, "union_cat checkpoint JOURNAL POINT\n"),
+    (Topic::Quick, "union_cat quick JOURNAL POINT OUT\n"),
     (Topic::Help, "union_cat help\n"),
     (Topic::Version, "union_cat version\n"),
     (Topic::Statuses, "union_cat help statuses\n"),

@@ -108,6 +108,14 @@ fn alone_text(alloc: Global, asked: &AloneRequest<'_>) -> Result<String, NoMemor
             Ok(text)
         }
         AloneRequest::Migrate { old, new } => barred(alloc, &["migrate", old, new]),
+        AloneRequest::Checkpoint { journal, point } => {
+            barred(alloc, &["checkpoint", journal, point])
+        }
+        AloneRequest::Quick {
+            journal,
+            point,
+            out,
+        } => barred(alloc, &["quick", journal, point, out]),
         AloneRequest::Help { topic } => barred(alloc, &["help", topic_text(*topic)]),
         AloneRequest::Version => barred(alloc, &["version"]),
     }
@@ -158,13 +166,15 @@ fn lines_with_files(rt: HostRuntime) -> Result<(), Fail> {
     expect_asked(&rt, rt.alloc(), &WITH_FILES)
 }
 
-const OVER_JOURNALS: [(&str, &str); 6] = [
+const OVER_JOURNALS: [(&str, &str); 8] = [
     ("export j o", "|export|j|o|all"),
     ("export j o DLC", "|export|j|o|DLC"),
     ("report j o", "|report|j|o"),
     ("verify ./j", "|verify|./j"),
     ("matches a b", "|matches|a|b"),
     ("migrate a b", "|migrate|a|b"),
+    ("checkpoint j A=p", "|checkpoint|j|A=p"),
+    ("quick j p o", "|quick|j|p|o"),
 ];
 
 #[test]
@@ -240,7 +250,7 @@ fn faulty_lines_with_files(rt: HostRuntime) -> Result<(), Fail> {
     expect_none(&rt, rt.alloc(), &FAULTY_FILES)
 }
 
-const FAULTY: [&str; 28] = [
+const FAULTY: [&str; 36] = [
     "export j",
     "export j j",
     "export j o D(",
@@ -262,6 +272,14 @@ const FAULTY: [&str; 28] = [
     "migrate a",
     "migrate a a",
     "migrate a b c",
+    "checkpoint j",
+    "checkpoint j j",
+    "checkpoint j p o",
+    "quick j p",
+    "quick j j o",
+    "quick j p j",
+    "quick j p p",
+    "quick j p o r",
     "help all",
     "help Make",
     "help make pass",

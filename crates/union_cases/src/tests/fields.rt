@@ -1,6 +1,6 @@
 //! How a field stands in a catalogue over a log.
 use catalogue_lock::Object;
-use durable_catalogue::{Durable, Memory, Seen};
+use durable_catalogue::{Ask, Durable, Memory, Seen, Told};
 use marc_types::{Class, Key, Limits, Place, Text};
 use outside_mem::MemDisk;
 use std::alloc::Global;
@@ -24,8 +24,19 @@ fn opened(rt: &impl Abort, alloc: Global, bytes: &[u8]) -> Result<Durable<MemDis
     Ok(durable)
 }
 
-fn is_unlinked(durable: &Durable<MemDisk>, place: &Place) -> bool {
-    matches!(durable.look(place), Ok(Seen::Unlinked))
+fn is_unlinked(durable: &Durable<MemDisk>, place: Place) -> bool {
+    matches!(
+        durable.look(&Ask::Status(place)),
+        Ok(Told::Status(Seen::Unlinked))
+    )
+}
+
+/// How many entries are told from a place on; none where no news of it is kept.
+fn told_since(durable: &Durable<MemDisk>, from: u64) -> Option<usize> {
+    match durable.look(&Ask::Since { from, most: 256 }) {
+        Ok(Told::Since(headings)) => Some(headings.len()),
+        _ => None,
+    }
 }
 
 /// How a heading field of the first book stands after the turns.
@@ -41,7 +52,18 @@ fn a_field_is_unlinked_in_the_end(rt: HostRuntime) -> Result<(), Fail> {
         field: 1,
     };
     let durable = opened(&rt, alloc, LOG)?;
-    assert!(rt; is_unlinked(&durable, &place));
+    assert!(rt; is_unlinked(&durable, place));
+    durable.close(Memory::GivenBack);
+    Ok(())
+}
+
+/// News is kept from the time on that it is asked for.
+#[test]
+fn entries_before_news_was_asked_for_are_not_told(rt: HostRuntime) -> Result<(), Fail> {
+    let mut durable = opened(&rt, rt.alloc(), LOG)?;
+    assert!(rt; told_since(&durable, 4).is_none());
+    durable.keep_news();
+    assert!(rt; told_since(&durable, 3).is_none() && told_since(&durable, 4) == Some(0));
     durable.close(Memory::GivenBack);
     Ok(())
 }

@@ -27,12 +27,12 @@ drop_ended-requires-clause-key g c = key_now c.args.store.now c.args.item.now c.
 
 pub drop_ended-requires-clause-can : goal.drop_ended-requires-clause-can
 drop_ended-requires-clause-can g c =
-    let b = begun c.args.store.now c.args.item.now c.requires.commit c.args.number c.requires.number c.in_ok-known.known _ c.in_ok-known.ensures c.as_ref.ensures.value c.links_that_end-ending.result c.links_that_end-ending.ensures c.place.new.self c.place.ensures.ahead c.in_ok-place.ensures.ok in
+    let b = begun c.args.store.now c.args.item.now c.requires.commit c.args.number c.requires.number c.in_ok-known.known _ c.in_ok-known.ensures c.as_ref.ensures.value c.links_that_end-ending.result c.links_that_end-ending.ensures c.place.new.self c.place.ensures.ahead c.in_ok-own.ensures.ok in
     ending_can b
 
 pub returns-in_err-drop_ended-clause-visits : goal.returns-in_err-drop_ended-clause-visits
 returns-in_err-drop_ended-clause-visits g c =
-    let b = begun c.args.store.now c.args.item.now c.requires.commit c.args.number c.requires.number c.in_ok-known.known _ c.in_ok-known.ensures c.as_ref.ensures.value c.links_that_end-ending.result c.links_that_end-ending.ensures c.place.new.self c.place.ensures.ahead c.in_ok-place.ensures.ok in
+    let b = begun c.args.store.now c.args.item.now c.requires.commit c.args.number c.requires.number c.in_ok-known.known _ c.in_ok-known.ensures c.as_ref.ensures.value c.links_that_end-ending.result c.links_that_end-ending.ensures c.place.new.self c.place.ensures.ahead c.in_ok-own.ensures.ok in
     begun_within b c.args.steps.now c.drop_ended.new.steps c.drop_ended.ensures.visits
 
 pub carry_heading-requires-clause-number : goal.carry_heading-requires-clause-number
@@ -43,12 +43,12 @@ carry_heading-requires-clause-key g c = key_now c.args.store.now c.args.item.now
 
 pub carry_heading-requires-clause-own : goal.carry_heading-requires-clause-own
 carry_heading-requires-clause-own g c =
-    let b = begun c.args.store.now c.args.item.now c.requires.commit c.args.number c.requires.number c.in_ok-known.known _ c.in_ok-known.ensures c.as_ref.ensures.value c.links_that_end-ending.result c.links_that_end-ending.ensures c.place.new.self c.place.ensures.ahead c.in_ok-place.ensures.ok in
+    let b = begun c.args.store.now c.args.item.now c.requires.commit c.args.number c.requires.number c.in_ok-known.known _ c.in_ok-known.ensures c.as_ref.ensures.value c.links_that_end-ending.result c.links_that_end-ending.ensures c.place.new.self c.place.ensures.ahead c.in_ok-own.ensures.ok in
     dropped_own b c.drop_ended.new.store c.in_ok-drop_ended.ensures.ok
 
 pub returns-in_err-carry_heading-clause-visits : goal.returns-in_err-carry_heading-clause-visits
 returns-in_err-carry_heading-clause-visits g c =
-    let b = begun c.args.store.now c.args.item.now c.requires.commit c.args.number c.requires.number c.in_ok-known.known _ c.in_ok-known.ensures c.as_ref.ensures.value c.links_that_end-ending.result c.links_that_end-ending.ensures c.place.new.self c.place.ensures.ahead c.in_ok-place.ensures.ok in
+    let b = begun c.args.store.now c.args.item.now c.requires.commit c.args.number c.requires.number c.in_ok-known.known _ c.in_ok-known.ensures c.as_ref.ensures.value c.links_that_end-ending.result c.links_that_end-ending.ensures c.place.new.self c.place.ensures.ahead c.in_ok-own.ensures.ok in
     dropped_within b c.drop_ended.new.store c.in_ok-drop_ended.ensures.ok c.args.steps.now c.drop_ended.new.steps c.carry_heading.new.steps c.drop_ended.ensures.visits c.carry_heading.ensures.visits
 
 pub settle_brought-requires-clause-number : goal.settle_brought-requires-clause-number
@@ -59,12 +59,12 @@ settle_brought-requires-clause-key g c = key_of_class c.args.store.now c.args.it
 
 pub settle_brought-requires-clause-came : goal.settle_brought-requires-clause-came
 settle_brought-requires-clause-came g c =
-    let b = begun c.args.store.now c.args.item.now c.requires.commit c.args.number c.requires.number c.in_ok-known.known _ c.in_ok-known.ensures c.as_ref.ensures.value c.links_that_end-ending.result c.links_that_end-ending.ensures c.place.new.self c.place.ensures.ahead c.in_ok-place.ensures.ok in
+    let b = begun c.args.store.now c.args.item.now c.requires.commit c.args.number c.requires.number c.in_ok-known.known _ c.in_ok-known.ensures c.as_ref.ensures.value c.links_that_end-ending.result c.links_that_end-ending.ensures c.place.new.self c.place.ensures.ahead c.in_ok-own.ensures.ok in
     carried_brought b c.drop_ended.new.store c.in_ok-drop_ended.ensures.ok c.carry_heading.new.store c.in_ok-carry_heading.ensures.ok
 
 pub returns-in_err-counts-clause-visits : goal.returns-in_err-counts-clause-visits
 returns-in_err-counts-clause-visits g c =
-    let b = begun c.args.store.now c.args.item.now c.requires.commit c.args.number c.requires.number c.in_ok-known.known _ c.in_ok-known.ensures c.as_ref.ensures.value c.links_that_end-ending.result c.links_that_end-ending.ensures c.place.new.self c.place.ensures.ahead c.in_ok-place.ensures.ok in
+    let b = begun c.args.store.now c.args.item.now c.requires.commit c.args.number c.requires.number c.in_ok-known.known _ c.in_ok-known.ensures c.as_ref.ensures.value c.links_that_end-ending.result c.links_that_end-ending.ensures c.place.new.self c.place.ensures.ahead c.in_ok-own.ensures.ok in
     carried_within b c.drop_ended.new.store c.in_ok-drop_ended.ensures.ok c.carry_heading.new.store c.in_ok-carry_heading.ensures.ok c.args.steps.now c.drop_ended.new.steps c.carry_heading.new.steps c.settle_brought.new.steps c.drop_ended.ensures.visits c.carry_heading.ensures.visits c.settle_brought.ensures.visits
 
 pub returns-in_err-forms-clause-ahead : goal.returns-in_err-forms-clause-ahead
@@ -72,7 +72,7 @@ returns-in_err-forms-clause-ahead g c = ahead_four c.args.store.now c.place.new.
 
 pub returns-in_err-forms-clause-visits : goal.returns-in_err-forms-clause-visits
 returns-in_err-forms-clause-visits g c =
-    let b = begun c.args.store.now c.args.item.now c.requires.commit c.args.number c.requires.number c.in_ok-known.known _ c.in_ok-known.ensures c.as_ref.ensures.value c.links_that_end-ending.result c.links_that_end-ending.ensures c.place.new.self c.place.ensures.ahead c.in_ok-place.ensures.ok in
+    let b = begun c.args.store.now c.args.item.now c.requires.commit c.args.number c.requires.number c.in_ok-known.known _ c.in_ok-known.ensures c.as_ref.ensures.value c.links_that_end-ending.result c.links_that_end-ending.ensures c.place.new.self c.place.ensures.ahead c.in_ok-own.ensures.ok in
     carried_within b c.drop_ended.new.store c.in_ok-drop_ended.ensures.ok c.carry_heading.new.store c.in_ok-carry_heading.ensures.ok c.args.steps.now c.drop_ended.new.steps c.carry_heading.new.steps c.settle_brought.new.steps c.drop_ended.ensures.visits c.carry_heading.ensures.visits c.settle_brought.ensures.visits
 
 pub settle_touched-requires-clause-number : goal.settle_touched-requires-clause-number
@@ -86,7 +86,7 @@ returns-in_err-settle_touched-clause-ahead g c = ahead_five c.args.store.now c.p
 
 pub returns-in_err-settle_touched-clause-visits : goal.returns-in_err-settle_touched-clause-visits
 returns-in_err-settle_touched-clause-visits g c =
-    let b = begun c.args.store.now c.args.item.now c.requires.commit c.args.number c.requires.number c.in_ok-known.known _ c.in_ok-known.ensures c.as_ref.ensures.value c.links_that_end-ending.result c.links_that_end-ending.ensures c.place.new.self c.place.ensures.ahead c.in_ok-place.ensures.ok in
+    let b = begun c.args.store.now c.args.item.now c.requires.commit c.args.number c.requires.number c.in_ok-known.known _ c.in_ok-known.ensures c.as_ref.ensures.value c.links_that_end-ending.result c.links_that_end-ending.ensures c.place.new.self c.place.ensures.ahead c.in_ok-own.ensures.ok in
     let same = forms_begun b c.known_forms.result.now c.known_forms.ensures c.deref.result.now (ap shown_forms c.deref.ensures.value ∙ c.in_ok-forms.ensures) in
     settled_within b c.drop_ended.new.store c.in_ok-drop_ended.ensures.ok c.carry_heading.new.store c.in_ok-carry_heading.ensures.ok c.settle_brought.new.store c.in_ok-counts.ensures.ok (shown_forms c.deref.result.now) same c.args.steps.now c.drop_ended.new.steps c.carry_heading.new.steps c.settle_brought.new.steps c.settle_touched.new.steps c.drop_ended.ensures.visits c.carry_heading.ensures.visits c.settle_brought.ensures.visits c.settle_touched.ensures.visits
 
@@ -95,19 +95,19 @@ returns-in_err-changed_records-clause-ahead g c = ahead_five c.args.store.now c.
 
 pub returns-in_err-changed_records-clause-visits : goal.returns-in_err-changed_records-clause-visits
 returns-in_err-changed_records-clause-visits g c =
-    let b = begun c.args.store.now c.args.item.now c.requires.commit c.args.number c.requires.number c.in_ok-known.known _ c.in_ok-known.ensures c.as_ref.ensures.value c.links_that_end-ending.result c.links_that_end-ending.ensures c.place.new.self c.place.ensures.ahead c.in_ok-place.ensures.ok in
+    let b = begun c.args.store.now c.args.item.now c.requires.commit c.args.number c.requires.number c.in_ok-known.known _ c.in_ok-known.ensures c.as_ref.ensures.value c.links_that_end-ending.result c.links_that_end-ending.ensures c.place.new.self c.place.ensures.ahead c.in_ok-own.ensures.ok in
     let same = forms_begun b c.known_forms.result.now c.known_forms.ensures c.deref.result.now (ap shown_forms c.deref.ensures.value ∙ c.in_ok-forms.ensures) in
     settled_within b c.drop_ended.new.store c.in_ok-drop_ended.ensures.ok c.carry_heading.new.store c.in_ok-carry_heading.ensures.ok c.settle_brought.new.store c.in_ok-counts.ensures.ok (shown_forms c.deref.result.now) same c.args.steps.now c.drop_ended.new.steps c.carry_heading.new.steps c.settle_brought.new.steps c.settle_touched.new.steps c.drop_ended.ensures.visits c.carry_heading.ensures.visits c.settle_brought.ensures.visits c.settle_touched.ensures.visits
 
 pub returns-clause-state : goal.returns-clause-state
 returns-clause-state g c =
-    let b = begun c.args.store.now c.args.item.now c.requires.commit c.args.number c.requires.number c.in_ok-known.known _ c.in_ok-known.ensures c.as_ref.ensures.value c.links_that_end-ending.result c.links_that_end-ending.ensures c.place.new.self c.place.ensures.ahead c.in_ok-place.ensures.ok in
+    let b = begun c.args.store.now c.args.item.now c.requires.commit c.args.number c.requires.number c.in_ok-known.known _ c.in_ok-known.ensures c.as_ref.ensures.value c.links_that_end-ending.result c.links_that_end-ending.ensures c.place.new.self c.place.ensures.ahead c.in_ok-own.ensures.ok in
     let same = forms_begun b c.known_forms.result.now c.known_forms.ensures c.deref.result.now (ap shown_forms c.deref.ensures.value ∙ c.in_ok-forms.ensures) in
     settled_state b c.drop_ended.new.store c.in_ok-drop_ended.ensures.ok c.carry_heading.new.store c.in_ok-carry_heading.ensures.ok c.settle_brought.new.store c.in_ok-counts.ensures.ok (shown_forms c.deref.result.now) same c.settle_touched.new.store c.in_ok-settle_touched.ensures.ok
 
 pub returns-clause-changes : goal.returns-clause-changes
 returns-clause-changes g c =
-    let b = begun c.args.store.now c.args.item.now c.requires.commit c.args.number c.requires.number c.in_ok-known.known _ c.in_ok-known.ensures c.as_ref.ensures.value c.links_that_end-ending.result c.links_that_end-ending.ensures c.place.new.self c.place.ensures.ahead c.in_ok-place.ensures.ok in
+    let b = begun c.args.store.now c.args.item.now c.requires.commit c.args.number c.requires.number c.in_ok-known.known _ c.in_ok-known.ensures c.as_ref.ensures.value c.links_that_end-ending.result c.links_that_end-ending.ensures c.place.new.self c.place.ensures.ahead c.in_ok-own.ensures.ok in
     let same = forms_begun b c.known_forms.result.now c.known_forms.ensures c.deref.result.now (ap shown_forms c.deref.ensures.value ∙ c.in_ok-forms.ensures) in
     numbers_so c.args.store.now c.args.item.now c.requires.commit c.args.number c.requires.number c.place.new.self c.drop_ended.new.store c.carry_heading.new.store c.settle_brought.new.store c.settle_touched.new.store
     c.drop_ended.new.noted c.carry_heading.new.noted c.settle_touched.new.noted (shown_forms c.deref.result.now) c.links_that_end-ending.result c.in_ok-counts.counts c.in_ok-changed_records.changed_records
@@ -120,6 +120,6 @@ returns-clause-ahead g c = ahead_five c.args.store.now c.place.new.self c.drop_e
 
 pub returns-clause-visits : goal.returns-clause-visits
 returns-clause-visits g c =
-    let b = begun c.args.store.now c.args.item.now c.requires.commit c.args.number c.requires.number c.in_ok-known.known _ c.in_ok-known.ensures c.as_ref.ensures.value c.links_that_end-ending.result c.links_that_end-ending.ensures c.place.new.self c.place.ensures.ahead c.in_ok-place.ensures.ok in
+    let b = begun c.args.store.now c.args.item.now c.requires.commit c.args.number c.requires.number c.in_ok-known.known _ c.in_ok-known.ensures c.as_ref.ensures.value c.links_that_end-ending.result c.links_that_end-ending.ensures c.place.new.self c.place.ensures.ahead c.in_ok-own.ensures.ok in
     let same = forms_begun b c.known_forms.result.now c.known_forms.ensures c.deref.result.now (ap shown_forms c.deref.ensures.value ∙ c.in_ok-forms.ensures) in
     settled_within b c.drop_ended.new.store c.in_ok-drop_ended.ensures.ok c.carry_heading.new.store c.in_ok-carry_heading.ensures.ok c.settle_brought.new.store c.in_ok-counts.ensures.ok (shown_forms c.deref.result.now) same c.args.steps.now c.drop_ended.new.steps c.carry_heading.new.steps c.settle_brought.new.steps c.settle_touched.new.steps c.drop_ended.ensures.visits c.carry_heading.ensures.visits c.settle_brought.ensures.visits c.settle_touched.ensures.visits

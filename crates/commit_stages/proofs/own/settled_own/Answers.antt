@@ -7,8 +7,8 @@ use Rattle.commit_stages.proofs.Finding.{heading_there, plain_stands, plain_stay
 use Rattle.commit_stages.proofs.SettledFields.{choice_made, in_order, own_costs, same_field, unlinked_there}
 use Rattle.commit_stages.proofs.own.settled_own.Goals as goal
 
-pub heading_found-requires : goal.heading_found-requires
-heading_found-requires g c = c.requires.to_do.known
+pub heading_found-requires-clause-known : goal.heading_found-requires-clause-known
+heading_found-requires-clause-known g c = c.requires.to_do.known
 
 pub settle_with_standing-requires-clause-ordered : goal.settle_with_standing-requires-clause-ordered
 settle_with_standing-requires-clause-ordered g c = in_order c.args.store.now.state c.requires.middle

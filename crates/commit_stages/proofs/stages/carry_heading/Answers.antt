@@ -1,6 +1,8 @@
-use Rattle.std.proofs.Common.{sym}
+use Rattle.std.proofs.Common.{◌∙◌, ap, sym}
 use Rattle.std.proofs.lemmas.Result.{on_ok_weaker}
+use Rattle.marc_types.specs.declared.key.Class.{Class}
 use Rattle.catalogue_rules.specs.State.{linkable_authorities}
+use Rattle.linked_store.specs.Placing.{own_record}
 use Rattle.commit_stages.proofs.Turning.{ahead_itself}
 use Rattle.commit_stages.proofs.Carried.{can_carry, carried_noted, carried_steps, nothing_carried, nothing_noted}
 use Rattle.commit_stages.proofs.stages.carry_heading.Goals as goal
@@ -8,6 +10,9 @@ use Rattle.commit_stages.proofs.stages.carry_heading.Goals as goal
 pub carry-requires-clause-heading : goal.carry-requires-clause-heading
 carry-requires-clause-heading g c =
     can_carry c.args.item.now c.key.result.now c.args.number c.args.store.now _ c.key.ensures c.requires.admitted c.requires.key c.requires.middle c.requires.own c.in-Some.ensures
+
+pub carry-requires-clause-own : goal.carry-requires-clause-own
+carry-requires-clause-own g c = c.requires.placed ∙ ap (λ (k : Class). own_record k c.args.number) c.requires.class
 
 pub returns-in-Some-clause-noted : goal.returns-in-Some-clause-noted
 returns-in-Some-clause-noted g c =

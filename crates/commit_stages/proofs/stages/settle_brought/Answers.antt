@@ -3,6 +3,7 @@ use Rattle.std.proofs.lemmas.Result.{IfOk-weaker}
 use Rattle.catalogue_rules.specs.State.{linkable_authorities}
 use Rattle.commit_stages.proofs.Turning.{ahead_itself}
 use Rattle.marc_types.specs.declared.key.Class.{Class}
+use Rattle.linked_store.specs.Placing.{own_record}
 use Rattle.commit_stages.specs.OwnFields.{AreAsCame, fields_in}
 use Rattle.commit_stages.proofs.Parts.{all_came, counts_brought, deletion_settled, fields_there}
 use Rattle.commit_stages.proofs.stages.settle_brought.Goals as goal
@@ -18,6 +19,9 @@ pub settle_own-requires-clause-came : goal.settle_own-requires-clause-came
 settle_own-requires-clause-came g c =
     subst (λ (k : Class). AreAsCame k c.args.number c.args.store.now) (sym c.class.ensures)
     (all_came c.args.number c.args.item.now c.args.store.now c.requires.came (sym c.is_deletion.ensures ∙ c.if-is_deletion.false))
+
+pub settle_own-requires-clause-own : goal.settle_own-requires-clause-own
+settle_own-requires-clause-own g c = c.requires.placed ∙ ap (λ (k : Class). own_record k c.args.number) (sym c.class.ensures)
 
 pub returns-clause-counts : goal.returns-clause-counts
 returns-clause-counts g c =

@@ -1,8 +1,9 @@
 use Rattle.std.proofs.Common.{sym}
-use Rattle.std.proofs.lemmas.Result.{IfOk-weaker}
+use Rattle.catalogue_rules.specs.Settle.{settle_field}
 use Rattle.catalogue_rules.specs.State.{linkable_authorities}
 use Rattle.commit_stages.specs.Fields.{field_as}
 use Rattle.commit_stages.proofs.Finding.{found_there, none_there, turn_least}
+use Rattle.commit_stages.proofs.Notes.{notes_made, notes_nothing}
 use Rattle.commit_stages.proofs.SettledFields.{choice_made, field_there, in_order, turn_costs, unlinked_there}
 use Rattle.commit_stages.proofs.waiting.settled.Goals as goal
 
@@ -26,17 +27,38 @@ pub settle_unlinked-requires-clause-unlinked : goal.settle_unlinked-requires-cla
 settle_unlinked-requires-clause-unlinked g c =
     unlinked_there c.args.seat c.args.store.now (field_as c.lent-at.result) c.requires.to_do (sym (found_there _ _ c.in-Some.found _ c.in_ok-found.ensures.field c.in-Some.is c.lent-at.ensures))
 
-pub returns-in-Some-clause-made : goal.returns-in-Some-clause-made
-returns-in-Some-clause-made g c =
-    IfOk-weaker c.settle_unlinked.result _ _
-    (choice_made c.args.store.now c.args.seat (field_as c.lent-at.result) c.requires.middle c.requires.to_do.known (sym (found_there _ _ c.in-Some.found _ c.in_ok-found.ensures.field c.in-Some.is c.lent-at.ensures))
-    (unlinked_there c.args.seat c.args.store.now (field_as c.lent-at.result) c.requires.to_do (sym (found_there _ _ c.in-Some.found _ c.in_ok-found.ensures.field c.in-Some.is c.lent-at.ensures))) c.visit_field.ensures.proper)
-    c.settle_unlinked.ensures.settled
-
-pub returns-in-Some-clause-visits : goal.returns-in-Some-clause-visits
-returns-in-Some-clause-visits g c =
+pub returns-in_err-made-in-Some-clause-visits : goal.returns-in_err-made-in-Some-clause-visits
+returns-in_err-made-in-Some-clause-visits g c =
     turn_costs c.args.seat c.args.store.now (linkable_authorities c.args.store.now.state) (field_as c.lent-at.result) c.args.steps.now c.visit_field.new.steps c.settle_unlinked.new.steps
     (sym (found_there _ _ c.in-Some.found _ c.in_ok-found.ensures.field c.in-Some.is c.lent-at.ensures)) c.visit_field.ensures.step c.settle_unlinked.ensures.visits
+
+pub returns-in_err-note_change-in-Some-clause-visits : goal.returns-in_err-note_change-in-Some-clause-visits
+returns-in_err-note_change-in-Some-clause-visits g c =
+    turn_costs c.args.seat c.args.store.now (linkable_authorities c.args.store.now.state) (field_as c.lent-at.result) c.args.steps.now c.visit_field.new.steps c.settle_unlinked.new.steps
+    (sym (found_there _ _ c.in-Some.found _ c.in_ok-found.ensures.field c.in-Some.is c.lent-at.ensures)) c.visit_field.ensures.step c.settle_unlinked.ensures.visits
+
+pub returns-in_ok-note_change-in-Some-clause-made : goal.returns-in_ok-note_change-in-Some-clause-made
+returns-in_ok-note_change-in-Some-clause-made g c =
+    choice_made c.args.store.now c.args.seat (field_as c.lent-at.result) c.requires.middle c.requires.to_do.known (sym (found_there _ _ c.in-Some.found _ c.in_ok-found.ensures.field c.in-Some.is c.lent-at.ensures))
+    (unlinked_there c.args.seat c.args.store.now (field_as c.lent-at.result) c.requires.to_do (sym (found_there _ _ c.in-Some.found _ c.in_ok-found.ensures.field c.in-Some.is c.lent-at.ensures))) c.visit_field.ensures.proper c.in_ok-made-in-Some.made
+    c.in_ok-made-in-Some.ensures.settled
+
+pub returns-in_ok-note_change-in-Some-clause-noted : goal.returns-in_ok-note_change-in-Some-clause-noted
+returns-in_ok-note_change-in-Some-clause-noted g c =
+    notes_made (settle_field (linkable_authorities c.args.store.now.state)) c.args.seat c.args.store.now (field_as c.lent-at.result) c.in_ok-made-in-Some.made
+    c.args.noted.now c.note_change.new.noted c.in_ok-note_change-in-Some.ensures (found_there _ _ c.in-Some.found _ c.in_ok-found.ensures.field c.in-Some.is c.lent-at.ensures)
+    (choice_made c.args.store.now c.args.seat (field_as c.lent-at.result) c.requires.middle c.requires.to_do.known (sym (found_there _ _ c.in-Some.found _ c.in_ok-found.ensures.field c.in-Some.is c.lent-at.ensures))
+    (unlinked_there c.args.seat c.args.store.now (field_as c.lent-at.result) c.requires.to_do (sym (found_there _ _ c.in-Some.found _ c.in_ok-found.ensures.field c.in-Some.is c.lent-at.ensures))) c.visit_field.ensures.proper c.in_ok-made-in-Some.made
+    c.in_ok-made-in-Some.ensures.settled)
+
+pub returns-in_ok-note_change-in-Some-clause-visits : goal.returns-in_ok-note_change-in-Some-clause-visits
+returns-in_ok-note_change-in-Some-clause-visits g c =
+    turn_costs c.args.seat c.args.store.now (linkable_authorities c.args.store.now.state) (field_as c.lent-at.result) c.args.steps.now c.visit_field.new.steps c.settle_unlinked.new.steps
+    (sym (found_there _ _ c.in-Some.found _ c.in_ok-found.ensures.field c.in-Some.is c.lent-at.ensures)) c.visit_field.ensures.step c.settle_unlinked.ensures.visits
+
+pub returns-in-None-clause-noted : goal.returns-in-None-clause-noted
+returns-in-None-clause-noted g c =
+    notes_nothing (settle_field (linkable_authorities c.args.store.now.state)) c.args.seat c.args.store.now c.args.noted.now (none_there _ _ c.in_ok-found.ensures.field c.in-None.is)
 
 pub returns-in-None-clause-made : goal.returns-in-None-clause-made
 returns-in-None-clause-made g c = field_there c.args.seat c.args.store.now _ c.requires.to_do (none_there _ _ c.in_ok-found.ensures.field c.in-None.is)

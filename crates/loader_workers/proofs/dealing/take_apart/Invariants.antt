@@ -6,10 +6,10 @@ use Rattle.loader_workers.proofs.dealing.take_apart.Given as goal
 
 abbrev pub invariant-loop-place : goal.invariant-loop-place
 invariant-loop-place g l = (map (λ t. t.file) (tasks_in l.fn.places.items) ≡ l.files.items ++ map (λ t. t.file) (tasks_in (into_iter_items l.places)))
-    × (map (λ t. t.pass) (tasks_in l.fn.places.items) ≡ l.passes.items ++ map (λ t. t.pass) (tasks_in (into_iter_items l.places)))
+    × (l.fn.passes.items ++ map (λ t. t.pass) (tasks_in l.fn.places.items) ≡ l.passes.items ++ map (λ t. t.pass) (tasks_in (into_iter_items l.places)))
     × (results_of (tasks_in l.fn.places.items) ≡ l.results.items ++ results_of (tasks_in (into_iter_items l.places)))
     × All (HasTask (λ t. IsSome t.result)) (into_iter_items l.places)
-    × (vec_len l.files + into_iter_len l.places ≡ vec_len l.fn.places) × (vec_len l.passes + into_iter_len l.places ≡ vec_len l.fn.places)
+    × (vec_len l.files + into_iter_len l.places ≡ vec_len l.fn.places) × (vec_len l.passes + into_iter_len l.places ≡ vec_len l.fn.passes + vec_len l.fn.places)
     × (vec_len l.results + into_iter_len l.places ≡ vec_len l.fn.places)
     × (vec_capacity l.files ≡ vec_capacity l.fn.files) × (vec_capacity l.passes ≡ vec_capacity l.fn.passes)
     × (vec_capacity l.results ≡ vec_capacity l.fn.results)

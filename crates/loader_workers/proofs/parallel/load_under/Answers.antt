@@ -1,10 +1,11 @@
-use Rattle.std.proofs.Common.{arith, refl, sym, subst, IsSome}
+use Rattle.std.proofs.Common.{◌∙◌, length, arith, refl, sym, ap, subst, IsSome}
 use denote.Param.Send.{IsSend, sendable}
 use Rattle.std.proofs.Crossing.{crosses}
+use Rattle.heading_rows.proofs.Crosses.{heading_send}
 use Rattle.loader_workers.proofs.Crosses.{catalogue_send}
 use Rattle.loader_workers.specs.contracts.parallel.load_under.{D-row as the_disk}
 use Rattle.loader_workers.proofs.Tasks.{each_so, each_count}
-use Rattle.loader_workers.proofs.Under.{many_passes, many_places, can_load, own_passes, all_passes, loaded_under}
+use Rattle.loader_workers.proofs.Under.{none_given, many_passes, many_places, can_load, own_passes, all_passes, loaded_under}
 use Rattle.loader_workers.proofs.parallel.load_under.Goals as goal
 
 pub deal-places-requires-clause-same : goal.deal-places-requires-clause-same
@@ -12,7 +13,7 @@ deal-places-requires-clause-same g c = many_passes _ _ _ _ _ _ _ c.requires.lock
 
 pub load_all-places-requires-send-O : goal.load_all-places-requires-send-O
 load_all-places-requires-send-O g c κs within =
-    let disk : IsSend (the_disk g.row.H g.row.D g.row.S g.row.G) = c.type_bounds.send-D in search (catalogue_send, sendable, crosses) depth 40 fits 20000
+    let disk : IsSend (the_disk g.row.H g.row.D g.row.S g.row.G) = c.type_bounds.send-D in search (catalogue_send, heading_send, sendable, crosses) depth 40 fits 20000
 
 pub load_all-places-requires-clause-wait : goal.load_all-places-requires-clause-wait
 load_all-places-requires-clause-wait g c κs within = can_load _ _ _ _ _ _ _ c.requires.lock c.requires.files _ c.deal-places.ensures
@@ -40,7 +41,7 @@ pub take_apart-files-requires-clause-passes : goal.take_apart-files-requires-cla
 take_apart-files-requires-clause-passes g c =
     let all = each_count _ _ _ c.load_all-places.ensures.each in
     let dealt = many_places _ _ _ _ _ _ _ c.requires.lock c.requires.files _ c.deal-places.ensures in
-    (c.requires.reserved.passes.0, omega (arith, all, dealt, c.requires.reserved.passes.1))
+    omega (arith, all, dealt, ap length c.requires.reserved.passes.0, c.requires.reserved.passes.1)
 
 pub take_apart-files-requires-clause-results : goal.take_apart-files-requires-clause-results
 take_apart-files-requires-clause-results g c =
@@ -52,17 +53,18 @@ pub close-requires-clause-own : goal.close-requires-clause-own
 close-requires-clause-own g c =
     own_passes _ _ _ _ _ _ _ c.requires.lock c.requires.files _ c.deal-places.ensures
     g.S.Source.left g.S.Source.bound g.S.Source.faults _ c.load_all-places.ensures.each _ _ _
-    c.take_apart-files.ensures.files c.take_apart-files.ensures.passes c.take_apart-files.ensures.results
+    c.take_apart-files.ensures.files (none_given _ _ _ c.requires.reserved.passes.0 c.take_apart-files.ensures.passes) c.take_apart-files.ensures.results
 
 pub close-requires-clause-all : goal.close-requires-clause-all
 close-requires-clause-all g c =
     all_passes _ _ _ _ _ _ _ c.requires.lock c.requires.files _ c.deal-places.ensures
     g.S.Source.left g.S.Source.bound g.S.Source.faults _ c.load_all-places.ensures.each _ _ _
-    c.take_apart-files.ensures.files c.take_apart-files.ensures.passes c.take_apart-files.ensures.results
+    c.take_apart-files.ensures.files (none_given _ _ _ c.requires.reserved.passes.0 c.take_apart-files.ensures.passes) c.take_apart-files.ensures.results
+    ∙ sym c.requires.callers
 
 pub returns-clause-loaded : goal.returns-clause-loaded
 returns-clause-loaded g c =
     loaded_under _ _ _ _ _ _ _ c.requires.lock c.requires.files _ c.deal-places.ensures
     g.S.Source.left g.S.Source.bound g.S.Source.faults _ c.load_all-places.ensures.each _ _ _
-    c.take_apart-files.ensures.files c.take_apart-files.ensures.passes c.take_apart-files.ensures.results
-    _ _ c.close.ensures.history c.close.result.few
+    c.take_apart-files.ensures.files (none_given _ _ _ c.requires.reserved.passes.0 c.take_apart-files.ensures.passes) c.take_apart-files.ensures.results
+    _ _ _ c.requires.callers c.close.ensures.history c.close.result.few

@@ -1,6 +1,6 @@
 use Rattle.std.proofs.Common.{[]}
 use Rattle.outside.proofs.Rooms.{same_but_itself}
-use Rattle.journal_loading.specs.Outcomes.{NotBegun}
+use Rattle.loading_commands.specs.Outcomes.{NotBegun}
 use Rattle.loading_commands.proofs.Ended.{closed_load}
 use Rattle.loading_commands.proofs.Requests.{apart_as_asked, loading_failed}
 use Rattle.loading_commands.proofs.loading.begin.Goals as goal

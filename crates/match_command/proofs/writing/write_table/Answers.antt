@@ -3,14 +3,8 @@ use Rattle.output_files.specs.Outputs.{IsOutputLeft}
 use Rattle.match_report.specs.Groups.{lines_of}
 use Rattle.match_command.proofs.writing.write_table.Goals as goal
 
-pub returns-in-Ok-write_groups-clause-left : goal.returns-in-Ok-write_groups-clause-left
-returns-in-Ok-write_groups-clause-left g c told =
+pub returns-in-Ok-clause-left : goal.returns-in-Ok-clause-left
+returns-in-Ok-clause-left g c told =
     let seen = g.R.Room.seen in
-    subst (λ groups. IsOutputLeft (seen c.args.room.now) (seen c.write_groups.new.room) c.args.name.now (lines_of groups)) c.in-Ok.ensures
-    (c.write_groups.ensures.left told)
-
-pub returns-clause-left : goal.returns-clause-left
-returns-clause-left g c told =
-    let seen = g.R.Room.seen in
-    subst (λ groups. IsOutputLeft (seen c.args.room.now) (seen c.write_groups.new.room) c.args.name.now (lines_of groups)) c.in-Ok.ensures
-    (c.write_groups.ensures.left told)
+    subst (λ groups. IsOutputLeft (seen c.args.room.now) (seen c.write_document.new.room) c.args.name.now (lines_of groups)) c.in-Ok.ensures
+    (c.write_document.ensures.left told)

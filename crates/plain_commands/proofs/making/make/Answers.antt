@@ -10,20 +10,20 @@ returns-in-Err-clause-ends g c = makes_no_memory _ _ _ _ c.tell.ensures.end c.te
 
 pub returns-in-Err-OutputFault-clause-ends : goal.returns-in-Err-OutputFault-clause-ends
 returns-in-Err-OutputFault-clause-ends g c =
-    makes_failed _ _ _ _ refl (c.write_workload.ensures.cause.failed (c.in-Err-OutputFault.is ∙ ap Err c.in-Err-OutputFault.field-0-is)) (refl, refl)
-    c.write_workload.ensures.left
+    makes_failed _ _ _ _ refl (c.write_document.ensures.cause.failed (c.in-Err-OutputFault.is ∙ ap Err c.in-Err-OutputFault.field-0-is)) (refl, refl)
+    c.write_document.ensures.left
 
 pub returns-in-Err-NoMemory-clause-ends : goal.returns-in-Err-NoMemory-clause-ends
 returns-in-Err-NoMemory-clause-ends g c =
     makes_no_memory _ _ _ _ c.tell-in-Err-NoMemory.ensures.end c.tell-in-Err-NoMemory.ensures.told
-    (c.write_workload.ensures.untouched (c.in-Err-NoMemory.is ∙ ap Err c.in-Err-NoMemory.field-0-is))
+    (c.write_document.ensures.untouched (c.in-Err-NoMemory.is ∙ ap Err c.in-Err-NoMemory.field-0-is))
 
 pub returns-in-Ok-write_all-clause-ends : goal.returns-in-Ok-write_all-clause-ends
 returns-in-Ok-write_all-clause-ends g c =
-    makes_all _ _ _ _ refl c.in-Ok-write_workload.ensures.bytes
+    makes_all _ _ _ _ refl c.in-Ok-write_document.ensures.bytes
     (subst (Appends _ _) (c.as_bytes.ensures.value ∙ c.in-Ok.ensures) c.in-Ok-write_all.ensures.bytes)
 
 pub returns-clause-ends : goal.returns-clause-ends
 returns-clause-ends g c =
-    makes_untold _ _ _ _ refl c.in-Err-write_all.ensures.cause.failed c.in-Ok-write_workload.ensures.bytes
+    makes_untold _ _ _ _ refl c.in-Err-write_all.ensures.cause.failed c.in-Ok-write_document.ensures.bytes
     (subst (WritesFront _ _) (c.as_bytes.ensures.value ∙ c.in-Ok.ensures) c.write_all.ensures.front)

@@ -14,6 +14,8 @@ use Rattle.archive_commands.specs.Reads.{EndsReading}
 use Rattle.holdings_command.specs.Attaching.{AttachesHoldings, EndsAttaching}
 use Rattle.journal_verification.specs.Verifying.{EndsVerifying}
 use Rattle.migrate_command.specs.Migrates.{EndsMigrating}
+use Rattle.checkpoint_commands.specs.Checkpoints.{EndsCheckpoint}
+use Rattle.checkpoint_commands.specs.Quick.{EndsQuick}
 use Rattle.program_help.specs.Telling.{EndsTelling}
 use Rattle.union_top.proofs.Asked.{asked_as, carries, only, of_only}
 use Rattle.union_top.proofs.asked_alone.carry_out.Goals as goal
@@ -98,6 +100,32 @@ returns-in-Holdings g c =
     subst (λ (l : Library). AttachesHoldings c.in-Holdings.journal.now c.in-Holdings.out.now c.in-Holdings.rest.now l (option_copied c.in-Holdings.code) o)
     (only library c.in-Holdings.library _ asks.libraries is) did.ends)
     (λ usage. subst EndsAttaching usage did.ends.ends)
+
+pub put_checkpoint-requires-clause-differ : goal.put_checkpoint-requires-clause-differ
+put_checkpoint-requires-clause-differ g c κs within =
+    (c.names_are_apart.ensures.names _ (asked_as c.args.words.now c.args.asked c.requires.asks c.in-Checkpoint.is).command).1.0
+
+pub export_quickly-requires-clause-point_differs : goal.export_quickly-requires-clause-point_differs
+export_quickly-requires-clause-point_differs g c κs within =
+    (c.names_are_apart.ensures.names _ (asked_as c.args.words.now c.args.asked c.requires.asks c.in-Quick.is).command).1.0
+
+pub export_quickly-requires-clause-out_differs : goal.export_quickly-requires-clause-out_differs
+export_quickly-requires-clause-out_differs g c κs within =
+    (c.names_are_apart.ensures.names _ (asked_as c.args.words.now c.args.asked c.requires.asks c.in-Quick.is).command).1.1.0
+
+pub export_quickly-requires-clause-differ : goal.export_quickly-requires-clause-differ
+export_quickly-requires-clause-differ g c κs within =
+    (c.names_are_apart.ensures.names _ (asked_as c.args.words.now c.args.asked c.requires.asks c.in-Quick.is).command).2.1.0
+
+pub returns-in-Checkpoint : goal.returns-in-Checkpoint
+returns-in-Checkpoint g c =
+    let did = c.put_checkpoint.ensures in
+    carries c.args.words.now c.args.asked c.in-Checkpoint.is did.closed did.apart did.ends (λ usage. subst EndsCheckpoint usage did.ends.ends)
+
+pub returns-in-Quick : goal.returns-in-Quick
+returns-in-Quick g c =
+    let did = c.export_quickly.ensures in
+    carries c.args.words.now c.args.asked c.in-Quick.is did.closed did.apart did.ends (λ usage. subst EndsQuick usage did.ends.ends)
 
 pub returns-in-Migrate : goal.returns-in-Migrate
 returns-in-Migrate g c =

@@ -1,7 +1,6 @@
 use Rattle.std.proofs.Common.{◌≡◌, ◌+◌, ◌∙◌, ℕ, List, [], ◌∷◌, ◌++◌, length, map, false, arith, sym, ap, subst}
 use Rattle.marc_types.specs.declared.entry.Entry.{Entry}
-use Rattle.catalogue_rules.specs.Settle.{arrival_of, state_of, step}
-use Rattle.entry_record.specs.History.{entry_size}
+use Rattle.catalogue_rules.specs.Settle.{arrival_of, step}
 use Rattle.catalogue_rules.specs.Receipt.{receipt}
 use Rattle.catalogue_core.specs.Catalogues.{Catalogued, all_entries, catalogued, entries_seen, is_full, receipt_with, IsCatalogue}
 use Rattle.catalogue_core.proofs.Catalogues.{all_is, seen_many, seen_more, catalogue_added}

@@ -1,14 +1,14 @@
 use Rattle.std.proofs.Common.{◌≡◌, ◌++◌, [], length, sym, ap, subst, ◌∙◌, arith}
 use Rattle.std.proofs.lemmas.List.{append-nil}
 use Rattle.std.proofs.lemmas.Result.{err_from_is_err_and}
+use Rattle.commit_journal.specs.declared.fault.JournalFault.TheVariants as journal
 use Rattle.commit_journal.specs.Journal.{IsRecovered}
 use Rattle.commit_journal.specs.Versions.{number_of}
 use Rattle.entry_record.specs.History.{IsWithin}
 use Rattle.entry_history.specs.Payloads.{IsHistory, CanFollow}
-use Rattle.durable_catalogue.specs.declared.fault.OpenFault.TheVariants.{DeviceFault, Full}
 use Rattle.durable_catalogue.specs.Logs.{payloads_of}
 use Rattle.durable_catalogue.specs.Durables.{IsKept}
-use Rattle.durable_catalogue.proofs.Opened.{next_follows, reading, opened_kept}
+use Rattle.durable_catalogue.proofs.Opened.{never_full, next_follows, reading, opened_kept}
 use Rattle.durable_catalogue.proofs.Answered.{unloads_of}
 use Rattle.durable_catalogue.proofs.durable.Durable.open.Goals as goal
 
@@ -32,6 +32,7 @@ invariant_of-result g c =
       newest = two;
       broken = c.in_ok-journal-in-Ok.ensures.whole;
       follows = subst (CanFollow history) (sym done.run) (next_follows history (payloads_of frames) holds);
+      is_news = tt;
       kept = subst (λ n. IsKept n history [] (seen c.of-before.result.value) (seen c.of-first.result.value.disk) (seen journal.disk)) (sym opened)
           (subst (λ b. IsKept (length history) history [] (seen b) (seen c.of-first.result.value.disk) (seen journal.disk)) (sym c.of-before.ensures)
           (subst (λ j. IsKept (length history) history [] (seen c.args.disk) (seen j.disk) (seen journal.disk)) (sym c.of-first.ensures) kept));
@@ -55,7 +56,7 @@ pub returns-in_err-journal-in-Ok-clause-old_first : goal.returns-in_err-journal-
 returns-in_err-journal-in-Ok-clause-old_first g c =
     let exit = err_from_is_err_and c.from_residual-in_err-journal-in-Ok.result c.from_residual-in_err-journal-in-Ok.ensures.1 in
     let device = c.in_err-journal-in-Ok.ensures.device in
-    rw (exit.1, exit.2) (λ full log told. let never : DeviceFault ≡ Full = sym device ∙ full in absurd cc)
+    rw (exit.1, exit.2) (λ full log told. absurd (never_full journal.DeviceFault (sym device ∙ full)))
 
 pub returns-in_ok-journal-in-Ok-clause-history : goal.returns-in_ok-journal-in-Ok-clause-history
 returns-in_ok-journal-in-Ok-clause-history g c log told =

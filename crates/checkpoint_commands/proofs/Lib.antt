@@ -1,0 +1,6 @@
+pub mod Frames
+pub mod Added
+pub mod Files
+pub mod Over
+pub mod Endings
+pub mod Exports

@@ -1,0 +1,7 @@
+pub mod PointLogs
+pub mod Adding
+pub mod Refusals
+pub mod Rooms
+pub mod Checkpoints
+pub mod Quick
+pub mod Exporting

@@ -1,0 +1,15 @@
+//! The commands over checkpoints: `checkpoint` puts one of a journal's catalogue behind those of a log, and `quick` exports from the last
+//! one and the entries behind it.
+#![tactic(auto)]
+
+pub use adding::add_point;
+pub use checkpointing::put_checkpoint;
+pub use last_point::read_last;
+pub use quick::export_quickly;
+
+mod adding;
+mod checkpointing;
+mod last_point;
+mod point_file;
+mod quick;
+mod resumed;

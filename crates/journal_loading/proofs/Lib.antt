@@ -1,5 +1,0 @@
-mod Opened
-mod LoadedFiles
-mod Begun
-mod Ended
-pub mod Kept

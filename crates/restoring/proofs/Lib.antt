@@ -1,0 +1,13 @@
+pub mod Appended
+pub mod Authorities
+pub mod Carried
+pub mod Drafting
+pub mod Fed
+pub mod Keepable
+pub mod Lasts
+pub mod Numbers
+pub mod Rests
+pub mod Scanned
+pub mod Sounding
+pub mod Taking
+pub mod Tying

@@ -1,0 +1,70 @@
+-- How a history is taken up from a checkpoint.
+use Rattle.std.proofs.Common.{◌≡◌, ◌∙◌, ℕ, zero, suc, ◌+◌, ◌<◌, ◌≤◌, true, List, [], ◌∷◌, ◌++◌, length, map, take, drop, Option, Some, None, IfSome, refl, sym, ap, subst, ◌⊎◌, inl, inr, arith}
+use Rattle.std.specs.Prelude.{All, fold}
+use Rattle.std.proofs.lemmas.List.Elements.{All-take}
+use Rattle.marc_types.specs.declared.entry.Entry.{Entry}
+use Rattle.entry_record.specs.History.{IsAdmitted}
+use Rattle.catalogue_rules.specs.State.{State, empty_state}
+use Rattle.catalogue_rules.specs.Settle.{step, arrival_of, state_after, state_of}
+use Rattle.catalogue_rules.proofs.States.{every_state_valid}
+use Rattle.linking_laws.specs.Visits.{touched}
+use Rattle.commit_journal.specs.declared.frame.Frame.{Frame}
+use Rattle.catalogue_core.specs.Engines.{Engined, kept_engine}
+use Rattle.checkpoint.specs.Points.{IsPointOf}
+use Rattle.checkpoint.specs.Resuming.{gone_on, resumed}
+use Rattle.checkpoint.specs.declared.point.Point.{Point}
+use Rattle.checkpoint.proofs.Going.{resumed_whole}
+use Rattle.checkpoint.proofs.Wholes.{last_is_whole}
+use Rattle.kept_rows.specs.Standing.{IsStanding}
+use Rattle.restoring.specs.Resuming.{BeginsWith, CanBeTaken, IsBlank, IsTakenUp, IsInOrder, IsOfHistory, IsResumed, held_state, touched_through}
+use Rattle.restoring.specs.declared.resuming.Restored.{Restored}
+use Rattle.restoring.proofs.Keepable.{history_stands}
+
+-- ---- what is begun with
+
+-- a blank beginning is of any history's front of no entries
+blank_front : (history : List Entry) (taken : ℕ) (begun : State) → IsBlank taken begun → begun ≡ state_of (take taken history)
+unfolding state_after
+blank_front history taken begun b = b.empty ∙ ap (λ n. state_of (take n history)) (sym b.none)
+
+front_of : (history : List Entry) (point : Option Point) (taken : ℕ) (begun : State) → BeginsWith (length history) point taken begun → IsOfHistory point history → begun ≡ state_of (take taken history)
+front_of history None taken begun b of = blank_front history taken begun b
+front_of history (Some point) taken begun b of = at b where
+  at : (CanBeTaken (length history) point × IsTakenUp point taken begun) ⊎ ((CanBeTaken (length history) point → ⊥) × IsBlank taken begun) → begun ≡ state_of (take taken history)
+  at (inl up) = up.1.state_is ∙ of up.0.within ∙ ap (λ n. state_of (take n history)) (sym up.1.taken_is)
+  at (inr none) = blank_front history taken begun none.1
+
+-- where the checkpoint is the history's, the state is that behind the whole
+pub whole_state : (history : List Entry) (point : Option Point) (taken : ℕ) (begun s : State) → BeginsWith (length history) point taken begun → s ≡ resumed begun taken history
+    → IsOfHistory point history → s ≡ state_of history
+whole_state history point taken begun s begins is of = is ∙ resumed_whole history taken begun (front_of history point taken begun begins of)
+
+-- a checkpoint of a history of admitted entries is taken up
+pub taken_up : (history : List Entry) (point : Point) (taken : ℕ) (begun : State) → All IsAdmitted history → point.entries ≤ length history
+    → held_state point ≡ state_of (take point.entries history) → BeginsWith (length history) (Some point) taken begun → taken ≡ point.entries
+taken_up history point taken begun admitted within is b = at b where
+  front : All IsAdmitted (take point.entries history)
+  front = All-take IsAdmitted point.entries history admitted
+
+  can : CanBeTaken (length history) point
+  can = record { within = within; stands = subst IsStanding (sym is) (history_stands (take point.entries history) front (every_state_valid (take point.entries history) front)) }
+
+  at : (CanBeTaken (length history) point × IsTakenUp point taken begun) ⊎ ((CanBeTaken (length history) point → ⊥) × IsBlank taken begun) → taken ≡ point.entries
+  at (inl up) = up.1.taken_is
+  at (inr none) = absurd (none.0 can)
+
+-- ---- one entry after the other
+
+-- What is left of a run of commits: the state behind it, and how many records it touches at most.
+pub record IsGoingOn (s begun : State) (rest entries : List Entry) (now old : ℕ) : Type 0 where
+  pub state_is : gone_on s rest ≡ gone_on begun entries
+  pub bound : now + touched_through s rest ≤ old + touched_through begun entries
+
+-- ---- the last whole checkpoint of frames is in order
+
+order_of : (frames : List Frame) (found : Option Point) → IsPointOf frames found → (o : Option Point) → found ≡ o → IfSome o IsInOrder
+order_of frames found is None e = tt
+order_of frames found is (Some point) e = (last_is_whole is.parts point (sym is.last ∙ e)).whole.in_order
+
+pub found_in_order : (frames : List Frame) (found : Option Point) → IsPointOf frames found → IfSome found IsInOrder
+found_in_order frames found is = order_of frames found is found refl

@@ -1,0 +1,5 @@
+use Rattle.restoring.proofs.Taking.{taken_up}
+use Rattle.restoring.proofs.laws.a_checkpoint_of_a_front_is_taken_up.Goals as goal
+
+pub returns : goal.returns
+returns c = taken_up

@@ -1,0 +1,190 @@
+//! A checkpoint of a catalogue's state that is appended to a log.
+ghost use Rattle.std.specs.Prelude.{◌≡◌, ℕ, ◌<◌, ◌≤◌, List, [], ◌∷◌, ◌++◌, length, All, Option, Some, true, false, IsErrOf, IfOk, OnOk, OnErr};
+ghost use Rattle.outside.specs.Disk.{LeavesOnly};
+ghost use Rattle.outside.specs.Fault.{HasWriteCause};
+ghost use Rattle.catalogue_rules.specs.State.{Row, rows_of};
+ghost use Rattle.catalogue_rules.specs.Settle.{state_of};
+ghost use Rattle.catalogue_rules.specs.Valid.{IsValid};
+ghost use Rattle.numbered_store.specs.Kept.{kept_record};
+ghost use Rattle.commit_journal.specs.Journal.{Continues, IsDurableLog};
+ghost use Rattle.checkpoint.specs.Format.{part_bytes};
+ghost use Rattle.checkpoint.specs.declared.part.Part.TheVariants.{Rows};
+ghost use Rattle.checkpoint.specs.declared.point.Point.{Point as AnyPoint};
+ghost use Rattle.restoring.specs.Drafts.{ClassRow, CanBeKept, IsDraft, IsWritten, of_class, rows_in_turn};
+ghost use Rattle.restoring.specs.Writing.{HasLast, HasOldOrNewLast, HasPoint, HasPointOrNot};
+
+use catalogue_core::{Catalogue, Engine};
+use checkpoint::{append_row, begin_payload, begin_rows, end_payload};
+use commit_journal::{Journal, LARGEST_PAYLOAD, Version};
+use marc_types::{Class, Key, NoMemory};
+use numbered_store::Kept;
+use outside::{Bytes, Disk, WriteFault};
+use std::alloc::Global;
+use std::mem;
+
+/// The most bytes that a kept record takes in a payload, with the byte before it.
+const LONGEST_ROW: usize = 1_474_636;
+
+/// A checkpoint that is made in memory, and not ended yet: the payloads that are whole, and the one to which kept records are appended.
+#[derive(Drop)]
+struct Draft {
+    whole: Vec<Bytes>,
+    filling: Vec<u8>,
+}
+
+impl Draft {
+    #[tactic(auto, using(crate::proofs::Drafting::begun))]
+    fn begin(alloc: Global) -> Result<Draft, NoMemory>
+        ensures { IfOk result (λ draft. IsDraft [] draft.whole.items draft.filling.items) }
+    {
+        let begun = Vec::from_slice(alloc, &begin_payload())?;
+        let mut whole = Vec::new(alloc);
+        whole.push(Bytes::from_vec(begun))?;
+        Ok(Draft {
+            whole,
+            filling: begin_rows(alloc)?,
+        })
+    }
+
+    /// Closes the payload of kept records, which has one.
+    #[tactic(auto, using(crate::proofs::Drafting::closed))]
+    fn close(&mut self, alloc: Global) -> Result<(), NoMemory>
+        requires some { 1 < length self.old.filling.items }
+        ensures same { OnOk result ((rows : List ClassRow) → IsDraft rows self.old.whole.items self.old.filling.items
+            → IsDraft rows self.new.whole.items self.new.filling.items) }
+        ensures filling { OnOk result (self.new.filling.items ≡ part_bytes (Rows [])) }
+    {
+        let next = begin_rows(alloc)?;
+        let closed = mem::replace(&mut self.filling, next);
+        self.whole.push(Bytes::from_vec(closed))?;
+        Ok(())
+    }
+
+    /// Closes the payload of kept records where one more might not have room in it.
+    #[tactic(auto, using(crate::proofs::Drafting::none_filling))]
+    fn make_room(&mut self, alloc: Global) -> Result<(), NoMemory>
+        ensures same { OnOk result ((rows : List ClassRow) → IsDraft rows self.old.whole.items self.old.filling.items
+            → IsDraft rows self.new.whole.items self.new.filling.items) }
+        ensures room { OnOk result (length self.new.filling.items ≤ 1726389) }
+    {
+        if self.filling.len() > LARGEST_PAYLOAD - LONGEST_ROW {
+            self.close(alloc)?;
+        }
+        Ok(())
+    }
+
+    /// Puts a kept record behind the others.
+    #[tactic(auto, using(crate::proofs::Drafting::added))]
+    fn add(&mut self, alloc: Global, class: Class, key: &Key, kept: &Kept) -> Result<(), NoMemory>
+        requires { CanBeKept (key.now, kept_record kept.now) }
+        ensures { OnOk result ((rows : List ClassRow) → IsDraft rows self.old.whole.items self.old.filling.items
+            → IsDraft (rows ++ (class, (key.now, kept_record kept.now)) ∷ []) self.new.whole.items self.new.filling.items) }
+    {
+        self.make_room(alloc)?;
+        // its texts are read as they are written
+        kept.each_text_is_utf8();
+        append_row(alloc, &mut self.filling, class, key, kept)
+    }
+
+    /// Closes the payload of kept records, if it has one.
+    #[tactic(auto, using(crate::proofs::Drafting::none_filling))]
+    fn close_last(&mut self, alloc: Global) -> Result<(), NoMemory>
+        ensures same { OnOk result ((rows : List ClassRow) → IsDraft rows self.old.whole.items self.old.filling.items
+            → IsDraft rows self.new.whole.items self.new.filling.items) }
+        ensures none { OnOk result (length self.new.filling.items ≤ 1) }
+    {
+        if self.filling.len() > 1 {
+            self.close(alloc)?;
+        }
+        Ok(())
+    }
+
+    /// Ends the checkpoint behind so many entries.
+    #[tactic(auto, using(crate::proofs::Drafting::ended))]
+    fn end(self, alloc: Global, entries: u64, count: u64) -> Result<Vec<Bytes>, NoMemory>
+        ensures { IfOk result (λ payloads. (rows : List ClassRow) → IsDraft rows self.whole.items self.filling.items → length rows ≡ count
+            → IsWritten entries rows payloads.items) }
+    {
+        let mut draft = self;
+        draft.close_last(alloc)?;
+        let Draft {
+            mut whole,
+            filling: _,
+        } = draft;
+        whole.push(Bytes::from_vec(end_payload(alloc, entries, count)?))?;
+        Ok(whole)
+    }
+}
+
+/// Puts the kept records of a class behind the others, in key order.
+#[tactic(auto, using(crate::proofs::Drafting::adding_begun, crate::proofs::Drafting::adding_done))]
+fn add_class(
+    alloc: Global,
+    draft: &mut Draft,
+    engine: &Engine,
+    class: Class,
+) -> Result<(), NoMemory>
+    requires { All CanBeKept (rows_of class engine.now.state) }
+    ensures { OnOk result ((rows : List ClassRow) → IsDraft rows draft.old.whole.items draft.old.filling.items
+        → IsDraft (rows ++ of_class class (rows_of class engine.now.state)) draft.new.whole.items draft.new.filling.items) }
+{
+    for (key, kept) in engine.rows(alloc, class)? {
+        draft.add(alloc, class, key, kept)?;
+    }
+    Ok(())
+}
+
+/// The payloads of a checkpoint of a catalogue's state.
+fn point_payloads(alloc: Global, core: &Catalogue) -> Result<Vec<Bytes>, NoMemory>
+    requires { core.now.staged ≡ [] }
+    ensures written { IfOk result (λ payloads.
+        IsWritten (length core.now.history) (rows_in_turn (state_of core.now.history)) payloads.items) }
+    ensures valid { OnOk result (IsValid (state_of core.now.history)) }
+{
+    core.each_was_admitted();
+    let engine = core.engine();
+    engine.stays_valid();
+    let mut draft = Draft::begin(alloc)?;
+    add_class(alloc, &mut draft, engine, Class::Authority)?;
+    add_class(alloc, &mut draft, engine, Class::Bibliographic)?;
+    let count = engine.count(Class::Authority) + engine.count(Class::Bibliographic);
+    draft.end(alloc, core.history_len(), count)
+}
+
+/// Appends a checkpoint of a catalogue's state behind its history to a log of checkpoints, whole or not at all. It is made in memory first.
+pub fn write_point<D: Disk>(
+    alloc: Global,
+    core: &Catalogue,
+    point: &mut Journal<D>,
+) -> Result<(), WriteFault>
+    requires kept { core.now.staged ≡ [] }
+    requires whole { point.old.broken ≡ false }
+    requires newest { point.old.version ≡ Version.Two }
+
+    // Each image at each moment of the call has the log's frames as they were, or with a whole checkpoint behind them; after Ok it has it.
+    ensures crash { (log : List ℕ) → (D.seen point.old.disk).content ≡ Some log → LeavesOnly (D.seen point.old.disk) (D.seen point.new.disk)
+        (HasPointOrNot (length core.now.history) (state_of core.now.history) log) }
+    ensures appended { OnOk result ((b c : List ℕ) → (D.seen point.old.disk).content ≡ Some b → (D.seen point.new.disk).content ≡ Some c
+        → HasPoint (length core.now.history) (state_of core.now.history) b c) }
+    ensures settled { OnOk result (IsDurableLog point.new.place 2 (D.seen point.new.disk)) }
+
+    // So of a log of checkpoints each image has the last one that it had, or this one.
+    ensures last { (log : List ℕ) (last : Option AnyPoint) → (D.seen point.old.disk).content ≡ Some log → HasLast last log
+        → LeavesOnly (D.seen point.old.disk) (D.seen point.new.disk) (HasOldOrNewLast (length core.now.history) (state_of core.now.history) last) }
+
+    // Want of memory comes before the first byte is written, and changes nothing.
+    ensures memory { IsErrOf result WriteFault.NoMemory → point.new ≡ point.old }
+    ensures cause { HasWriteCause (D.seen point.old.disk).faults (D.seen point.new.disk).faults result }
+    ensures whole { OnOk result (point.new.broken ≡ false) }
+    ensures broken { IsErrOf result WriteFault.OutputFault → point.new.broken ≡ true }
+    ensures version { point.new.version ≡ point.old.version }
+    ensures continues { Continues (D.seen point.old.disk) (D.seen point.new.disk) }
+{
+    let Ok(payloads) = point_payloads(alloc, core) else {
+        return Err(WriteFault::NoMemory);
+    };
+    match point.append_all(payloads.as_slice()) {
+        Ok(()) => Ok(()),
+        Err(_fault) => Err(WriteFault::OutputFault),
+    }
+}
