@@ -58,6 +58,14 @@ run 3 'union_cat verify nothing.jnl'
 run 0 'test ! -e nothing.jnl'
 run 0 'cp union.jnl torn.jnl && printf 0123456789 >>torn.jnl && union_cat verify torn.jnl'
 
+echo '# An export each hour'
+run 0 'union_cat make 1 1200 night.mrc && union_cat make 2 34 more.mrc'
+run 0 'union_cat load hourly.jnl ALIB=night.mrc'
+run 0 'rm -f hourly.new; union_cat checkpoint hourly.jnl hourly.new && mv hourly.new hourly.pnt'
+run 0 'union_cat load hourly.jnl ALIB=more.mrc'
+run 0 'union_cat quick hourly.jnl hourly.pnt hourly.out | tee told && grep -qx "resumed 1200 of 1234" told'
+run 0 'union_cat export hourly.jnl whole.out && cmp hourly.out whole.out'
+
 echo '# Joined files with a 1A'
 run 1 'union_cat pass dos.out ALIB=dos.mrc'
 run 0 "perl -0035 -pe 's/^[\\x1a\\r\\n]+//' dos.mrc >clean.mrc"
