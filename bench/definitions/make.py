@@ -7,9 +7,8 @@
 A definition's sentence is the comment that ends right above it; a file's is the comment at its head, a crate's the first
 paragraph of its README.md. What the sentences don't say stands in front.md beside this file: its part before the first `## `
 of a crate's name begins the page, and the part under a crate's name stands at the head of that crate's list.
-A definition, or a file, that has no sentence of its own yet has one in sentences.txt, a line each: `crate/File.name: sentence`.
 
---check ends with 1 where the page isn't what the sentences make, where a public definition or a file has no sentence or two,
+--check ends with 1 where the page isn't what the sentences make, where a public definition or a file has no sentence,
 and where the front part names a definition that no file has.
 """
 import difflib
@@ -83,16 +82,6 @@ def read_front():
     return parts[0].strip(), {parts[i]: parts[i + 1].strip() for i in range(1, len(parts), 2)}
 
 
-def read_sentences():
-    """The sentences that stand beside this script, by `crate/File.name`."""
-    kept = {}
-    for line in (HERE / "sentences.txt").read_text(encoding="utf-8").split("\n"):
-        if line and not line.startswith("#"):
-            name, sentence = line.split(": ", 1)
-            kept[name] = sentence
-    return kept
-
-
 def as_sentence(text):
     """A comment as it stands in the list."""
     return text if text.endswith((".", ":")) else text + "."
@@ -122,20 +111,15 @@ def public_sources(files):
     return "\n".join(lines)
 
 
-def file_list(crate, file, kept, problems):
+def file_list(crate, file, problems):
     """The part of a page that one specs file makes."""
-    head = file.head or kept.pop(f"{crate}/{file.name}", "")
-    if not head:
+    if not file.head:
         problems.append(f"{crate}/{file.name} doesn't begin with a sentence")
-    lines = [f"### `{file.name}`", "", wrapped(as_sentence(head)), ""]
+    lines = [f"### `{file.name}`", "", wrapped(as_sentence(file.head)), ""]
     for name, sentence in file.definitions:
-        where = f"{crate}/{file.name}.{name}"
-        beside = kept.pop(where, None)
-        if sentence and beside:
-            problems.append(f"{where} has a sentence in its file, and one in sentences.txt")
-        if not (sentence or beside):
-            problems.append(f"{where} has no sentence")
-        lines.append(wrapped(f"- `{name}`: {as_sentence(sentence or beside or '')}", "  "))
+        if not sentence:
+            problems.append(f"{crate}/{file.name}.{name} has no sentence")
+        lines.append(wrapped(f"- `{name}`: {as_sentence(sentence)}", "  "))
     return "\n".join(lines) if file.definitions else "\n".join(lines[:3])
 
 
@@ -143,7 +127,6 @@ def make_page():
     """The page, and what is wrong with it."""
     problems = []
     begin, notes = read_front()
-    kept = read_sentences()
     named = [(group, crate, crate_files(crate)) for group, crate in crates()]
     parts, last = [begin], None
     for group, crate, files in named:
@@ -155,9 +138,8 @@ def make_page():
         parts.append(f"## `{crate}`\n\n{wrapped(head_of_crate(crate))}")
         if crate in notes:
             parts.append(notes.pop(crate))
-        parts += [file_list(crate, file, kept, problems) for file in files]
+        parts += [file_list(crate, file, problems) for file in files]
     problems += [f"front.md has a part for {crate}, which has no definitions" for crate in notes]
-    problems += [f"sentences.txt names {where}, which isn't there" for where in kept]
     problems += unknown_names(begin, [(crate, file) for _, crate, files in named for file in files])
     page = "\n\n".join(parts) + "\n"
     return page.replace("@sources", public_sources([(c, f) for _, c, files in named for f in files])), problems

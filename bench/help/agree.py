@@ -21,7 +21,8 @@ def names_of_help():
     """The first word of each line of `help`, and the names in the texts of its topics."""
     source = Path("crates/program_help/src/texts.rt").read_text()
     whole = re.search(r'pub const ALL: &str = "[^\n]*\n\n(.*?)";', source, re.S).group(1)
-    lines = [line.split()[0] for line in whole.splitlines()]
+    # a line that begins with blanks goes on with the one before
+    lines = [line.split()[0] for line in whole.splitlines() if not line.startswith(" ")]
     topics = re.findall(r'pub const [A-Z]+: &str = "union_cat (\w+)\b(?! statuses)', source)
     return lines, topics
 

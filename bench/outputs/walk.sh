@@ -115,7 +115,7 @@ fi
 echo '# pipes, devices and what the shell holds'
 union_cat export u.jnl /dev/stdout 2>err | cmp -s - whole || bad 'a pipe got something else'
 union_cat export u.jnl /dev/stdout 2>err >held; cmp -s held whole || bad 'a file that the shell holds got something else'
-[ ! -s err ] || { bad 'something was told of /dev/stdout'; sed 's/^/    /' err; }
+[ "$(cat err)" = "union_cat: /dev/stdout: $(tr -dc '\035' <whole | wc -c) records" ] || { bad 'something else than the count was told of /dev/stdout'; sed 's/^/    /' err; }
 mkfifo pipe; union_cat export u.jnl pipe 2>err & cmp -s pipe whole || bad 'a named pipe got something else'
 wait
 none .; none /dev

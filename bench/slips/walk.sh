@@ -58,6 +58,43 @@ slip 4 '/dev/full: no space left' export u.jnl /dev/full
 echo '# in use'
 ( exec 9<u.jnl; flock -x 9; union_cat export u.jnl held.out >out 2>err; [ $? -eq 5 ] && grep -qF 'u.jnl: in use by another command' err ) || { echo 'a held journal is not told'; wrong=1; }
 
+( exec 9<u.jnl; flock -x 9; union_cat export u.jnl held.out >out 2>err; grep -qF 'with `reading` before export' err ) || { echo 'the word reading is not told'; wrong=1; }
+
+echo '# reading'
+( exec 9<u.jnl; flock -x 9; union_cat reading export u.jnl read.out >out 2>err ) && cmp -s read.out all.out || { echo 'reading export of a held journal is another'; wrong=1; }
+( exec 9<u.jnl; flock -x 9; union_cat verify u.jnl >out 2>err ) || { echo 'verify of a held journal failed'; wrong=1; }
+for look in report matches; do
+    union_cat $look u.jnl plain.out 2>/dev/null && union_cat reading $look u.jnl read.out 2>/dev/null && cmp -s plain.out read.out ||
+        { echo "reading $look is another"; wrong=1; }
+done
+cp u.jnl sealed.jnl && chmod 400 sealed.jnl
+union_cat reading export sealed.jnl read.out 2>/dev/null && cmp -s read.out all.out || { echo 'reading of a file without the right to write failed'; wrong=1; }
+slip 3 'none.jnl: no such file' reading export none.jnl read.out
+slip 6 '' reading export all.out read.out
+slip 2 'reading stands before export, report or matches' reading load u.jnl A=made.mrc
+slip 2 'a word is missing' reading export u.jnl
+slip 2 'u.jnl is named twice' reading report u.jnl u.jnl
+
+echo '# what is refused'
+{ head -c 500 made.mrc | tr -d '\035'; printf '\035'; cat made.mrc; printf 'an end'; } >bad.mrc
+union_cat refused back.mrc A=bad.mrc >out 2>err
+[ $? -eq 1 ] || { echo 'refused does not end with 1'; wrong=1; }
+{ head -c 500 made.mrc | tr -d '\035'; printf '\035'; printf 'an end'; } | cmp -s - back.mrc || { echo 'what is refused is not as it stands'; wrong=1; }
+cat bad.mrc | union_cat refused back2.mrc A=/dev/stdin >/dev/null 2>err; cmp -s back.mrc back2.mrc || { echo 'refused from a pipe is another'; wrong=1; }
+union_cat pass x.out A=bad.mrc >passed 2>/dev/null; cmp -s passed out || { echo 'refused tells another than pass'; wrong=1; }
+
+echo '# no MARC'
+printf '<?xml version="1.0"?><collection/>\n' >x.xml
+slip 1 'x.xml: this looks like no MARC file (MARCXML)' pass /dev/null A=x.xml
+printf '{"leader": "00000nam"}  ' >x.json
+slip 1 'x.json: this looks like no MARC file (JSON)' pass /dev/null A=x.json
+{ printf '\357\273\277'; cat made.mrc; } >bom.mrc
+slip 1 'bom.mrc: this looks like no MARC file (a byte order mark)' pass /dev/null A=bom.mrc
+
+echo '# counts'
+union_cat export u.jnl x.out 2>err; grep -q 'x.out: [0-9]* records' err || { echo 'no count of records'; wrong=1; }
+union_cat export u.jnl x.out NONE 2>err; grep -qF 'x.out: no records' err || { echo 'no warning of a code without records'; wrong=1; }
+
 echo '# words'
 slip 2 'did you mean load?' laod u.jnl A=made.mrc
 slip 2 'a word is missing' load u.jnl

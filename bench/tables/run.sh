@@ -5,7 +5,7 @@ set -euo pipefail
 here=$(cd "$(dirname "$0")" && pwd)
 top=$here/../..
 work=${1:-$(mktemp -d)}
-crates='marc_types numbering place_names link_table wait_table form_index'
+crates='marc_types numbering postings link_table wait_table form_index'
 mkdir -p "$work/crates/table_bench/src"
 : >"$work/crates.txt"
 for crate in $crates; do
@@ -18,7 +18,7 @@ cp "$top/HANDLES" "$work/"
 mkdir -p "$work/crates/table_bench/proofs/exchange"
 cp "$here/main.rt.txt" "$work/crates/table_bench/src/main.rt"
 cp "$here/exchange.antt.txt" "$work/crates/table_bench/proofs/exchange/Answers.antt"
-echo 'table_bench: form_index wait_table link_table place_names numbering indexmap marc_types anyhow' >>"$work/crates.txt"
+echo 'table_bench: form_index wait_table link_table postings numbering indexmap marc_types anyhow' >>"$work/crates.txt"
 rustc -O --edition 2024 -o "$work/plain" "$here/plain.rs"
 (cd "$work/crates/table_bench" && rt run >/dev/null)
 uptime

@@ -11,7 +11,7 @@ use Rattle.std.specs.declared.cmp.Ordering.TheVariants.{Less}
 use Rattle.std.proofs.lemmas.Cmp.{eq_by_cmp_equiv}
 use Rattle.outside.proofs.Fronts.{drop_next}
 use Rattle.marc_types.specs.declared.key.Key.{Key}
-use Rattle.numbered_store.specs.declared.kept.Kept.{Kept}
+use Rattle.numbered_store.specs.declared.kept.StoredRecord.{StoredRecord}
 use Rattle.marc_types.specs.Order.{key_cmp, key_cmp_total, same_key}
 use Rattle.entry_record.specs.Authority.{Linkable}
 use Rattle.catalogue_rules.specs.Choice.{has_key, keys_of_linkable}
@@ -122,9 +122,9 @@ cross_by_rows s ascends =
 
 -- ---- a loop over rows, and one over keys
 
-pub row_next : (f : Row → List ℕ) (rows more : List (Bor Key × Bor Kept)) (key : Bor Key) (kept : Bor Kept) → rows ≡ (key, kept) ∷ more
+pub row_next : (f : Row → List ℕ) (rows more : List (Bor Key × Bor StoredRecord)) (key : Bor Key) (kept : Bor StoredRecord) → rows ≡ (key, kept) ∷ more
     → flat_map f (map shown_row rows) ≡ f (key.now, kept_record kept.now) ++ flat_map f (map shown_row more)
-row_next f rows more key kept is = ap (λ (l : List (Bor Key × Bor Kept)). flat_map f (map shown_row l)) is
+row_next f rows more key kept is = ap (λ (l : List (Bor Key × Bor StoredRecord)). flat_map f (map shown_row l)) is
 
 pub key_next : (f : Key → List ℕ) (keys : List (Bor Key)) (i : ℕ) (key : Bor Key) → i < length keys → key ≡ get_or keys i key
     → flat_map f (shown_keys (drop i keys)) ≡ f key.now ++ flat_map f (shown_keys (drop (i + 1) keys))

@@ -12,6 +12,7 @@ use Rattle.catalogue_tables.specs.declared.standing.Standing.{Standing}
 use Rattle.catalogue_core.specs.Standings.{is_linked_here, is_ambiguous_here, is_unlinked_here}
 use Rattle.ambiguity_report.specs.declared.totals.Totals.{Totals}
 
+-- nothing counted
 abbrev pub no_totals : Totals
 no_totals = record { linked = 0; ambiguous = 0; unlinked = 0 }
 

@@ -10,7 +10,7 @@ ghost use Rattle.numbered_store.specs.Kept.{kept_record, shown_row};
 use crate::beside::{Beside, write_record};
 use crate::words::{LINE_FEED, add_key_word, begin_with_place};
 use marc_types::{Class, Key, Tag, Tie};
-use numbered_store::{Kept, RowMap};
+use numbered_store::{RowMap, StoredRecord};
 use outside::{Sink, WriteFault};
 use std::alloc::{AllocError, Global};
 
@@ -66,7 +66,7 @@ fn write_awaiting<K: Sink>(
     alloc: Global,
     class: Class,
     key: &Key,
-    kept: &Kept,
+    kept: &StoredRecord,
     text: &mut Vec<u8>,
     out: &mut K,
 ) -> Result<(), WriteFault>

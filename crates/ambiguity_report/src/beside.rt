@@ -12,7 +12,7 @@ ghost use Rattle.ambiguity_report.specs.Beside.{lines_beside, tags_of};
 ghost use Rattle.numbered_store.specs.Kept.{kept_record};
 
 use marc_types::{Class, Key, NoMemory, Tag};
-use numbered_store::Kept;
+use numbered_store::StoredRecord;
 use outside::{Failed, Sink, WriteFault};
 use std::alloc::{AllocError, Global};
 
@@ -80,7 +80,7 @@ pub(crate) fn write_record<K: Sink, B: Beside>(
     alloc: Global,
     class: Class,
     key: &Key,
-    kept: &Kept,
+    kept: &StoredRecord,
     besides: &[B],
     text: &mut Vec<u8>,
     out: &mut K,
@@ -99,7 +99,7 @@ pub(crate) fn write_record<K: Sink, B: Beside>(
 }
 
 // The tags of a record's fields.
-fn tags(alloc: Global, kept: &Kept) -> Result<Vec<Tag>, NoMemory>
+fn tags(alloc: Global, kept: &StoredRecord) -> Result<Vec<Tag>, NoMemory>
     ensures { IfOk result (λ tags. tags.items ≡ tags_of (kept_record kept.now)) }
 {
     let places = kept.field_count();
@@ -112,7 +112,7 @@ fn tags(alloc: Global, kept: &Kept) -> Result<Vec<Tag>, NoMemory>
 
 // The tag of the field at a place, if there is one.
 #[tactic(auto, using(crate::proofs::Fields::pushed, crate::proofs::Fields::not_pushed))]
-fn push_tag(tags: &mut Vec<Tag>, kept: &Kept, place: u32) -> Result<(), NoMemory>
+fn push_tag(tags: &mut Vec<Tag>, kept: &StoredRecord, place: u32) -> Result<(), NoMemory>
     ensures { OnOk result (tags.new.items ≡ tags.old.items ++ option_to_list (option_map (λ h. tag_of h.field) (field_at place (kept_record kept.now)))) }
 {
     match kept.tag_at(place) {

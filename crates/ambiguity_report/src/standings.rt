@@ -7,7 +7,7 @@ ghost use Rattle.numbered_store.specs.Kept.{kept_record};
 
 use catalogue_core::{Engine, Standing};
 use marc_types::{Class, NoMemory};
-use numbered_store::Kept;
+use numbered_store::StoredRecord;
 use std::alloc::Global;
 
 /// How each field of a record stands, in order.
@@ -15,7 +15,7 @@ pub(crate) fn standings(
     alloc: Global,
     engine: &Engine,
     class: Class,
-    kept: &Kept,
+    kept: &StoredRecord,
 ) -> Result<Vec<Standing>, NoMemory>
     ensures { IfOk result (λ found.
         found.items ≡ map (field_standing (linkable_authorities engine.now.state) class) (kept_record kept.now).fields) }
@@ -35,7 +35,7 @@ fn push_standing(
     alloc: Global,
     engine: &Engine,
     class: Class,
-    kept: &Kept,
+    kept: &StoredRecord,
     place: u32,
 ) -> Result<(), NoMemory>
     ensures { OnOk result (found.new.items ≡ found.old.items

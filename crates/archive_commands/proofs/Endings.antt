@@ -19,11 +19,11 @@ use Rattle.console_lines.specs.declared.end.Unwritten.TheVariants.{Out}
 use Rattle.console_lines.specs.declared.fault.Fault.{Fault}
 use Rattle.console_lines.specs.declared.fault.Fault.TheVariants.{Device, Memory}
 use Rattle.console_lines.proofs.Ends.{told_once, told_not_unwritten, told_not_done, done_not_unwritten, never_told}
-use Rattle.room_files.specs.Journals.{journal_limits, log_bytes, IsClosedDisk, KeepsHistory, KeepsLog, IsDurable}
+use Rattle.journal_files.specs.Journals.{journal_limits, log_bytes, IsClosedDisk, KeepsHistory, KeepsLog, IsDurable}
 use Rattle.output_files.specs.Outputs.{IsOutput, IsOutputLeft}
-use Rattle.room_files.proofs.Faults.{opening_device}
-use Rattle.room_files.proofs.Journals.{closed_keeps, closed_durable, keeps_where}
-use Rattle.room_files.specs.Faults.{fault_of_opening}
+use Rattle.journal_files.proofs.Faults.{opening_device}
+use Rattle.journal_files.proofs.Journals.{closed_keeps, closed_durable, keeps_where}
+use Rattle.journal_files.specs.Faults.{fault_of_opening}
 use Rattle.archive_commands.specs.Archives.{WhyUnopened}
 use Rattle.archive_commands.specs.Reads.{EndsReading, ReadsJournal}
 use Rattle.archive_commands.proofs.Rooms.{left_opened}

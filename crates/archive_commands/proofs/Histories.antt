@@ -6,8 +6,8 @@ use Rattle.marc_types.specs.declared.entry.Entry.{Entry}
 use Rattle.outside.specs.Room.{RoomView}
 use Rattle.durable_catalogue.specs.Logs.{HasHistory}
 use Rattle.entry_record.specs.History.{IsWithin}
-use Rattle.room_files.specs.Journals.{journal_limits}
-use Rattle.room_files.proofs.Histories.{reading_once}
+use Rattle.journal_files.specs.Journals.{journal_limits}
+use Rattle.journal_files.proofs.Histories.{reading_once}
 use Rattle.output_files.specs.Outputs.{IsOutputLeft}
 use Rattle.archive_commands.specs.Archives.{HasFittingHistory}
 

@@ -76,3 +76,21 @@ output_closed old written new journal out due result opened free apart closed le
 pub left_opened : (old opened new : RoomView) (journal out due : List ℕ) → journal ≢ out → SameBut old opened (journal ∷ [])
     → IsOutputLeft opened new out due → IsOutputLeft old new out due
 left_opened old opened new journal out due differ apart left = left_since old opened new out due (journal ∷ []) ((λ e. differ (sym e)), tt) apart left
+
+-- three steps that touch two names alone
+module _ (old opened brought closed : RoomView) (from into : List ℕ) (first : SameBut old opened (from ∷ [])) (second : SameBut opened brought (into ∷ []))
+    (third : SameBut brought closed (from ∷ [])) where
+  apart_behind : SameBut opened closed (from ∷ into ∷ [])
+  apart_behind =
+      let names : List (List ℕ) = from ∷ into ∷ [] in
+      same_but_then opened brought closed names (same_but_more opened brought (into ∷ []) names (λ n other. (other.1.0, tt)) second)
+      (same_but_first brought closed from (into ∷ []) third)
+
+  pub apart_over : SameBut old closed (from ∷ into ∷ [])
+  apart_over = same_but_then old opened closed (from ∷ into ∷ []) (same_but_first old opened from (into ∷ []) first) apart_behind
+
+  -- where no name was open, and the two were opened and closed again, none is open
+  pub closed_over : into ≢ from → closed.open_as from ≡ None → brought.open_as into ≡ None → ((name : List ℕ) → old.open_as name ≡ None)
+      → (name : List ℕ) → closed.open_as name ≡ None
+  closed_over differ closed_from closed_into free =
+      closed_opened old opened closed from into first apart_behind closed_from (third.open_names into (differ, tt) ∙ closed_into) free

@@ -7,8 +7,8 @@ use Rattle.durable_catalogue.specs.Logs.{IsLogOf}
 use Rattle.durable_catalogue.specs.Openings.{IsUnopened}
 use Rattle.entry_record.specs.History.{IsWithin}
 use Rattle.console_lines.specs.declared.fault.Fault.{Fault}
-use Rattle.room_files.specs.Faults.{fault_of_opening}
-use Rattle.room_files.specs.Journals.{journal_limits, log_bytes}
+use Rattle.journal_files.specs.Faults.{fault_of_opening}
+use Rattle.journal_files.specs.Journals.{journal_limits, log_bytes}
 
 -- the fault is why the log of that name was not opened; where the room tells its bytes, they are so
 pub record WhyUnopened (room : RoomView) (name : List ℕ) (fault : Fault) : Type 0 where

@@ -15,7 +15,7 @@ use Rattle.console_lines.specs.declared.fault.Fault.TheVariants.{Usage, Input, D
 use Rattle.output_files.specs.Kept.{kept_keys}
 use Rattle.output_files.specs.Outputs.{IsOutputLeft}
 use Rattle.outside.specs.Room.{SameBut}
-use Rattle.room_files.specs.Journals.{log_bytes, KeepsHistory, IsDurable}
+use Rattle.journal_files.specs.Journals.{log_bytes, KeepsHistory, IsDurable}
 use Rattle.archive_commands.specs.Archives.{WhyUnopened, HasFittingHistory}
 use Rattle.archive_commands.specs.declared.due.Due.{Due}
 use Rattle.archive_commands.specs.declared.due.Due.TheVariants as due
@@ -25,10 +25,12 @@ pub data DueView : Type 0 where
   Export : Option (List ℕ) → DueView
   Report : DueView
 
+-- what is due, as contracts see it
 abbrev pub due_view : Due → DueView
 due_view (due.Export code) = Export (option_copied code)
 due_view due.Report = Report
 
+-- the bytes that are due of a history: the export, of all keys or a code's, or the report
 abbrev pub due_of : DueView → List Entry → List ℕ
 due_of (Export code) entries = export_of (kept_keys code) (state_of entries)
 due_of Report entries = report_of (state_of entries)
@@ -39,6 +41,7 @@ EndsReading Done = Unit {0}
 EndsReading Refused = ⊥
 EndsReading (Unwritten unwritten.Out) = Unit {0}
 EndsReading (Unwritten unwritten.Side) = ⊥
+EndsReading (Unwritten unwritten.Pages) = ⊥
 EndsReading (Unwritten unwritten.Console) = ⊥
 EndsReading (Told Usage) = ⊥
 EndsReading (Told Input) = ⊥

@@ -6,13 +6,13 @@ ghost use Rattle.archive_commands.specs.Reads.{due_view, Reads};
 use crate::due::Due;
 use crate::writing::write_archive;
 use console_lines::{End, end_of_output, tell};
+use journal_files::{fault_of_opening, open_archive};
 use outside::Room;
-use room_files::{fault_of_opening, open_archive};
 use std::alloc::Global;
 
 /// The commands `export` and `report`: write what is due of a journal's history into the file `out`. They tell why the journal
 /// is not opened, and want of memory.
-pub fn read<R: Room>(
+pub fn write_from_journal<R: Room>(
     alloc: Global,
     room: &mut R,
     console: &mut R::Out,

@@ -3,20 +3,20 @@ ghost use Rattle.std.specs.Prelude.{◌≡◌, ◌∷◌, [], true, Some, None, 
 ghost use Rattle.outside.specs.Fault.{HasWriteCause};
 ghost use Rattle.outside.specs.Room.{AsLog, SameBut};
 ghost use Rattle.output_files.specs.Outputs.{IsOutput, IsOutputLeft};
-ghost use Rattle.room_files.specs.Journals.{IsClosedDisk};
+ghost use Rattle.journal_files.specs.Journals.{IsClosedDisk};
 ghost use Rattle.archive_commands.specs.Reads.{due_view, due_of};
 
 use crate::due::Due;
 use catalogue_core::Catalogue;
-use durable_catalogue::Archive;
+use durable_catalogue::RecoveredReadOnly;
+use journal_files::close_archive;
 use output_files::{Export, report_bytes, write_document};
 use outside::{Room, WriteFault};
-use room_files::close_archive;
 use std::alloc::Global;
 
 /// Writes what is due of a catalogue into the file `out`. All memory is taken before that is begun.
 #[tactic(auto, using(outside::proofs::Rooms::same_but_itself))]
-fn write_due<R: Room>(
+pub fn write_due<R: Room>(
     alloc: Global,
     room: &mut R,
     out: &str,
@@ -53,7 +53,7 @@ pub fn write_archive<R: Room>(
     journal: &str,
     out: &str,
     due: Due<'_>,
-    archive: Archive<R::Log>,
+    archive: RecoveredReadOnly<R::Log>,
 ) -> Result<(), WriteFault>
     requires opened { (R.seen room.old).open_as journal.now ≡ Some AsLog }
     requires free { (R.seen room.old).open_as out.now ≡ None }

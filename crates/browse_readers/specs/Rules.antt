@@ -7,6 +7,7 @@ use Rattle.marc_types.specs.declared.entry.Entry.{Entry}
 pub record IsKept (cells : List Cell) (log : List Entry) : Type 0 where
   pub words : cells ≡ (length log, true) ∷ (0, true) ∷ []
 
+-- the book as what names a list
 abbrev pub head_of : Book → Named
 head_of b = record { tracked = true; key = 0; book = b }
 

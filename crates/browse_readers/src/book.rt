@@ -87,6 +87,7 @@ pub struct Opened {
 }
 
 impl Opened {
+    /// A new book, which has no name yet.
     pub fn new() -> Opened {
         let (seen, mut first, _second) = Seen::open(Start::alone(), 0, 0);
         Opened {

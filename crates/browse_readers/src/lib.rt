@@ -14,5 +14,6 @@ mod book;
 mod reader;
 mod shared;
 mod still;
+mod taking;
 mod window;
 mod writer;

@@ -33,6 +33,7 @@ impl<W: Window> Model for BrowseReader<W> {
 }
 
 impl<W: Window> BrowseReader<W> {
+    /// A reader that looks through this window.
     pub fn new(window: W) -> BrowseReader<W>
         ensures { result ≡ window }
     {

@@ -42,6 +42,7 @@ fn table_of(alloc: Global, entries: &Entries) -> Result<Table, NoMemory>
 }
 
 impl Still {
+    /// A window on the table of these entries, which never changes.
     pub fn new(alloc: Global, entries: &Entries) -> Result<Still, NoMemory>
         ensures { IfOk result (λ still. still ≡ entries.now) }
     {

@@ -16,6 +16,7 @@ use std::alloc::Global;
 use std::marker::Model;
 use std::sync::Wait;
 
+/// The readers that were opened with a writer.
 pub type Readers<J> = Sequence<BrowseReader<Shared<J>>>;
 
 /// Takes entries, and publishes them to its readers at once. Contracts see the list that it has taken, and whether it is spent.

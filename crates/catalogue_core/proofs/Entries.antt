@@ -13,7 +13,7 @@ use Rattle.catalogue_rules.specs.Receipt.{receipt_of, receipt}
 use Rattle.catalogue_rules.proofs.Elements.{Each}
 use Rattle.entry_record.specs.History.{IsAdmitted, entry_size, entries_size}
 use Rattle.commit_stages.specs.Receipts.{AreReceiptCounts}
-use Rattle.commit_stages.specs.declared.changes.Changes.{Changes}
+use Rattle.commit_stages.specs.declared.changes.CommitCounts.{CommitCounts}
 use Rattle.catalogue_core.specs.Catalogues.{Catalogued, all_entries, is_full, receipt_with}
 
 -- ---- one more entry
@@ -112,12 +112,12 @@ length_mapped : (entries : List Entry) → length entries ≡ length (map arriva
 length_mapped [] = refl
 length_mapped (x ∷ xs) = ap suc (length_mapped xs)
 
-numbers_are : (at : ℕ) (s : State) (a : Arrival) (next : State) (changes : Changes) → AreReceiptCounts (receipt_of at s a next) changes → receipt_with at changes ≡ receipt_of at s a next
+numbers_are : (at : ℕ) (s : State) (a : Arrival) (next : State) (changes : CommitCounts) → AreReceiptCounts (receipt_of at s a next) changes → receipt_with at changes ≡ receipt_of at s a next
 numbers_are at s a next changes n =
     λ i. record { at = at_is at s a next i; linked = n.linked i; ambiguous = n.ambiguous i; unlinked = n.unlinked i; changed_records = n.changed_records i }
 
 -- the receipt of an entry behind the others
-pub receipt_made : (entries : List Entry) (e : Entry) (engine : State) (changes : Changes) → engine ≡ state_of entries
+pub receipt_made : (entries : List Entry) (e : Entry) (engine : State) (changes : CommitCounts) → engine ≡ state_of entries
     → ((at : ℕ) → AreReceiptCounts (receipt_of at engine (arrival_of e) (step engine (arrival_of e))) changes) → receipt_with (length entries) changes ≡ receipt (map arrival_of entries) (arrival_of e)
 receipt_made entries e engine changes is numbers =
     numbers_are (length entries) engine (arrival_of e) (step engine (arrival_of e)) changes (numbers (length entries))

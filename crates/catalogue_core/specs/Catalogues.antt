@@ -6,7 +6,7 @@ use Rattle.marc_types.specs.declared.entry.Limits.{Limits}
 use Rattle.marc_types.specs.declared.entry.Receipt.{Receipt}
 use Rattle.entry_record.specs.History.{IsAdmitted, entries_size, passes_limits}
 use Rattle.catalogue_rules.specs.Settle.{state_of}
-use Rattle.commit_stages.specs.declared.changes.Changes.{Changes}
+use Rattle.commit_stages.specs.declared.changes.CommitCounts.{CommitCounts}
 use Rattle.catalogue_core.specs.Engines.{Engined}
 use Rattle.catalogue_core.specs.declared.catalogue.CoreFault.{CoreFault}
 use Rattle.catalogue_core.specs.declared.catalogue.CoreFault.TheVariants.{Full, NoMemory}
@@ -17,9 +17,11 @@ pub record Catalogued : Type 0 where
   pub staged : List Entry
   pub limits : Limits
 
+-- the history and what is staged behind it
 abbrev pub all_entries : Catalogued → List Entry
 all_entries c = c.history ++ c.staged
 
+-- a catalogue of no entry
 abbrev pub empty_catalogue : Limits → Catalogued
 empty_catalogue limits = record { history = []; staged = []; limits = limits }
 
@@ -32,6 +34,7 @@ abbrev pub IsDue : Bool → CoreFault → Type 0
 IsDue full Full = full ≡ true
 IsDue full NoMemory = full ≡ false
 
+-- with one more entry staged
 abbrev pub with_staged : Catalogued → Entry → Catalogued
 with_staged c e = record { history = c.history; staged = c.staged ++ e ∷ []; limits = c.limits }
 
@@ -39,14 +42,16 @@ with_staged c e = record { history = c.history; staged = c.staged ++ e ∷ []; l
 abbrev pub with_kept : Catalogued → Catalogued
 with_kept c = record { history = all_entries c; staged = []; limits = c.limits }
 
+-- with nothing staged
 abbrev pub without_staged : Catalogued → Catalogued
 without_staged c = record { history = c.history; staged = []; limits = c.limits }
 
+-- with one more entry in the history
 abbrev pub with_entry : Catalogued → Entry → Catalogued
 with_entry c e = record { history = c.history ++ e ∷ []; staged = []; limits = c.limits }
 
 -- the receipt of an entry with so many before it, by what its commit did
-abbrev pub receipt_with : ℕ → Changes → Receipt
+abbrev pub receipt_with : ℕ → CommitCounts → Receipt
 receipt_with at changes = record {
   at = at;
   linked = changes.linked;

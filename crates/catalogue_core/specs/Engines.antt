@@ -7,6 +7,7 @@ pub record Engined : Type 0 where
   pub state : State
   pub before : State
 
+-- an engine of no record
 abbrev pub empty_engine : Engined
 empty_engine = record { state = empty_state; before = empty_state }
 

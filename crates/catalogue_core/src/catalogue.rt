@@ -12,10 +12,10 @@ ghost use Rattle.numbered_store.specs.Kept.{kept_record};
 use crate::engine::Engine;
 use crate::limits::passes_limits;
 use catalogue_rules::Steps;
-use commit_stages::Changes;
+use commit_stages::CommitCounts;
 use entry_record::Prepared;
 use marc_types::{Class, Entry, Key, Limits, NoMemory, Receipt};
-use numbered_store::Kept;
+use numbered_store::StoredRecord;
 use std::alloc::Global;
 use std::marker::Model;
 use std::snapshot::Snapshot;
@@ -43,10 +43,10 @@ pub struct Catalogue {
 }
 
 // The receipt of an entry with so many before it.
-fn receipt_at(at: u64, changes: Changes) -> Receipt
+fn receipt_at(at: u64, changes: CommitCounts) -> Receipt
     ensures { result ≡ receipt_with at changes }
 {
-    let Changes {
+    let CommitCounts {
         linked,
         ambiguous,
         unlinked,
@@ -193,6 +193,7 @@ impl Catalogue {
         let _entries = &self.entries;
     }
 
+    /// How much it takes at most.
     pub fn limits(&self) -> &Limits
         ensures { result.now ≡ self.now.limits }
     {
@@ -215,7 +216,7 @@ impl Catalogue {
     }
 
     /// The record under a key.
-    pub fn look(&self, class: Class, key: &Key) -> Option<&Kept>
+    pub fn look(&self, class: Class, key: &Key) -> Option<&StoredRecord>
         ensures { option_map (λ kept. kept_record kept.now) result ≡ kept_under class key.now (state_of (all_entries self.now)) }
     {
         self.engine().look(class, key)

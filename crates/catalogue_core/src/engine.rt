@@ -15,11 +15,11 @@ ghost use Rattle.numbered_store.specs.Kept.{found_field, kept_record, shown_row}
 
 use catalogue_rules::Steps;
 use catalogue_tables::Standing;
-use commit_stages::{Changes, commit_entry};
+use commit_stages::{CommitCounts, commit_entry};
 use entry_record::Prepared;
 use linked_store::ReadableStore;
 use marc_types::{Class, Field, Key, NoMemory, Place, Tie};
-use numbered_store::{FoundField, Kept, RowMap};
+use numbered_store::{FoundField, RowMap, StoredRecord};
 use std::alloc::Global;
 use std::marker::Model;
 use std::sync::ledger::Ledger;
@@ -67,7 +67,7 @@ impl Engine {
         alloc: Global,
         item: Prepared,
         steps: &mut Steps<L>,
-    ) -> Result<Changes, NoMemory>
+    ) -> Result<CommitCounts, NoMemory>
         ensures state { OnOk result (self.new.state ≡ step self.old.state (arrival_of item)) }
         ensures changes { IfOk result (λ changes. (at : ℕ)
             → AreReceiptCounts (receipt_of at self.old.state (arrival_of item) (step self.old.state (arrival_of item))) changes) }
@@ -111,7 +111,7 @@ impl Engine {
     }
 
     /// The record under a key.
-    pub fn look(&self, class: Class, key: &Key) -> Option<&Kept>
+    pub fn look(&self, class: Class, key: &Key) -> Option<&StoredRecord>
         ensures { option_map (λ kept. kept_record kept.now) result ≡ kept_under class key.now self.now.state }
     {
         self.store.each_record_has_a_number();
@@ -163,7 +163,7 @@ impl Engine {
         &self,
         alloc: Global,
         class: Class,
-        kept: &Kept,
+        kept: &StoredRecord,
         place: u32,
     ) -> Result<Option<Standing>, NoMemory>
         ensures { IfOk result (λ standing.

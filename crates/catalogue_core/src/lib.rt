@@ -4,7 +4,7 @@
 
 pub use catalogue::{Catalogue, CoreFault};
 pub use catalogue_tables::Standing;
-pub use commit_stages::Changes;
+pub use commit_stages::CommitCounts;
 pub use engine::Engine;
 pub use limits::passes_limits;
 pub use numbered_store::FoundField;

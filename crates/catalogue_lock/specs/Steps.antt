@@ -48,12 +48,15 @@ module _ {O I : Type 0} where
     pub olds : Each (λ old. IsPrefix old log) m.0.olds
     pub own : Each (λ c. items_by (Some c.number) log ≡ c.items) m.0.claims
 
+  -- the step of a seat that holds no ticket, which finds a history that goes on from what it has seen
   abbrev pub Settles : Step (Option O) → Mine O I → ℕ → Mine O I → Type 0
   Settles s m found n = Settled m n
 
+  -- the count is raised by what a turn added
   abbrev pub Raises : List I → Step (Option O) → Mine O I → ℕ → Mine O I → Type 0
   Raises added s m found n = (n.0 ≡ raised m.0 added) × (n.1 ≡ m.1)
 
+  -- the turn is passed on
   abbrev pub PassesOn : Step (Option O) → Mine O I → ℕ → Mine O I → Type 0
   PassesOn s m found n = (n.0 ≡ passed m.0) × (n.1 ≡ [])
 
@@ -61,9 +64,11 @@ module _ {O I : Type 0} where
   abbrev pub BeginsOpening : Step (Option O) → Mine O I → ℕ → Mine O I → Type 0
   BeginsOpening s m found n = (n.0 ≡ record m.0 { stage = InTurn 0 }) × (n.1 ≡ (0, None) ∷ [])
 
+  -- the object is brought in with its items
   abbrev pub BringsIn : List I → Step (Option O) → Mine O I → ℕ → Mine O I → Type 0
   BringsIn added s m found n = (n.0 ≡ brought_in m.0 added) × (n.1 ≡ m.1)
 
+  -- the lock is open from now on
   abbrev pub EndsOpening : Step (Option O) → Mine O I → ℕ → Mine O I → Type 0
   EndsOpening s m found n = (n.0 ≡ opened_up m.0) × (n.1 ≡ [])
 
@@ -72,6 +77,7 @@ abbrev pub IsTable : TableId → Type 0
 IsTable id = (id.words ≡ 3) × (id.slots ≡ 1)
 
 module _ {O I : Type 0} where
+  -- it is the same seat of the same table, whatever it has seen since
   abbrev pub IsSameSeat : Seat (Option O) (View O I) → Seat (Option O) (View O I) → Type 0
   IsSameSeat p q = (q.table_id ≡ p.table_id) × (q.id ≡ p.id)
 

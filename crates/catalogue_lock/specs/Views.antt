@@ -17,10 +17,12 @@ module _ {I : Type 0} where
   unused_from first zero = []
   unused_from first (suc n) = record { number = first; items = [] } ∷ unused_from (suc first) n
 
+  -- the claims but the first
   abbrev pub other_claims : List (Claim I) → List (Claim I)
   other_claims [] = []
   other_claims (c ∷ cs) = cs
 
+  -- the first claim alone
   abbrev pub first_claim : List (Claim I) → List (Claim I)
   first_claim [] = []
   first_claim (c ∷ cs) = c ∷ []
@@ -30,6 +32,7 @@ module _ {I : Type 0} where
   first_number [] = 0
   first_number (c ∷ cs) = c.number
 
+  -- the items of the first claim
   abbrev pub first_items : List (Claim I) → List I
   first_items [] = []
   first_items (c ∷ cs) = c.items
@@ -80,6 +83,7 @@ module _ {O I : Type 0} where
   abbrev pub without_first : View O I → View O I
   without_first v = record v { claims = other_claims v.claims }
 
+  -- the new seat, with the first number
   abbrev pub with_first : View O I → View O I
   with_first v = record { opening = false; opened = v.opened; stage = Idle; draws = 0; claims = first_claim v.claims; seen = v.seen; olds = [] }
 
@@ -91,6 +95,7 @@ module _ {O I : Type 0} where
   abbrev pub joined : View O I → View O I → View O I
   joined v w = record v { draws = v.draws + w.draws; claims = w.claims ++ v.claims; seen = longer v.seen w.seen; olds = v.seen ∷ w.seen ∷ [] }
 
+  -- the seat that is gone behind a join: no number, and nothing seen
   abbrev pub spent : View O I
   spent = record { opening = false; opened = None; stage = Idle; draws = 0; claims = []; seen = []; olds = [] }
 

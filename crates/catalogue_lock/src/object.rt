@@ -7,14 +7,19 @@ ghost use Rattle.std.specs.Prelude.{◌≡◌, ◌++◌, List, length};
 /// `replies` relates the origin, the history before, the call, the reply and the items added; `answers` relates the
 /// origin, the history, the question and the answer.
 pub trait Object {
+    /// What its history has.
     type Item;
 
+    /// What it is asked to do.
     type Call;
 
+    /// What it answers to a call.
     type Reply;
 
+    /// What it is asked without a change.
     type Question;
 
+    /// What it answers to a question.
     type Answer;
 
     ghost Origin: { Type 0 };

@@ -22,12 +22,15 @@ pub data Choice : Type 0 where
   Ambiguous : List Key → Choice
   Unlinked : Choice
 
+-- the authority stands under the key
 abbrev pub has_key : Key → Linkable → Bool
 has_key key c = same_key key c.key
 
+-- the field's tag takes subdivisions in a record of the class
 abbrev pub takes_subdivisions : Class → KeptField → Bool
 takes_subdivisions class h = is_subdividable class (tag_of h.field)
 
+-- the field has a subdivision
 abbrev pub has_subdivision : KeptField → Bool
 has_subdivision h = is_subdivided (subfields_of h.field)
 
@@ -55,10 +58,12 @@ by_first_name authorities class kind h [] = None
 by_first_name authorities class kind h (s ∷ subs) =
     option_or (link_where (λ c. is_naming c.key s) authorities class kind h) (by_first_name authorities class kind h subs)
 
+-- by the awaited key, else by the first `$0` that names an authority which can take the field
 unfoldable pub by_number : List Linkable → Class → Kind → KeptField → Option Choice
 by_number authorities class kind h =
     option_or (by_awaited authorities class kind h) (by_first_name authorities class kind h (subfields_of h.field))
 
+-- the keys of authorities, in their order
 abbrev pub keys_of_linkable : List Linkable → List Key
 keys_of_linkable found = map (λ c. c.key) found
 
@@ -68,9 +73,11 @@ choice_among link_whole [] = None
 choice_among link_whole (c ∷ []) = Some (Link c link_whole)
 choice_among link_whole (c ∷ other ∷ more) = Some (Ambiguous (keys_of_linkable (c ∷ other ∷ more)))
 
+-- the form is the authority's established form
 abbrev pub is_established : Form → Linkable → Bool
 is_established form c = same_form form c.established
 
+-- the form is one of the authority's see-from forms
 abbrev pub is_see_from_form : Form → Linkable → Bool
 is_see_from_form form c = list_any (same_form form) c.see_from
 

@@ -20,6 +20,7 @@ Committed = Key × List Field
 abbrev pub take_in : Arrival → List Committed → List Committed
 take_in a rows = if is_deletion a.leader then remove_entry (same_key a.key) rows else insert_entry key_cmp rows a.key a.fields
 
+-- the same of one class alone
 abbrev pub take_in_class : Class → List Committed → Arrival → List Committed
 take_in_class class rows a = if same_class a.class class then take_in a rows else rows
 
@@ -31,6 +32,7 @@ committed_after class history = fold (take_in_class class) [] history
 abbrev pub is_plain : Class → Field → Bool
 is_plain class f = is_none (kind_of class f)
 
+-- the fields that are no headings, in their order
 abbrev pub plain_fields : Class → List Field → List Field
 plain_fields class fields = filter (is_plain class) fields
 
@@ -38,5 +40,6 @@ plain_fields class fields = filter (is_plain class) fields
 abbrev pub plain_of_committed : Class → Committed → Committed
 plain_of_committed class row = (row.0, plain_fields class row.1)
 
+-- the same of a kept record
 abbrev pub plain_of_kept : Class → Row → Committed
 plain_of_kept class row = plain_of_committed class (row.0, fields_of row.1)

@@ -18,9 +18,11 @@ use Rattle.catalogue_rules.specs.Choice.{is_established, is_see_from_form, keys_
 use Rattle.catalogue_rules.specs.Receipt.{Standing, LinkedTo, AmbiguousAmong, WithoutLink, WithoutHeading, standing_of, is_linked, is_ambiguous, is_unlinked, count_standing}
 use Rattle.catalogue_rules.specs.Lines.{line, then_word, then_words}
 
+-- the written form of a kept record
 abbrev pub written_row : Row → List ℕ
 written_row row = record_bytes row.1.leader (fields_of row.1)
 
+-- the written forms of the rows whose key is kept, in their order
 abbrev pub export_of_rows : (Key → Bool) → List Row → List ℕ
 export_of_rows keep rows = flat_map written_row (filter (λ row. keep row.0) rows)
 
@@ -28,6 +30,7 @@ export_of_rows keep rows = flat_map written_row (filter (λ row. keep row.0) row
 unfoldable pub export_of : (Key → Bool) → State → List ℕ
 export_of keep s = export_of_rows keep s.authorities ++ export_of_rows keep s.bibliographic
 
+-- every key is kept
 abbrev pub all_keys : Key → Bool
 all_keys key = true
 
@@ -36,6 +39,7 @@ abbrev pub class_letter : Class → List ℕ
 class_letter Authority = codes "A"
 class_letter Bibliographic = codes "B"
 
+-- the three characters of a tag
 abbrev pub tag_text : Tag → List ℕ
 tag_text t = t.a ∷ t.b ∷ t.c ∷ []
 
@@ -53,6 +57,7 @@ field_lines lines_of s = class_lines Authority ++ class_lines Bibliographic wher
   class_lines : Class → List ℕ
   class_lines class = flat_map (row_lines class) (rows_of class s)
 
+-- the AMBIGUOUS line of a field that stands so: one where it is ambiguous
 abbrev pub ambiguous_line_by : Class → Key → ℕ → KeptField → Standing → List ℕ
 ambiguous_line_by class key place h (LinkedTo linked) = []
 ambiguous_line_by class key place h (AmbiguousAmong keys) =
@@ -83,6 +88,7 @@ shared_line key _ = []
 abbrev pub shared_lines : List Linkable → List ℕ
 shared_lines authorities = flat_map (λ c. shared_line c.key (keys_sharing_form_of c authorities)) authorities
 
+-- the CROSS line of two authorities: one where the first has the second's established form as a see-from form
 abbrev pub cross_line : Linkable → Linkable → List ℕ
 cross_line x y =
     if not (same_key x.key y.key) && is_see_from_form y.established x
@@ -98,6 +104,7 @@ count_all test s = count_in Authority + count_in Bibliographic where
   count_in : Class → ℕ
   count_in class = sum_by (λ row. count_standing test (linkable_authorities s) class row.1) (rows_of class s)
 
+-- the TOTAL line: how many records of each class, and how many headings stand in each way
 abbrev pub total_line : State → List ℕ
 total_line s =
     line (codes "TOTAL authorities=" ++ decimal (length s.authorities)

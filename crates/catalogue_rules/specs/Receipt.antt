@@ -23,11 +23,13 @@ pub data Standing : Type 0 where
   WithoutLink : Standing
   WithoutHeading : Standing
 
+-- how a field without a link stands by its choice
 abbrev pub standing_by : Choice → Standing
 standing_by (Link c whole) = WithoutLink
 standing_by (Ambiguous keys) = AmbiguousAmong keys
 standing_by Unlinked = WithoutLink
 
+-- how a field without a link stands: ambiguous, without a link, or no heading
 abbrev pub standing_unlinked : List Linkable → Class → KeptField → Standing
 standing_unlinked authorities class h =
     option_map_or (λ kind. standing_by (choice authorities class kind h)) (heading_kind class h.field) WithoutHeading
@@ -36,12 +38,14 @@ standing_unlinked authorities class h =
 unfoldable pub standing_of : List Linkable → Class → KeptField → Standing
 standing_of authorities class h = option_map_or (λ key. LinkedTo key) h.tie.key (standing_unlinked authorities class h)
 
+-- it is linked
 abbrev pub is_linked : Standing → Bool
 is_linked (LinkedTo key) = true
 is_linked (AmbiguousAmong keys) = false
 is_linked WithoutLink = false
 is_linked WithoutHeading = false
 
+-- it is ambiguous
 abbrev pub is_ambiguous : Standing → Bool
 is_ambiguous (LinkedTo key) = false
 is_ambiguous (AmbiguousAmong keys) = true
@@ -59,9 +63,11 @@ is_unlinked WithoutHeading = false
 abbrev pub count_standing : (Standing → Bool) → List Linkable → Class → KeptRecord → ℕ
 count_standing test authorities class r = count_by (λ h. test (standing_of authorities class h)) r.fields
 
+-- the record that is kept under a key of a class, where there is one
 abbrev pub kept_under : Class → Key → State → Option KeptRecord
 kept_under class key s = lookup (same_key key) (rows_of class s)
 
+-- whether two classes are the same
 abbrev pub same_class : Class → Class → Bool
 same_class Authority Authority = true
 same_class Bibliographic Bibliographic = true
@@ -81,6 +87,7 @@ abbrev pub is_changed_row : Arrival → State → Class → Row → Bool
 is_changed_row a before class row =
     not (is_committed a class row.0) && option_map_or (differs row.1) (kept_under class row.0 before) false
 
+-- how many other records of a class are kept before and after, and differ
 abbrev pub changed_in : Arrival → State → State → Class → ℕ
 changed_in a before now class = count_by (is_changed_row a before class) (rows_of class now)
 

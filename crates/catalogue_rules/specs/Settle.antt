@@ -36,9 +36,11 @@ abbrev pub keeps_link : List Linkable → Class → KeptField → Key → Bool
 keeps_link authorities class h key =
     option_map_or (λ c. (h.tie.whole || is_bare c) && is_kind c.kind (kind_of class h.field)) (find (has_key key) authorities) false
 
+-- the field is linked to the key
 abbrev pub is_linked_to : Key → KeptField → Bool
 is_linked_to key h = option_map_or (same_key key) h.tie.key false
 
+-- the field awaits the key
 abbrev pub awaits_key : Key → KeptField → Bool
 awaits_key key h = option_map_or (same_key key) h.tie.awaits false
 
@@ -49,6 +51,7 @@ end_link key successor h = record {
   tie = record { key = None; whole = h.tie.whole; awaits = successor };
 }
 
+-- the field awaits the key from now on
 abbrev pub await : KeptField → Key → KeptField
 await h key = record h { tie = record h.tie { awaits = Some key } }
 
@@ -63,9 +66,11 @@ loosen authorities key successor class h =
     then (if keeps_link authorities class h key then h else end_link key successor h)
     else hand_on key successor h
 
+-- of all fields, the links that can't stay are ended, and what awaited the key awaits its successor
 abbrev pub loosen_all : Arrival → State → State
 loosen_all a s = each_field (loosen (linkable_authorities s) a.key (successor_of a.leader a.key a.fields)) s
 
+-- the record in its place, and of an authority what its coming ends
 abbrev pub put_in : Class → Arrival → State → State
 put_in Authority a s = loosen_all a (record s { authorities = place a s.authorities })
 put_in Bibliographic a s = record s { bibliographic = place a s.bibliographic }
@@ -81,6 +86,7 @@ link_to class h whole c = record {
   tie = record { key = Some c.key; whole = whole; awaits = None };
 }
 
+-- a field linked as its choice says, or left as it is
 abbrev pub take_choice : Class → KeptField → Choice → KeptField
 take_choice class h (Link c whole) = link_to class h whole c
 take_choice class h (Ambiguous keys) = h
@@ -95,6 +101,7 @@ abbrev pub settle_unlinked : List Linkable → Class → KeptField → KeptField
 settle_unlinked authorities class h =
     option_map_or (λ kind. take_choice class h (choice authorities class kind h)) (heading_kind class h.field) h
 
+-- a linked field rewritten, an unlinked one given its choice
 unfoldable pub settle_field : List Linkable → Class → KeptField → KeptField
 settle_field authorities class h =
     option_map_or (settle_linked authorities class h) h.tie.key (settle_unlinked authorities class h)
@@ -103,6 +110,7 @@ settle_field authorities class h =
 unfoldable pub settle : State → State
 settle s = each_field (settle_field (linkable_authorities s)) s
 
+-- what one arrival makes of a state: settle of put
 abbrev pub step : State → Arrival → State
 step s a = settle (put a s)
 
@@ -110,6 +118,7 @@ step s a = settle (put a s)
 unfoldable pub state_after : List Arrival → State
 state_after history = fold step empty_state history
 
+-- what a commit looks at of an entry: class, key, leader, fields
 abbrev pub arrival_of : Entry → Arrival
 arrival_of e = record { class = e.class; key = e.key; leader = e.rec.leader; fields = e.rec.fields }
 

@@ -23,6 +23,7 @@ pub record KeptRecord : Type 0 where
 abbrev pub Row : Type 0
 Row = Key × KeptRecord
 
+-- a field with its tie
 abbrev pub kept_field : Field → Tie → KeptField
 kept_field field tie = record { field = field; tie = tie }
 
@@ -37,9 +38,11 @@ pub record State : Type 0 where
   pub authorities : List Row
   pub bibliographic : List Row
 
+-- the state behind no entry
 abbrev pub empty_state : State
 empty_state = record { authorities = []; bibliographic = [] }
 
+-- the rows of a class, in key order
 abbrev pub rows_of : Class → State → List Row
 rows_of Authority s = s.authorities
 rows_of Bibliographic s = s.bibliographic
@@ -52,12 +55,15 @@ fields_of r = map (λ h. h.field) r.fields
 abbrev pub new_tie : Tie
 new_tie = record { key = None; whole = false; awaits = None }
 
+-- a field as it comes in: not linked, not whole, awaiting nothing
 abbrev pub new_field : Field → KeptField
 new_field f = record { field = f; tie = new_tie }
 
+-- a record as it comes in
 abbrev pub new_record : Leader → List Field → KeptRecord
 new_record l fields = record { leader = l; fields = map new_field fields }
 
+-- the authority that a row is, where it can be linked to
 abbrev pub row_linkable : Row → Option Linkable
 row_linkable row = linkable_of row.0 (fields_of row.1)
 
@@ -69,9 +75,11 @@ linkable_authorities s = filter_map row_linkable s.authorities
 abbrev pub each_in_record : (KeptField → KeptField) → KeptRecord → KeptRecord
 each_in_record change r = record { leader = r.leader; fields = map change r.fields }
 
+-- a change of each field of a row
 abbrev pub each_in_row : (KeptField → KeptField) → Row → Row
 each_in_row change row = (row.0, each_in_record change row.1)
 
+-- a change of each field of each record, by its class
 unfoldable pub each_field : (Class → KeptField → KeptField) → State → State
 each_field change s = record {
   authorities = map (each_in_row (change Authority)) s.authorities;

@@ -33,6 +33,7 @@ StaysFit place field r = place < length r.fields → fits (slice_set (fields_of 
 abbrev pub field_at : ℕ → KeptRecord → Option KeptField
 field_at place r = slice_get r.fields place
 
+-- the field and tie at a place of a state, where there is one
 abbrev pub field_under : Place → State → Option KeptField
 field_under place s = option_and_then (field_at place.field) (kept_under place.class place.key s)
 

@@ -66,6 +66,7 @@ IsRewrittenFrom class h c = rewriting h.field c.kind class c.heading c.key h.tie
 abbrev pub IsRewritten : List Linkable → Class → KeptField → Type 0
 IsRewritten authorities class h = IfSome h.tie.key (λ key. IfSome (find (has_key key) authorities) (IsRewrittenFrom class h))
 
+-- a choice that is no link
 abbrev pub IsNoLink : Choice → Type 0
 IsNoLink (Link c whole) = ⊥
 IsNoLink (Ambiguous keys) = Unit {0}

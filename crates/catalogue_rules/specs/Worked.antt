@@ -9,9 +9,11 @@ use Rattle.marc_types.specs.declared.form.Item.{Item}
 use Rattle.marc_types.specs.declared.form.Form.{Form}
 use Rattle.entry_record.specs.Authority.{Linkable}
 
+-- a subfield
 abbrev pub subfield : ℕ → List ℕ → Subfield
 subfield code text = record { code = code; text = text }
 
+-- an item of a form
 abbrev pub item : ℕ → List ℕ → Item
 item code text = record { code = code; text = text }
 
@@ -23,18 +25,23 @@ dlc_key number = record { code = codes "DLC"; number = number }
 abbrev pub name_heading : List ℕ → Field
 name_heading name = Variable (record { a = 49; b = 48; c = 48 }) 49 32 (subfield 97 name ∷ [])
 
+-- a heading `150 __`
 abbrev pub topic_heading : List Subfield → Field
 topic_heading subs = Variable (record { a = 49; b = 53; c = 48 }) 32 32 subs
 
+-- a field `700 1_`
 abbrev pub added_name : List Subfield → Field
 added_name subs = Variable (record { a = 55; b = 48; c = 48 }) 49 32 subs
 
+-- a field `650 _0`
 abbrev pub topic : List Subfield → Field
 topic subs = Variable (record { a = 54; b = 53; c = 48 }) 32 48 subs
 
+-- the form of a name
 abbrev pub name_form : List ℕ → Form
 name_form name = record { kind = Personal; items = item 97 name ∷ [] }
 
+-- the form of a topic
 abbrev pub topic_form : List Item → Form
 topic_form items = record { kind = Topical; items = items }
 
@@ -68,6 +75,7 @@ women_history = record {
   see_from = [];
 }
 
+-- Women
 abbrev pub women : Linkable
 women = record {
   key = dlc_key (codes "sh4");
@@ -85,6 +93,7 @@ numbered = added_name (subfield 97 (codes "Twayne, M.") ∷ subfield 48 (codes "
 abbrev pub clemens : Field
 clemens = added_name (subfield 97 (codes "Clemens, Samuel") ∷ [])
 
+-- `700 1_ $aDOE, JANE`
 abbrev pub shouted_doe : Field
 shouted_doe = added_name (subfield 97 (codes "DOE, JANE") ∷ [])
 

@@ -20,7 +20,7 @@ use Rattle.numbering.specs.declared.seat.Seat.{Seat}
 use Rattle.numbering.proofs.Numberlaws.{alike, keeps_itself, number_at, number_below}
 use Rattle.linking_laws.specs.Partway.{same_place, is_place_among}
 use Rattle.linking_laws.specs.Tables.{AreOnce, IsListing}
-use Rattle.place_names.specs.Listed.{ListsEach}
+use Rattle.postings.specs.Listed.{ListsEach}
 use Rattle.form_index.specs.Order.{key_at, no_key}
 use Rattle.catalogue_tables.specs.Seam.{AreDistinct, HasKey, IsRenamed, IsRenumbered, IsSeatOf, IsWithin, KeyLists, KeysKeep, has_number, keys_in, place_at, seat_of, told}
 

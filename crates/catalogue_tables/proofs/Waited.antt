@@ -16,7 +16,7 @@ use Rattle.wait_table.specs.Waits.{Waits, IsTaken, asks, asks_form, names, names
 use Rattle.wait_table.specs.declared.waiting.Asked.{Asked}
 use Rattle.wait_table.specs.declared.waiting.Waiting.{Waiting}
 use Rattle.wait_table.specs.declared.waiting.WaitRow.{WaitRow}
-use Rattle.place_names.specs.Listed.{ListsEach}
+use Rattle.postings.specs.Listed.{ListsEach}
 use Rattle.linking_laws.specs.Partway.{same_place}
 use Rattle.catalogue_tables.specs.Lent.{shown_forms}
 use Rattle.catalogue_tables.specs.Seam.{HasKey, IsRenumbered, KeyLists, seat_of}

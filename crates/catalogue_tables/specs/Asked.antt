@@ -21,6 +21,7 @@ abbrev pub first_of : Asked → ℕ
 first_of (One form) = form
 first_of (Two form base) = form
 
+-- the number of the base form
 abbrev pub last_of : Asked → ℕ
 last_of (One form) = form
 last_of (Two form base) = base

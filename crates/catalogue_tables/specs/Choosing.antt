@@ -52,6 +52,7 @@ form_choice all class kind h = unwrap_or (option_or (by_full_form all class kind
 abbrev pub key_named : Subfield → Option Key
 key_named s = if s.code == 48 then key_of_text (without_blanks s.text) else None
 
+-- all authorities, or the bare ones
 abbrev pub authorities_among : Among → List Linkable → List Linkable
 authorities_among All all = all
 authorities_among Bare all = filter is_bare all
@@ -62,6 +63,7 @@ authorities_among Bare all = filter is_bare all
 abbrev pub taker_for : List Key → Linkable → Taker
 taker_for keys c = record { number = number_of same_key keys c.key; bare = is_bare c }
 
+-- the number of a key that has one
 abbrev pub number_known : List Key → Key → Option ℕ
 number_known keys key = if is_known same_key keys key then Some (number_of same_key keys key) else None
 
@@ -99,6 +101,7 @@ link_by_taker class h taker =
 
 -- ---- by a form
 
+-- no authority is found
 abbrev pub unlinked : Chosen
 unlinked = chosen.Unlinked
 
@@ -108,6 +111,7 @@ chosen_of whole [] = None
 chosen_of whole (number ∷ []) = Some (chosen.Link number whole)
 chosen_of whole (number ∷ other ∷ more) = Some chosen.Ambiguous
 
+-- one candidate is chosen, several are ambiguous, none leaves the choice to the next step
 abbrev pub chosen_among : Bool → Candidates → Option Chosen
 chosen_among whole (candidates.Established numbers) = chosen_of whole numbers.now
 chosen_among whole (candidates.SeeFrom numbers) = chosen_of whole numbers.now

@@ -8,6 +8,7 @@ use Rattle.catalogue_rules.specs.Choice.{Choice}
 use Rattle.catalogue_rules.specs.Receipt.{Standing, AmbiguousAmong, WithoutLink, standing_by}
 use Rattle.catalogue_tables.specs.Lent.{AreGiven, keys_of}
 
+-- the numbers of candidates, whichever forms they have
 abbrev pub numbers_in : Candidates → List ℕ
 numbers_in (Established numbers) = numbers.now
 numbers_in (SeeFrom numbers) = numbers.now

@@ -22,9 +22,11 @@ use Rattle.catalogue_tables.specs.Following.{HasForms}
 abbrev pub is_headed : Among → ℕ → Forms → Bool
 is_headed among form row = is_among among row && has form (row.established ∷ [])
 
+-- the row has the form among its see-from forms
 abbrev pub is_traced : Among → ℕ → Forms → Bool
 is_traced among form row = is_among among row && has form row.see_from
 
+-- the keys of rows, in their order
 abbrev pub row_keys : List IndexRow → List Key
 row_keys rows = map (λ r. r.key) rows
 

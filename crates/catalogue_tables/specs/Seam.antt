@@ -18,6 +18,7 @@ pub record KeyLists : Type 0 where
   pub authorities : List Key
   pub bibliographic : List Key
 
+-- the keys of a class, in the order of their numbers
 abbrev pub keys_in : Class → KeyLists → List Key
 keys_in Authority keys = keys.authorities
 keys_in Bibliographic keys = keys.bibliographic

@@ -48,5 +48,6 @@ pub record AreHeaded (form : ℕ) (x : Indexed) (numbers : List ℕ) : Type 0 wh
 abbrev pub is_headed_by : List Key → Indexed → Key → ℕ → Bool
 is_headed_by keys x key form = option_map_or (is_headed All form) (option_and_then (λ number. row_under number x) (number_known keys key)) false
 
+-- the key's authority has one of these forms as its established form
 abbrev pub is_headed_by_any : List Key → Indexed → List ℕ → Key → Bool
 is_headed_by_any keys x forms key = list_any (is_headed_by keys x key) forms

@@ -6,11 +6,13 @@ use Rattle.marc_types.specs.Order.{same_form}
 use Rattle.numbering.specs.Numbers.{Keeps}
 use Rattle.catalogue_tables.specs.declared.tables.CatalogueTables.{CatalogueTables}
 
+-- nothing but the link table changed
 pub record OnlyLinks (old new : CatalogueTables) : Type 0 where
   pub forms : new.forms ≡ old.forms
   pub index : new.index ≡ old.index
   pub waits : new.waits ≡ old.waits
 
+-- nothing but the waiting table changed
 pub record OnlyWaits (old new : CatalogueTables) : Type 0 where
   pub forms : new.forms ≡ old.forms
   pub index : new.index ≡ old.index

@@ -12,6 +12,7 @@ use Rattle.catalogue_tables.specs.Seam.{KeyLists, HasKey, IsRenamed, IsSeatOf, I
 abbrev pub linked_by : KeyLists → Links → Key → Place → Bool
 linked_by keys links = told same_key keys.authorities keys (λ n seat. is_linked n links seat)
 
+-- each number of the link table is that of a key
 abbrev pub LinksFit : KeyLists → Links → Type 0
 LinksFit keys links = IsWithin (length keys.authorities) keys (λ n seat. is_linked n links seat)
 

@@ -15,9 +15,11 @@ use Rattle.catalogue_tables.specs.Seam.{HasKey, IsRenamed, IsSeatOf, IsWithin, K
 abbrev pub asking_by : List Form → KeyLists → Waits → Form → Place → Bool
 asking_by forms keys waits = told same_form forms keys (λ n seat. asks n waits seat)
 
+-- the waiting table says that the field at a place names the key
 abbrev pub naming_by : KeyLists → Waits → Key → Place → Bool
 naming_by keys waits = told same_key keys.authorities keys (λ n seat. names n waits seat)
 
+-- each number of the waiting table is that of a form or a key
 pub record WaitsFit (forms : ℕ) (keys : KeyLists) (waits : Waits) : Type 0 where
   pub asking : IsWithin forms keys (λ n seat. asks n waits seat)
   pub naming : IsWithin (length keys.authorities) keys (λ n seat. names n waits seat)
@@ -27,6 +29,7 @@ pub record AreNumbersOf {T : Type 0} (same : T → T → Bool) (names things : L
   pub known : AllByRecursion (λ t. is_known same names t ≡ true) things
   pub are : numbers ≡ map (number_of same names) things
 
+-- all numbers are below this one
 abbrev pub AreBelow : ℕ → List ℕ → Type 0
 AreBelow top numbers = AllByRecursion (λ n. n < top) numbers
 

@@ -3,7 +3,7 @@ ghost use Rattle.std.specs.Prelude.{◌≡◌, ◌||◌, OnOk, IfOk};
 ghost use Rattle.std.specs.List.{IsDistinct, list_any};
 ghost use Rattle.numbering.specs.Seats.{same_seat};
 ghost use Rattle.numbering.specs.declared.seat.Seat.{Seat as AnySeat};
-ghost use Rattle.place_names.specs.Listed.{ListsEach};
+ghost use Rattle.postings.specs.Listed.{ListsEach};
 ghost use Rattle.wait_table.specs.Table.{waits};
 ghost use Rattle.catalogue_tables.specs.Lent.{shown_forms};
 ghost use Rattle.catalogue_tables.specs.Waiting.{asks_known, waits_for};

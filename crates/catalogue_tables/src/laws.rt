@@ -10,7 +10,7 @@ ghost use Rattle.numbering.specs.Seats.{same_seat};
 ghost use Rattle.numbering.specs.declared.seat.Seat.{Seat};
 ghost use Rattle.link_table.specs.Links.{Links};
 ghost use Rattle.wait_table.specs.Waits.{Waits};
-ghost use Rattle.place_names.specs.Listed.{ListsEach};
+ghost use Rattle.postings.specs.Listed.{ListsEach};
 ghost use Rattle.linking_laws.specs.Partway.{same_place};
 ghost use Rattle.linking_laws.specs.Tables.{IsListing};
 ghost use Rattle.catalogue_tables.specs.Seam.{AreDistinct, HasKey, IsSeatOf, IsWithin, KeyLists, KeysKeep, has_number, place_at, seat_of, told};

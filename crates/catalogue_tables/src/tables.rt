@@ -2,7 +2,7 @@ ghost use Rattle.std.specs.Prelude.{◌≡◌, List, OnOk, OnErr, IfOk, IfSome, 
 ghost use Rattle.link_table.specs.Links.{IsTaken, is_linked, row_of};
 ghost use Rattle.link_table.specs.Table.{links};
 ghost use Rattle.numbering.specs.Seats.{same_seat};
-ghost use Rattle.place_names.specs.Listed.{ListsEach};
+ghost use Rattle.postings.specs.Listed.{ListsEach};
 ghost use Rattle.catalogue_tables.specs.Told.{AddsLink, TakesLink, PutsLinkBack};
 
 use form_index::FormIndex;

@@ -8,7 +8,7 @@ use Rattle.iso2709_record.proofs.Lengths.{length-record_bytes}
 use Rattle.entry_record.proofs.Written.{fitting_length}
 use Rattle.catalogue_rules.specs.State.{KeptField, KeptRecord, fields_of, new_field, new_tie, tied}
 use Rattle.numbered_store.specs.Kept.{blanks, kept_record}
-use Rattle.numbered_store.specs.declared.kept.Kept.{Kept}
+use Rattle.numbered_store.specs.declared.kept.StoredRecord.{StoredRecord}
 use Rattle.numbered_store.proofs.Tied.{kept_bytes}
 use Rattle.kept_rows.specs.declared.row.KeptRow.{KeptRow}
 use Rattle.checkpoint.specs.Format.{tie_bytes, head_bytes, ties_of, row_bytes}
@@ -34,7 +34,7 @@ row_written r =
     λ i. head_bytes r.class r.key.code (record_bytes r.rec.leader (fields i)) ++ flat_map tie_bytes (ties i)
 
 -- a kept record's written form is short
-pub kept_short : (kept : Kept) → length (record_bytes (kept_record kept).leader (fields_of (kept_record kept))) ≤ 99999
+pub kept_short : (kept : StoredRecord) → length (record_bytes (kept_record kept).leader (fields_of (kept_record kept))) ≤ 99999
 kept_short kept =
     omega (
       arith,

@@ -22,13 +22,16 @@ coded text = length text ∷ text
 unfoldable pub sized : List ℕ → List ℕ
 sized bytes = to_be_bytes w32 (length bytes) ++ bytes
 
+-- a key: code and number, each behind its length
 unfoldable pub key_bytes : Key → List ℕ
 key_bytes key = coded key.code ++ coded key.number
 
+-- a key, or nothing
 abbrev pub optional_key_bytes : Option Key → List ℕ
 optional_key_bytes None = []
 optional_key_bytes (Some key) = key_bytes key
 
+-- the value where it holds, else 0
 abbrev pub flag : ℕ → Bool → ℕ
 flag value b = if b then value else 0
 
@@ -40,6 +43,7 @@ tie_flags t = flag 1 (is_some t.key) + flag 2 t.whole + flag 4 (is_some t.awaits
 unfoldable pub tie_bytes : Tie → List ℕ
 tie_bytes t = tie_flags t ∷ (optional_key_bytes t.key ++ optional_key_bytes t.awaits)
 
+-- `A` or `B`
 abbrev pub class_byte : Class → ℕ
 class_byte Authority = 0x41
 class_byte Bibliographic = 0x42
@@ -48,6 +52,7 @@ class_byte Bibliographic = 0x42
 unfoldable pub head_bytes : Class → List ℕ → List ℕ → List ℕ
 head_bytes class code written = class_byte class ∷ (coded code ++ sized written)
 
+-- the ties of a kept record
 abbrev pub ties_of : KeptRecord → List Tie
 ties_of r = map (λ h. h.tie) r.fields
 
@@ -55,9 +60,11 @@ ties_of r = map (λ h. h.tie) r.fields
 unfoldable pub kept_bytes : Class → Row → List ℕ
 kept_bytes class row = head_bytes class row.0.code (record_bytes row.1.leader (fields_of row.1)) ++ flat_map tie_bytes (ties_of row.1)
 
+-- a kept row as it is written
 unfoldable pub row_bytes : KeptRow → List ℕ
 row_bytes r = kept_bytes r.class (row_of r)
 
+-- a part as it is written: `S`; `R` and rows; `E` and two numbers
 unfoldable pub part_bytes : Part → List ℕ
 part_bytes Begin = 0x53 ∷ []
 part_bytes (Rows rows) = 0x52 ∷ flat_map row_bytes rows

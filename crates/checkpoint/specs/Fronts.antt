@@ -8,6 +8,7 @@ pub record BeginWith {X : Type 0} (written : X → List ℕ) (Can : X → Type 0
   pub split : written x ++ rest ≡ bytes
   pub can : Can x
 
+-- the bytes begin with no such value
 abbrev pub BeginWithNone : {X : Type 0} → (X → List ℕ) → (X → Type 0) → List ℕ → Type 0
 BeginWithNone {X} written Can bytes = (x : X) (rest : List ℕ) → BeginWith written Can bytes x rest → ⊥
 

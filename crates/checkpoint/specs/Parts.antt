@@ -16,6 +16,7 @@ use Rattle.checkpoint.specs.declared.part.Part.TheVariants.{Begin, Rows, End}
 abbrev pub IsProperKey : Key → Type 0
 IsProperKey key = is_valid_key key ≡ true
 
+-- the keys that a tie names are proper
 pub record IsProperTie (t : Tie) : Type 0 where
   pub linked : IfSome t.key IsProperKey
   pub awaited : IfSome t.awaits IsProperKey

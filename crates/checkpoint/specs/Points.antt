@@ -14,6 +14,7 @@ use Rattle.checkpoint.specs.declared.point.SoFar.{SoFar}
 use Rattle.checkpoint.specs.declared.fault.PointFault.{PointFault}
 use Rattle.checkpoint.specs.declared.fault.PointFault.TheVariants.{BadPoint, NoMemory}
 
+-- the checkpoint of so many entries and these rows
 abbrev pub point_of : ℕ → List KeptRow → Point
 point_of entries rows = record { entries = entries; rows = rows }
 
@@ -33,6 +34,7 @@ read_on so_far Begin = record { begun = Some []; last = so_far.last }
 read_on so_far (Rows rows) = record { begun = option_map (λ before. before ++ rows) so_far.begun; last = so_far.last }
 read_on so_far (End entries count) = record { begun = None; last = option_or (whole_point entries count so_far.begun) so_far.last }
 
+-- what is known behind all parts
 abbrev pub read_all : List Part → SoFar
 read_all parts = fold read_on nothing_yet parts
 
@@ -65,6 +67,7 @@ pub record HasCheckpoint (parts : List Part) (entries : ℕ) (rows : List KeptRo
   pub split : parts ≡ before ++ (checkpoint ++ behind)
   pub whole : IsCheckpoint entries rows checkpoint
 
+-- the payloads of frames
 abbrev pub payloads_of : List Frame → List (List ℕ)
 payloads_of frames = map (λ f. f.payload) frames
 
@@ -85,6 +88,7 @@ pub record IsBadFrame (frames : List Frame) (place : ℕ) : Type 0 where
   pub none : (part : Part) → IsPartOf bad.payload part → ⊥
   pub at : bad.gate ≡ place
 
+-- the first frame that is no part is at this place, or memory ran out
 abbrev pub IsUnread : List Frame → PointFault → Type 0
 IsUnread frames (BadPoint place) = IsBadFrame frames place
 IsUnread frames NoMemory = Unit {0}

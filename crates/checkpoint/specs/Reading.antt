@@ -18,6 +18,7 @@ use Rattle.checkpoint.specs.declared.fault.PartFault.TheVariants.{BadPart, NoMem
 abbrev pub AreNotCoded : List ℕ → Type 0
 AreNotCoded bytes = (part rest : List ℕ) → coded part ++ rest ≡ bytes → ⊥
 
+-- the bytes don't begin with a length and so many bytes
 abbrev pub AreNotSized : List ℕ → Type 0
 AreNotSized bytes = (part rest : List ℕ) → length part < 2 ^ 32 → sized part ++ rest ≡ bytes → ⊥
 
@@ -30,6 +31,7 @@ pub record IsOptionalKey (there : Bool) (key : Option Key) : Type 0 where
 abbrev pub ties_bytes : List Tie → List ℕ
 ties_bytes ties = flat_map tie_bytes ties
 
+-- so many ties, whose keys are proper
 pub record AreProperTies (count : ℕ) (ties : List Tie) : Type 0 where
   pub count_is : length ties ≡ count
   pub proper : All IsProperTie ties
@@ -39,6 +41,7 @@ pub record HaveHead (bytes : List ℕ) (class : Class) (code written rest : List
   pub split : head_bytes class code written ++ rest ≡ bytes
   pub length_fits : length written < 2 ^ 32
 
+-- the bytes begin with no head of a row
 abbrev pub HaveNoHead : List ℕ → Type 0
 HaveNoHead bytes = (class : Class) (code written rest : List ℕ) → HaveHead bytes class code written rest → ⊥
 
@@ -62,6 +65,7 @@ pub record AreRows (bytes : List ℕ) (rows : List KeptRow) : Type 0 where
   pub written : flat_map row_bytes rows ≡ bytes
   pub can_be : All IsKeptRow rows
 
+-- the bytes are no rows, or memory ran out
 abbrev pub AreNoRows : List ℕ → PartFault → Type 0
 AreNoRows bytes BadPart = (rows : List KeptRow) → AreRows bytes rows → ⊥
 AreNoRows bytes NoMemory = Unit {0}

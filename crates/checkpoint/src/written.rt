@@ -9,7 +9,7 @@ ghost use Rattle.checkpoint.specs.declared.part.Part.TheVariants.{Begin, Rows, E
 use crate::heads::{AUTHORITY, BIBLIOGRAPHIC};
 use crate::parts::{BEGIN, END, ROWS};
 use marc_types::{Class, Key, NoMemory, Tie, TiedKey};
-use numbered_store::Kept;
+use numbered_store::StoredRecord;
 use std::alloc::Global;
 
 /// How many bytes the end of a checkpoint takes.
@@ -124,7 +124,7 @@ fn append_blank_ties(out: &mut Vec<u8>, count: u32) -> Result<(), NoMemory>
 }
 
 /// Appends the ties of a kept record. Where none are kept, all are blank.
-fn append_kept_ties(out: &mut Vec<u8>, kept: &Kept) -> Result<(), NoMemory>
+fn append_kept_ties(out: &mut Vec<u8>, kept: &StoredRecord) -> Result<(), NoMemory>
     requires { All IsProperTie (ties_of (kept_record kept.now)) }
     ensures { OnOk result (out.new.items ≡ out.old.items ++ ties_bytes (ties_of (kept_record kept.now))) }
 {
@@ -135,7 +135,12 @@ fn append_kept_ties(out: &mut Vec<u8>, kept: &Kept) -> Result<(), NoMemory>
 }
 
 #[tactic(auto, using(crate::proofs::Bounds::proper_code, crate::proofs::Kept::kept_short), unfolding(crate::specs::Format::kept_bytes))]
-fn append_parts(out: &mut Vec<u8>, class: Class, key: &Key, kept: &Kept) -> Result<(), NoMemory>
+fn append_parts(
+    out: &mut Vec<u8>,
+    class: Class,
+    key: &Key,
+    kept: &StoredRecord,
+) -> Result<(), NoMemory>
     requires key { IsProperKey key.now }
     requires ties { All IsProperTie (ties_of (kept_record kept.now)) }
     ensures { OnOk result (out.new.items ≡ out.old.items ++ kept_bytes class (key.now, kept_record kept.now)) }
@@ -150,7 +155,7 @@ pub fn append_row(
     out: &mut Vec<u8>,
     class: Class,
     key: &Key,
-    kept: &Kept,
+    kept: &StoredRecord,
 ) -> Result<(), NoMemory>
     requires key { IsProperKey key.now }
     requires ties { All IsProperTie (ties_of (kept_record kept.now)) }

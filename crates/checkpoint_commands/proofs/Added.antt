@@ -1,28 +1,20 @@
 -- What is left of a log behind which a checkpoint is put.
-use Rattle.std.proofs.Common.{◌≡◌, ◌∙◌, ◌⊎◌, inl, inr, ⊎_elim, ℕ, ◌<◌, ◌≤◌, Bool, true, false, List, length, Option, Some, None, is_some, Ok, Err, refl, sym, ap, subst}
-use Rattle.std.specs.Prelude.{◌≢◌}
+use Rattle.std.proofs.Common.{◌≡◌, ◌∙◌, ◌⊎◌, inl, inr, ⊎_elim, ℕ, ◌≤◌, Bool, true, false, List, length, Option, Some, None, is_some, Ok, Err, refl, sym, ap, subst}
 use Rattle.marc_types.specs.declared.entry.Entry.{Entry}
 use Rattle.outside.specs.Disk.{DiskView, LeavesOnly}
 use Rattle.outside.specs.Fault.{Rose}
 use Rattle.commit_journal.specs.declared.frame.Frame.{Frame}
-use Rattle.commit_journal.specs.declared.version.Version.{Version}
-use Rattle.commit_journal.specs.declared.version.Version.TheVariants.{Two}
-use Rattle.commit_journal.specs.declared.format.TheConstants.{BLANK_LENGTH}
-use Rattle.commit_journal.specs.Log.{frames_of, walk_of, version_of}
-use Rattle.commit_journal.specs.Journal.{IsFound, IsRecovered, IsSettling, IsDurableLog, EndsAt, Continues, LeavesContent, LeavesLog, Opens, Unwritten, and_frames, in_order}
-use Rattle.commit_journal.specs.Versions.{number_of}
+use Rattle.commit_journal.specs.Log.{frames_of}
+use Rattle.commit_journal.specs.Journal.{IsRecovered, IsSettling, IsDurableLog, EndsAt, Continues, LeavesContent, LeavesLog, Opens, Unwritten, and_frames, in_order}
 use Rattle.commit_journal.proofs.Logs.{version_two, leaves_self}
 use Rattle.catalogue_rules.specs.Settle.{state_of}
 use Rattle.durable_catalogue.specs.declared.fault.OpenFault.{OpenFault}
 use Rattle.durable_catalogue.specs.declared.fault.OpenFault.TheVariants.{DeviceFault, NoMemory}
 use Rattle.durable_catalogue.proofs.Keeping.{some_of}
-use Rattle.durable_catalogue.specs.Refused.{LeavesDiskAlone}
-use Rattle.checkpoint.specs.Points.{IsPointOf}
 use Rattle.checkpoint.specs.declared.point.Point.{Point}
 use Rattle.restoring.specs.Writing.{HasPoint, HasPointOrNot}
 use Rattle.checkpoint_commands.specs.PointLogs.{IsPointLog, IsUntaken, IsOnlyRead, IsLeftAlone}
 use Rattle.checkpoint_commands.specs.Adding.{HasPointOrNone, HasNewPoint, IsAdding, IsAdded, IsNotAdded}
-use Rattle.checkpoint_commands.proofs.Frames.{point_log}
 
 -- the same log has nothing new
 left_none : (history : List Entry) (log image : List ℕ) → LeavesLog log image → HasPointOrNone history log image

@@ -16,20 +16,18 @@ use Rattle.console_lines.specs.Ends.{Outcome, IsTold, console_unwritten}
 use Rattle.console_lines.specs.Lines.{checkpoint_line}
 use Rattle.console_lines.specs.declared.end.End.TheVariants.{Done, Told}
 use Rattle.console_lines.specs.declared.end.Unwritten.TheVariants.{Console}
-use Rattle.console_lines.specs.declared.fault.Fault.{Fault}
 use Rattle.console_lines.specs.declared.fault.Fault.TheVariants.{Device, OldVersion}
 use Rattle.console_lines.proofs.Ends.{told_once, told_not_done, told_not_unwritten, done_not_unwritten, never_told}
-use Rattle.room_files.specs.Faults.{fault_of_opening}
-use Rattle.room_files.specs.Journals.{journal_limits, log_bytes, IsRefusedLog, IsClosedDisk, KeepsHistory, Unopened, KeepsLog, IsDurable}
-use Rattle.room_files.proofs.Faults.{opening_device}
-use Rattle.room_files.proofs.Journals.{closed_keeps, closed_durable, keeps_where}
+use Rattle.journal_files.specs.Faults.{fault_of_opening, IsDeviceOf}
+use Rattle.journal_files.specs.Journals.{journal_limits, log_bytes, IsRefusedLog, IsClosedDisk, KeepsHistory, Unopened, KeepsLog, IsDurable}
+use Rattle.journal_files.proofs.Faults.{opening_device}
+use Rattle.journal_files.proofs.Journals.{closed_keeps, closed_durable, keeps_where}
 use Rattle.archive_commands.proofs.Histories.{fitting_history}
-use Rattle.migrate_command.specs.Migrates.{IsDeviceOf}
 use Rattle.checkpoint.specs.declared.point.Point.{Point}
 use Rattle.checkpoint_commands.specs.PointLogs.{IsPointLog}
 use Rattle.checkpoint_commands.specs.Refusals.{IsJournalRefused, IsPointRefused, IsRefusedBehind}
 use Rattle.checkpoint_commands.specs.Rooms.{PutsBehind, IsPutBehind}
-use Rattle.checkpoint_commands.specs.Checkpoints.{EndsCheckpoint, PutsHistory, Untouched, Behind, IsCheckpointed, Checkpoints}
+use Rattle.checkpoint_commands.specs.Checkpoints.{EndsCheckpoint, PutsHistory, Untouched, Behind, Checkpoints}
 use Rattle.checkpoint_commands.proofs.Over.{untouched_but, bytes_first, puts_across, put_across, keeps_across, refused_across}
 
 pub opening_old : (reason : OpenFault) → fault_of_opening reason ≡ OldVersion → reason ≡ opening.OldVersion

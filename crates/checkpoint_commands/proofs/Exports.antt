@@ -1,5 +1,5 @@
 -- How an export from a checkpoint on is made, and how its command ends, from what the steps say.
-use Rattle.std.proofs.Common.{◌≡◌, ◌≢◌, ◌∙◌, ◌⊎◌, inl, inr, ℕ, ◌≤◌, true, List, [], ◌∷◌, length, Option, Some, None, Result, Ok, Err, refl, sym, ap, subst}
+use Rattle.std.proofs.Common.{◌≡◌, ◌≢◌, ◌∙◌, ◌⊎◌, inl, inr, ℕ, true, List, [], ◌∷◌, length, Option, Some, None, Result, Ok, Err, refl, sym, ap, subst}
 use Rattle.std.specs.Prelude.{IsErrOf}
 use Rattle.std.specs.Io.KnownBytes.{Appends}
 use Rattle.std.proofs.Math.Logic.{∥∥₁_elim}
@@ -12,7 +12,6 @@ use Rattle.outside.specs.Sink.{WritesFront}
 use Rattle.outside.proofs.Counts.{rose_later, rose_since}
 use Rattle.outside.proofs.Rooms.{same_but_itself, same_but_then, same_but_first, same_but_more}
 use Rattle.entry_record.specs.History.{IsWithin}
-use Rattle.catalogue_rules.specs.State.{State}
 use Rattle.catalogue_rules.specs.Settle.{state_of}
 use Rattle.catalogue_rules.specs.Output.{all_keys, export_of}
 use Rattle.catalogue_core.specs.Engines.{Engined}
@@ -23,17 +22,14 @@ use Rattle.console_lines.specs.Ends.{Outcome, IsTold, IsSilent, out_unwritten, c
 use Rattle.console_lines.specs.Lines.{resumed_line}
 use Rattle.console_lines.specs.declared.end.End.TheVariants.{Done, Told}
 use Rattle.console_lines.specs.declared.end.Unwritten.TheVariants.{Out, Console}
-use Rattle.console_lines.specs.declared.fault.Fault.{Fault}
-use Rattle.console_lines.specs.declared.fault.Fault.TheVariants.{Device}
-use Rattle.console_lines.proofs.Ends.{told_once, told_not_done, told_not_unwritten, done_not_unwritten, unwritten_once, never_told, out_not_console}
+use Rattle.console_lines.proofs.Ends.{told_once, told_not_done, told_not_unwritten, done_not_unwritten, never_told, out_not_console}
 use Rattle.output_files.specs.Outputs.{IsOutputLeft}
 use Rattle.output_files.proofs.Parts.{left_since, left_until}
-use Rattle.room_files.specs.Faults.{fault_of_opening}
-use Rattle.room_files.specs.Journals.{journal_limits, log_bytes, IsRefusedLog, IsClosedDisk, KeepsHistory, Unopened, KeepsLog, IsDurable}
-use Rattle.room_files.proofs.Histories.{reading_once}
-use Rattle.room_files.proofs.Journals.{closed_keeps, closed_durable, keeps_where, unopened_keeps}
+use Rattle.journal_files.specs.Faults.{fault_of_opening, IsDeviceOf}
+use Rattle.journal_files.specs.Journals.{journal_limits, log_bytes, IsRefusedLog, IsClosedDisk, KeepsHistory, Unopened, KeepsLog, IsDurable}
+use Rattle.journal_files.proofs.Histories.{reading_once}
+use Rattle.journal_files.proofs.Journals.{closed_keeps, closed_durable, keeps_where}
 use Rattle.archive_commands.proofs.Histories.{fitting_history}
-use Rattle.migrate_command.specs.Migrates.{IsDeviceOf}
 use Rattle.checkpoint.specs.Resuming.{resumed}
 use Rattle.checkpoint.specs.declared.point.Point.{Point}
 use Rattle.restoring.specs.Resuming.{IsResumed, IsOfHistory}

@@ -1,23 +1,23 @@
 -- What a room keeps of a log of checkpoints.
-use Rattle.std.proofs.Common.{◌≡◌, ◌∙◌, ◌⊎◌, inl, inr, ℕ, ◌≤◌, true, List, [], ◌∷◌, Option, Some, None, is_some, Result, Ok, Err, refl, sym, ap, subst}
-use Rattle.std.specs.Prelude.{◌≢◌, IfOk, IfErr, IsErrOf}
+use Rattle.std.proofs.Common.{◌≡◌, ◌∙◌, inl, ℕ, ◌≤◌, true, List, [], Option, Some, is_some, Result, Ok, Err, refl, sym, ap, subst}
+use Rattle.std.specs.Prelude.{IfOk, IfErr, IsErrOf}
 use Rattle.std.proofs.Math.Logic.{∥∥₁_map}
 use Rattle.marc_types.specs.declared.entry.Entry.{Entry}
-use Rattle.outside.specs.Disk.{DiskView, SameDisk}
+use Rattle.outside.specs.Disk.{DiskView}
 use Rattle.outside.specs.Fault.{Rose, count_sum}
-use Rattle.outside.specs.Room.{RoomView, SameBut, IsUntouched, bytes_or_none}
+use Rattle.outside.specs.Room.{RoomView, SameBut, bytes_or_none}
 use Rattle.outside.proofs.Counts.{rose_closed}
 use Rattle.outside.proofs.Rooms.{untouched_same}
 use Rattle.commit_journal.specs.Journal.{LeavesLog}
 use Rattle.commit_journal.proofs.Logs.{leaves_self}
 use Rattle.durable_catalogue.specs.Logs.{HasHistory}
 use Rattle.durable_catalogue.specs.declared.fault.OpenFault.{OpenFault}
-use Rattle.durable_catalogue.specs.declared.fault.OpenFault.TheVariants.{DeviceFault, NoMemory}
+use Rattle.durable_catalogue.specs.declared.fault.OpenFault.TheVariants.{DeviceFault}
 use Rattle.durable_catalogue.specs.Refused.{LeavesAlone}
 use Rattle.durable_catalogue.proofs.Keeping.{some_of}
 use Rattle.durable_catalogue.proofs.Readings.{same_log}
-use Rattle.room_files.specs.Journals.{log_bytes, IsClosedDisk, KeepsHistory}
-use Rattle.room_files.proofs.Journals.{IsTimed, settled_now, closed_history, keeps_where}
+use Rattle.journal_files.specs.Journals.{log_bytes, IsClosedDisk, KeepsHistory}
+use Rattle.journal_files.proofs.Journals.{IsTimed, settled_now, closed_history, keeps_where}
 use Rattle.checkpoint.specs.declared.point.Point.{Point}
 use Rattle.checkpoint_commands.specs.PointLogs.{IsPointLog, IsOnlyRead, IsUntaken, IsLeftAlone}
 use Rattle.checkpoint_commands.specs.Adding.{HasPointOrNone, HasNewPoint, IsAdding, IsAdded, IsNotAdded}

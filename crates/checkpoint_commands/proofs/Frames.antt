@@ -1,5 +1,5 @@
 -- What the frames of a log of checkpoints say of it.
-use Rattle.std.proofs.Common.{◌≡◌, ◌∙◌, inl, inr, ⊎_elim, ℕ, ◌≤◌, List, Option, Some, Result, Ok, Err, OnOk, refl, sym, ap, subst, arith, true}
+use Rattle.std.proofs.Common.{◌≡◌, ◌∙◌, inl, inr, ⊎_elim, ℕ, ◌≤◌, List, Option, Some, Result, Ok, Err, OnOk, refl, sym, ap, subst, arith}
 use Rattle.std.specs.Prelude.{◌≢◌, IfOk, IfErr, IsErrOf}
 use Rattle.outside.specs.Disk.{DiskView}
 use Rattle.outside.specs.Fault.{Rose}
@@ -17,7 +17,6 @@ use Rattle.durable_catalogue.specs.declared.fault.OpenFault.TheVariants.{DeviceF
 use Rattle.durable_catalogue.proofs.Opened.{either_version}
 use Rattle.checkpoint.specs.Points.{IsPointOf}
 use Rattle.checkpoint.specs.declared.point.Point.{Point}
-use Rattle.restoring.specs.Writing.{HasLast}
 use Rattle.checkpoint_commands.specs.PointLogs.{IsPointLog, NoGate, NoPart, IsUntaken, AreUntaken, IsOnlyRead}
 
 -- frames are refused for what they are, and not for a device

@@ -1,5 +1,5 @@
 -- What a command over a journal and a log of checkpoints leaves, where the journal is opened first and closed last.
-use Rattle.std.proofs.Common.{◌≡◌, ◌≢◌, ◌∙◌, ◌⊎◌, inl, inr, ℕ, Bool, true, false, true≢false, List, [], ◌∷◌, Some, None, is_some, refl, sym, ap, subst}
+use Rattle.std.proofs.Common.{◌≡◌, ◌≢◌, ◌∙◌, ◌⊎◌, inl, inr, ℕ, Bool, true, false, true≢false, List, [], ◌∷◌, None, is_some, refl, sym, ap, subst}
 use Rattle.std.specs.Str.{bytes_eq}
 use Rattle.marc_types.specs.Order.{text_Decides}
 use Rattle.marc_types.specs.declared.entry.Entry.{Entry}
@@ -11,8 +11,8 @@ use Rattle.commit_journal.specs.Journal.{LeavesLog}
 use Rattle.durable_catalogue.specs.Logs.{HasHistory}
 use Rattle.durable_catalogue.specs.Refused.{LeavesAlone}
 use Rattle.durable_catalogue.specs.declared.fault.OpenFault.{OpenFault}
-use Rattle.room_files.specs.Journals as journals
-use Rattle.room_files.specs.Journals.{log_bytes, KeepsHistory}
+use Rattle.journal_files.specs.Journals as journals
+use Rattle.journal_files.specs.Journals.{log_bytes, KeepsHistory}
 use Rattle.checkpoint_commands.specs.PointLogs.{IsUntaken, IsPointLog}
 use Rattle.checkpoint_commands.specs.Adding.{HasPointOrNone, HasNewPoint}
 use Rattle.checkpoint_commands.specs.Refusals.{IsPointRefused}

@@ -11,11 +11,11 @@ use Rattle.console_lines.specs.Ends.{Outcome, IsTold, TellsNoFault, console_unwr
 use Rattle.console_lines.specs.Lines.{checkpoint_line}
 use Rattle.console_lines.specs.declared.end.End.{End}
 use Rattle.console_lines.specs.declared.end.End.TheVariants.{Done, Refused, Unwritten, Told}
-use Rattle.console_lines.specs.declared.end.Unwritten.TheVariants.{Out, Side, Console}
+use Rattle.console_lines.specs.declared.end.Unwritten.TheVariants.{Out, Side, Pages, Console}
 use Rattle.console_lines.specs.declared.fault.Fault.{Fault}
 use Rattle.console_lines.specs.declared.fault.Fault.TheVariants.{Usage, Input, Device, NotAJournal, Full, Memory, OldVersion, OtherHistory}
-use Rattle.room_files.specs.Journals.{journal_limits, log_bytes, KeepsHistory, IsDurable}
-use Rattle.migrate_command.specs.Migrates.{IsDeviceOf}
+use Rattle.journal_files.specs.Journals.{journal_limits, log_bytes, KeepsHistory, IsDurable}
+use Rattle.journal_files.specs.Faults.{IsDeviceOf}
 use Rattle.checkpoint.specs.declared.point.Point.{Point}
 use Rattle.checkpoint_commands.specs.PointLogs.{IsPointLog}
 use Rattle.checkpoint_commands.specs.Refusals.{IsJournalRefused, IsRefusedBehind}
@@ -27,6 +27,7 @@ EndsCheckpoint Done = Unit {0}
 EndsCheckpoint Refused = ⊥
 EndsCheckpoint (Unwritten Out) = ⊥
 EndsCheckpoint (Unwritten Side) = ⊥
+EndsCheckpoint (Unwritten Pages) = ⊥
 EndsCheckpoint (Unwritten Console) = Unit {0}
 EndsCheckpoint (Told Usage) = ⊥
 EndsCheckpoint (Told Input) = ⊥

@@ -5,7 +5,7 @@ use Rattle.outside.specs.Fault.{Rose}
 use Rattle.outside.specs.Room.{RoomView, SameBut}
 use Rattle.output_files.specs.Outputs.{IsOutputLeft}
 use Rattle.durable_catalogue.specs.declared.fault.OpenFault.TheVariants.{DeviceFault}
-use Rattle.room_files.specs.Journals.{log_bytes, KeepsHistory}
+use Rattle.journal_files.specs.Journals.{log_bytes, KeepsHistory}
 use Rattle.checkpoint.specs.declared.point.Point.{Point}
 use Rattle.checkpoint_commands.specs.PointLogs.{IsPointLog}
 use Rattle.checkpoint_commands.specs.Refusals.{IsPointRefused}

@@ -14,12 +14,12 @@ use Rattle.console_lines.specs.Ends.{Outcome, IsTold, IsSilent, TellsNoFault, ou
 use Rattle.console_lines.specs.Lines.{resumed_line}
 use Rattle.console_lines.specs.declared.end.End.{End}
 use Rattle.console_lines.specs.declared.end.End.TheVariants.{Done, Refused, Unwritten, Told}
-use Rattle.console_lines.specs.declared.end.Unwritten.TheVariants.{Out, Side, Console}
+use Rattle.console_lines.specs.declared.end.Unwritten.TheVariants.{Out, Side, Pages, Console}
 use Rattle.console_lines.specs.declared.fault.Fault.{Fault}
 use Rattle.console_lines.specs.declared.fault.Fault.TheVariants.{Usage, Input, Device, NotAJournal, Full, Memory, OldVersion, OtherHistory}
 use Rattle.output_files.specs.Outputs.{IsOutputLeft}
-use Rattle.room_files.specs.Journals.{journal_limits, log_bytes, KeepsHistory, IsDurable}
-use Rattle.migrate_command.specs.Migrates.{IsDeviceOf}
+use Rattle.journal_files.specs.Journals.{journal_limits, log_bytes, KeepsHistory, IsDurable}
+use Rattle.journal_files.specs.Faults.{IsDeviceOf}
 use Rattle.checkpoint.specs.Resuming.{resumed}
 use Rattle.checkpoint.specs.declared.point.Point.{Point}
 use Rattle.restoring.specs.Resuming.{BeginsWith, IsOfHistory}
@@ -32,6 +32,7 @@ EndsQuick Done = Unit {0}
 EndsQuick Refused = ⊥
 EndsQuick (Unwritten Out) = Unit {0}
 EndsQuick (Unwritten Side) = ⊥
+EndsQuick (Unwritten Pages) = ⊥
 EndsQuick (Unwritten Console) = Unit {0}
 EndsQuick (Told Usage) = ⊥
 EndsQuick (Told Input) = ⊥

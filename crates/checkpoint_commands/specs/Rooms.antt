@@ -3,7 +3,7 @@ use Rattle.std.specs.Prelude.{◌≡◌, ℕ, true, List, Option, Some, None}
 use Rattle.marc_types.specs.declared.entry.Entry.{Entry}
 use Rattle.outside.specs.Room.{RoomView, IsUntouched}
 use Rattle.checkpoint.specs.declared.point.Point.{Point}
-use Rattle.room_files.specs.Journals.{log_bytes}
+use Rattle.journal_files.specs.Journals.{log_bytes}
 use Rattle.checkpoint_commands.specs.PointLogs.{IsPointLog}
 use Rattle.checkpoint_commands.specs.Adding.{HasPointOrNone, HasNewPoint}
 

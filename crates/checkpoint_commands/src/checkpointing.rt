@@ -5,8 +5,8 @@ ghost use Rattle.checkpoint_commands.specs.Checkpoints.{Checkpoints};
 
 use crate::point_file::add_to_file;
 use console_lines::{End, Unwritten, tell, write_checkpoint};
+use journal_files::{close_archive, fault_of_opening, open_archive};
 use outside::Room;
-use room_files::{close_archive, fault_of_opening, open_archive};
 use std::alloc::Global;
 
 /// The command `checkpoint`: puts a checkpoint of a journal's catalogue behind those of the log `point`, and tells how many entries the

@@ -2,7 +2,7 @@
 ghost use Rattle.std.specs.Prelude.{◌≡◌, [], ◌∷◌, true, Option, None, IfOk, IfErr, IfSome, OnOk, IsErrOf};
 ghost use Rattle.outside.specs.Room.{SameBut};
 ghost use Rattle.durable_catalogue.specs.declared.fault.OpenFault.TheVariants.{DeviceFault};
-ghost use Rattle.room_files.specs.Journals.{log_bytes, KeepsHistory};
+ghost use Rattle.journal_files.specs.Journals.{log_bytes, KeepsHistory};
 ghost use Rattle.checkpoint.specs.declared.point.Point.{Point as AnyPoint};
 ghost use Rattle.restoring.specs.Resuming.{IsInOrder};
 ghost use Rattle.checkpoint_commands.specs.PointLogs.{IsPointLog};

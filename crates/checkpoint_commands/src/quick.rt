@@ -1,9 +1,9 @@
 ghost use Rattle.std.specs.Prelude.{◌≡◌, ◌≢◌, ℕ, List, [], ◌∷◌, true, None, IfOk, IfErr};
 ghost use Rattle.console_lines.specs.Ends.{outcome, out_unwritten};
 ghost use Rattle.console_lines.specs.Faults.{IsFaultTold, fault_line};
-ghost use Rattle.room_files.specs.Faults.{fault_of_opening};
+ghost use Rattle.journal_files.specs.Faults.{fault_of_opening};
 ghost use Rattle.outside.specs.Room.{SameBut};
-ghost use Rattle.room_files.specs.Journals.{log_bytes};
+ghost use Rattle.journal_files.specs.Journals.{log_bytes};
 ghost use Rattle.checkpoint_commands.specs.Quick.{ExportsQuickly};
 ghost use Rattle.checkpoint_commands.specs.Exporting.{KeepsPoint, IsWrittenFrom, IsNotWrittenFrom};
 
@@ -12,10 +12,8 @@ use crate::resumed::{restore, write_state_file};
 use console_lines::{End, Unwritten, tell, write_resumed};
 use durable_catalogue::OpenFault;
 use entry_history::EntryPayload;
-use history_logs::{close_history, open_history};
-use migrate_command::HistoryEntries;
+use journal_files::{HistoryEntries, close_history, fault_of_opening, open_history};
 use outside::{Room, Sink, WriteFault};
-use room_files::fault_of_opening;
 use std::alloc::Global;
 
 /// Why an export from a checkpoint on isn't there.

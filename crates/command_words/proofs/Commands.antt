@@ -16,7 +16,9 @@ use Rattle.command_words.specs.declared.library.Library.{Library}
 use Rattle.command_words.specs.declared.topic.Topic.{Topic}
 use Rattle.command_words.specs.declared.topic.Topic.TheVariants as topic
 use Rattle.command_words.specs.Topics.{topic_of}
-use Rattle.command_words.specs.Command.{Command, Pass, Run, Load, Export, Report, Make, Verify, Migrate, Matches, Holdings, Checkpoint, Quick, Help, Version, is_name, differ, split_at_equals, library_of, are_libraries, is_free, number_upto, greatest_seed, are_two_names, are_three_names, are_logs_and_output, as_pass, as_run, as_load, as_export, as_report, as_make, as_verify, as_migrate, as_matches, as_holdings, as_checkpoint, as_quick, as_help, alone, is_version_flag, is_help_flag, only_telling, over_journal, behind_verb, asks_how, command_of, words_of_files, libraries_of, file_count, names_of, AreNames, IsBounded}
+use Rattle.command_words.specs.Look.{Look}
+use Rattle.command_words.specs.Look as look
+use Rattle.command_words.specs.Command.{Command, Pass, Run, Load, Browse, Export, Report, Make, Verify, Migrate, Matches, Holdings, Checkpoint, Quick, Read, Refused, Help, Version, is_name, differ, split_at_equals, library_of, are_libraries, is_free, number_upto, greatest_seed, are_two_names, are_three_names, are_four_names, are_logs_and_output, as_pass, as_run, as_load, as_browse, as_export, as_report, as_make, as_verify, as_migrate, as_matches, as_holdings, as_checkpoint, as_quick, as_look, as_look_of, behind_reading, as_reading, as_refused, as_help, alone, is_version_flag, is_help_flag, only_telling, over_input, over_journal, behind_verb, asks_how, command_of, words_of_files, libraries_of, file_count, names_of, AreNames, IsBounded}
 
 -- a test and what it lets through
 if_some : {A : Type 0} (good : Bool) (a b : A) → (if good then Some a else None) ≡ Some b → (good ≡ true) × (a ≡ b)
@@ -107,6 +109,21 @@ pass_is verb (out ∷ file ∷ []) c is =
     })
 pass_is verb (out ∷ file ∷ other ∷ rest) c is = cc
 
+refused_is : (verb : List ℕ) (words : List (List ℕ)) (c : Command) → as_refused words ≡ Some c → IsCommand (verb ∷ words) c
+refused_is verb [] c is = cc
+refused_is verb (out ∷ []) c is = cc
+refused_is verb (out ∷ file ∷ []) c is =
+    let parts = if_some (are_libraries (file ∷ []) && is_free (file ∷ []) out) (Refused out) c is in
+    let good = and_parts (are_libraries (file ∷ [])) (is_free (file ∷ []) out) parts.0 in
+    subst (IsCommand (verb ∷ out ∷ file ∷ [])) parts.1 (record {
+      count = refl;
+      codes = codes_of (file ∷ []) good.0;
+      names = (free_named (file ∷ []) out good.1, tt, tt);
+      files = λ k d less. (free_apart (file ∷ []) out good.1 k d less, tt);
+      bounded = tt;
+    })
+refused_is verb (out ∷ file ∷ other ∷ rest) c is = cc
+
 -- a log and two outputs, apart from one another and from these files
 three_names : (files : List (List ℕ)) (journal out other : List ℕ) → are_three_names files journal out other ≡ true
     → (are_libraries files ≡ true) × AreNames (journal ∷ out ∷ other ∷ []) × All (λ (l : Library). IsNoneOf l.file (journal ∷ out ∷ other ∷ [])) (map split_at_equals files)
@@ -150,6 +167,40 @@ load_is verb (journal ∷ words) c is =
       names = (free_named words journal good.1, tt, tt);
       files = λ k d less. (free_apart words journal good.1 k d less, tt);
       bounded = few words good.0;
+    })
+
+-- a log and three outputs, apart from one another and from these files
+four_names : (files : List (List ℕ)) (journal out report pages : List ℕ) → are_four_names files journal out report pages ≡ true
+    → (are_libraries files ≡ true) × AreNames (journal ∷ out ∷ report ∷ pages ∷ [])
+    × All (λ (l : Library). IsNoneOf l.file (journal ∷ out ∷ report ∷ pages ∷ [])) (map split_at_equals files)
+four_names files journal out report pages good =
+    let four = and_parts _ (differ report pages) good in
+    let three = and_parts _ (differ out pages) four.0 in
+    let two = and_parts _ (differ journal pages) three.0 in
+    let one = and_parts (are_three_names files journal out report) (is_free files pages) two.0 in
+    let before = three_names files journal out report one.0 in
+    let names = before.1 in
+    let all : AreNames (journal ∷ out ∷ report ∷ pages ∷ []) = (
+      names.0,
+      (names.1.0, (names.1.1.0, (apart journal pages two.1, tt))),
+      (names.2.0, (names.2.1.0, (apart out pages three.1, tt)), (names.2.2.0, (apart report pages four.1, tt), (free_named files pages one.1, tt, tt))),
+    ) in
+    (before.0, all, λ k d less. let is = before.2 k d less in (is.0, (is.1.0, (is.1.1.0, (free_apart files pages one.1 k d less, tt)))))
+
+browse_is : (verb : List ℕ) (words : List (List ℕ)) (c : Command) → as_browse words ≡ Some c → IsCommand (verb ∷ words) c
+browse_is verb [] c is = cc
+browse_is verb (journal ∷ []) c is = cc
+browse_is verb (journal ∷ out ∷ []) c is = cc
+browse_is verb (journal ∷ out ∷ report ∷ []) c is = cc
+browse_is verb (journal ∷ out ∷ report ∷ pages ∷ words) c is =
+    let parts = if_some (are_four_names words journal out report pages) (Browse journal out report pages (length words)) c is in
+    let names = four_names words journal out report pages parts.0 in
+    subst (IsCommand (verb ∷ journal ∷ out ∷ report ∷ pages ∷ words)) parts.1 (record {
+      count = length-map words split_at_equals;
+      codes = codes_of words names.0;
+      names = names.1;
+      files = names.2;
+      bounded = few words names.0;
     })
 
 -- a command without files
@@ -278,6 +329,31 @@ quick_is verb (journal ∷ point ∷ out ∷ []) c is =
     (without_files (verb ∷ journal ∷ point ∷ out ∷ []) _ refl refl (logs_and_output journal point out parts.0) tt)
 quick_is verb (journal ∷ point ∷ out ∷ other ∷ rest) c is = cc
 
+-- an output of its own, for what is looked for
+look_named : (verb journal out : List ℕ) (words : List (List ℕ)) (wanted : Look) → are_two_names journal out ≡ true
+    → IsCommand (verb ∷ words) (Read wanted journal out)
+look_named verb journal out words wanted good = without_files (verb ∷ words) _ refl refl ((two_names journal out good).2.0, tt, tt) tt
+
+look_is : (verb : List ℕ) (wanted : Look) (words rest : List (List ℕ)) (c : Command) → as_look wanted rest ≡ Some c → IsCommand (verb ∷ words) c
+look_is verb wanted words [] c is = cc
+look_is verb wanted words (journal ∷ []) c is = cc
+look_is verb wanted words (journal ∷ out ∷ []) c is =
+    let parts = if_some (are_two_names journal out) (Read wanted journal out) c is in
+    subst (IsCommand (verb ∷ words)) parts.1 (look_named verb journal out words wanted parts.0)
+look_is verb wanted words (journal ∷ out ∷ other ∷ rest) c is = cc
+
+look_of_is : (verb : List ℕ) (words rest : List (List ℕ)) (c : Command) → as_look_of rest ≡ Some c → IsCommand (verb ∷ words) c
+look_of_is verb words [] c is = cc
+look_of_is verb words (journal ∷ []) c is = cc
+look_of_is verb words (journal ∷ out ∷ []) c is =
+    let parts = if_some (are_two_names journal out) (Read (look.Export None) journal out) c is in
+    subst (IsCommand (verb ∷ words)) parts.1 (look_named verb journal out words (look.Export None) parts.0)
+look_of_is verb words (journal ∷ out ∷ code ∷ []) c is =
+    let parts = if_some _ (Read (look.Export (Some code)) journal out) c is in
+    subst (IsCommand (verb ∷ words)) parts.1
+    (look_named verb journal out words (look.Export (Some code)) (and_parts (are_two_names journal out) _ parts.0).0)
+look_of_is verb words (journal ∷ out ∷ code ∷ other ∷ rest) c is = cc
+
 alone_is : (verb : List ℕ) (words : List (List ℕ)) (one : Command) (c : Command) → IsCommand (verb ∷ words) one → alone one words ≡ Some c
     → IsCommand (verb ∷ words) c
 alone_is verb [] one c good is = let same : one ≡ c = cc in subst (IsCommand (verb ∷ [])) same good
@@ -305,12 +381,21 @@ help_is verb (word ∷ []) c is =
     (mapped_help (verb ∷ word ∷ []) (topic_of word) c) is
 help_is verb (word ∷ other ∷ rest) c is = cc
 
+reading_is : (verb : List ℕ) (words : List (List ℕ)) (c : Command) → as_reading words ≡ Some c → IsCommand (verb ∷ words) c
+unfolding behind_reading
+reading_is verb [] c is = cc
+reading_is verb (word ∷ rest) c is =
+    chosen (bytes_eq word (codes "export")) (as_look_of rest) _ c (look_of_is verb (word ∷ rest) rest c) (
+    chosen (bytes_eq word (codes "report")) (as_look look.Report rest) _ c (look_is verb look.Report (word ∷ rest) rest c) (
+    chosen (bytes_eq word (codes "matches")) (as_look look.Matches rest) None c (look_is verb look.Matches (word ∷ rest) rest c) (λ none. cc))) is
+
 behind_is : (verb : List ℕ) (words : List (List ℕ)) (c : Command) → behind_verb verb words ≡ Some c → IsCommand (verb ∷ words) c
-unfolding behind_verb over_journal only_telling
+unfolding behind_verb over_journal over_input only_telling
 behind_is verb words c is =
     chosen (bytes_eq verb (codes "pass")) (as_pass words) _ c (pass_is verb words c) (
     chosen (bytes_eq verb (codes "run")) (as_run words) _ c (run_is verb words c) (
     chosen (bytes_eq verb (codes "load")) (as_load words) _ c (load_is verb words c) (
+    chosen (bytes_eq verb (codes "browse")) (as_browse words) _ c (browse_is verb words c) (
     chosen (bytes_eq verb (codes "make")) (as_make words) _ c (make_is verb words c) (
     chosen (bytes_eq verb (codes "export")) (as_export words) _ c (export_is verb words c) (
     chosen (bytes_eq verb (codes "report")) (as_report words) _ c (report_is verb words c) (
@@ -320,10 +405,12 @@ behind_is verb words c is =
     chosen (bytes_eq verb (codes "migrate")) (as_migrate words) _ c (migrate_is verb words c) (
     chosen (bytes_eq verb (codes "checkpoint")) (as_checkpoint words) _ c (checkpoint_is verb words c) (
     chosen (bytes_eq verb (codes "quick")) (as_quick words) _ c (quick_is verb words c) (
+    chosen (bytes_eq verb (codes "reading")) (as_reading words) _ c (reading_is verb words c) (
+    chosen (bytes_eq verb (codes "refused")) (as_refused words) _ c (refused_is verb words c) (
     chosen (bytes_eq verb (codes "help")) (as_help words) _ c (help_is verb words c) (
     chosen (is_help_flag verb) (alone (Help topic.All) words) _ c (alone_is verb words (Help topic.All) c (a_help (verb ∷ words) topic.All)) (
     chosen (bytes_eq verb (codes "version")) (alone Version words) _ c (alone_is verb words Version c (a_version (verb ∷ words))) (
-    chosen (is_version_flag verb) (alone Version words) None c (alone_is verb words Version c (a_version (verb ∷ words))) (λ none. cc)))))))))))))))) is
+    chosen (is_version_flag verb) (alone Version words) None c (alone_is verb words Version c (a_version (verb ∷ words))) (λ none. cc))))))))))))))))))) is
 
 command_is : (words : List (List ℕ)) (c : Command) → command_of words ≡ Some c → IsCommand words c
 unfolding command_of
@@ -367,10 +454,11 @@ isnt verb word differ = at (bytes_eq verb word) refl
     at false same = refl
 
 -- a command with another verb is one over a journal, or only tells something
-pub only_over_journal : (verb : List ℕ) (rest : List (List ℕ)) → verb ≢ codes "pass" → verb ≢ codes "run" → verb ≢ codes "load" → verb ≢ codes "make"
+pub only_over_journal : (verb : List ℕ) (rest : List (List ℕ)) → verb ≢ codes "pass" → verb ≢ codes "run" → verb ≢ codes "load" → verb ≢ codes "browse" → verb ≢ codes "make"
     → behind_verb verb rest ≡ over_journal verb rest
 unfolding behind_verb
-only_over_journal verb rest pass run load make = rw (isnt verb _ pass, isnt verb _ run, isnt verb _ load, isnt verb _ make) refl
+only_over_journal verb rest pass run load browse make =
+    rw (isnt verb _ pass, isnt verb _ run, isnt verb _ load, isnt verb _ browse, isnt verb _ make) refl
 
 -- words of which the first is this one
 pub words_are : (words : List (List ℕ)) (verb other : List ℕ) → 1 ≤ length words → verb ≡ get_or words 0 other

@@ -3,15 +3,25 @@ use Rattle.std.specs.Prelude.{◌≡◌, ℕ, List, [], ◌∷◌, length, map, 
 use Rattle.std.specs.Option.{option_copied}
 use Rattle.command_words.specs.Command.{Command, command_of, libraries_of, words_of_files, split_at_equals, ReadsFiles}
 use Rattle.command_words.specs.Command as command
+use Rattle.command_words.specs.Look as wanted
+use Rattle.command_words.specs.declared.asked.Look.{Look}
+use Rattle.command_words.specs.declared.asked.Look.TheVariants as look
 use Rattle.command_words.specs.declared.library.Library.{Library}
 use Rattle.command_words.specs.declared.asked.AloneRequest.{AloneRequest}
-use Rattle.command_words.specs.declared.asked.AloneRequest.TheVariants.{Pass, Export, Report, Make, Verify, Migrate, Matches, Holdings, Checkpoint, Quick, Help, Version}
+use Rattle.command_words.specs.declared.asked.AloneRequest.TheVariants.{Pass, Export, Report, Make, Verify, Migrate, Matches, Holdings, Checkpoint, Quick, Read, Refused, Help, Version}
 use Rattle.command_words.specs.declared.asked.LoadRequest.{LoadRequest}
+use Rattle.command_words.specs.declared.asked.BrowseRequest.{BrowseRequest}
 use Rattle.command_words.specs.declared.asked.Outputs.{Outputs}
 use Rattle.command_words.specs.declared.asked.Request.{Request}
-use Rattle.command_words.specs.declared.asked.Request.TheVariants.{Alone, Load}
+use Rattle.command_words.specs.declared.asked.Request.TheVariants.{Alone, Load, Browse}
 use Rattle.command_words.specs.declared.asked.Unasked.{Unasked}
 use Rattle.command_words.specs.declared.asked.Unasked.TheVariants.{Usage, NoMemory}
+
+-- what is looked for, as a command has it
+abbrev pub look_asked : Look → wanted.Look
+look_asked (look.Export code) = wanted.Export (option_copied code)
+look_asked look.Report = wanted.Report
+look_asked look.Matches = wanted.Matches
 
 -- the command that a request is which starts no threads
 abbrev pub alone_asked : AloneRequest → Command
@@ -25,6 +35,8 @@ alone_asked (Holdings journal out rest library code) = command.Holdings journal.
 alone_asked (Migrate old new) = command.Migrate old.now new.now
 alone_asked (Checkpoint journal point) = command.Checkpoint journal.now point.now
 alone_asked (Quick journal point out) = command.Quick journal.now point.now out.now
+alone_asked (Read look journal out) = command.Read (look_asked look) journal.now out.now
+alone_asked (Refused library out) = command.Refused out.now
 alone_asked (Help topic) = command.Help topic
 alone_asked Version = command.Version
 
@@ -37,10 +49,15 @@ loading_of journal files (Some outputs) = command.Run journal outputs.out.now ou
 abbrev pub load_asked : LoadRequest → Command
 load_asked r = loading_of r.journal.now (length r.libraries) r.outputs
 
+-- the command that a request is which loads files while a reader pages through the headings
+abbrev pub browse_asked : BrowseRequest → Command
+browse_asked r = command.Browse r.journal.now r.outputs.out.now r.outputs.report.now r.pages.now (length r.libraries)
+
 -- the command that a request is
 abbrev pub command_asked : Request → Command
 command_asked (Alone r) = alone_asked r
 command_asked (Load r) = load_asked r
+command_asked (Browse r) = browse_asked r
 
 -- the libraries that a request which starts no threads has of its file
 abbrev pub alone_libraries : AloneRequest → List Library
@@ -54,6 +71,8 @@ alone_libraries (Holdings journal out rest library code) = library ∷ []
 alone_libraries (Migrate old new) = []
 alone_libraries (Checkpoint journal point) = []
 alone_libraries (Quick journal point out) = []
+alone_libraries (Read look journal out) = []
+alone_libraries (Refused library out) = library ∷ []
 alone_libraries (Help topic) = []
 alone_libraries Version = []
 
@@ -61,6 +80,7 @@ alone_libraries Version = []
 abbrev pub libraries_asked : Request → List Library
 libraries_asked (Alone r) = alone_libraries r
 libraries_asked (Load r) = r.libraries
+libraries_asked (Browse r) = r.libraries
 
 -- Some words ask for this: it is their command, and its libraries are those of their files.
 pub record AsksFor (words : List (List ℕ)) (request : Request) : Type 0 where
@@ -94,6 +114,8 @@ IsFileless (Holdings journal out rest library code) = ⊥
 IsFileless (Migrate old new) = Unit {0}
 IsFileless (Checkpoint journal point) = Unit {0}
 IsFileless (Quick journal point out) = Unit {0}
+IsFileless (Read look journal out) = Unit {0}
+IsFileless (Refused library out) = ⊥
 IsFileless (Help topic) = Unit {0}
 IsFileless Version = Unit {0}
 

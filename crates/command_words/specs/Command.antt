@@ -10,6 +10,8 @@ use Rattle.command_words.specs.declared.library.Library.{Library}
 use Rattle.command_words.specs.declared.topic.Topic.{Topic}
 use Rattle.command_words.specs.declared.topic.Topic.TheVariants.{All}
 use Rattle.command_words.specs.Topics.{topic_of}
+use Rattle.command_words.specs.Look.{Look}
+use Rattle.command_words.specs.Look as look
 
 -- what a command asks for; the names are those of the words
 pub data Command : Type 0 where
@@ -19,6 +21,8 @@ pub data Command : Type 0 where
   Run : List ℕ → List ℕ → List ℕ → ℕ → Command
   -- `load JOURNAL CODE=FILE ..`: so many files into the journal
   Load : List ℕ → ℕ → Command
+  -- `browse JOURNAL OUT REPORT PAGES CODE=FILE ..`: what `run` does, while a reader pages through the headings; then its pages into PAGES
+  Browse : List ℕ → List ℕ → List ℕ → List ℕ → ℕ → Command
   -- `export JOURNAL OUT`, or `export JOURNAL OUT CODE` for the keys with that code
   Export : List ℕ → List ℕ → Option (List ℕ) → Command
   -- `report JOURNAL OUT`: the report into the file OUT
@@ -38,6 +42,11 @@ pub data Command : Type 0 where
   Checkpoint : List ℕ → List ℕ → Command
   -- `quick JOURNAL POINT OUT`: the export into the file OUT, from POINT's last checkpoint and the entries behind it
   Quick : List ℕ → List ℕ → List ℕ → Command
+  -- `reading export JOURNAL OUT`, or with a code behind it, `reading report JOURNAL OUT` and `reading matches JOURNAL OUT`: the same into the
+  -- file OUT, of a journal that is an input and isn't held
+  Read : Look → List ℕ → List ℕ → Command
+  -- `refused OUT CODE=FILE`: the pieces of one file that a pass refuses, as they stand, into the file OUT
+  Refused : List ℕ → Command
   -- `help`, or `help COMMAND`: how the commands are used, or that one
   Help : Topic → Command
   -- `version`: which version of the program this is
@@ -51,6 +60,7 @@ is_name name = nat_lt 0 (length name)
 abbrev pub differ : List ℕ → List ℕ → Bool
 differ name other = not (bytes_eq name other)
 
+-- the sign at which a word `CODE=FILE` is split
 abbrev pub is_equals_sign : ℕ → Bool
 is_equals_sign b = b == 61
 
@@ -81,6 +91,7 @@ number_upto limit word =
     if nat_le 1 (length word) && nat_le (length word) 20 && list_all is_digit word && nat_le (digits_value 10 word) limit
     then Some (digits_value 10 word) else None
 
+-- the greatest number of 64 bits
 abbrev pub greatest_seed : ℕ
 greatest_seed = 2 ^ 64 - 1
 
@@ -88,11 +99,13 @@ greatest_seed = 2 ^ 64 - 1
 abbrev pub command_if : Bool → Command → Option Command
 command_if good command = if good then Some command else None
 
+-- `OUT CODE=FILE`
 abbrev pub as_pass : List (List ℕ) → Option Command
 as_pass (out ∷ file ∷ []) =
     command_if (are_libraries (file ∷ []) && is_free (file ∷ []) out) (Pass out)
 as_pass words = None
 
+-- `JOURNAL OUT REPORT CODE=FILE ..`
 abbrev pub as_run : List (List ℕ) → Option Command
 as_run (journal ∷ out ∷ report ∷ files) =
     command_if (are_libraries files && is_free files journal && is_free files out && is_free files report
@@ -100,6 +113,7 @@ as_run (journal ∷ out ∷ report ∷ files) =
     (Run journal out report (length files))
 as_run words = None
 
+-- `JOURNAL CODE=FILE ..`
 abbrev pub as_load : List (List ℕ) → Option Command
 as_load (journal ∷ files) = command_if (are_libraries files && is_free files journal) (Load journal (length files))
 as_load words = None
@@ -108,11 +122,13 @@ as_load words = None
 abbrev pub are_two_names : List ℕ → List ℕ → Bool
 are_two_names journal out = is_name journal && is_name out && differ journal out
 
+-- `JOURNAL OUT`, or with a code behind them
 abbrev pub as_export : List (List ℕ) → Option Command
 as_export (journal ∷ out ∷ []) = command_if (are_two_names journal out) (Export journal out None)
 as_export (journal ∷ out ∷ code ∷ []) = command_if (are_two_names journal out && is_code code) (Export journal out (Some code))
 as_export words = None
 
+-- `JOURNAL OUT`
 abbrev pub as_report : List (List ℕ) → Option Command
 as_report (journal ∷ out ∷ []) = command_if (are_two_names journal out) (Report journal out)
 as_report words = None
@@ -121,6 +137,7 @@ infixl 10 ◌>>=◌
 abbrev ◌>>=◌ : {A B : Type 0} → Option A → (A → Option B) → Option B
 o >>= f = option_and_then f o
 
+-- `SEED COUNT OUT`
 abbrev pub as_make : List (List ℕ) → Option Command
 as_make (seed ∷ count ∷ out ∷ []) = do
   s ← number_upto greatest_seed seed
@@ -128,10 +145,12 @@ as_make (seed ∷ count ∷ out ∷ []) = do
   command_if (is_name out) (Make s n out)
 as_make words = None
 
+-- `JOURNAL`, whatever the word is
 abbrev pub as_verify : List (List ℕ) → Option Command
 as_verify (journal ∷ []) = command_if (is_name journal) (Verify journal)
 as_verify words = None
 
+-- `JOURNAL OUT`
 abbrev pub as_matches : List (List ℕ) → Option Command
 as_matches (journal ∷ out ∷ []) = command_if (are_two_names journal out) (Matches journal out)
 as_matches words = None
@@ -142,16 +161,30 @@ are_three_names files journal out rest =
     are_libraries files && is_free files journal && is_free files out && is_free files rest
     && differ journal out && differ journal rest && differ out rest
 
+-- the names of a log and three outputs that come with files
+abbrev pub are_four_names : List (List ℕ) → List ℕ → List ℕ → List ℕ → List ℕ → Bool
+are_four_names files journal out report pages =
+    are_three_names files journal out report && is_free files pages && differ journal pages && differ out pages && differ report pages
+
+-- `JOURNAL OUT REPORT PAGES CODE=FILE ..`
+abbrev pub as_browse : List (List ℕ) → Option Command
+as_browse (journal ∷ out ∷ report ∷ pages ∷ files) =
+    command_if (are_four_names files journal out report pages) (Browse journal out report pages (length files))
+as_browse words = None
+
+-- `JOURNAL OUT REST CODE=FILE`, or with a code behind them
 abbrev pub as_holdings : List (List ℕ) → Option Command
 as_holdings (journal ∷ out ∷ rest ∷ file ∷ []) = command_if (are_three_names (file ∷ []) journal out rest) (Holdings journal out rest None)
 as_holdings (journal ∷ out ∷ rest ∷ file ∷ code ∷ []) =
     command_if (are_three_names (file ∷ []) journal out rest && is_code code) (Holdings journal out rest (Some code))
 as_holdings words = None
 
+-- `OLD NEW`
 abbrev pub as_migrate : List (List ℕ) → Option Command
 as_migrate (old ∷ new ∷ []) = command_if (are_two_names old new) (Migrate old new)
 as_migrate words = None
 
+-- `JOURNAL POINT`
 abbrev pub as_checkpoint : List (List ℕ) → Option Command
 as_checkpoint (journal ∷ point ∷ []) = command_if (are_two_names journal point) (Checkpoint journal point)
 as_checkpoint words = None
@@ -160,9 +193,40 @@ as_checkpoint words = None
 abbrev pub are_logs_and_output : List ℕ → List ℕ → List ℕ → Bool
 are_logs_and_output journal point out = are_two_names journal point && is_name out && differ journal out && differ point out
 
+-- `JOURNAL POINT OUT`
 abbrev pub as_quick : List (List ℕ) → Option Command
 as_quick (journal ∷ point ∷ out ∷ []) = command_if (are_logs_and_output journal point out) (Quick journal point out)
 as_quick words = None
+
+-- `JOURNAL OUT`, for what is looked for
+abbrev pub as_look : Look → List (List ℕ) → Option Command
+as_look wanted (journal ∷ out ∷ []) = command_if (are_two_names journal out) (Read wanted journal out)
+as_look wanted words = None
+
+-- `JOURNAL OUT`, or with a code behind them
+abbrev pub as_look_of : List (List ℕ) → Option Command
+as_look_of (journal ∷ out ∷ []) = command_if (are_two_names journal out) (Read (look.Export None) journal out)
+as_look_of (journal ∷ out ∷ code ∷ []) = command_if (are_two_names journal out && is_code code) (Read (look.Export (Some code)) journal out)
+as_look_of words = None
+
+-- the verb of what is looked for, and the words behind it
+unfoldable pub behind_reading : List ℕ → List (List ℕ) → Option Command
+behind_reading verb words =
+    if bytes_eq verb (codes "export") then as_look_of words
+    else if bytes_eq verb (codes "report") then as_look look.Report words
+    else if bytes_eq verb (codes "matches") then as_look look.Matches words
+    else None
+
+-- what is looked for, as the command without `reading` has it
+abbrev pub as_reading : List (List ℕ) → Option Command
+as_reading [] = None
+as_reading (verb ∷ words) = behind_reading verb words
+
+-- `OUT CODE=FILE`
+abbrev pub as_refused : List (List ℕ) → Option Command
+as_refused (out ∷ file ∷ []) =
+    command_if (are_libraries (file ∷ []) && is_free (file ∷ []) out) (Refused out)
+as_refused words = None
 
 -- a word that asks for the version, as it does in other programs
 abbrev pub is_version_flag : List ℕ → Bool
@@ -172,6 +236,7 @@ is_version_flag word = bytes_eq word (codes "--version") || bytes_eq word (codes
 abbrev pub is_help_flag : List ℕ → Bool
 is_help_flag word = bytes_eq word (codes "--help") || bytes_eq word (codes "-h")
 
+-- nothing, a topic, or a word that asks for the version
 abbrev pub as_help : List (List ℕ) → Option Command
 as_help [] = Some (Help All)
 as_help (word ∷ []) = if is_version_flag word then Some Version else option_map Help (topic_of word)
@@ -191,6 +256,13 @@ only_telling verb words =
     else if is_version_flag verb then alone Version words
     else None
 
+-- the commands over a file that hold no journal
+unfoldable pub over_input : List ℕ → List (List ℕ) → Option Command
+over_input verb words =
+    if bytes_eq verb (codes "reading") then as_reading words
+    else if bytes_eq verb (codes "refused") then as_refused words
+    else only_telling verb words
+
 -- the commands over a journal that load nothing
 unfoldable pub over_journal : List ℕ → List (List ℕ) → Option Command
 over_journal verb words =
@@ -202,7 +274,7 @@ over_journal verb words =
     else if bytes_eq verb (codes "migrate") then as_migrate words
     else if bytes_eq verb (codes "checkpoint") then as_checkpoint words
     else if bytes_eq verb (codes "quick") then as_quick words
-    else only_telling verb words
+    else over_input verb words
 
 -- the command of a verb and the words behind it
 unfoldable pub behind_verb : List ℕ → List (List ℕ) → Option Command
@@ -210,6 +282,7 @@ behind_verb verb words =
     if bytes_eq verb (codes "pass") then as_pass words
     else if bytes_eq verb (codes "run") then as_run words
     else if bytes_eq verb (codes "load") then as_load words
+    else if bytes_eq verb (codes "browse") then as_browse words
     else if bytes_eq verb (codes "make") then as_make words
     else over_journal verb words
 
@@ -229,6 +302,7 @@ words_of_files words None = []
 words_of_files words (Some (Pass out)) = drop 2 words
 words_of_files words (Some (Run journal out report files)) = drop 4 words
 words_of_files words (Some (Load journal files)) = drop 2 words
+words_of_files words (Some (Browse journal out report pages files)) = drop 5 words
 words_of_files words (Some (Export journal out code)) = []
 words_of_files words (Some (Report journal out)) = []
 words_of_files words (Some (Make seed count out)) = []
@@ -238,6 +312,8 @@ words_of_files words (Some (Holdings journal out rest code)) = take 1 (drop 4 wo
 words_of_files words (Some (Migrate old new)) = []
 words_of_files words (Some (Checkpoint journal point)) = []
 words_of_files words (Some (Quick journal point out)) = []
+words_of_files words (Some (Read wanted journal out)) = []
+words_of_files words (Some (Refused out)) = drop 2 words
 words_of_files words (Some (Help topic)) = []
 words_of_files words (Some Version) = []
 
@@ -250,6 +326,7 @@ abbrev pub file_count : Command → ℕ
 file_count (Pass out) = 1
 file_count (Run journal out report files) = files
 file_count (Load journal files) = files
+file_count (Browse journal out report pages files) = files
 file_count (Export journal out code) = 0
 file_count (Report journal out) = 0
 file_count (Make seed count out) = 0
@@ -259,6 +336,8 @@ file_count (Holdings journal out rest code) = 1
 file_count (Migrate old new) = 0
 file_count (Checkpoint journal point) = 0
 file_count (Quick journal point out) = 0
+file_count (Read wanted journal out) = 0
+file_count (Refused out) = 1
 file_count (Help topic) = 0
 file_count Version = 0
 
@@ -267,6 +346,7 @@ abbrev pub ReadsFiles : Command → Type 0
 ReadsFiles (Pass out) = Unit {0}
 ReadsFiles (Run journal out report files) = Unit {0}
 ReadsFiles (Load journal files) = Unit {0}
+ReadsFiles (Browse journal out report pages files) = Unit {0}
 ReadsFiles (Export journal out code) = ⊥
 ReadsFiles (Report journal out) = ⊥
 ReadsFiles (Make seed count out) = ⊥
@@ -276,6 +356,8 @@ ReadsFiles (Holdings journal out rest code) = Unit {0}
 ReadsFiles (Migrate old new) = ⊥
 ReadsFiles (Checkpoint journal point) = ⊥
 ReadsFiles (Quick journal point out) = ⊥
+ReadsFiles (Read wanted journal out) = ⊥
+ReadsFiles (Refused out) = Unit {0}
 ReadsFiles (Help topic) = ⊥
 ReadsFiles Version = ⊥
 
@@ -284,6 +366,7 @@ abbrev pub names_of : Command → List (List ℕ)
 names_of (Pass out) = out ∷ []
 names_of (Run journal out report files) = journal ∷ out ∷ report ∷ []
 names_of (Load journal files) = journal ∷ []
+names_of (Browse journal out report pages files) = journal ∷ out ∷ report ∷ pages ∷ []
 names_of (Export journal out code) = journal ∷ out ∷ []
 names_of (Report journal out) = journal ∷ out ∷ []
 names_of (Make seed count out) = out ∷ []
@@ -293,6 +376,8 @@ names_of (Holdings journal out rest code) = journal ∷ out ∷ rest ∷ []
 names_of (Migrate old new) = old ∷ new ∷ []
 names_of (Checkpoint journal point) = journal ∷ point ∷ []
 names_of (Quick journal point out) = journal ∷ point ∷ out ∷ []
+names_of (Read wanted journal out) = out ∷ []
+names_of (Refused out) = out ∷ []
 names_of (Help topic) = []
 names_of Version = []
 
@@ -306,6 +391,7 @@ abbrev pub IsBounded : Command → Type 0
 IsBounded (Pass out) = Unit {0}
 IsBounded (Run journal out report files) = (1 ≤ files) × (files ≤ 64)
 IsBounded (Load journal files) = (1 ≤ files) × (files ≤ 64)
+IsBounded (Browse journal out report pages files) = (1 ≤ files) × (files ≤ 64)
 IsBounded (Export journal out code) = Unit {0}
 IsBounded (Report journal out) = Unit {0}
 IsBounded (Make seed count out) = count ≤ most_entries
@@ -315,5 +401,7 @@ IsBounded (Holdings journal out rest code) = Unit {0}
 IsBounded (Migrate old new) = Unit {0}
 IsBounded (Checkpoint journal point) = Unit {0}
 IsBounded (Quick journal point out) = Unit {0}
+IsBounded (Read wanted journal out) = Unit {0}
+IsBounded (Refused out) = Unit {0}
 IsBounded (Help topic) = Unit {0}
 IsBounded Version = Unit {0}

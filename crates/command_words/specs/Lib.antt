@@ -1,3 +1,4 @@
 pub mod Topics
 pub mod Command
+pub mod Look
 pub mod Asked

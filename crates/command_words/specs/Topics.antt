@@ -2,7 +2,7 @@
 use Rattle.std.specs.Prelude.{ℕ, List, Option, Some, None, codes, if◌then◌else◌}
 use Rattle.std.specs.Str.{bytes_eq}
 use Rattle.command_words.specs.declared.topic.Topic.{Topic}
-use Rattle.command_words.specs.declared.topic.Topic.TheVariants.{Pass, Run, Load, Export, Report, Make, Verify, Migrate, Matches, Holdings, Checkpoint, Quick, Help, Version, Statuses}
+use Rattle.command_words.specs.declared.topic.Topic.TheVariants.{Pass, Run, Load, Browse, Export, Report, Make, Verify, Migrate, Matches, Holdings, Checkpoint, Quick, Reading, Refused, Help, Version, Statuses}
 
 -- the command that a word names, or another topic
 unfoldable pub topic_of : List ℕ → Option Topic
@@ -10,6 +10,7 @@ topic_of word =
     if bytes_eq word (codes "pass") then Some Pass
     else if bytes_eq word (codes "run") then Some Run
     else if bytes_eq word (codes "load") then Some Load
+    else if bytes_eq word (codes "browse") then Some Browse
     else if bytes_eq word (codes "export") then Some Export
     else if bytes_eq word (codes "report") then Some Report
     else if bytes_eq word (codes "make") then Some Make
@@ -19,6 +20,8 @@ topic_of word =
     else if bytes_eq word (codes "holdings") then Some Holdings
     else if bytes_eq word (codes "checkpoint") then Some Checkpoint
     else if bytes_eq word (codes "quick") then Some Quick
+    else if bytes_eq word (codes "reading") then Some Reading
+    else if bytes_eq word (codes "refused") then Some Refused
     else if bytes_eq word (codes "help") then Some Help
     else if bytes_eq word (codes "version") then Some Version
     else if bytes_eq word (codes "statuses") then Some Statuses

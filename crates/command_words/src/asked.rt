@@ -9,6 +9,8 @@ pub enum Request<'a> {
     Alone(AloneRequest<'a>),
     /// One that loads files side by side.
     Load(LoadRequest<'a>),
+    /// One that does so while a reader pages through the headings.
+    Browse(BrowseRequest<'a>),
 }
 
 /// What a command asks for that starts no threads.
@@ -70,6 +72,17 @@ pub enum AloneRequest<'a> {
         point: &'a str,
         out: &'a str,
     },
+    /// Write what is looked for in a journal into the file `out`; the journal is an input, and isn't held.
+    Read {
+        look: Look<'a>,
+        journal: &'a str,
+        out: &'a str,
+    },
+    /// Write the pieces of a library's file that a pass refuses, as they stand, into the file `out`.
+    Refused {
+        library: Library,
+        out: &'a str,
+    },
     /// Tell how the commands are used, or one of them.
     Help {
         topic: Topic,
@@ -78,12 +91,33 @@ pub enum AloneRequest<'a> {
     Version,
 }
 
+/// What is looked for in a journal that isn't held.
+#[derive(Clone, Copy, Debug, PartialEq, Eq)]
+pub enum Look<'a> {
+    /// Its records: of all keys, or of those with that code.
+    Export(Option<&'a str>),
+    /// The report on its records.
+    Report,
+    /// Which of its records share a number.
+    Matches,
+}
+
 /// Load the files of 1 to 64 libraries into the journal; and then, where there are outputs, write them.
 #[derive(Drop)]
 pub struct LoadRequest<'a> {
     pub journal: &'a str,
     pub libraries: Libraries,
     pub outputs: Option<Outputs<'a>>,
+}
+
+/// Load the files of 1 to 64 libraries into the journal, while a reader pages through its headings; then write the outputs, and the
+/// pages into the file `pages`.
+#[derive(Drop)]
+pub struct BrowseRequest<'a> {
+    pub journal: &'a str,
+    pub libraries: Libraries,
+    pub outputs: Outputs<'a>,
+    pub pages: &'a str,
 }
 
 /// The files into which the export and the report of the journal are written.

@@ -1,7 +1,7 @@
 //! The words of the command line, and what they ask for.
 #![tactic(auto)]
 
-pub use asked::{AloneRequest, LoadRequest, Outputs, Request, Unasked};
+pub use asked::{AloneRequest, BrowseRequest, LoadRequest, Look, Outputs, Request, Unasked};
 pub use library::{Libraries, Library};
 pub use topic::{Topic, named_topic};
 pub use words::{Words, request};

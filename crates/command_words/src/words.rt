@@ -1,11 +1,11 @@
 ghost use Rattle.std.specs.Prelude.{◌≡◌, ◌∷◌, ℕ, true, List, Option, None, Some, map, IfSome, IfOk, IfErr, MatchOption, is_some, option_map};
 ghost use Rattle.std.specs.List.{list_all};
 ghost use Rattle.marc_types.specs.Valid.{is_code, is_digit};
-ghost use Rattle.command_words.specs.Command.{Command, library_of, are_libraries, is_free, differ, split_at_equals, number_upto, as_pass, as_run, as_load, as_export, as_report, as_make, as_verify, as_migrate, as_matches, as_holdings, as_checkpoint, as_quick, as_help, alone, only_telling, over_journal, behind_verb, asks_how, is_help_flag, is_version_flag, are_two_names, are_three_names, are_logs_and_output, command_of, Help};
+ghost use Rattle.command_words.specs.Command.{Command, library_of, are_libraries, is_free, differ, split_at_equals, number_upto, as_pass, as_run, as_load, as_browse, as_export, as_report, as_make, as_verify, as_migrate, as_matches, as_holdings, as_checkpoint, as_quick, as_look, as_look_of, behind_reading, as_reading, as_refused, as_help, alone, only_telling, over_input, over_journal, behind_verb, asks_how, is_help_flag, is_version_flag, are_two_names, are_three_names, are_four_names, are_logs_and_output, command_of, Help};
 ghost use Rattle.command_words.specs.Topics.{topic_of};
-ghost use Rattle.command_words.specs.Asked.{alone_asked, AsksAlone, AsksFor, IsAskedBy, IsFileless, IsUnasked};
+ghost use Rattle.command_words.specs.Asked.{alone_asked, look_asked, AsksAlone, AsksFor, IsAskedBy, IsFileless, IsUnasked};
 
-use crate::asked::{AloneRequest, LoadRequest, Outputs, Request, Unasked};
+use crate::asked::{AloneRequest, BrowseRequest, LoadRequest, Look, Outputs, Request, Unasked};
 use crate::library::{Libraries, Library};
 use crate::topic::{Topic, named_topic};
 use marc_types::{Limits, NoMemory, Sequence, Text, can_be_code};
@@ -190,6 +190,37 @@ fn load<'a>(alloc: Global, words: &'a [Text]) -> Result<Request<'a>, Unasked>
     }))
 }
 
+/// Whether a log and three outputs may have these names, where the command reads these files.
+fn are_four_names(files: &[Text], journal: &str, out: &str, report: &str, pages: &str) -> bool
+    ensures { result ≡ are_four_names files.now journal.now out.now report.now pages.now }
+{
+    are_three_names(files, journal, out, report)
+        && is_free(pages, files)
+        && journal != pages
+        && out != pages
+        && report != pages
+}
+
+fn browse<'a>(alloc: Global, words: &'a [Text]) -> Result<Request<'a>, Unasked>
+    ensures { IsAskedBy result words.now (as_browse words.now) }
+{
+    let [journal, out, report, pages, files @ ..] = words else {
+        return Err(Unasked::Usage);
+    };
+    let (journal, out, report) = (journal.as_str(), out.as_str(), report.as_str());
+    let pages = pages.as_str();
+    if !are_four_names(files, journal, out, report, pages) {
+        return Err(Unasked::Usage);
+    }
+    let libraries = libraries_in(alloc, files)?;
+    Ok(Request::Browse(BrowseRequest {
+        journal,
+        libraries,
+        outputs: Outputs { out, report },
+        pages,
+    }))
+}
+
 /// Whether a log and an output may have these names, where the command reads no file.
 fn are_two_names(journal: &str, out: &str) -> bool
     ensures { result ≡ are_two_names journal.now out.now }
@@ -338,6 +369,73 @@ fn quick(words: &[Text]) -> Option<AloneRequest<'_>>
     })
 }
 
+fn look<'a>(look: Look<'a>, words: &'a [Text]) -> Option<AloneRequest<'a>>
+    ensures { AsksAlone result (as_look (look_asked look.entry) words.now) }
+{
+    match words {
+        [journal, out] if are_two_names(journal.as_str(), out.as_str()) => {
+            Some(AloneRequest::Read {
+                look,
+                journal: journal.as_str(),
+                out: out.as_str(),
+            })
+        }
+        _ => None,
+    }
+}
+
+fn look_of(words: &[Text]) -> Option<AloneRequest<'_>>
+    ensures { AsksAlone result (as_look_of words.now) }
+{
+    let (journal, out, code) = match words {
+        [journal, out] => (journal, out, None),
+        [journal, out, code] if can_be_code(code.as_bytes()) => (journal, out, Some(code.as_str())),
+        _ => return None,
+    };
+    let (journal, out) = (journal.as_str(), out.as_str());
+    let look = Look::Export(code);
+    are_two_names(journal, out).then_some(AloneRequest::Read { look, journal, out })
+}
+
+/// What a verb behind `reading` and the words behind it ask for.
+#[tactic(auto, unfolding(crate::specs::Command::behind_reading))]
+fn behind_reading<'a>(verb: &str, rest: &'a [Text]) -> Option<AloneRequest<'a>>
+    ensures { AsksAlone result (behind_reading verb.now rest.now) }
+{
+    match verb {
+        "export" => look_of(rest),
+        "report" => look(Look::Report, rest),
+        "matches" => look(Look::Matches, rest),
+        _ => None,
+    }
+}
+
+fn reading(words: &[Text]) -> Option<AloneRequest<'_>>
+    ensures { AsksAlone result (as_reading words.now) }
+{
+    match words {
+        [verb, rest @ ..] => behind_reading(verb.as_str(), rest),
+        [] => None,
+    }
+}
+
+fn refused<'a>(alloc: Global, words: &'a [Text]) -> Result<Request<'a>, Unasked>
+    ensures { IsAskedBy result words.now (as_refused words.now) }
+{
+    let [out, files @ ..] = words else {
+        return Err(Unasked::Usage);
+    };
+    let [file] = files else {
+        return Err(Unasked::Usage);
+    };
+    let out = out.as_str();
+    if !are_libraries(files) || !is_free(out, files) {
+        return Err(Unasked::Usage);
+    }
+    let library = library_in(alloc, file)?;
+    Ok(Request::Alone(AloneRequest::Refused { library, out }))
+}
+
 /// Whether a word asks for the version, as it does in other programs.
 fn is_version_flag(word: &str) -> bool
     ensures { result ≡ is_version_flag word.now }
@@ -397,6 +495,18 @@ fn alone<'a>(asked: Option<AloneRequest<'a>>) -> Result<Request<'a>, Unasked>
     }
 }
 
+/// What the words of a command over a file that holds no journal ask for.
+#[tactic(auto, unfolding(crate::specs::Command::over_input))]
+fn over_input<'a>(alloc: Global, verb: &str, rest: &'a [Text]) -> Result<Request<'a>, Unasked>
+    ensures { IsAskedBy result rest.now (over_input verb.now rest.now) }
+{
+    match verb {
+        "reading" => alone(reading(rest)),
+        "refused" => refused(alloc, rest),
+        verb => alone(told(verb, rest)),
+    }
+}
+
 /// What the words of a command over a journal that loads nothing ask for.
 #[tactic(auto, unfolding(crate::specs::Command::over_journal))]
 fn over_journal<'a>(alloc: Global, verb: &str, rest: &'a [Text]) -> Result<Request<'a>, Unasked>
@@ -411,7 +521,7 @@ fn over_journal<'a>(alloc: Global, verb: &str, rest: &'a [Text]) -> Result<Reque
         "migrate" => alone(migrate(rest)),
         "checkpoint" => alone(checkpoint(rest)),
         "quick" => alone(quick(rest)),
-        verb => alone(told(verb, rest)),
+        verb => over_input(alloc, verb, rest),
     }
 }
 
@@ -424,6 +534,7 @@ fn behind_verb<'a>(alloc: Global, verb: &str, rest: &'a [Text]) -> Result<Reques
         "pass" => pass(alloc, rest),
         "run" => run(alloc, rest),
         "load" => load(alloc, rest),
+        "browse" => browse(alloc, rest),
         "make" => alone(make(rest)),
         verb => over_journal(alloc, verb, rest),
     }

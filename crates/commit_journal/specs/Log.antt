@@ -39,6 +39,7 @@ pub record Walk : Type 0 where
 abbrev pub closed_at : ℕ → Walk
 closed_at place = record { frames = []; place = place; is_closed = true }
 
+-- a walk that ends at a place which is no part of a journal
 abbrev pub lost_at : ℕ → Walk
 lost_at place = record { frames = []; place = place; is_closed = false }
 

@@ -41,18 +41,21 @@ impl Frames {
         self.items
     }
 
+    /// The frames in their order.
     pub fn as_slice(&self) -> &[Frame]
         ensures { result.now ≡ self.now }
     {
         self.items.as_slice()
     }
 
+    /// How many there are.
     pub fn len(&self) -> usize
         ensures { result ≡ length self.now }
     {
         self.items.len()
     }
 
+    /// Whether there is none.
     pub fn is_empty(&self) -> bool
         ensures { IsTrue result ↔ (self.now ≡ []) }
     {

@@ -15,6 +15,7 @@ use Rattle.linking_laws.specs.Weights.{one_if}
 use Rattle.linked_store.specs.Linked.{Linked}
 use Rattle.commit_stages.specs.Choosing.{heading_under}
 
+-- the kind and the heading of an authority
 abbrev pub heading_in : Linkable → Kind × Field
 heading_in c = (c.kind, c.heading)
 

@@ -15,6 +15,7 @@ use Rattle.commit_stages.specs.declared.counts.HeadingCounts.{HeadingCounts}
 abbrev pub count_settled : (Standing → Bool) → List Linkable → Class → List Field → ℕ
 count_settled test all class fields = count_by (λ h. test (standing_of all class h)) (map (settle_field all class) (map new_field fields))
 
+-- how many of the fields are linked, ambiguous and unlinked
 pub record AreCountsOf (all : List Linkable) (class : Class) (fields : List Field) (counts : HeadingCounts) : Type 0 where
   pub linked : counts.linked ≡ count_settled is_linked all class fields
   pub ambiguous : counts.ambiguous ≡ count_settled is_ambiguous all class fields
@@ -22,18 +23,21 @@ pub record AreCountsOf (all : List Linkable) (class : Class) (fields : List Fiel
 
 -- ---- one field more
 
+-- it is linked
 abbrev pub stands_linked : Stands → Bool
 stands_linked Linked = true
 stands_linked Ambiguous = false
 stands_linked Unlinked = false
 stands_linked NoHeading = false
 
+-- it is ambiguous
 abbrev pub stands_ambiguous : Stands → Bool
 stands_ambiguous Linked = false
 stands_ambiguous Ambiguous = true
 stands_ambiguous Unlinked = false
 stands_ambiguous NoHeading = false
 
+-- it is a heading without a link
 abbrev pub stands_unlinked : Stands → Bool
 stands_unlinked Linked = false
 stands_unlinked Ambiguous = false

@@ -23,9 +23,11 @@ abbrev pub dropping_as : Bool → Dropping
 dropping_as true = DropBases
 dropping_as false = DropAll
 
+-- which links end
 abbrev pub dropping_of : EndingLinks → Dropping
 dropping_of links = dropping_as links.only_base
 
+-- what the fields then await, where there is a successor
 abbrev pub successor_to : EndingLinks → Option Key
 successor_to links = option_copied links.successor
 

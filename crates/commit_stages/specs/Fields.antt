@@ -9,6 +9,7 @@ use Rattle.linked_store.specs.Linked.{Linked, record_at}
 use Rattle.linked_store.specs.Holding.{can_be_heading}
 use Rattle.commit_stages.specs.declared.visiting.FieldAt.{FieldAt}
 
+-- the field and tie that were decoded
 abbrev pub field_as : FieldAt → KeptField
 field_as f = kept_field f.field.now f.tie.now
 

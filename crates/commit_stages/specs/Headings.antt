@@ -8,6 +8,7 @@ use Rattle.catalogue_rules.specs.State.{KeptRecord}
 use Rattle.catalogue_rules.specs.Store.{field_at}
 use Rattle.commit_stages.specs.declared.heading.OwnHeading.{OwnHeading}
 
+-- a heading's kind and field
 abbrev pub own_heading : OwnHeading → Kind × Field
 own_heading heading = (heading.kind, heading.field)
 

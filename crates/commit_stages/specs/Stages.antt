@@ -20,6 +20,7 @@ use Rattle.commit_stages.specs.declared.counts.HeadingCounts.{HeadingCounts}
 use Rattle.commit_stages.specs.declared.brought.Ending.{Ending}
 use Rattle.commit_stages.specs.declared.brought.Ending.TheVariants.{Nothing, Bases, All}
 
+-- which links end, by what ends
 abbrev pub dropping_to : Ending → Dropping
 dropping_to Nothing = DropNone
 dropping_to Bases = DropBases
@@ -42,6 +43,7 @@ abbrev pub stand_brought : (Standing → Bool) → List Linkable → Entry → �
 stand_brought test all e =
     if is_deletion e.rec.leader then 0 else count_settled test all e.class e.rec.fields
 
+-- how many of the headings that an entry brings are linked, ambiguous and unlinked
 pub record AreCountsBrought (all : List Linkable) (e : Entry) (counts : HeadingCounts) : Type 0 where
   pub linked : counts.linked ≡ stand_brought is_linked all e
   pub ambiguous : counts.ambiguous ≡ stand_brought is_ambiguous all e

@@ -8,6 +8,7 @@ use Rattle.catalogue_rules.specs.Receipt.{Standing, LinkedTo, AmbiguousAmong, Wi
 use Rattle.commit_stages.specs.declared.settled.Stands.{Stands}
 use Rattle.commit_stages.specs.declared.settled.Stands.TheVariants.{Linked, Ambiguous, Unlinked, NoHeading}
 
+-- how a field stands, without the keys
 abbrev pub stands_as : Standing → Stands
 stands_as (LinkedTo key) = Linked
 stands_as (AmbiguousAmong keys) = Ambiguous

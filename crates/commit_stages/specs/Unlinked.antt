@@ -5,6 +5,7 @@ use Rattle.entry_record.specs.Authority.{Linkable}
 use Rattle.catalogue_rules.specs.State.{KeptField}
 use Rattle.linking_laws.specs.Visits.{link_visit}
 
+-- the field isn't linked
 abbrev pub has_no_link : Class → KeptField → Bool
 has_no_link class h = not (is_some h.tie.key)
 

@@ -20,7 +20,7 @@ ghost use Rattle.commit_stages.specs.Receipts.{AreReceiptCounts};
 
 use crate::brought::links_that_end;
 use crate::changed::count_records;
-use crate::changes::Changes;
+use crate::changes::CommitCounts;
 use crate::stages::{carry_heading, drop_ended, settle_brought};
 use crate::touched::settle_touched;
 use catalogue_rules::Steps;
@@ -41,7 +41,7 @@ pub(crate) fn commit_authority<L: Ledger>(
     rec: Record,
     item: &Preparation,
     steps: &mut Steps<L>,
-) -> Result<Changes, NoMemory>
+) -> Result<CommitCounts, NoMemory>
     requires own { rec ≡ item.now.rec }
     requires commit { CanBeCommitted AnAuthority store.old.state item.now }
     requires number { IsNumberOf same_key (keys_in AnAuthority store.old.keys) item.now.key number }
@@ -62,7 +62,7 @@ pub(crate) fn commit_authority<L: Ledger>(
     settle_touched(store, alloc, number, &forms, &mut noted, steps)?;
     store.each_key_has_one_number();
     let changed_records = count_records(alloc, &noted, Class::Authority, number)?;
-    Ok(Changes {
+    Ok(CommitCounts {
         linked: counts.linked,
         ambiguous: counts.ambiguous,
         unlinked: counts.unlinked,

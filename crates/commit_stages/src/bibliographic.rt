@@ -11,7 +11,7 @@ ghost use Rattle.linking_laws.specs.Visits.{touched};
 ghost use Rattle.linked_store.specs.Linked.{IsAhead};
 ghost use Rattle.commit_stages.specs.Receipts.{AreReceiptCounts};
 
-use crate::changes::Changes;
+use crate::changes::CommitCounts;
 use crate::stages::settle_brought;
 use catalogue_rules::Steps;
 use entry_record::Preparation;
@@ -28,7 +28,7 @@ pub(crate) fn commit_bibliographic<L: Ledger>(
     rec: Record,
     item: &Preparation,
     steps: &mut Steps<L>,
-) -> Result<Changes, NoMemory>
+) -> Result<CommitCounts, NoMemory>
     requires own { rec ≡ item.now.rec }
     requires commit { CanBeCommitted ABibliographic store.old.state item.now }
     requires number { IsNumberOf same_key (keys_in ABibliographic store.old.keys) item.now.key number }
@@ -39,7 +39,7 @@ pub(crate) fn commit_bibliographic<L: Ledger>(
 {
     let own = store.place(alloc, number, rec, item)?;
     let counts = settle_brought(store, alloc, number, own, item, steps)?;
-    Ok(Changes {
+    Ok(CommitCounts {
         linked: counts.linked,
         ambiguous: counts.ambiguous,
         unlinked: counts.unlinked,

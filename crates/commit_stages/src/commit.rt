@@ -10,7 +10,7 @@ ghost use Rattle.commit_stages.specs.Receipts.{AreReceiptCounts};
 
 use crate::authority::commit_authority;
 use crate::bibliographic::commit_bibliographic;
-use crate::changes::Changes;
+use crate::changes::CommitCounts;
 use catalogue_rules::Steps;
 use entry_record::{Preparation, Prepared};
 use linked_store::LinkedStore;
@@ -26,7 +26,7 @@ pub fn commit_entry<L: Ledger>(
     alloc: Global,
     item: Prepared,
     steps: &mut Steps<L>,
-) -> Result<Changes, NoMemory>
+) -> Result<CommitCounts, NoMemory>
     requires valid { IsValid store.old.state }
     ensures state { OnOk result (store.new.state ≡ step store.old.state (arrival_of item)) }
     ensures changes { IfOk result (λ changes. (at : ℕ) → AreReceiptCounts (receipt_of at store.old.state (arrival_of item) (step store.old.state (arrival_of item))) changes) }
@@ -52,7 +52,7 @@ fn make<L: Ledger>(
     rec: Record,
     item: &Preparation,
     steps: &mut Steps<L>,
-) -> Result<Changes, NoMemory>
+) -> Result<CommitCounts, NoMemory>
     requires own { rec ≡ item.now.rec }
     requires admitted { IsAdmitted item.now }
     requires valid { IsValid store.old.state }

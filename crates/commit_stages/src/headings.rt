@@ -18,7 +18,7 @@ use field_settling::Heading;
 use heading_fields::authority_kind;
 use linked_store::{LinkedStore, OwnRecord};
 use marc_types::{Class, NoMemory, Tag};
-use numbered_store::Kept;
+use numbered_store::StoredRecord;
 use std::alloc::Global;
 use std::sync::ledger::Ledger;
 
@@ -70,7 +70,7 @@ pub(crate) fn visit_heading<L: Ledger>(
 
 /// The first 1XX of a record, with the kind that its tag says. The tags alone are read on the way to it.
 #[tactic(auto, using(crate::proofs::Headed::governing_first, crate::proofs::Headed::governing_none))]
-pub fn decoded_heading(alloc: Global, kept: &Kept) -> Result<Option<OwnHeading>, NoMemory>
+pub fn decoded_heading(alloc: Global, kept: &StoredRecord) -> Result<Option<OwnHeading>, NoMemory>
     ensures { IfOk result (λ heading. option_map own_heading heading ≡ governing_of (fields_of (kept_record kept.now))) }
 {
     match heading_place(kept) {
@@ -80,7 +80,7 @@ pub fn decoded_heading(alloc: Global, kept: &Kept) -> Result<Option<OwnHeading>,
 }
 
 // The place of the first 1XX.
-fn heading_place(kept: &Kept) -> Option<u32>
+fn heading_place(kept: &StoredRecord) -> Option<u32>
     ensures { MatchOption result
         (HasNoHeadingBefore (kept_record kept.now) (length (kept_record kept.now).fields))
         (IsFirstHeading (kept_record kept.now)) }
@@ -95,7 +95,7 @@ fn heading_place(kept: &Kept) -> Option<u32>
 }
 
 #[tactic(auto, using(crate::proofs::Headed::tag_tells, crate::proofs::Headed::no_tag_tells))]
-fn is_heading_at(kept: &Kept, place: u32) -> bool
+fn is_heading_at(kept: &StoredRecord, place: u32) -> bool
     ensures { result ≡ is_heading_at (kept_record kept.now) place }
 {
     match kept.tag_at(place) {
@@ -106,7 +106,11 @@ fn is_heading_at(kept: &Kept, place: u32) -> bool
 
 // The field at a place with the kind that its tag says, where it is one of the eight: only then it is decoded.
 #[tactic(auto, using(crate::proofs::Headed::untagged_kind))]
-fn heading_at(alloc: Global, kept: &Kept, place: u32) -> Result<Option<OwnHeading>, NoMemory>
+fn heading_at(
+    alloc: Global,
+    kept: &StoredRecord,
+    place: u32,
+) -> Result<Option<OwnHeading>, NoMemory>
     ensures { IfOk result (λ heading. option_map own_heading heading ≡ option_and_then with_kind (option_map (λ h. h.field) (field_at place (kept_record kept.now)))) }
 {
     match kept.tag_at(place) {
@@ -118,7 +122,7 @@ fn heading_at(alloc: Global, kept: &Kept, place: u32) -> Result<Option<OwnHeadin
 #[tactic(auto, using(crate::proofs::Headed::unkind, crate::proofs::Headed::kind_found, crate::proofs::Headed::unfound))]
 fn heading_tagged(
     alloc: Global,
-    kept: &Kept,
+    kept: &StoredRecord,
     place: u32,
     tag: &Tag,
 ) -> Result<Option<OwnHeading>, NoMemory>

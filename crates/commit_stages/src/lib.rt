@@ -6,7 +6,7 @@
 #![tactic(auto)]
 
 pub use carrying::carry;
-pub use changes::Changes;
+pub use changes::CommitCounts;
 pub use commit::commit_entry;
 pub use dropping::drop_links;
 pub use ending::EndingLinks;

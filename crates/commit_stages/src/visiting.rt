@@ -13,7 +13,7 @@ ghost use Rattle.commit_stages.specs.Fields.{FindsHeading, IsProperAt, field_as}
 use catalogue_rules::Steps;
 use linked_store::{LinkedStore, OwnRecord, can_be_heading};
 use marc_types::{Class, Field, NoMemory, Tie};
-use numbered_store::{FoundField, Kept};
+use numbered_store::{FoundField, StoredRecord};
 use numbering::Seat;
 use std::alloc::Global;
 use std::sync::ledger::Ledger;
@@ -73,7 +73,7 @@ pub(crate) fn heading_found(
 fn heading_in(
     alloc: Global,
     class: Class,
-    kept: &Kept,
+    kept: &StoredRecord,
     place: u32,
 ) -> Result<Option<FoundField<'_>>, NoMemory>
     ensures { IfOk result (λ found. FindsHeading class (field_at place (kept_record kept.now)) (option_map found_field found)) }
@@ -85,7 +85,7 @@ fn heading_in(
 }
 
 #[tactic(auto, using(crate::proofs::Finding::tag_tells, crate::proofs::Finding::no_tag_tells))]
-fn has_heading_tag(class: Class, kept: &Kept, place: u32) -> bool
+fn has_heading_tag(class: Class, kept: &StoredRecord, place: u32) -> bool
     ensures { result ≡ option_map_or (λ h. can_be_heading class (tag_of h.field)) (field_at place (kept_record kept.now)) false }
 {
     match kept.tag_at(place) {

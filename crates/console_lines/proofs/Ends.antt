@@ -4,12 +4,12 @@ use Rattle.std.specs.Io.KnownBytes.{Appends}
 use Rattle.outside.specs.Fault.{Rose}
 use Rattle.outside.specs.Sink.{WritesFront}
 use Rattle.outside.proofs.Fronts.{front_all}
-use Rattle.console_lines.specs.Ends.{end_of, IsAllDone, TellsNoFault, IsResultTold, ResultTold, ResultUntold, out_unwritten, side_unwritten, console_unwritten}
+use Rattle.console_lines.specs.Ends.{end_of, IsAllDone, TellsNoFault, IsResultTold, ResultTold, ResultUntold, out_unwritten, side_unwritten, pages_unwritten, console_unwritten}
 use Rattle.console_lines.specs.declared.fault.Fault.{Fault}
 use Rattle.console_lines.specs.declared.end.End.{End}
 use Rattle.console_lines.specs.declared.end.End.TheVariants.{Done, Unwritten, Told}
 use Rattle.console_lines.specs.declared.end.Unwritten.{Unwritten as Which}
-use Rattle.console_lines.specs.declared.end.Unwritten.TheVariants.{Out, Side, Console}
+use Rattle.console_lines.specs.declared.end.Unwritten.TheVariants.{Out, Side, Pages, Console}
 
 -- a command tells one fault
 pub told_once : (end : End) (one other : Fault) → end ≡ Told one → end ≡ Told other → one ≡ other
@@ -39,6 +39,9 @@ out_not_side end is also = let no : Out ≡ Side = unwritten_once end Out Side i
 
 pub side_not_console : (end : End) → end ≡ Unwritten Side → end ≡ Unwritten Console → ⊥
 side_not_console end is also = let no : Side ≡ Console = unwritten_once end Side Console is also in cc
+
+pub pages_not_console : (end : End) → end ≡ Unwritten Pages → end ≡ Unwritten Console → ⊥
+pages_not_console end is also = let no : Pages ≡ Console = unwritten_once end Pages Console is also in cc
 
 pub never_told : (end : End) (why : Fault) → TellsNoFault end → end ≡ Told why → ⊥
 never_told end why untold is = subst TellsNoFault is untold
@@ -80,6 +83,9 @@ module _ {old new : Option (List ℕ)} {before now : ℕ} {text : List ℕ} {ref
   pub result_no_output : IsResultTold old new before now text refused end → (end ≢ out_unwritten) × (end ≢ side_unwritten)
   result_no_output told =
       ((λ also. let no : Out ≡ Console = result_console Out told also in cc), (λ also. let no : Side ≡ Console = result_console Side told also in cc))
+
+  pub result_no_pages : IsResultTold old new before now text refused end → end ≢ pages_unwritten
+  result_no_pages told = λ also. let no : Pages ≡ Console = result_console Pages told also in cc
 
   pub result_cause : IsResultTold old new before now text refused end → end ≡ console_unwritten → Rose before now
   result_cause (ResultTold is line) also = absurd (all_not_unwritten (end_of refused) Console (all_of refused) (sym is ∙ also))

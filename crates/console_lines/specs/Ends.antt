@@ -8,21 +8,28 @@ use Rattle.console_lines.specs.Faults.{fault_status, fault_line, IsFaultTold}
 use Rattle.console_lines.specs.declared.fault.Fault.{Fault}
 use Rattle.console_lines.specs.declared.end.End.{End}
 use Rattle.console_lines.specs.declared.end.End.TheVariants.{Done, Refused, Unwritten, Told}
-use Rattle.console_lines.specs.declared.end.Unwritten.TheVariants.{Out, Side, Console}
+use Rattle.console_lines.specs.declared.end.Unwritten.TheVariants.{Out, Side, Pages, Console}
 
+-- the exit status of an end
 abbrev pub end_status : End → ℕ
 end_status Done = 0
 end_status Refused = 1
 end_status (Unwritten which) = 4
 end_status (Told fault) = fault_status fault
 
--- the ends where the file OUT, the side output (REPORT, or REST) or the console could not be written
+-- the file OUT could not be written
 abbrev pub out_unwritten : End
 out_unwritten = Unwritten Out
 
+-- the side output could not be written: REPORT, or REST
 abbrev pub side_unwritten : End
 side_unwritten = Unwritten Side
 
+-- the file PAGES could not be written
+abbrev pub pages_unwritten : End
+pages_unwritten = Unwritten Pages
+
+-- the console could not be written
 abbrev pub console_unwritten : End
 console_unwritten = Unwritten Console
 

@@ -7,6 +7,7 @@ use Rattle.outside.specs.Sink.{WritesFront}
 use Rattle.console_lines.specs.declared.fault.Fault.{Fault}
 use Rattle.console_lines.specs.declared.fault.Fault.TheVariants.{Usage, Input, Device, NotAJournal, Full, Memory, OldVersion, OtherHistory}
 
+-- the exit status of a fault
 abbrev pub fault_status : Fault → ℕ
 fault_status Usage = 2
 fault_status Input = 3
@@ -17,6 +18,7 @@ fault_status Memory = 8
 fault_status OldVersion = 9
 fault_status OtherHistory = 10
 
+-- the line of a fault
 abbrev pub fault_line : Fault → List ℕ
 fault_line Usage = codes "union_cat: usage\n"
 fault_line Input = codes "union_cat: input fault\n"

@@ -11,6 +11,7 @@ use Rattle.marc_types.specs.declared.refusal.Refusal.TheVariants.{Overlong, Unfi
 use Rattle.file_entries.specs.declared.refused.RefusedItem.{RefusedItem}
 use Rattle.console_lines.specs.declared.totals.Totals.{Totals}
 
+-- the name of a character set that isn't read
 abbrev pub set_name : Set → List ℕ
 set_name Eacc = codes "EACC"
 set_name BasicHebrew = codes "Basic Hebrew"
@@ -24,6 +25,7 @@ set_name Subscripts = codes "Subscripts"
 set_name Superscripts = codes "Superscripts"
 set_name Unknown = codes "Unknown"
 
+-- the words of a refusal
 abbrev pub reason_of : Refusal → List ℕ
 reason_of Overlong = codes "overlong"
 reason_of Unfinished = codes "unfinished"
@@ -42,9 +44,11 @@ reason_of NoRoom = codes "no room"
 reason_of (OtherSet set entry offset) =
     codes "other set " ++ set_name set ++ codes " in entry " ++ decimal entry ++ codes " at " ++ decimal offset
 
+-- a blank
 abbrev pub blank : List ℕ
 blank = 32 ∷ []
 
+-- a line feed
 abbrev pub line_end : List ℕ
 line_end = 10 ∷ []
 
@@ -54,6 +58,7 @@ refused_line file item =
     file ++ blank ++ decimal item.ordinal ++ blank ++ decimal item.offset ++ blank ++ decimal (number_of item.refusal)
     ++ blank ++ reason_of item.refusal ++ line_end
 
+-- a line for each refused piece of a file
 abbrev pub refused_lines : List ℕ → List RefusedItem → List ℕ
 refused_lines file items = flat_map (refused_line file) items
 
@@ -63,6 +68,7 @@ sums_text s =
     codes ", linked " ++ decimal s.linked ++ codes ", ambiguous " ++ decimal s.ambiguous
     ++ codes ", unlinked " ++ decimal s.unlinked ++ codes ", changed " ++ decimal s.changed ++ line_end
 
+-- the line of what was counted of a file
 unfoldable pub totals_line : List ℕ → Totals → List ℕ
 totals_line file t =
     file ++ codes ": accepted " ++ decimal t.accepted ++ codes ", refused " ++ decimal t.refused ++ sums_text t.sums

@@ -10,6 +10,8 @@ pub enum Unwritten {
     Out,
     /// The side output: the file REPORT, or REST.
     Side,
+    /// The file PAGES.
+    Pages,
     /// The console.
     Console,
 }

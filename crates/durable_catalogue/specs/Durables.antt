@@ -24,6 +24,7 @@ abbrev pub marked : Option (List Entry) → List Entry
 marked None = []
 marked (Some frame) = frame
 
+-- the mark of a frame in doubt, where there is one
 abbrev pub marks : Option (List Entry) → List Event
 marks None = []
 marks (Some frame) = Broke frame ∷ []
@@ -57,6 +58,7 @@ pub record Opening : Type 0 where
   pub faults : ℕ
   pub synced : Option ℕ
 
+-- what stays of an opening
 abbrev pub opening : Limits → ℕ → ℕ → DiskView → DiskView → Opening
 opening limits run opened before first = record {
   origin = record { limits = limits; run = run };

@@ -16,6 +16,7 @@ pub record Reaches (least : ℕ) (entries marked : List Entry) (image : List ℕ
   pub within : count ≤ length (entries ++ marked)
   pub whole : length entries < count → count ≡ length (entries ++ marked)
 
+-- an image of version 2 of at least so many of the entries, in their order; or of all, and those of the mark
 abbrev pub HoldsEntries : ℕ → List Entry → List Entry → List ℕ → Type 0
 HoldsEntries least entries marked image = ∥ Reaches least entries marked image ∥₁
 

@@ -9,6 +9,7 @@ pub record BeginsWithEntries (entries : List Entry) (image : List ℕ) : Type 0 
   pub more : List Entry
   pub has : IsLogOf (entries ++ more) image
 
+-- an image's history begins with these entries
 abbrev pub StartsWith : List Entry → List ℕ → Type 0
 StartsWith entries image = ∥ BeginsWithEntries entries image ∥₁
 

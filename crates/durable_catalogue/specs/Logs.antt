@@ -5,6 +5,7 @@ use Rattle.commit_journal.specs.declared.frame.Frame.{Frame}
 use Rattle.commit_journal.specs.Log.{frames_of, version_of}
 use Rattle.entry_history.specs.Payloads.{IsHistory}
 
+-- the payloads of frames
 abbrev pub payloads_of : List Frame → List (List ℕ)
 payloads_of frames = map (λ f. f.payload) frames
 

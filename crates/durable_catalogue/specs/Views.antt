@@ -11,6 +11,7 @@ pub record DurableView : Type 0 where
   pub mark : Option (List Entry)
   pub opened : Opening
 
+-- what contracts see of a catalogue over a journal
 abbrev pub durable_view : {D : Type 0} {disk : Ghosts D} → Durable D disk → DurableView
 durable_view {D} {disk} d = record {
   entries = d.core.history;

@@ -9,7 +9,7 @@ ghost use Rattle.entry_record.specs.History.{IsWithin};
 
 use crate::loading::load_either;
 use crate::opening::{find_log, refuse_log, take_log};
-use crate::{Memory, OpenFault};
+use crate::{OnClose, OpenFault};
 use catalogue_core::Catalogue;
 use commit_journal::{Journal, Version};
 use marc_types::Limits;
@@ -18,13 +18,13 @@ use std::alloc::Global;
 
 /// The catalogue of a log of version 1 or 2, to which nothing is committed.
 #[derive(Drop)]
-pub struct Archive<D: Disk> {
+pub struct RecoveredReadOnly<D: Disk> {
     core: Catalogue,
     journal: Journal<D>,
     ghost unstaged: { core.staged ≡ [] },
 }
 
-impl<D: Disk> Archive<D> {
+impl<D: Disk> RecoveredReadOnly<D> {
     /// Opens a log that a crash may have left, of either version: its history is the catalogue's. Of a journal that isn't
     /// blank it writes no gate. A fault hands the disk back.
     pub fn open(alloc: Global, disk: D, limits: Limits) -> Result<Self, (D, OpenFault)>
@@ -41,7 +41,7 @@ impl<D: Disk> Archive<D> {
         match load_either(alloc, found.version(), frames.into_vec(), limits) {
             Ok(core) => {
                 let journal = take_log(found)?;
-                Ok(Archive { core, journal })
+                Ok(RecoveredReadOnly { core, journal })
             }
             Err(fault) => Err(refuse_log(found, fault)),
         }
@@ -63,10 +63,10 @@ impl<D: Disk> Archive<D> {
     }
 
     /// Gives the disk back.
-    pub fn close(self, memory: Memory) -> D
+    pub fn close(self, memory: OnClose) -> D
         ensures { result ≡ self.journal.disk }
     {
-        let Archive { journal, core, .. } = self;
+        let RecoveredReadOnly { journal, core, .. } = self;
         memory.end(core);
         journal.close()
     }

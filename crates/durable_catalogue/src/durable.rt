@@ -27,7 +27,7 @@ use crate::news::{News, add_news, cut_news};
 use crate::opening::{find_log, refuse_log, take_log};
 use crate::question::{Ask, Told, tell_since, tell_status};
 use crate::staging::stage_all;
-use crate::{Memory, OpenFault};
+use crate::{OnClose, OpenFault};
 use catalogue_core::Catalogue;
 use catalogue_lock::Object;
 use commit_journal::Journal;
@@ -168,7 +168,7 @@ impl<D: Disk> Durable<D> {
 
     /// Gives the disk back, with all that was committed.
     #[tactic(auto, using(crate::proofs::Keeping::left_of))]
-    pub fn close(self, memory: Memory) -> D
+    pub fn close(self, memory: OnClose) -> D
         ensures disk { result ≡ self.journal.disk }
         ensures left { IsLeft (opening self.core.limits self.run self.opened (D.seen self.before.value) (D.seen self.first.value.disk))
             self.core.history (marked (mark_of self.mark)) (D.seen result) }

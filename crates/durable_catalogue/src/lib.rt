@@ -1,10 +1,10 @@
 //! The catalogue and its journal together: what is committed outlasts a crash.
 #![tactic(auto)]
 
-pub use archive::Archive;
+pub use archive::RecoveredReadOnly;
 pub use durable::Durable;
 pub use fault::{OpenFault, open_fault};
-pub use memory::Memory;
+pub use memory::OnClose;
 pub use opening::{find_log, refuse_log, take_log};
 pub use question::{Ask, Told};
 pub use seen::Seen;

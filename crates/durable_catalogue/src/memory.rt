@@ -2,18 +2,18 @@ use std::mem;
 
 /// What becomes of the memory that a catalogue holds once its log is closed.
 #[derive(Clone, Copy, Debug, PartialEq, Eq)]
-pub enum Memory {
+pub enum OnClose {
     /// It is given back, which takes a microsecond a record or more.
-    GivenBack,
+    Free,
     /// It stays taken until the process ends: for a command, whose end that is.
-    Left,
+    Leak,
 }
 
-impl Memory {
+impl OnClose {
     pub(crate) fn end<T: Drop>(self, held: T) {
         match self {
-            Memory::GivenBack => drop(held),
-            Memory::Left => mem::forget(held),
+            OnClose::Free => drop(held),
+            OnClose::Leak => mem::forget(held),
         }
     }
 }

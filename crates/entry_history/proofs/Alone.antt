@@ -1,5 +1,5 @@
 -- The payload of one entry, and what is read back of it.
-use Rattle.std.proofs.Common.{◌≡◌, ◌∙◌, ℕ, zero, suc, ◌+◌, ◌<◌, ◌≤◌, ◌^◌, List, [], ◌∷◌, ◌++◌, length, refl, sym, ap, subst, arith, append_assoc, length-append}
+use Rattle.std.proofs.Common.{◌≡◌, ◌∙◌, ℕ, zero, suc, ◌+◌, ◌<◌, ◌≤◌, ◌^◌, List, [], ◌∷◌, ◌++◌, length, refl, sym, ap, subst, arith, append_assoc}
 use Rattle.std.specs.Int.{w32, w64, to_be_bytes}
 use Rattle.std.specs.List.{All}
 use Rattle.iso2709_record.proofs.Spelled.{parts_same}
@@ -8,7 +8,6 @@ use Rattle.entry_history.specs.Format.{payload_head, entry_bytes, payload_bytes,
 use Rattle.entry_history.specs.Alone.{IsPayload, copies}
 use Rattle.entry_history.specs.Payloads.{IsEntry, IsOf, CanFollow, HoldsNow, Holds, Newer, Older}
 use Rattle.entry_history.specs.Readers.{HasExtent}
-use Rattle.entry_history.specs.declared.extent.Extent.{Extent}
 use Rattle.entry_history.proofs.Spelled.{long_once, short_once, entry_once}
 use Rattle.entry_history.proofs.Histories.{holds_once}
 use Rattle.entry_history.proofs.Batches.{length-alone, entry_bounded}

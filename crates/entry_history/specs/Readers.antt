@@ -17,6 +17,7 @@ pub record Taken : Type 0 where
   pub version : ℕ
   pub entries : List Entry
 
+-- what was taken, and these entries behind it
 abbrev pub with_entries : Taken → List Entry → Taken
 with_entries taken entries = record { version = taken.version; entries = taken.entries ++ entries }
 

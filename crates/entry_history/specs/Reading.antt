@@ -45,6 +45,7 @@ pub record AreEntries (run loader : ℕ) (library : List ℕ) (count : ℕ) (byt
   pub shared : All (IsOf run loader library) entries
   pub entries_are : All IsEntry entries
 
+-- the bytes are no entries of this head, or memory ran out
 abbrev pub AreNoEntries : ℕ → ℕ → List ℕ → ℕ → List ℕ → EntryFault → Type 0
 AreNoEntries run loader library count bytes BadEntry = (entries : List Entry) → AreEntries run loader library count bytes entries → ⊥
 AreNoEntries run loader library count bytes NoMemory = Unit {0}
@@ -63,6 +64,7 @@ pub record HasHead (payload : List ℕ) (run loader : ℕ) (library : List ℕ) 
   pub loader_fits : loader < 2 ^ 32
   pub written : payload_head run loader library count ++ entries ≡ payload
 
+-- the payload begins with no head
 abbrev pub HasNoHead : List ℕ → Type 0
 HasNoHead payload = (run loader count : ℕ) (library entries : List ℕ) → HasHead payload run loader library count entries → ⊥
 
@@ -80,6 +82,7 @@ IsNoCode bytes NoMemory = Unit {0}
 abbrev pub IsNotCoded : List ℕ → Type 0
 IsNotCoded bytes = (part rest : List ℕ) → length part ∷ (part ++ rest) ≡ bytes → ⊥
 
+-- the bytes don't begin with a length and so many bytes
 abbrev pub IsNotSized : List ℕ → Type 0
 IsNotSized bytes = (part rest : List ℕ) → length part < 2 ^ 32 → to_be_bytes w32 (length part) ++ (part ++ rest) ≡ bytes → ⊥
 
@@ -97,9 +100,11 @@ pub record BeginOld (bytes : List ℕ) (e : Entry) (rest : List ℕ) : Type 0 wh
   pub old : IsOld e
   pub entry_is : IsEntry e
 
+-- the bytes begin with no entry of version 1
 abbrev pub BeginWithNoOld : List ℕ → Type 0
 BeginWithNoOld bytes = (e : Entry) (rest : List ℕ) → BeginOld bytes e rest → ⊥
 
+-- they begin with none, or memory ran out
 abbrev pub IsNoOldEntry : List ℕ → EntryFault → Type 0
 IsNoOldEntry bytes BadEntry = BeginWithNoOld bytes
 IsNoOldEntry bytes NoMemory = Unit {0}
@@ -116,10 +121,12 @@ pub record AreOld (count : ℕ) (bytes : List ℕ) (entries : List Entry) : Type
   pub old : All IsOld entries
   pub entries_are : All IsEntry entries
 
+-- the bytes are no entries of version 1, or memory ran out
 abbrev pub AreNoOld : ℕ → List ℕ → EntryFault → Type 0
 AreNoOld count bytes BadEntry = (entries : List Entry) → AreOld count bytes entries → ⊥
 AreNoOld count bytes NoMemory = Unit {0}
 
+-- so many entries of version 1 were read, and these bytes are left
 pub record AreOldSoFar (count : ℕ) (bytes : List ℕ) (done : ℕ) (entries : List Entry) (rest : List ℕ) : Type 0 where
   pub written : flat_map old_entry_bytes entries ++ rest ≡ bytes
   pub count_is : length entries ≡ done
@@ -127,6 +134,7 @@ pub record AreOldSoFar (count : ℕ) (bytes : List ℕ) (done : ℕ) (entries : 
   pub entries_are : All IsEntry entries
   pub left : (all : List Entry) → AreOld count bytes all → flat_map old_entry_bytes (drop done all) ≡ rest
 
+-- the payload is of no entries of version 1, or memory ran out
 abbrev pub HoldsNoneOld : List ℕ → EntryFault → Type 0
 HoldsNoneOld payload BadEntry = (entries : List Entry) → HoldsOld entries payload → ⊥
 HoldsNoneOld payload NoMemory = Unit {0}

@@ -161,6 +161,7 @@ impl Batch {
         self.items.len() as u32
     }
 
+    /// Whether it has no entry.
     pub fn is_empty(&self) -> bool
         ensures { IsTrue result ↔ (self.now ≡ []) }
     {

@@ -24,6 +24,7 @@ is_living_authority l = (l.rtype == 122) && not (is_deletion l)
 abbrev pub heading_length : Field → ℕ
 heading_length f = option_map_or (λ kind. subfields_size (base_part kind f)) (authority_kind_of (tag_of f)) 0
 
+-- the base part of the heading is longer than 512
 abbrev pub is_too_long : Field → Bool
 is_too_long f = nat_lt longest_heading (heading_length f)
 
@@ -36,6 +37,7 @@ has_long_heading fields =
 abbrev pub heading_growth : ℕ
 heading_growth = 600
 
+-- a field's written length, of a heading field with the 600 by which it may grow
 abbrev pub grown_length : Class → Field → ℕ
 grown_length class f = if is_heading_field class f then field_length f + heading_growth else field_length f
 

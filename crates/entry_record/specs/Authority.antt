@@ -26,9 +26,11 @@ use Rattle.entry_record.specs.Identity.{has_tag}
 abbrev pub longest_heading : ℕ
 longest_heading = 512
 
+-- a 1XX
 abbrev pub is_heading : Field → Bool
 is_heading f = (tag_of f).a == 49
 
+-- a 4XX
 abbrev pub is_see_from : Field → Bool
 is_see_from f = (tag_of f).a == 52
 
@@ -36,6 +38,7 @@ is_see_from f = (tag_of f).a == 52
 abbrev pub heading_of : List Field → Option Field
 heading_of fields = find is_heading fields
 
+-- a form has no item
 abbrev pub has_no_item : List Item → Bool
 has_no_item [] = true
 has_no_item (item ∷ items) = false
@@ -44,9 +47,11 @@ has_no_item (item ∷ items) = false
 abbrev pub is_empty : Form → Bool
 is_empty form = has_no_item form.items
 
+-- the form of a field's base part
 abbrev pub base_form : Kind → Field → Form
 base_form kind f = form_of kind (base_part kind f)
 
+-- the form of a field's full part
 abbrev pub full_form : Kind → Class → Field → Form
 full_form kind class f = form_of kind (full_part kind class f)
 
@@ -63,6 +68,7 @@ has_form f kind = not (is_empty (base_form kind f))
 unfoldable pub heading_kind : Class → Field → Option Kind
 heading_kind class f = option_filter (has_form f) (kind_of class f)
 
+-- the field has a heading tag of its class, and its base form isn't empty
 abbrev pub is_heading_field : Class → Field → Bool
 is_heading_field class f = is_some (heading_kind class f)
 
@@ -75,6 +81,7 @@ unfoldable pub linkable_kind : Field → Option Kind
 linkable_kind heading =
     option_filter (λ kind. has_form heading kind && is_short_in_full heading kind) (authority_kind_of (tag_of heading))
 
+-- whether two kinds are the same
 abbrev pub same_kind : Kind → Kind → Bool
 same_kind a b = kind_rank a == kind_rank b
 
@@ -98,6 +105,7 @@ pub record Linkable : Type 0 where
   pub established : Form
   pub see_from : List Form
 
+-- the authority of a key, its fields, its heading and the heading's kind
 abbrev pub linkable_with : Key → List Field → Field → Kind → Linkable
 linkable_with key fields heading kind = record {
   key = key;
@@ -107,6 +115,7 @@ linkable_with key fields heading kind = record {
   see_from = see_from_forms kind fields;
 }
 
+-- the authority of a heading that can be linked to, or none
 abbrev pub linkable_by : Key → List Field → Field → Option Linkable
 linkable_by key fields heading = option_map (linkable_with key fields heading) (linkable_kind heading)
 
@@ -118,6 +127,7 @@ linkable_of key fields = option_and_then (linkable_by key fields) (heading_of fi
 abbrev pub is_bare : Linkable → Bool
 is_bare c = not (is_subdivided (subfields_of c.heading))
 
+-- a 682
 abbrev pub is_replacement : Field → Bool
 is_replacement f = has_tag 54 56 50 (tag_of f)
 
@@ -125,9 +135,11 @@ is_replacement f = has_tag 54 56 50 (tag_of f)
 abbrev pub replacement_numbers : List Field → List Subfield
 replacement_numbers fields = filter (λ s. s.code == 48) (flat_map subfields_of (filter is_replacement fields))
 
+-- `(`
 abbrev pub is_left_parenthesis : ℕ → Bool
 is_left_parenthesis b = b == 0x28
 
+-- `)`
 abbrev pub is_right_parenthesis : ℕ → Bool
 is_right_parenthesis b = b == 0x29
 
@@ -148,6 +160,7 @@ key_of_text [] = None
 key_of_text (b ∷ text) =
     if is_left_parenthesis b then option_filter is_valid_key (Some (key_split_at_parenthesis text)) else None
 
+-- the text of the only `$0`, without its blanks; none where there is none or more than one
 abbrev pub only_number_text : List Subfield → Option (List ℕ)
 only_number_text (s ∷ []) = Some (without_blanks s.text)
 only_number_text _ = None

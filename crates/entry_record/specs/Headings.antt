@@ -20,6 +20,7 @@ is_divided class f = is_subdividable class (tag_of f) && is_subdivided (subfield
 abbrev pub divided_form : Kind → Class → Field → Option Form
 divided_form kind class f = if is_divided class f then Some (full_form kind class f) else None
 
+-- the base form of a heading of the kind, and its full form where that is another
 abbrev pub forms_of_kind : Class → Field → Kind → HeadingForms
 forms_of_kind class f kind = record { base = base_form kind f; divided = divided_form kind class f }
 

@@ -21,6 +21,7 @@ pub record IsAdmitted (e : Entry) : Type 0 where
 abbrev pub entry_size : Entry → ℕ
 entry_size e = 12 + record_length e.rec.fields
 
+-- the bytes that entries count, together
 abbrev pub entries_size : List Entry → ℕ
 entries_size entries = sum_by entry_size entries
 
@@ -34,15 +35,19 @@ abbrev pub passes_limits : Limits → List Entry → Entry → Bool
 passes_limits limits entries e =
     nat_lt limits.entries (length entries + 1) || nat_lt limits.bytes (entries_size entries + entry_size e)
 
+-- the entries of one loader, in their order
 abbrev pub brought_by : ℕ → List Entry → List Entry
 brought_by loader entries = filter (λ e. e.loader == loader) entries
 
+-- the entry with this run
 abbrev pub in_run : ℕ → Entry → Entry
 in_run run e = record e { run = run }
 
+-- the entries with this run
 abbrev pub with_run : ℕ → List Entry → List Entry
 with_run run entries = map (in_run run) entries
 
+-- the run of a history's last entry, 0 of an empty history
 abbrev pub last_run : List Entry → ℕ
 last_run history = option_map_or (λ e. e.run) (last_or None history) 0
 
@@ -56,9 +61,3 @@ pub record IsMerged (before : List Entry) (accepted : List (List Entry)) (added 
   pub loaders : All (λ e. e.loader < length accepted) added
   pub files : (loader : ℕ) (entries : List Entry) → slice_get accepted loader ≡ Some entries →
       brought_by loader added ≡ with_run (next_run before) entries
-
--- the same of a front of each file's accepted entries
-pub record IsPartlyMerged (before : List Entry) (accepted : List (List Entry)) (added : List Entry) : Type 0 where
-  pub loaders : All (λ e. e.loader < length accepted) added
-  pub files : (loader : ℕ) (entries : List Entry) → slice_get accepted loader ≡ Some entries →
-      (rest : List Entry) × (brought_by loader added ++ rest ≡ with_run (next_run before) entries)

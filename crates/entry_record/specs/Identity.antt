@@ -24,6 +24,7 @@ abbrev pub is_deletion : Leader → Bool
 is_deletion l =
     (l.status == 100) || ((l.rtype == 122) && ((l.status == 115) || (l.status == 120)))
 
+-- the tag is these three characters
 abbrev pub has_tag : ℕ → ℕ → ℕ → Tag → Bool
 has_tag a b c t = (t.a == a) && (t.b == b) && (t.c == c)
 
@@ -37,6 +38,7 @@ first_control c (Variable tag ind1 ind2 subs ∷ fields) = first_control c field
 unfoldable pub control_number_of : List Field → List ℕ
 control_number_of fields = without_blanks (unwrap_or (first_control 49 fields) [])
 
+-- a code, or the library's where nothing is left of it
 abbrev pub or_library : List ℕ → List ℕ → List ℕ
 or_library library [] = library
 or_library library (b ∷ bs) = b ∷ bs
@@ -45,5 +47,6 @@ or_library library (b ∷ bs) = b ∷ bs
 unfoldable pub code_of : List ℕ → List Field → List ℕ
 code_of library fields = or_library library (without_blanks (unwrap_or (first_control 51 fields) []))
 
+-- the key of a record in a file of a library
 unfoldable pub key_of : List ℕ → List Field → Key
 key_of library fields = record { code = code_of library fields; number = control_number_of fields }

@@ -20,6 +20,7 @@ abbrev pub authority_in : Class → Key → List Field → Option Linkable
 authority_in Authority key fields = linkable_of key fields
 authority_in Bibliographic key fields = None
 
+-- the established form of an authority, where there is one
 abbrev pub established_in : Option Linkable → Option Form
 established_in authority = option_map (λ c. c.established) authority
 
@@ -27,6 +28,7 @@ established_in authority = option_map (λ c. c.established) authority
 abbrev pub see_from_in : Option Linkable → List Form
 see_from_in authority = option_map_or (λ c. c.see_from) authority []
 
+-- the authority that an entry is, where it can be linked to
 abbrev pub authority_of : Entry → Option Linkable
 authority_of e = authority_in e.class e.key e.rec.fields
 
@@ -38,9 +40,11 @@ established_of e = established_in (authority_of e)
 abbrev pub see_from_of : Entry → List Form
 see_from_of e = see_from_in (authority_of e)
 
+-- the base form of a heading field, none of any other
 abbrev pub heading_base_form : Class → Field → Option Form
 heading_base_form class f = option_map (λ kind. base_form kind f) (heading_kind class f)
 
+-- the full form of a heading field, none of any other
 abbrev pub heading_full_form : Class → Field → Option Form
 heading_full_form class f = option_map (λ kind. full_form kind class f) (heading_kind class f)
 

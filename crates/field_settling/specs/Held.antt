@@ -13,6 +13,7 @@ use Rattle.catalogue_rules.specs.State.{KeptField, kept_field}
 use Rattle.field_settling.specs.declared.held.Held.{Held}
 use Rattle.field_settling.specs.declared.heading.Heading.{Heading}
 
+-- the field and tie that are held
 abbrev pub held_as : Held → KeptField
 held_as held = kept_field held.field held.tie
 
@@ -23,6 +24,7 @@ linked_by class field whole key kind heading = record {
   tie = record { key = Some key; whole = whole; awaits = None };
 }
 
+-- the heading's kind and field
 abbrev pub heading_as : Heading → Kind × Field
 heading_as h = (h.kind, h.field.now)
 

@@ -19,6 +19,7 @@ pub record FileView : Type 0 where
   -- whether the end, a fault or want of memory was answered
   pub over : Bool
 
+-- a file of a library and loader, of which this is to come
 abbrev pub view_of : Stream → List ℕ → ℕ → Bool → FileView
 view_of stream library loader over = record { stream = stream; library = library; loader = loader; over = over }
 
@@ -62,6 +63,7 @@ pub record IsOutOfMemory (old new : FileView) : Type 0 where
   pub reads : ReadsOn old.stream new.stream
   pub over : new.over ≡ true
 
+-- the next item is an entry, refused, the end, or a fault, and what is then left to come
 abbrev pub EntryGives : FileView → NextEntry → FileView → Type 0
 EntryGives old (next.Entry e) new = GivesEntry old new e
 EntryGives old (next.Refused refused) new = GivesRefused old new refused

@@ -8,4 +8,5 @@ pub struct RefusedItem {
     pub refusal: Refusal,
 }
 
+/// The refused items of a file, in their order.
 pub type Refused = Sequence<RefusedItem>;

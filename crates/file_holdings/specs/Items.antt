@@ -17,6 +17,7 @@ pub record HoldingFile : Type 0 where
   -- whether the end, a fault or want of memory was answered
   pub over : Bool
 
+-- a file of a library, of which this is to come
 abbrev pub file_of : Stream → List ℕ → Bool → HoldingFile
 file_of stream library over = record { stream = stream; library = library; over = over }
 
@@ -55,6 +56,7 @@ pub record IsOutOfMemory (old new : HoldingFile) : Type 0 where
   pub reads : ReadsOn old.stream new.stream
   pub over : new.over ≡ true
 
+-- the next item is a holding, refused, the end, or a fault, and what is then left to come
 abbrev pub HoldingGives : HoldingFile → NextHolding → HoldingFile → Type 0
 HoldingGives old (next.Holding ordinal h) new = GivesHolding old new ordinal h
 HoldingGives old (next.Refused refused) new = GivesRefused old new refused

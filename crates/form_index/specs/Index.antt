@@ -28,6 +28,7 @@ pub record Indexed : Type 0 where
   pub rows : List (Option Forms)
   pub lists : Listing
 
+-- an index of no row
 abbrev pub no_index : Indexed
 no_index = record { rows = []; lists = record { all = record { established = []; see_from = [] }; bare = record { established = []; see_from = [] } } }
 
@@ -38,6 +39,7 @@ pub record Taken : Type 0 where
 
 -- ---- rows
 
+-- the row under a number, where there is one
 abbrev pub slot_at : List (Option Forms) → ℕ → Option Forms
 slot_at rows number = slice_index_or rows number None
 
@@ -59,20 +61,25 @@ ExchangesRow number row old new = (n : ℕ) → row_under n new ≡ (if n == num
 
 -- ---- lists
 
+-- lists of no form
 abbrev pub no_headed : Headed
 no_headed = record { established = []; see_from = [] }
 
+-- the lists of all rows, or those of the bare ones
 abbrev pub headed_among : Among → Listing → Headed
 headed_among All l = l.all
 headed_among Bare l = l.bare
 
+-- the lists of established forms, or those of see-from forms
 abbrev pub headed_by : By → Headed → List Listed
 headed_by Established h = h.established
 headed_by SeeFrom h = h.see_from
 
+-- the lists of one of the four families
 abbrev pub lists_by : Among → By → Listing → List Listed
 lists_by among by l = headed_by by (headed_among among l)
 
+-- the list of a form in one of the four families
 abbrev pub listed : Among → By → ℕ → Listing → Listed
 listed among by form l = list_at (lists_by among by l) form
 
@@ -98,17 +105,21 @@ pub record TookHeaded (row : Forms) (step : Listed → Listed) (old new : Headed
   pub established : Stepped (forms_by Established row) step old.established new.established
   pub see_from : Stepped (forms_by SeeFrom row) step old.see_from new.see_from
 
+-- no blank list stands at an end
 pub record IsShortHeaded (h : Headed) : Type 0 where
   pub established : IsShort h.established
   pub see_from : IsShort h.see_from
 
+-- each list is in key order
 pub record HeadedInOrder (keys : List Key) (h : Headed) : Type 0 where
   pub established : InOrder keys h.established
   pub see_from : InOrder keys h.see_from
 
+-- no blank list stands at an end of the four families
 abbrev pub IsShortListing : Listing → Type 0
 IsShortListing l = (among : Among) (by : By) → IsShort (lists_by among by l)
 
+-- each list of the four families is in key order
 abbrev pub ListingInOrder : List Key → Listing → Type 0
 ListingInOrder keys l = (among : Among) (by : By) (form : ℕ) → Ascends keys (listed among by form l).live
 
@@ -153,6 +164,7 @@ pub record PutsBack (keys : List Key) (row : Taken) (old new : Indexed) : Type 0
   pub is : new ≡ put_back keys row old
   pub rows : ExchangesRow row.number (Some row.forms) old new
 
+-- a row that was taken out, under its number
 abbrev pub taken : ℕ → Forms → Taken
 taken number forms = record { number = number; forms = forms }
 

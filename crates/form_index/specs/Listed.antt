@@ -13,13 +13,16 @@ pub record Listed : Type 0 where
   pub live : List ℕ
   pub held : List ℕ
 
+-- a list of no number
 abbrev pub no_list : Listed
 no_list = record { live = []; held = [] }
 
+-- no number
 abbrev pub is_empty : List ℕ → Bool
 is_empty [] = true
 is_empty (n ∷ ns) = false
 
+-- a list of no number, in which no place is held
 abbrev pub is_no_list : Listed → Bool
 is_no_list l = is_empty l.live && is_empty l.held
 
@@ -40,12 +43,14 @@ entered keys n l =
 abbrev pub withdrawn : ℕ → Listed → Listed
 withdrawn n l = if has n l.live then record { live = without n l.live; held = n ∷ l.held } else l
 
+-- what a step makes of a list
 abbrev pub stepped : List Key → ℕ → Step → Listed → Listed
 stepped keys n Enter = entered keys n
 stepped keys n Withdraw = withdrawn n
 
 -- ---- lists by form number
 
+-- the list of a form, a blank one where there is none
 abbrev pub list_at : List Listed → ℕ → Listed
 list_at lists form = slice_index_or lists form no_list
 

@@ -8,6 +8,7 @@ use Rattle.std.specs.declared.cmp.Ordering.{Ordering}
 use Rattle.marc_types.specs.Order.{key_cmp}
 use Rattle.marc_types.specs.declared.key.Key.{Key}
 
+-- a key without code and number, for numbers that none has
 abbrev pub no_key : Key
 no_key = record { code = []; number = [] }
 

@@ -53,6 +53,7 @@ impl RowForms {
         &self.see_from
     }
 
+    /// Whether the row's heading has no subdivision.
     pub fn is_bare(&self) -> bool
         ensures { result ≡ self.now.bare }
     {
@@ -93,6 +94,7 @@ impl FormRow {
         self.number
     }
 
+    /// The forms of the row.
     pub fn forms(&self) -> &RowForms
         ensures { result.now ≡ self.now.forms }
     {

@@ -65,6 +65,7 @@ controlled_codes Topical = codes "ab"
 controlled_codes Geographic = codes "a"
 controlled_codes Genre = codes "a"
 
+-- the code belongs to a heading of the kind
 unfoldable pub is_controlled : Kind → ℕ → Bool
 is_controlled kind code = list_any (λ c. c == code) (controlled_codes kind)
 

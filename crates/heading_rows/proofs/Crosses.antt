@@ -3,7 +3,6 @@ use denote.Param.Send.{IsSend, IsSync, sendable}
 use Rattle.std.proofs.Crossing.{crosses}
 use Rattle.marc_types.specs.contracts.text.Text as Text
 use Rattle.marc_types.specs.contracts.key.Key as Key
-use Rattle.marc_types.specs.contracts.form.Form as Form
 use Rattle.heading_rows.specs.contracts.row.BrowseRow as BrowseRow
 use Rattle.heading_rows.specs.contracts.shared_row.SharedRow as SharedRow
 use Rattle.heading_rows.specs.contracts.heading.Change as Change

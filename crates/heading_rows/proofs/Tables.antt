@@ -24,7 +24,7 @@ use Rattle.catalogue_rules.specs.Settle.{Arrival, arrival_of, state_after, state
 use Rattle.catalogue_rules.specs.Committed.{Committed, is_plain, plain_fields, plain_of_kept, plain_of_committed, take_in_class, committed_after}
 use Rattle.catalogue_rules.proofs.Kept.{kept_as_committed}
 use Rattle.heading_rows.specs.Rows.{browse_row, in_order, row_of, rows_of_state}
-use Rattle.heading_rows.specs.Listing.{BrowseTable, Listed, change_of, changed, empty_table, IsKeyed, listing_after, row_in, rows_of_listing, table_of, take_arrival, take_entry}
+use Rattle.heading_rows.specs.Listing.{BrowseTable, Listed, change_of, changed, empty_table, IsKeyed, listing_after, listing_of_state, row_in, rows_of_listing, table_of, take_arrival, take_entry}
 use Rattle.heading_rows.specs.declared.row.BrowseRow.{BrowseRow}
 use Rattle.heading_rows.specs.declared.heading.Change.TheVariants.{Nothing, TakenAway, Kept}
 
@@ -190,6 +190,16 @@ upto_is_length history = counted empty_table history ∙ zero-add (length histor
 pub table_listing : (history : List Entry) → (table_of history).listing ≡ listing_after history
 unfolding table_of listing_after
 table_listing history = listing_is empty_table history
+
+table_by : (t : BrowseTable) (count : ℕ) (listing : List Listed) → t.upto ≡ count → t.listing ≡ listing → t ≡ record { upto = count; listing = listing }
+table_by t count listing one other =
+    let table : ℕ → List Listed → BrowseTable = λ n l. record { upto = n; listing = l } in
+    ap (λ n. table n t.listing) one ∙ ap (λ l. table count l) other
+
+-- the table of a history is that of the authorities that stand behind it
+pub table_is_of_state : (history : List Entry) → table_of history ≡ record { upto = length history; listing = listing_of_state (state_of history) }
+table_is_of_state history =
+    table_by (table_of history) (length history) (listing_of_state (state_of history)) (upto_is_length history) (table_listing history ∙ listing_is_of_state history)
 
 pub rows_are_of_state : (history : List Entry) → rows_of_listing (table_of history).listing ≡ rows_of_state (state_of history)
 unfolding rows_of_listing

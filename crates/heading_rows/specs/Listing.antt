@@ -14,6 +14,7 @@ use Rattle.marc_types.specs.declared.form.Form.{Form}
 use Rattle.marc_types.specs.declared.entry.Entry.{Entry}
 use Rattle.entry_record.specs.Identity.{is_deletion}
 use Rattle.entry_record.specs.Authority.{linkable_of}
+use Rattle.catalogue_rules.specs.State.{Row, State, fields_of}
 use Rattle.catalogue_rules.specs.Receipt.{same_class}
 use Rattle.catalogue_rules.specs.Settle.{Arrival, arrival_of}
 use Rattle.heading_rows.specs.Rows.{row_of, in_order, same_row, page_of}
@@ -43,6 +44,7 @@ changed key Nothing listing = listing
 changed key TakenAway listing = remove_entry (same_key key) listing
 changed key (Kept row) listing = insert_entry key_cmp listing key row
 
+-- the listing behind one more arrival
 abbrev pub take_arrival : List Listed → Arrival → List Listed
 take_arrival listing a = changed a.key (change_of a) listing
 
@@ -54,14 +56,20 @@ listing_after history = fold take_arrival [] (map arrival_of history)
 unfoldable pub rows_of_listing : List Listed → List BrowseRow
 rows_of_listing listing = in_order (filter_map (λ e. e.1) listing)
 
+-- the authorities of a state, each with its row
+abbrev pub listing_of_state : State → List Listed
+listing_of_state s = map (λ (row : Row). (row.0, row_in row.0 (fields_of row.1))) s.authorities
+
 -- a table: how many entries it has taken, and the authorities that are there
 pub record BrowseTable : Type 0 where
   pub upto : ℕ
   pub listing : List Listed
 
+-- the table behind one more entry
 abbrev pub take_entry : BrowseTable → Entry → BrowseTable
 take_entry t e = record { upto = t.upto + 1; listing = take_arrival t.listing (arrival_of e) }
 
+-- the table of no entry
 abbrev pub empty_table : BrowseTable
 empty_table = record { upto = 0; listing = [] }
 

@@ -12,6 +12,7 @@ use Rattle.entry_record.specs.Authority.{Linkable}
 use Rattle.catalogue_rules.specs.State.{State, linkable_authorities}
 use Rattle.heading_rows.specs.declared.row.BrowseRow.{BrowseRow}
 
+-- a row of a form and a key
 abbrev pub browse_row : Form → Key → BrowseRow
 browse_row form key = record { form = form; key = key }
 
@@ -23,6 +24,7 @@ pub row_cmp_total : IsTotalOrder row_cmp
 unfolding row_cmp
 row_cmp_total = then_total (on_total (λ r. r.form) form_cmp_total) (on_total (λ r. r.key) key_cmp_total)
 
+-- whether two rows are the same
 abbrev pub same_row : BrowseRow → BrowseRow → Bool
 same_row = eq_by_cmp row_cmp
 

@@ -41,8 +41,12 @@ impl Model for KeyedChange {
     ghost invariant = { λ h. (h.key ≡ h.whole.value.key) × (h.change ≡ change_of (arrival_of h.whole.value)) };
 }
 
+/// The row of an authority, if fields can be linked to it.
 #[tactic(auto, using(crate::proofs::Brought::told_some, crate::proofs::Brought::told_none))]
-fn established_row(alloc: Global, preparation: &Preparation) -> Result<Option<SharedRow>, NoMemory>
+pub(crate) fn established_row(
+    alloc: Global,
+    preparation: &Preparation,
+) -> Result<Option<SharedRow>, NoMemory>
     requires { preparation.now.class ≡ Authority }
     ensures { IfOk result (λ row. row ≡ row_in preparation.now.key preparation.now.rec.fields) }
 {

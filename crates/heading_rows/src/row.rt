@@ -9,6 +9,7 @@ pub struct BrowseRow {
     pub key: Key,
 }
 
+/// Rows in their order.
 pub type BrowseRows = Sequence<BrowseRow>;
 
 /// Rows in order, and the number of entries of the list whose rows they are.

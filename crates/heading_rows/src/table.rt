@@ -1,10 +1,14 @@
 //! A table of rows that each entry changes.
 ghost use Rattle.std.specs.Prelude.{◌≡◌, IfOk, OnOk, OnErr};
-ghost use Rattle.heading_rows.specs.Listing.{empty_table, page_at, take_entry};
+ghost use Rattle.std.specs.BTreeMap.{insert_entry};
+ghost use Rattle.marc_types.specs.Order.{key_cmp};
+ghost use Rattle.marc_types.specs.declared.key.Class.TheVariants.{Authority};
+ghost use Rattle.heading_rows.specs.Listing.{empty_table, page_at, row_in, take_entry};
 
-use crate::heading::{Change, Heading, KeyedChange};
+use crate::heading::{Change, Heading, KeyedChange, established_row};
 use crate::listing::Listing;
 use crate::row::BrowsePage;
+use entry_record::Preparation;
 use marc_types::{Form, NoMemory};
 use std::alloc::Global;
 use std::marker::Model;
@@ -50,6 +54,30 @@ impl Table {
         }
         self.upto = upto;
         Ok(())
+    }
+
+    /// An authority that stands comes into its key's place, and no entry was taken. Want of memory changes nothing.
+    #[tactic(auto, using(crate::proofs::Tables::row_keyed))]
+    pub fn keep(&mut self, alloc: Global, standing: &Preparation) -> Result<(), NoMemory>
+        requires { standing.now.class ≡ Authority }
+        ensures ok { OnOk result (self.new ≡ record {
+          upto = self.old.upto;
+          listing = insert_entry key_cmp self.old.listing standing.now.key (row_in standing.now.key standing.now.rec.fields);
+        }) }
+        ensures err { OnErr result (self.new ≡ self.old) }
+    {
+        let row = established_row(alloc, standing)?;
+        self.listing.keep(alloc, standing.key(), &row)
+    }
+
+    /// The same authorities, behind so many entries.
+    pub fn behind(self, upto: u64) -> Table
+        ensures { result ≡ record { upto = upto; listing = self.listing } }
+    {
+        Table {
+            listing: self.listing,
+            upto,
+        }
     }
 
     /// How many entries were taken.

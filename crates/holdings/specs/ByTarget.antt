@@ -25,9 +25,11 @@ pub record IsByTarget (shelf rows : List ShelfRow) : Type 0 where
 abbrev pub compared : Key → ShelfRow → Ordering
 compared key row = key_cmp (target_of_row row) key
 
+-- the holding's target stands before the key
 abbrev pub is_below_key : Key → ShelfRow → Bool
 is_below_key key row = is_lt (compared key row)
 
+-- it stands before it, or is the key
 abbrev pub is_upto_key : Key → ShelfRow → Bool
 is_upto_key key row = is_le (compared key row)
 

@@ -19,6 +19,7 @@ pub record ShelvedHolding : Type 0 where
 abbrev pub ShelfRow : Type 0
 ShelfRow = Key × ShelvedHolding
 
+-- what a shelf keeps of a holding: its target's number, and its written form
 abbrev pub shelved : HoldingContent → ShelvedHolding
 shelved content = record { target_number = content.target.number; written = record_bytes content.rec.leader content.rec.fields }
 
@@ -36,6 +37,7 @@ take_holding shelf h =
 unfoldable pub shelf_of : List Holding → List ShelfRow
 shelf_of holdings = fold take_holding [] holdings
 
+-- the written form of a holding on the shelf
 abbrev pub written_holding : ShelfRow → List ℕ
 written_holding row = row.1.written
 
@@ -43,6 +45,7 @@ written_holding row = row.1.written
 abbrev pub target_of_row : ShelfRow → Key
 target_of_row row = record { code = row.0.code; number = row.1.target_number }
 
+-- the holding's target is the key
 abbrev pub belongs_to : Key → ShelfRow → Bool
 belongs_to key row = same_key (target_of_row row) key
 

@@ -24,12 +24,14 @@ pub struct Holding {
 }
 
 impl Holding {
+    /// The key of the holding itself.
     pub fn key(&self) -> &Key
         ensures { result.now ≡ self.now.key }
     {
         &self.key
     }
 
+    /// The key of the bibliographic record that it belongs to.
     pub fn target(&self) -> &Key
         ensures value { result.now ≡ self.now.content.target }
         ensures own_code { result.now.code ≡ self.now.key.code }
@@ -37,6 +39,7 @@ impl Holding {
         &self.content.target
     }
 
+    /// Its record, which fits its written form.
     pub fn rec(&self) -> &Record
         ensures value { result.now ≡ self.now.content.rec }
         ensures fits { IsTrue (fits result.now.fields) }

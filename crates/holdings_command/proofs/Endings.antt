@@ -13,20 +13,20 @@ use Rattle.entry_record.specs.History.{IsWithin}
 use Rattle.durable_catalogue.specs.Openings.{IsUnopened}
 use Rattle.durable_catalogue.specs.declared.fault.OpenFault.{OpenFault}
 use Rattle.durable_catalogue.specs.declared.fault.OpenFault.TheVariants as opening
-use Rattle.console_lines.specs.Ends.{Outcome, IsTold, TellsNoFault, IsSilent, IsResultTold, ResultTold, ResultUntold, out_unwritten, console_unwritten}
+use Rattle.console_lines.specs.Ends.{Outcome, IsTold, TellsNoFault, IsSilent, IsResultTold, ResultTold, ResultUntold, out_unwritten, pages_unwritten, console_unwritten}
 use Rattle.console_lines.specs.declared.end.End.{End}
 use Rattle.console_lines.specs.declared.end.End.TheVariants.{Done, Refused, Unwritten as NotWritten, Told}
 use Rattle.console_lines.specs.declared.end.Unwritten.{Unwritten}
-use Rattle.console_lines.specs.declared.end.Unwritten.TheVariants.{Out, Side, Console}
+use Rattle.console_lines.specs.declared.end.Unwritten.TheVariants.{Out, Side, Pages, Console}
 use Rattle.console_lines.specs.declared.end.OutputsFault.{OutputsFault}
 use Rattle.console_lines.specs.declared.end.OutputsFault.TheVariants.{NoMemory as RanOut, Unwritten as NotBoth}
 use Rattle.console_lines.specs.declared.fault.Fault.{Fault}
 use Rattle.console_lines.specs.declared.fault.Fault.TheVariants.{Usage, Input, Device, NotAJournal, Full, Memory, OldVersion, OtherHistory}
-use Rattle.console_lines.proofs.Ends.{told_once, told_not_unwritten, never_told, unwritten_once, result_untold, result_no_output, result_cause}
-use Rattle.room_files.specs.Journals.{journal_limits, log_bytes, IsClosedDisk, KeepsHistory, KeepsLog, IsDurable}
-use Rattle.room_files.specs.Faults.{fault_of_opening}
-use Rattle.room_files.proofs.Faults.{opening_device, opening_input}
-use Rattle.room_files.proofs.Journals.{closed_keeps, closed_durable, keeps_where}
+use Rattle.console_lines.proofs.Ends.{told_once, told_not_unwritten, never_told, unwritten_once, result_untold, result_no_output, result_no_pages, result_cause}
+use Rattle.journal_files.specs.Journals.{journal_limits, log_bytes, IsClosedDisk, KeepsHistory, KeepsLog, IsDurable}
+use Rattle.journal_files.specs.Faults.{fault_of_opening}
+use Rattle.journal_files.proofs.Faults.{opening_device, opening_input}
+use Rattle.journal_files.proofs.Journals.{closed_keeps, closed_durable, keeps_where}
 use Rattle.output_files.specs.Kept.{kept_keys}
 use Rattle.archive_commands.specs.Archives.{WhyUnopened}
 use Rattle.archive_commands.proofs.Histories.{due_once, fitting_history}
@@ -71,11 +71,14 @@ because_unread room journal Full is other = absurd is
 because_unread room journal OldVersion is other = absurd is
 because_unread room journal OtherHistory is other = absurd is
 
-ends_delivered : (end : End) → TellsNoFault end → EndsAttaching end
-ends_delivered Done untold = tt
-ends_delivered Refused untold = tt
-ends_delivered (NotWritten which) untold = tt
-ends_delivered (Told why) untold = absurd untold
+ends_delivered : (end : End) → TellsNoFault end → end ≢ pages_unwritten → EndsAttaching end
+ends_delivered Done untold no_pages = tt
+ends_delivered Refused untold no_pages = tt
+ends_delivered (NotWritten Out) untold no_pages = tt
+ends_delivered (NotWritten Side) untold no_pages = tt
+ends_delivered (NotWritten Pages) untold no_pages = absurd (no_pages refl)
+ends_delivered (NotWritten Console) untold no_pages = tt
+ends_delivered (Told why) untold no_pages = absurd untold
 
 -- what is due of one history of a log is due of any other
 module _ (library : Library) (code : Option (List ℕ)) (bytes : List ℕ) (out rest : List ℕ) (o : Outcome) (entries others : List Entry) (log : List ℕ)
@@ -202,15 +205,15 @@ module _ (journal out rest : List ℕ) (library : Library) (code : Option (List 
         told_not_stopped (inr also) = told_not_unwritten o.end why Side is also
 
     -- what is due was delivered, as far as it could be
-    pub attaches : TellsNoFault o.end → (o.end ≡ out_unwritten → SameBut o.old o.new (journal ∷ out ∷ [])) → ((o.end ≡ out_unwritten) ⊎ (o.end ≡ rest_unwritten) → IsSilent o)
+    pub attaches : TellsNoFault o.end → o.end ≢ pages_unwritten → (o.end ≡ out_unwritten → SameBut o.old o.new (journal ∷ out ∷ [])) → ((o.end ≡ out_unwritten) ⊎ (o.end ≡ rest_unwritten) → IsSilent o)
         → (o.end ≡ out_unwritten → Rose (o.old.out_faults out) (o.new.out_faults out))
         → (o.end ≡ rest_unwritten → Rose (o.old.out_faults rest) (o.new.out_faults rest))
         → (o.end ≡ console_unwritten → Rose o.faults o.faults_now) → (ready : Ready)
         → (o.old.tells ≡ true → IsSomeAnd (o.old.file library.file) (λ bytes. IsReady library bytes (state_of history) ready))
         → ((bytes : List ℕ) → o.old.tells ≡ true → IsDelivered (ready_due library code bytes (state_of history) ready out rest o) out rest o)
         → AttachesHoldings journal out rest library code o
-    attaches untold no_rest silent out_cause rest_cause console_cause ready is delivered = record {
-      ends = ends_delivered o.end untold;
+    attaches untold no_pages no_rest silent out_cause rest_cause console_cause ready is delivered = record {
+      ends = ends_delivered o.end untold no_pages;
       keeps = r.keeps (o.end ≡ Told Device);
       told = λ why also. absurd (never_told o.end why untold also);
       because = λ why also. absurd (never_told o.end why untold also);
@@ -237,13 +240,15 @@ module _ (journal out rest : List ℕ) (library : Library) (code : Option (List 
       attaches_stopped which no_journal no_out end silent (AtFirst first up left alone) =
           let here : o.end ≡ out_unwritten = end ∙ ap NotWritten first in
           let untouched : o.new.file rest ≡ o.old.file rest = alone.files rest ((λ e. no_journal (sym e)), ((λ e. no_out (sym e)), tt)) in
-          attaches (subst TellsNoFault (sym end) tt) (λ also. alone) (λ either. silent) (λ also. up)
+          attaches (subst TellsNoFault (sym end) tt) (λ also. let no : Out ≡ Pages = unwritten_once o.end Out Pages here also in cc)
+          (λ also. alone) (λ either. silent) (λ also. up)
           (λ also. let no : Out ≡ Side = unwritten_once o.end Out Side here also in cc)
           (λ also. let no : Out ≡ Console = unwritten_once o.end Out Console here also in cc) ready is
           (λ bytes tells. OutFailed here (left tells) untouched silent)
       attaches_stopped which no_journal no_out end silent (AtSecond second up whole left) =
           let here : o.end ≡ rest_unwritten = end ∙ ap NotWritten second in
-          attaches (subst TellsNoFault (sym end) tt) (λ also. let no : Side ≡ Out = unwritten_once o.end Side Out here also in cc) (λ either. silent)
+          attaches (subst TellsNoFault (sym end) tt) (λ also. let no : Side ≡ Pages = unwritten_once o.end Side Pages here also in cc)
+          (λ also. let no : Side ≡ Out = unwritten_once o.end Side Out here also in cc) (λ either. silent)
           (λ also. let no : Side ≡ Out = unwritten_once o.end Side Out here also in cc) (λ also. up)
           (λ also. let no : Side ≡ Console = unwritten_once o.end Side Console here also in cc) ready is
           (λ bytes tells. RestFailed here (whole tells) (left tells) silent)
@@ -253,7 +258,7 @@ module _ (journal out rest : List ℕ) (library : Library) (code : Option (List 
           → AreWritten out rest (holdings_export (kept_keys code) (state_of history) ready.shelf) (holdings_rest (state_of history) ready.shelf) o.new)
           → IsResultTold o.told o.now o.faults o.faults_now (string_bytes ready.text) ready.refused o.end → AttachesHoldings journal out rest library code o
       attaches_told written told =
-          attaches (result_untold told) (λ also. absurd (no_output.0 also)) (λ either. absurd (no_other either))
+          attaches (result_untold told) (result_no_pages told) (λ also. absurd (no_output.0 also)) (λ either. absurd (no_other either))
           (λ also. absurd (no_output.0 also)) (λ also. absurd (no_output.1 also)) (result_cause told) ready is (λ bytes tells. delivered bytes (written tells) told)
         where
           no_output : (o.end ≢ out_unwritten) × (o.end ≢ rest_unwritten)

@@ -13,9 +13,10 @@ use Rattle.durable_catalogue.specs.Logs.{HasHistory}
 use Rattle.console_lines.specs.Ends.{Outcome, IsTold, TellsNoFault, IsSilent, end_of, out_unwritten, side_unwritten, console_unwritten}
 use Rattle.console_lines.specs.declared.end.End.{End}
 use Rattle.console_lines.specs.declared.end.End.TheVariants.{Done, Refused, Unwritten, Told}
+use Rattle.console_lines.specs.declared.end.Unwritten.TheVariants.{Out, Side, Pages, Console}
 use Rattle.console_lines.specs.declared.fault.Fault.{Fault}
 use Rattle.console_lines.specs.declared.fault.Fault.TheVariants.{Usage, Input, Device, NotAJournal, Full, Memory, OldVersion, OtherHistory}
-use Rattle.room_files.specs.Journals.{log_bytes, KeepsHistory, IsDurable}
+use Rattle.journal_files.specs.Journals.{log_bytes, KeepsHistory, IsDurable}
 use Rattle.output_files.specs.Kept.{kept_keys}
 use Rattle.output_files.specs.Outputs.{IsOutputLeft}
 use Rattle.archive_commands.specs.Archives.{WhyUnopened, HasFittingHistory}
@@ -34,7 +35,10 @@ rest_unwritten = side_unwritten
 abbrev pub EndsAttaching : End → Type 0
 EndsAttaching Done = Unit {0}
 EndsAttaching Refused = Unit {0}
-EndsAttaching (Unwritten which) = Unit {0}
+EndsAttaching (Unwritten Out) = Unit {0}
+EndsAttaching (Unwritten Side) = Unit {0}
+EndsAttaching (Unwritten Pages) = ⊥
+EndsAttaching (Unwritten Console) = Unit {0}
 EndsAttaching (Told Usage) = ⊥
 EndsAttaching (Told Input) = Unit {0}
 EndsAttaching (Told Device) = Unit {0}

@@ -12,6 +12,7 @@ use Rattle.holdings.specs.declared.refusal.HoldingRefusal.TheVariants.{OfRecord,
 use Rattle.file_holdings.specs.declared.refused.RefusedHolding.{RefusedHolding}
 use Rattle.holdings_export.specs.Output.{attached_holdings, waiting_holdings}
 
+-- the words of a holding's refusal
 abbrev pub reason_of_holding : HoldingRefusal → List ℕ
 reason_of_holding (OfRecord refusal) = reason_of refusal
 reason_of_holding NoTarget = codes "no target"
@@ -22,6 +23,7 @@ refused_holding_line file item =
     file ++ blank ++ decimal item.ordinal ++ blank ++ decimal item.offset ++ blank ++ decimal (number_of_refusal item.refusal)
     ++ blank ++ reason_of_holding item.refusal ++ line_end
 
+-- a line for each refused piece
 abbrev pub refused_holding_lines : List ℕ → List RefusedHolding → List ℕ
 refused_holding_lines file items = flat_map (refused_holding_line file) items
 

@@ -9,8 +9,8 @@ use crate::ready::{Ready, prepare};
 use crate::writing::write_both;
 use command_words::Library;
 use console_lines::{End, end_of_outputs, tell};
+use journal_files::{close_archive, fault_of_opening, open_archive};
 use outside::Room;
-use room_files::{close_archive, fault_of_opening, open_archive};
 use std::alloc::Global;
 
 /// The command `holdings`: writes a journal's records, each with its holdings of a file behind it, into the file `out`: all

@@ -4,7 +4,7 @@ use Rattle.std.specs.Prelude.{filter, not, length, if◌then◌else◌}
 use Rattle.std.specs.Int.{from_bool}
 use Rattle.std.specs.List.{flat_map}
 use Rattle.marc_types.specs.declared.key.Key.{Key}
-use Rattle.numbered_store.specs.declared.kept.Kept.{Kept}
+use Rattle.numbered_store.specs.declared.kept.StoredRecord.{StoredRecord}
 use Rattle.catalogue_rules.specs.State.{Row, State}
 use Rattle.catalogue_rules.specs.Output.{export_of_rows, written_row}
 use Rattle.holdings.specs.Shelves.{ShelfRow, written_holding, holdings_of}
@@ -12,7 +12,7 @@ use Rattle.holdings_export.specs.Output.{with_holdings, rows_with_holdings, is_a
 use Rattle.numbered_store.specs.Kept.{kept_record}
 
 -- the next row of a loop over rows, as it is lent
-module _ (shelf : List ShelfRow) (key : Key) (kept : Kept) (left rows : List Row) (next : left ≡ (key, kept_record kept) ∷ rows) where
+module _ (shelf : List ShelfRow) (key : Key) (kept : StoredRecord) (left rows : List Row) (next : left ≡ (key, kept_record kept) ∷ rows) where
   pub next_with_holdings : (keep : Key → Bool) → keep key ≡ true
       → rows_with_holdings keep shelf left ≡ with_holdings shelf (key, kept_record kept) ++ rows_with_holdings keep shelf rows
   next_with_holdings keep is = ap (rows_with_holdings keep shelf) next ∙ at is

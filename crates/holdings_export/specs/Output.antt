@@ -29,12 +29,15 @@ holdings_export keep s shelf = export_of_rows keep s.authorities ++ rows_with_ho
 abbrev pub is_attached : State → ShelfRow → Bool
 is_attached s row = is_some (kept_under Bibliographic (target_of_row row) s)
 
+-- the target of the holding is no kept bibliographic record
 abbrev pub is_waiting : State → ShelfRow → Bool
 is_waiting s row = not (is_attached s row)
 
+-- the holdings whose target is kept
 abbrev pub attached_holdings : State → List ShelfRow → List ShelfRow
 attached_holdings s shelf = filter (is_attached s) shelf
 
+-- the holdings that wait for theirs
 abbrev pub waiting_holdings : State → List ShelfRow → List ShelfRow
 waiting_holdings s shelf = filter (is_waiting s) shelf
 

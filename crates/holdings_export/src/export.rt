@@ -13,7 +13,7 @@ ghost use Rattle.numbered_store.specs.Kept.{kept_record, shown_row};
 use crate::listing::Listing;
 use holdings::HoldingGroups;
 use marc_types::Key;
-use numbered_store::{Kept, RowMap};
+use numbered_store::{RowMap, StoredRecord};
 use outside::{Failed, Sink};
 use selection::Selection;
 
@@ -39,7 +39,7 @@ fn write_group<K: Sink>(
 #[tactic(auto, using(outside::proofs::Fronts::front_more, outside::proofs::Fronts::front_then, outside::proofs::Fronts::appends_then))]
 fn write_record<K: Sink>(
     key: &Key,
-    kept: &Kept,
+    kept: &StoredRecord,
     groups: Option<&HoldingGroups<'_>>,
     out: &mut K,
 ) -> Result<(), Failed>

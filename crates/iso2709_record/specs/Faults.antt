@@ -63,6 +63,7 @@ lengths_fit bytes entry = nat_le (lengths_of bytes (suc entry)) (length bytes - 
 unfoldable pub is_control_data : List ℕ → Bool
 is_control_data bytes = not (list_any (λ b. b == delimiter) bytes)
 
+-- the bytes begin with a graphic character
 abbrev pub starts_with_code : List ℕ → Bool
 starts_with_code [] = false
 starts_with_code (b ∷ bs) = is_graphic b

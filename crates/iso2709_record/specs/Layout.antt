@@ -17,6 +17,7 @@ base_of bytes = number (slice_range bytes 12 17)
 abbrev pub entry_count : List ℕ → ℕ
 entry_count bytes = (base_of bytes - 25) / 12
 
+-- the base address and the number of entries that the bytes claim
 abbrev pub layout_of : List ℕ → Layout
 layout_of bytes = record { base = base_of bytes; entries = entry_count bytes }
 
@@ -24,6 +25,7 @@ layout_of bytes = record { base = base_of bytes; entries = entry_count bytes }
 unfoldable pub entry_at : List ℕ → ℕ → List ℕ
 entry_at bytes entry = slice_range bytes (24 + 12 * entry) (36 + 12 * entry)
 
+-- the tag of an entry of the directory, its first three bytes
 unfoldable pub tag_at : List ℕ → ℕ → Tag
 tag_at bytes entry = record {
   a = slice_index (entry_at bytes entry) 0;

@@ -25,6 +25,7 @@ leader_at bytes = record {
 abbrev pub coding_at : List ℕ → ℕ
 coding_at bytes = slice_index bytes 9
 
+-- the tag of an entry, and the data that it leads to
 abbrev pub raw_field : List ℕ → ℕ → RawField
 raw_field bytes entry = record { tag = tag_at bytes entry; area = data_at bytes entry }
 
@@ -32,6 +33,7 @@ raw_field bytes entry = record { tag = tag_at bytes entry; area = data_at bytes 
 abbrev pub raw_fields : List ℕ → ℕ → List RawField
 raw_fields bytes entries = map (raw_field bytes) (range_with_len 0 entries)
 
+-- the leader, the coding and the fields of a record's bytes, before any text is read
 abbrev pub raw_record : List ℕ → RawRecord
 raw_record bytes = record { leader = leader_at bytes; coding = coding_at bytes; fields = raw_fields bytes (entry_count bytes) }
 

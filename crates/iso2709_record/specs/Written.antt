@@ -9,12 +9,15 @@ use Rattle.marc_types.specs.declared.field.Subfield.{Subfield}
 use Rattle.marc_types.specs.declared.field.Field.{Field}
 use Rattle.marc_types.specs.declared.field.Field.TheVariants.{Control, Variable}
 
+-- 1D
 abbrev pub record_terminator : ℕ
 record_terminator = 0x1d
 
+-- 1E
 abbrev pub field_terminator : ℕ
 field_terminator = 0x1e
 
+-- 1F, before each subfield's code
 abbrev pub delimiter : ℕ
 delimiter = 0x1f
 
@@ -39,6 +42,7 @@ unfoldable pub field_data : Field → List ℕ
 field_data (Control tag text) = text
 field_data (Variable tag ind1 ind2 subs) = ind1 ∷ ind2 ∷ flat_map subfield_bytes subs
 
+-- a field's data and a field terminator
 unfoldable pub field_bytes : Field → List ℕ
 field_bytes f = field_data f ++ field_terminator ∷ []
 
@@ -46,6 +50,7 @@ field_bytes f = field_data f ++ field_terminator ∷ []
 unfoldable pub field_length : Field → ℕ
 field_length f = length (field_bytes f)
 
+-- the length of all fields' bytes
 abbrev pub fields_length : List Field → ℕ
 fields_length [] = 0
 fields_length (f ∷ fs) = field_length f + fields_length fs
@@ -54,6 +59,7 @@ fields_length (f ∷ fs) = field_length f + fields_length fs
 abbrev pub base_address : List Field → ℕ
 base_address fields = 25 + 12 * length fields
 
+-- the length of the whole written record
 abbrev pub record_length : List Field → ℕ
 record_length fields = base_address fields + fields_length fields + 1
 
@@ -61,6 +67,7 @@ record_length fields = base_address fields + fields_length fields + 1
 abbrev pub entry_of : Tag → ℕ → ℕ → List ℕ
 entry_of tag size start = (tag.a ∷ tag.b ∷ tag.c ∷ []) ++ four_digits size ++ five_digits start
 
+-- the entry of a field in the directory: its tag, its length in four digits, its start in five
 unfoldable pub entry_bytes : ℕ → Field → List ℕ
 entry_bytes start f = entry_of (tag_of f) (field_length f) start
 
@@ -78,6 +85,7 @@ leader_of l size base =
     ++ five_digits base
     ++ (l.encoding ∷ l.form ∷ l.linked ∷ 52 ∷ 53 ∷ 48 ∷ 48 ∷ [])
 
+-- the leader of 24 bytes, with the record's length and base address
 unfoldable pub leader_bytes : Leader → List Field → List ℕ
 leader_bytes l fields = leader_of l (record_length fields) (base_address fields)
 

@@ -8,6 +8,7 @@ pub struct RawField {
     pub area: Bytes,
 }
 
+/// The fields of a record before their text is read.
 pub type RawFields = Sequence<RawField>;
 
 /// A record before its text is read: the leader bytes that it keeps, leader byte 09, which says how its text is coded

@@ -13,7 +13,7 @@ ghost use Rattle.numbered_store.specs.Kept.{kept_record, shown_row};
 use crate::rows::{ExportRows, rows_in_order};
 use catalogue_core::{Catalogue, Engine};
 use marc_types::Key;
-use numbered_store::{Kept, RowMap};
+use numbered_store::{RowMap, StoredRecord};
 use outside::{Failed, Sink, WriteFault};
 use selection::Selection;
 use std::alloc::Global;
@@ -104,7 +104,7 @@ fn write_class<F: Fn(&Key) -> bool, K: Sink>(
     Ok(())
 }
 
-fn write_record<K: Sink>(kept: &Kept, out: &mut K) -> Result<(), Failed>
+fn write_record<K: Sink>(kept: &StoredRecord, out: &mut K) -> Result<(), Failed>
     ensures bytes { OnOk result (Appends (K.written out.old) (K.written out.new)
         (record_bytes (kept_record kept.now).leader (fields_of (kept_record kept.now)))) }
     ensures front { WritesFront (K.written out.old) (K.written out.new)

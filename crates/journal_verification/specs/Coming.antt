@@ -33,6 +33,7 @@ pub record HasReadCause {T : Type 0} (before now : ℕ) (result : Result T ReadF
   pub later : before ≤ now
   pub failed : IsErrOf result read.InputFault → Rose before now
 
+-- the count of faults didn't fall, and rose where the input was at fault
 pub record HasVerifyCause {T : Type 0} (before now : ℕ) (result : Result T VerifyFault) : Type 0 where
   pub later : before ≤ now
   pub failed : IsErrOf result verify.InputFault → Rose before now

@@ -8,7 +8,7 @@ use Rattle.outside.specs.Sink.{WritesFront}
 use Rattle.console_lines.specs.Ends.{Outcome, IsTold, console_unwritten}
 use Rattle.console_lines.specs.declared.end.End.{End}
 use Rattle.console_lines.specs.declared.end.End.TheVariants.{Done, Refused, Unwritten, Told}
-use Rattle.console_lines.specs.declared.end.Unwritten.TheVariants.{Out, Side, Console}
+use Rattle.console_lines.specs.declared.end.Unwritten.TheVariants.{Out, Side, Pages, Console}
 use Rattle.console_lines.specs.declared.fault.Fault.{Fault}
 use Rattle.console_lines.specs.declared.fault.Fault.TheVariants.{Usage, Input, Device, NotAJournal, Full, Memory, OldVersion, OtherHistory}
 use Rattle.journal_verification.specs.Contents.{IsVerified, IsNoJournal}
@@ -35,6 +35,7 @@ EndsVerifying Done = Unit {0}
 EndsVerifying Refused = ⊥
 EndsVerifying (Unwritten Out) = ⊥
 EndsVerifying (Unwritten Side) = ⊥
+EndsVerifying (Unwritten Pages) = ⊥
 EndsVerifying (Unwritten Console) = Unit {0}
 EndsVerifying (Told Usage) = ⊥
 EndsVerifying (Told Input) = Unit {0}

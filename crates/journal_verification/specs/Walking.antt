@@ -8,6 +8,7 @@ use Rattle.entry_history.specs.Readers.{HasExtent}
 use Rattle.entry_history.specs.declared.extent.Extent.{Extent}
 use Rattle.journal_verification.specs.Coming.{Comes}
 
+-- the payloads of frames
 abbrev pub payloads_of : List Frame → List (List ℕ)
 payloads_of frames = map (λ f. f.payload) frames
 

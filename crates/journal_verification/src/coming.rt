@@ -21,6 +21,7 @@ pub struct Coming<S: Source> {
 }
 
 impl<S: Source> Coming<S> {
+    /// The bytes of a journal, of which none is read yet.
     pub fn new(alloc: Global, source: S) -> Coming<S>
         ensures source { result.source ≡ source }
         ensures window { result.window.items ≡ [] }

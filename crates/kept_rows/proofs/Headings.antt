@@ -1,5 +1,5 @@
 -- Which tags a heading field may have.
-use Rattle.std.proofs.Common.{◌≡◌, ℕ, ◌==◌, Bool, true, false, ◌||◌, Option, Some, None, refl, ap, ◌∙◌, if◌then◌else◌}
+use Rattle.std.proofs.Common.{◌≡◌, ℕ, ◌==◌, false, ◌||◌, Option, Some, None, refl}
 use Rattle.std.proofs.lemmas.Bool.{or_parts}
 use Rattle.marc_types.specs.declared.field.Tag.{Tag}
 use Rattle.marc_types.specs.declared.field.Field.{Field}

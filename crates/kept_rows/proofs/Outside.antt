@@ -1,6 +1,5 @@
 -- What stands outside a part, without the `$0` of a key, is what is left of a field's other subfields without the part.
 use Rattle.std.proofs.Common.{◌≡◌, ℕ, ◌+◌, ◌≤◌, Bool, true, false, not, cond, filter, List, [], ◌∷◌, ◌++◌, Option, Some, None, refl, ap, arith, if◌then◌else◌}
-use Rattle.std.proofs.lemmas.Grind.{common_steps}
 use Rattle.std.proofs.lemmas.List.Elements.{filter-append}
 use Rattle.marc_types.specs.declared.field.Subfield.{Subfield}
 use Rattle.marc_types.specs.declared.field.Field.{Field}

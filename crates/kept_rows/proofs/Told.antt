@@ -1,5 +1,5 @@
 -- The tests say what the records say.
-use Rattle.std.proofs.Common.{◌≡◌, ◌↔◌, ◌+◌, ◌*◌, ◌≤◌, Bool, true, false, ◌&&◌, ◌||◌, not, nat_le, List, [], ◌∷◌, length, is_some, refl, arith}
+use Rattle.std.proofs.Common.{◌≡◌, ◌↔◌, ◌+◌, ◌*◌, ◌≤◌, Bool, true, false, ◌&&◌, ◌||◌, not, nat_le, List, [], ◌∷◌, length, is_some, refl}
 use Rattle.std.specs.Prelude.{All, IsTrue, IfOk, Result, Ok, Err}
 use Rattle.std.specs.List.{sum_by, list_all}
 use Rattle.std.proofs.lemmas.Bool.{and_parts, and_from, leb-true, le-leb}
@@ -13,7 +13,7 @@ use Rattle.entry_record.specs.Authority.{is_heading_field}
 use Rattle.entry_record.specs.Identity.{class_of, is_deletion}
 use Rattle.catalogue_rules.specs.State.{KeptField, Row}
 use Rattle.catalogue_rules.specs.Receipt.{same_class}
-use Rattle.catalogue_rules.specs.Valid.{reach, IsRow, HasRoom}
+use Rattle.catalogue_rules.specs.Valid.{reach, HasRoom}
 use Rattle.catalogue_rules.proofs.Elements.{Each}
 use Rattle.kept_rows.specs.Standing.{IsSoundField, IsSoundRow}
 use Rattle.kept_rows.specs.Tests.{suits_field, is_sound_field, is_lasting, has_sound_fields, is_sound_row}

@@ -13,6 +13,7 @@ use Rattle.kept_rows.specs.declared.row.KeptRow.{KeptRow}
 abbrev pub row_of : KeptRow → Row
 row_of r = (r.key, record { leader = r.rec.leader; fields = tied r.rec.fields r.ties })
 
+-- the row is of the class
 abbrev pub is_of : Class → KeptRow → Bool
 is_of class r = same_class r.class class
 

@@ -8,6 +8,7 @@ use Rattle.entry_record.specs.Authority.{Linkable, is_heading_field}
 use Rattle.catalogue_rules.specs.State.{KeptField, Row, State, linkable_authorities}
 use Rattle.catalogue_rules.specs.Valid.{EachRow, EachField, IsAscending, IsRow, HasRoom, IsTied, IsRewritten, IsSettled, IsValid}
 
+-- the record deletes nothing
 abbrev pub IsLiving : Class → Row → Type 0
 IsLiving class row = is_deletion row.1.leader ≡ false
 

@@ -23,6 +23,7 @@ may_be_heading Bibliographic tag = (tag.a == 49) || (tag.a == 54) || (tag.a == 5
 unfoldable pub suits_field : Class → Tag → Bool → Tie → Bool
 suits_field class tag heading tie = (not tie.whole || is_subdividable class tag) && (not (is_some tie.awaits) || heading)
 
+-- the field is sound alone: its tie says only what it may beside such a field
 unfoldable pub is_sound_field : Class → KeptField → Bool
 is_sound_field class h = suits_field class (tag_of h.field) (is_heading_field class h.field) h.tie
 

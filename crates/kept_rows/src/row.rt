@@ -13,4 +13,5 @@ pub struct KeptRow {
     ghost tied: { length ties ≡ length rec.fields },
 }
 
+/// Kept records under their keys, in their order.
 pub type KeptRows = Sequence<KeptRow>;

@@ -4,9 +4,9 @@ use Rattle.std.specs.Prelude.{if◌then◌else◌}
 use Rattle.std.specs.Cmp.{unsigned_Decides}
 use Rattle.numbering.specs.declared.seat.Seat.{Seat}
 use Rattle.numbering.specs.Seats.{same_seat, seat_Decides}
-use Rattle.place_names.specs.Slots.{standing, put}
-use Rattle.place_names.specs.Counts.{once}
-use Rattle.place_names.proofs.Rows.{itself, itself_one, put_here, put_again, there_and_back, more_than, took_left, came_left, came_sound, went_left, went_sound}
+use Rattle.postings.specs.Slots.{standing, put}
+use Rattle.postings.specs.Counts.{once}
+use Rattle.postings.proofs.Rows.{itself, itself_one, put_here, put_again, there_and_back, more_than, took_left, came_left, came_sound, went_left, went_sound}
 use Rattle.link_table.specs.declared.link.Link.{Link}
 use Rattle.link_table.specs.Links.{Links, with_key, more_taken, less_taken, with_row_taken, with_row_back, leads_to, row_of, IsTaken}
 use Rattle.link_table.specs.Sound.{LinksAgree, seen, leading}

@@ -4,6 +4,7 @@ use Rattle.numbering.specs.declared.seat.Seat.{Seat}
 use Rattle.numbering.specs.Seats.{same_seat}
 use Rattle.link_table.specs.declared.link.Link.{Link}
 
+-- to which authority each seat is linked, and how many rows are taken out
 pub record Links : Type 0 where
   -- the authority to which the seat is linked
   pub key_of : Seat → Option ℕ
@@ -35,6 +36,7 @@ more_taken link links = record {
   taken_from = λ number seat. links.taken_from number seat + one_at link number seat;
 }
 
+-- one row less is taken
 abbrev pub less_taken : Link → Links → Links
 less_taken link links = record {
   key_of = links.key_of;
@@ -46,6 +48,7 @@ less_taken link links = record {
 abbrev pub with_row_taken : Link → Links → Links
 with_row_taken link links = with_key link.seat None (more_taken link links)
 
+-- the row was put back
 abbrev pub with_row_back : Link → Links → Links
 with_row_back link links = with_key link.seat (Some link.number) (less_taken link links)
 

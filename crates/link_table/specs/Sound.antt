@@ -1,7 +1,7 @@
 -- What the two parts of a link table keep of each other.
 use Rattle.std.specs.Prelude.{ℕ, ◌≤◌, ◌-◌, Option, if◌then◌else◌}
 use Rattle.numbering.specs.declared.seat.Seat.{Seat}
-use Rattle.place_names.specs.Slots.{standing}
+use Rattle.postings.specs.Slots.{standing}
 use Rattle.link_table.specs.Links.{Links, leads_to}
 
 -- one where the row leads to the authority

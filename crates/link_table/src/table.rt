@@ -1,14 +1,14 @@
 ghost use Rattle.std.specs.Prelude.{◌≡◌, OnOk, OnErr, IfOk, IfSome, IfNone, None, Some, filter};
 ghost use Rattle.numbering.specs.Seats.{same_seat};
-ghost use Rattle.place_names.specs.Slots.{row_at, rooms_at};
-ghost use Rattle.place_names.specs.Counts.{times};
-ghost use Rattle.place_names.specs.Listed.{ListsEach};
+ghost use Rattle.postings.specs.Slots.{row_at, rooms_at};
+ghost use Rattle.postings.specs.Counts.{times};
+ghost use Rattle.postings.specs.Listed.{ListsEach};
 ghost use Rattle.link_table.specs.Sound.{LinksAgree};
 
 use crate::Link;
 use marc_types::NoMemory;
 use numbering::{Seat, Seats};
-use place_names::{Counts, Slots};
+use postings::{Counts, Slots};
 use std::alloc::Global;
 
 /// Links of seats to authorities. A seat is linked to one authority at most.

@@ -35,7 +35,7 @@ use Rattle.form_index.specs.Order.{key_at, no_key}
 use Rattle.catalogue_tables.specs.Following.{TellsAuthorities}
 use Rattle.catalogue_tables.specs.declared.tables.CatalogueTables.{CatalogueTables}
 use Rattle.catalogue_tables.proofs.Followed.{tells_kept}
-use Rattle.linked_store.specs.Frames.{FormsKeep}
+use Rattle.linked_store.specs.Transactions.{FormsKeep}
 use Rattle.std.specs.List.{IsDistinct}
 use Rattle.catalogue_tables.specs.Seam.{AreDistinct, HasKey, IsRenumbered, IsWithin, IsSeatOf, KeyLists, KeysKeep, keys_in, place_at, told}
 use Rattle.catalogue_tables.specs.Asked.{first_of}

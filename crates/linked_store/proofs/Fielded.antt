@@ -29,15 +29,15 @@ use Rattle.catalogue_tables.proofs.Seams.{keeps_then, numbers_alike, numbers_low
 use Rattle.linked_store.specs.Contents.{CanGoBack, Contents, Step}
 use Rattle.linked_store.proofs.Going.{can_join}
 use Rattle.linked_store.specs.Fielding.{IsLinkNumber, IsRowFor}
-use Rattle.linked_store.specs.Frames.{GoesBack, GoesOn, contents, steps_of}
+use Rattle.linked_store.specs.Transactions.{GoesBack, GoesOn, contents, steps_of}
 use Rattle.linked_store.specs.Linked.{IsAhead, IsUnchanged, KeysGrow, Linked, SuitsSeat, field_of, record_at}
 use Rattle.linked_store.specs.Sound.{AgreesWith, IsSound, key_lists, keys_of, linked_view, state_in}
 use Rattle.linked_store.specs.Turning.{IsLinkOf, IsWaitOf, turned}
 use Rattle.linked_store.specs.Turns.{IsTurned, IsWaitingOf}
-use Rattle.linked_store.specs.declared.frame.Frame.{Frame}
+use Rattle.linked_store.specs.declared.transaction.Transaction.{Transaction}
 use Rattle.linked_store.specs.declared.turns.Row.{Row}
 use Rattle.linked_store.proofs.Agreed.{agrees_turned, keys_keep, state_turned}
-use Rattle.linked_store.proofs.Framed.{forms_same, rows_then, steps_long}
+use Rattle.linked_store.proofs.Noted.{forms_same, rows_then, steps_long}
 use Rattle.linked_store.proofs.Keyed.{record_there}
 use Rattle.linked_store.proofs.Wanting.{leading_one}
 use Rattle.linked_store.proofs.Sounding.{mark_stays, now_undone, same_view, sound_on, sound_same, start_stays, steps_undone}
@@ -106,7 +106,7 @@ wait_of forms keys class h (Some row) (Some waiting) says is = record {
 pub field_there : (seat : Seat) (s : Numbered) → HasKey (key_lists s.keys) seat → field_by_number seat s ≡ field_under (place_at (key_lists s.keys) seat) s.state
 field_there seat s low = ap (option_and_then (field_at seat.field)) (record_there seat.class seat.number s low)
 
-pub suits_number : (seat : Seat) (h : KeptField) (f : Frame) (marked : ℕ) → SuitsSeat seat h (linked_view f marked) → SuitsByNumber seat h.field f.store
+pub suits_number : (seat : Seat) (h : KeptField) (f : Transaction) (marked : ℕ) → SuitsSeat seat h (linked_view f marked) → SuitsByNumber seat h.field f.store
 suits_number seat h f marked suits =
     let there = sym (record_there seat.class seat.number f.store suits.known) in
     record {
@@ -114,7 +114,7 @@ suits_number seat h f marked suits =
       fits = subst (λ (o : Option KeptRecord). IfSome o (StaysFit seat.field h.field)) there suits.fits;
     }
 
-pub stands_number : (seat : Seat) (h : KeptField) (f : Frame) (marked : ℕ) → SuitsSeat seat h (linked_view f marked) → IsSome (field_by_number seat f.store)
+pub stands_number : (seat : Seat) (h : KeptField) (f : Transaction) (marked : ℕ) → SuitsSeat seat h (linked_view f marked) → IsSome (field_by_number seat f.store)
 stands_number seat h f marked suits = subst (λ (o : Option KeptField). IsSome o) (sym (field_there seat f.store suits.known)) suits.stands
 
 some_at : {T : Type 0} (o : Option T) → IsSome o → (x : T) × (o ≡ Some x)
@@ -126,10 +126,10 @@ some_at (Some x) some = (x, refl)
 keys_grow_none : (keys : KeyLists) → KeysGrow keys keys
 keys_grow_none keys = record { keep = keys_keep keys; seats = λ seat low. low; places = λ seat low. refl }
 
-pub keys_turned : (seat : Seat) (h : KeptField) (link : Option ℕ) (row : Option Row) (f g : Frame) → IsTurned seat h link row f g → g.store.keys ≡ f.store.keys
+pub keys_turned : (seat : Seat) (h : KeptField) (link : Option ℕ) (row : Option Row) (f g : Transaction) → IsTurned seat h link row f g → g.store.keys ≡ f.store.keys
 keys_turned seat h link row f g turned = ap (λ (c : Contents). c.numbered.keys) turned.now
 
-pub sound_turned : (seat : Seat) (h : KeptField) (link : Option ℕ) (row : Option Row) (f g : Frame) (marked : ℕ) → IsSound f marked → SuitsSeat seat h (linked_view f marked)
+pub sound_turned : (seat : Seat) (h : KeptField) (link : Option ℕ) (row : Option Row) (f g : Transaction) (marked : ℕ) → IsSound f marked → SuitsSeat seat h (linked_view f marked)
     → IsLinkNumber (keys_of (contents f)).authorities h.tie.key link → IsRowFor seat.class h (keys_of (contents f)).authorities row → GoesOn f g → IsTurned seat h link row f g → IsSound g marked
 sound_turned seat h link row f g marked sound suits is_link is_row goes is =
     let was = some_at (field_of seat (linked_view f marked)) suits.stands in
@@ -140,11 +140,11 @@ sound_turned seat h link row f g marked sound suits is_link is_row goes is =
     (link_of (keys_of (contents f)).authorities h link is_link)
     (wait_of g.tables.forms (keys_of (contents f)).authorities seat.class h row is.waiting is_row is.is) sound.now))
 
-pub state_turned_to : (seat : Seat) (h : KeptField) (link : Option ℕ) (row : Option Row) (f g : Frame) (marked : ℕ) → SuitsSeat seat h (linked_view f marked) → IsTurned seat h link row f g
+pub state_turned_to : (seat : Seat) (h : KeptField) (link : Option ℕ) (row : Option Row) (f g : Transaction) (marked : ℕ) → SuitsSeat seat h (linked_view f marked) → IsTurned seat h link row f g
     → state_in (contents g) ≡ swapped (place_at (keys_of (contents f)) seat) h (state_in (contents f))
 state_turned_to seat h link row f g marked suits is = ap state_in is.now ∙ state_turned seat h f.store suits.known
 
-pub ahead_turned : (f g : Frame) (marked : ℕ) → IsSound f marked → GoesOn f g → g.store.keys ≡ f.store.keys → IsAhead (linked_view f marked) (linked_view g marked)
+pub ahead_turned : (f g : Transaction) (marked : ℕ) → IsSound f marked → GoesOn f g → g.store.keys ≡ f.store.keys → IsAhead (linked_view f marked) (linked_view g marked)
 ahead_turned f g marked sound goes keys = record {
   keys = subst (λ k. KeysGrow (keys_of (contents f)) (key_lists k)) (sym keys) (keys_grow_none (keys_of (contents f)));
   marked = ap state_in (mark_stays f g marked goes keys sound);
@@ -152,7 +152,7 @@ ahead_turned f g marked sound goes keys = record {
 }
 
 -- the turn was taken back
-module _ (f middle g : Frame) (marked : ℕ) (sound : IsSound f marked) (goes : GoesOn f middle) (back : GoesBack (length (steps_of f)) middle g) where
+module _ (f middle g : Transaction) (marked : ℕ) (sound : IsSound f marked) (goes : GoesOn f middle) (back : GoesBack (length (steps_of f)) middle g) where
   pub sound_undone : IsSound g marked
   sound_undone =
       sound_same f g marked (steps_undone f middle g goes back) (now_undone f middle g goes back) sound
@@ -166,14 +166,14 @@ ahead_same x y e = subst (λ z. IsAhead x z) (sym e) (record { keys = keys_grow_
 
 -- ---- how a call leaves the store, of which its caller saw this
 
-pub record IsLeft (seen : Linked) (state : State) (g : Frame) (marked : ℕ) : Type 0 where
+pub record IsLeft (seen : Linked) (state : State) (g : Transaction) (marked : ℕ) : Type 0 where
   pub sound : IsSound g marked
   pub state_is : state_in (contents g) ≡ state
   pub ahead : IsAhead seen (linked_view g marked)
 
-module _ (f : Frame) (marked : ℕ) (seen : Linked) (view : linked_view f marked ≡ seen) (sound : IsSound f marked) where
+module _ (f : Transaction) (marked : ℕ) (seen : Linked) (view : linked_view f marked ≡ seen) (sound : IsSound f marked) where
   -- as it was
-  pub left_undone : (middle g : Frame) (position : ℕ) → position ≡ f.log.len → GoesOn f middle → GoesBack position middle g → IsLeft seen seen.state g marked
+  pub left_undone : (middle g : Transaction) (position : ℕ) → position ≡ f.log.len → GoesOn f middle → GoesBack position middle g → IsLeft seen seen.state g marked
   left_undone middle g position at goes back =
       let whole : position ≡ length (steps_of f) = omega (arith, at, f.log.ok.0, steps_long f.log.items) in
       let went : GoesBack (length (steps_of f)) middle g = subst (λ n. GoesBack n middle g) whole back in
@@ -185,7 +185,7 @@ module _ (f : Frame) (marked : ℕ) (seen : Linked) (view : linked_view f marked
       }
 
   -- with the field exchanged
-  pub left_turned : (seat : Seat) (h : KeptField) (link : Option ℕ) (row : Option Row) (g : Frame) → SuitsSeat seat h seen → IsLinkNumber seen.keys.authorities h.tie.key link
+  pub left_turned : (seat : Seat) (h : KeptField) (link : Option ℕ) (row : Option Row) (g : Transaction) → SuitsSeat seat h seen → IsLinkNumber seen.keys.authorities h.tie.key link
       → IsRowFor seat.class h seen.keys.authorities row → GoesOn f g → IsTurned seat h link row f g → IsLeft seen (swapped (place_at seen.keys seat) h seen.state) g marked
   left_turned seat h link row g suits is_link is_row goes is =
       let suits_seat : SuitsSeat seat h (linked_view f marked) = subst (λ (x : Linked). SuitsSeat seat h x) (sym view) suits in
@@ -249,7 +249,7 @@ pub state_then : (seat : Seat) (h : KeptField) (x y z : Linked) → IsUnchanged 
 state_then seat h x y z same low is = is ∙ (λ i. swapped (same.ahead.keys.places seat low i) h (same.state i))
 
 -- the way back goes on
-pub can_on : (f g : Frame) → GoesOn f g → CanGoBack (steps_of f) (contents f) → CanGoBack (steps_of g) (contents g)
+pub can_on : (f g : Transaction) → GoesOn f g → CanGoBack (steps_of f) (contents f) → CanGoBack (steps_of g) (contents g)
 can_on f g goes can =
     subst (λ (l : List Step). CanGoBack l (contents g)) (sym goes.steps)
     (can_join (steps_of f) goes.more (contents g) (subst (λ x. CanGoBack (steps_of f) x) (sym goes.back) can) goes.can)

@@ -12,11 +12,11 @@ use Rattle.numbered_store.specs.Numbered.{Numbered}
 use Rattle.catalogue_tables.specs.Following.{FollowsAuthority, IsWayBack, authority_brought, restored}
 use Rattle.catalogue_tables.specs.Tables.{OnlyIndex, OnlyIndexAndForms}
 use Rattle.linked_store.specs.Contents.{CanReturn, HaveRooms, Step, ToIndex}
-use Rattle.linked_store.specs.Frames.{GoesOn, KeepsRows, LetsGo, TakesBack, links_in, steps_of, waits_in}
+use Rattle.linked_store.specs.Transactions.{GoesOn, KeepsRows, LetsGo, TakesBack, links_in, steps_of, waits_in}
 use Rattle.catalogue_tables.specs.declared.tables.CatalogueTables.{CatalogueTables}
 use Rattle.linked_store.specs.Placing.{IsFollowed}
-use Rattle.linked_store.specs.declared.frame.Frame.{Frame}
-use Rattle.linked_store.proofs.Framed.{forms_only, goes_one}
+use Rattle.linked_store.specs.declared.transaction.Transaction.{Transaction}
+use Rattle.linked_store.proofs.Noted.{forms_only, goes_one}
 use Rattle.linked_store.proofs.Going.{rooms_less, rooms_more}
 
 same_links : (old new : CatalogueTables) → new.links ≡ old.links → links_in new ≡ links_in old
@@ -34,7 +34,7 @@ rooms_by : (steps : List Step) (l m : Links) (w v : Waits) → m ≡ l → v ≡
 rooms_by steps l m w v links waits r = subst (λ (x : Waits). HaveRooms steps m x) (sym waits) (subst (λ (x : Links). HaveRooms steps x w) (sym links) r)
 
 -- the index followed
-pub goes_followed : (old new : Frame) (number : ℕ) (row : Option Taken) (keys : List Key) → keys ≡ old.store.keys.authorities → steps_of new ≡ steps_of old ++ ToIndex number row ∷ []
+pub goes_followed : (old new : Transaction) (number : ℕ) (row : Option Taken) (keys : List Key) → keys ≡ old.store.keys.authorities → steps_of new ≡ steps_of old ++ ToIndex number row ∷ []
     → new.store ≡ old.store → OnlyIndexAndForms keys old.tables new.tables → IsWayBack keys number row old.tables.index new.tables.index → number < length keys → GoesOn old new
 goes_followed old new number row keys same steps store only way low =
     let own : keys ≡ new.store.keys.authorities = same ∙ ap (λ (s : Numbered). s.keys.authorities) (sym store) in
@@ -49,7 +49,7 @@ goes_followed old new number row keys same steps store only way low =
     (rooms_index (steps_of old) number row (links_in old.tables) (waits_in old.tables) r)))
     (record { forms = only.forms })
 
-pub followed : (old new : Frame) (number : ℕ) (e : Entry) (keys : List Key) → keys ≡ old.store.keys.authorities → OnlyIndexAndForms keys old.tables new.tables
+pub followed : (old new : Transaction) (number : ℕ) (e : Entry) (keys : List Key) → keys ≡ old.store.keys.authorities → OnlyIndexAndForms keys old.tables new.tables
     → FollowsAuthority new.tables.forms number (authority_brought (arrival_of e)) old.tables.index new.tables.index → IsFollowed number e old new
 followed old new number e keys same only follows = record {
   follows = follows;
@@ -61,7 +61,7 @@ followed old new number e keys same only follows = record {
 }
 
 -- the index went back
-pub back_indexed : (old new : Frame) (number : ℕ) (row : Option Taken) (keys : List Key) → keys ≡ old.store.keys.authorities → new.store ≡ old.store → new.log.items ≡ old.log.items
+pub back_indexed : (old new : Transaction) (number : ℕ) (row : Option Taken) (keys : List Key) → keys ≡ old.store.keys.authorities → new.store ≡ old.store → new.log.items ≡ old.log.items
     → OnlyIndex keys old.tables new.tables → new.tables.index ≡ restored keys number row old.tables.index → TakesBack (ToIndex number row) old new
 back_indexed old new number row keys same store log only is =
     let index = is ∙ ap (λ (k : List Key). restored k number row old.tables.index) same in

@@ -26,10 +26,10 @@ use Rattle.form_index.specs.Order.{key_at}
 use Rattle.catalogue_tables.specs.Seam.{AreDistinct, HasKey, IsWithin, KeyLists, KeysKeep, keys_in, place_at}
 use Rattle.linked_store.specs.Contents.{CanGoBack, Contents, HaveRooms, Step, apply_back, step_of}
 use Rattle.linked_store.specs.Leading.{leads_at}
-use Rattle.linked_store.specs.Frames.{contents, links_in, steps_of, waits_in}
+use Rattle.linked_store.specs.Transactions.{contents, links_in, steps_of, waits_in}
 use Rattle.linked_store.specs.Linked.{IsNumber, IsUnchanged, KeysGrow, empty_linked, key_of}
 use Rattle.linked_store.specs.Sound.{AgreesWith, IsSound, at_start, key_lists, keys_of, linked_view, state_in}
-use Rattle.linked_store.specs.declared.frame.Frame.{Frame}
+use Rattle.linked_store.specs.declared.transaction.Transaction.{Transaction}
 use Rattle.linked_store.proofs.Agreed.{key_there, keys_alike}
 use Rattle.form_index.specs.Forms.{Forms}
 use Rattle.form_index.specs.Index.{Indexed, IsInOrder, no_index, row_under as row_in}
@@ -39,7 +39,7 @@ use Rattle.marc_types.specs.declared.form.Form.{Form}
 use Rattle.catalogue_tables.specs.Following.{IsRowFor, TellsAuthorities}
 use Rattle.catalogue_tables.specs.declared.tables.CatalogueTables.{CatalogueTables}
 use Rattle.catalogue_tables.proofs.Followed.{tells_nobody}
-use Rattle.linked_store.proofs.Framed.{rows_same}
+use Rattle.linked_store.proofs.Noted.{rows_same}
 use Rattle.linked_store.proofs.Sounding.{IsGrown, before_grown, marked_grown}
 
 -- ---- one key gets a number
@@ -137,7 +137,7 @@ agrees_nothing tables order = record {
   naming = λ key p valid. holds_nowhere (waits_for_key key) p;
 }
 
-module _ (f : Frame) (store : f.store ≡ empty_numbered) (links : links_in f.tables ≡ no_links) (waits : waits_in f.tables ≡ no_waits) (log : f.log.items ≡ []) (index : f.tables.index ≡ no_index) (order : (keys : List Key) → IsInOrder keys f.tables.index) where
+module _ (f : Transaction) (store : f.store ≡ empty_numbered) (links : links_in f.tables ≡ no_links) (waits : waits_in f.tables ≡ no_waits) (log : f.log.items ≡ []) (index : f.tables.index ≡ no_index) (order : (keys : List Key) → IsInOrder keys f.tables.index) where
   contents_none : contents f ≡ nothing
   contents_none = λ i. record { numbered = store i; index = index i; links = (links i).key_of; waits = (waits i).waiting }
 
@@ -174,9 +174,9 @@ module _ (f : Frame) (store : f.store ≡ empty_numbered) (links : links_in f.ta
 
 -- ---- a number is given
 
--- what the store's growth is to the frame
-pub frame_grown : (f g : Frame) → AreDistinct (key_lists f.store.keys) → GrowsBy f.store g.store → g.tables ≡ f.tables → g.log.items ≡ f.log.items → IsGrown f g
-frame_grown f g distinct by tables log = record {
+-- what the store's growth is to the transaction
+pub transaction_grown : (f g : Transaction) → AreDistinct (key_lists f.store.keys) → GrowsBy f.store g.store → g.tables ≡ f.tables → g.log.items ≡ f.log.items → IsGrown f g
+transaction_grown f g distinct by tables log = record {
   grows = record { numbered = by.grows; keep = by.keep.authorities; distinct = distinct.authorities; index = ap (λ t. t.index) tables; links = ap (λ t. (links_in t).key_of) tables; waits = ap (λ t. (waits_in t).waiting) tables };
   keep = by.keep;
   distinct = by.distinct distinct;
@@ -188,7 +188,7 @@ frame_grown f g distinct by tables log = record {
 }
 
 -- nothing is as it was but the numbers
-pub view_unchanged : (f g : Frame) (marked : ℕ) → IsGrown f g → IsSound f marked → IsUnchanged (linked_view f marked) (linked_view g marked)
+pub view_unchanged : (f g : Transaction) (marked : ℕ) → IsGrown f g → IsSound f marked → IsUnchanged (linked_view f marked) (linked_view g marked)
 view_unchanged f g marked grown sound = record {
   ahead = record {
     keys = keys_grow f.store g.store grown.grows.numbered grown.keep;

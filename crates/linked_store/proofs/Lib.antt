@@ -1,6 +1,6 @@
 pub mod Outside
 pub mod Going
-pub mod Framed
+pub mod Noted
 pub mod Indexed
 pub mod Agreed
 pub mod Telling

@@ -19,7 +19,7 @@ use Rattle.link_table.specs.Links.{is_linked}
 use Rattle.wait_table.specs.Waits.{names}
 use Rattle.catalogue_rules.specs.Settle.{is_linked_to}
 use Rattle.catalogue_rules.specs.Store.{field_under}
-use Rattle.place_names.specs.Listed.{ListsEach}
+use Rattle.postings.specs.Listed.{ListsEach}
 use Rattle.linking_laws.specs.Tables.{Agree, Tables, dropped_at, holds_at, index_row, linked_at}
 use Rattle.linking_laws.specs.Visits.{waits_for_key}
 use Rattle.linking_laws.specs.Waiting.{is_waiting_for}

@@ -5,7 +5,7 @@ use Rattle.numbering.specs.Seats.{same_seat, seat_Decides}
 use Rattle.numbering.specs.declared.seat.Seat.{Seat}
 use Rattle.link_table.specs.Links.{Links, less_taken, row_of, with_key, with_row_taken}
 use Rattle.link_table.specs.declared.link.Link.{Link}
-use Rattle.place_names.specs.Counts.{brought}
+use Rattle.postings.specs.Counts.{brought}
 use Rattle.wait_table.specs.Waits.{Waits, forms_of, less_taken as less_waiting, row_of as wait_row_of, with_row_taken as with_wait_taken, with_waiting}
 use Rattle.wait_table.specs.declared.waiting.Waiting.{Waiting}
 use Rattle.wait_table.specs.declared.waiting.WaitRow.{WaitRow}

@@ -56,14 +56,14 @@ use Rattle.catalogue_tables.proofs.Comings.{follows_arrival}
 use Rattle.catalogue_tables.proofs.Followed.{tells_kept}
 use Rattle.catalogue_tables.proofs.Seams.{key_numbered, seat_alike, told_stays, within_kept}
 use Rattle.linked_store.specs.Contents.{Contents}
-use Rattle.linked_store.specs.Frames.{FormsKeep, GoesOn, contents}
+use Rattle.linked_store.specs.Transactions.{FormsKeep, GoesOn, contents}
 use Rattle.linked_store.specs.Leading.{leading_by, leads, leads_at, leads_form}
 use Rattle.linked_store.specs.Linked.{IsAhead, Linked}
 use Rattle.linking_laws.specs.Commits.{placed_by}
 use Rattle.linked_store.specs.Placing.{AreRowsOf, IndexFollows, IsElsewhere, IsPlaced, IsRowAt, fields_brought, record_brought, row_of_field, seat_in}
 use Rattle.linked_store.specs.Sound.{AgreesWith, IsSound, key_lists, keys_of, linked_view, seen_links, seen_waits, state_in}
 use Rattle.linked_store.specs.Turns.{IsWaitingOf}
-use Rattle.linked_store.specs.declared.frame.Frame.{Frame}
+use Rattle.linked_store.specs.declared.transaction.Transaction.{Transaction}
 use Rattle.linked_store.specs.declared.seating.FieldRow.{FieldRow}
 use Rattle.linked_store.specs.declared.turns.Row.{Row}
 use Rattle.linked_store.proofs.Agreed.{key_there, keys_alike, keys_keep, within_first}
@@ -131,7 +131,7 @@ field_brought a j = at (is_deletion a.leader)
 
 -- ---- the index
 
-told_placed : (k : Class) (number : ℕ) (e : Entry) (f g : Frame) (keys : KeyLists) (s : State) → AreDistinct keys → f.store.keys.authorities ≡ keys.authorities → AreOrdered s
+told_placed : (k : Class) (number : ℕ) (e : Entry) (f g : Transaction) (keys : KeyLists) (s : State) → AreDistinct keys → f.store.keys.authorities ≡ keys.authorities → AreOrdered s
     → IsNumberOf same_key (keys_in k keys) e.key number → Keeps same_form f.tables.forms g.tables.forms → IndexFollows k number e f g
     → TellsAuthorities f.tables.forms keys.authorities f.tables.index (linkable_authorities s)
     → TellsAuthorities g.tables.forms keys.authorities g.tables.index (linkable_authorities (placed_in k (arrival_of e) s))
@@ -276,7 +276,7 @@ seat_back_number keys distinct seat low = key_numbered (keys_in seat.class keys)
     distinct_by Authority = distinct.authorities
     distinct_by Bibliographic = distinct.bibliographic
 
-module _ (f g : Frame) (number : ℕ) (e : Entry) (rows : List FieldRow) (distinct : AreDistinct (keys_of (contents f))) (low : number < length (keys_in e.class (keys_of (contents f))))
+module _ (f g : Transaction) (number : ℕ) (e : Entry) (rows : List FieldRow) (distinct : AreDistinct (keys_of (contents f))) (low : number < length (keys_in e.class (keys_of (contents f))))
     (key : key_at (keys_in e.class (keys_of (contents f))) number ≡ e.key) (is : IsPlaced number e rows f g)
     (rows_are : AreRowsOf e.class (keys_of (contents f)).authorities (fields_brought (arrival_of e)) rows) (forms : FormsKeep f.tables g.tables) (agrees : AgreesWith f.tables (contents f)) where
   abbrev a : Arrival
@@ -469,7 +469,7 @@ module _ (f g : Frame) (number : ℕ) (e : Entry) (rows : List FieldRow) (distin
 pub known_by_number : (class : Class) (s : Numbered) (key : Key) (number : ℕ) → IsNumberOf same_key (keys_in class (key_lists s.keys)) key number → number < length (keys_by class s.keys)
 known_by_number class s key number of = subst (λ (l : List Key). number < length l) (keys_alike class s) (low_number (keys_in class (key_lists s.keys)) key number of)
 
-module _ (f g : Frame) (marked number : ℕ) (e : Entry) (rows : List FieldRow) (sound : IsSound f marked) (of : IsNumberOf same_key (keys_in e.class (linked_view f marked).keys) e.key number)
+module _ (f g : Transaction) (marked number : ℕ) (e : Entry) (rows : List FieldRow) (sound : IsSound f marked) (of : IsNumberOf same_key (keys_in e.class (linked_view f marked).keys) e.key number)
     (rows_are : AreRowsOf e.class (linked_view f marked).keys.authorities (fields_brought (arrival_of e)) rows) (is : IsPlaced number e rows f g) (goes : GoesOn f g) where
   low : number < length (keys_in e.class (linked_view f marked).keys)
   low = low_number (keys_in e.class (linked_view f marked).keys) e.key number of
@@ -489,7 +489,7 @@ module _ (f g : Frame) (marked number : ℕ) (e : Entry) (rows : List FieldRow) 
   ahead_placed = ahead_turned f g marked sound goes (ap (λ (s : Numbered). s.keys) is.store)
 
 -- how the call leaves the store, of which its caller saw this
-pub left_placed : (f g : Frame) (marked : ℕ) (seen : Linked) → linked_view f marked ≡ seen → IsSound f marked → (number : ℕ) (e : Entry) (rows : List FieldRow)
+pub left_placed : (f g : Transaction) (marked : ℕ) (seen : Linked) → linked_view f marked ≡ seen → IsSound f marked → (number : ℕ) (e : Entry) (rows : List FieldRow)
     → IsNumberOf same_key (keys_in e.class seen.keys) e.key number → AreRowsOf e.class seen.keys.authorities (fields_brought (arrival_of e)) rows → IsPlaced number e rows f g → GoesOn f g
     → IsLeft seen (placed_by e.class seen.state e) g marked
 left_placed f g marked seen view sound number e rows of rows_are is goes =

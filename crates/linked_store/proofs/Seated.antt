@@ -22,13 +22,13 @@ use Rattle.numbered_store.specs.Numbered.{KeyNumbers, Numbered, with_record}
 use Rattle.wait_table.specs.declared.waiting.Waiting.{Waiting}
 use Rattle.catalogue_tables.specs.Waiting.{AreNumbersOf}
 use Rattle.linked_store.specs.Contents.{Contents, ToRecord, ToWait, apply, at_seat}
-use Rattle.linked_store.specs.Frames.{FormsKeep, GoesOn, contents}
+use Rattle.linked_store.specs.Transactions.{FormsKeep, GoesOn, contents}
 use Rattle.linked_store.specs.Placing.{AreApart, AreFreeFrom, HasRow, HaveRows, IndexFollows, IsElsewhere, IsPlaced, IsReseated, StaysAt, StaysInSeats, record_brought, row_of_field, seat_in}
 use Rattle.linked_store.specs.Turns.{IsWaiting, IsWaitingOf, row_lent, without_rows}
-use Rattle.linked_store.specs.declared.frame.Frame.{Frame}
+use Rattle.linked_store.specs.declared.transaction.Transaction.{Transaction}
 use Rattle.linked_store.specs.declared.seating.FieldRow.{FieldRow}
 use Rattle.linked_store.specs.declared.turns.Row.{Row}
-use Rattle.linked_store.proofs.Framed.{goes_none, goes_then}
+use Rattle.linked_store.proofs.Noted.{goes_none, goes_then}
 use Rattle.linked_store.proofs.Outside.{gone_at}
 use Rattle.linked_store.proofs.Turned.{no_link_at, no_row_at}
 
@@ -112,7 +112,7 @@ other_field class number one other apart =
     (λ e. apart (ap (λ (s : Seat). s.field) ((seat_Decides (seat_in class number one) (seat_in class number other)).0 e)))
 
 -- how far a record's seats are cleared
-pub record IsClearing (class : Class) (number done : ℕ) (start now : Frame) : Type 0 where
+pub record IsClearing (class : Class) (number done : ℕ) (start now : Transaction) : Type 0 where
   pub own : (field : ℕ) → field < done → HasRow now.tables.forms None (seat_in class number field) (contents now)
   pub later : (field : ℕ) → done ≤ field → StaysAt (seat_in class number field) (contents start) (contents now)
   pub others : (seat : Seat) → IsElsewhere class number seat → StaysAt seat (contents start) (contents now)
@@ -120,7 +120,7 @@ pub record IsClearing (class : Class) (number done : ℕ) (start now : Frame) : 
   pub index : now.tables.index ≡ start.tables.index
   pub goes : GoesOn start now
 
-pub clearing : (class : Class) (number : ℕ) (start : Frame) → IsClearing class number 0 start start
+pub clearing : (class : Class) (number : ℕ) (start : Transaction) → IsClearing class number 0 start start
 clearing class number start = record {
   own = λ field low. absurd (omega (arith, low));
   later = λ field high. record { link = refl; waiting = refl };
@@ -130,7 +130,7 @@ clearing class number start = record {
   goes = goes_none start start refl refl refl;
 }
 
-pub cleared_more : (class : Class) (number done : ℕ) (start now next : Frame) → IsClearing class number done start now
+pub cleared_more : (class : Class) (number done : ℕ) (start now next : Transaction) → IsClearing class number done start now
     → contents next ≡ without_rows (seat_in class number done) (contents now) → next.store ≡ now.store → GoesOn now next → IsClearing class number (done + 1) start next
 cleared_more class number done start now next way out store goes =
     let seat = seat_in class number done in
@@ -163,7 +163,7 @@ cleared_more class number done start now next way out store goes =
         subst (λ (n : ℕ). HasRow next.tables.forms None (seat_in class number n) (contents next)) (sym last) gone
 
 -- no seat of the record has a row then
-pub cleared : (class : Class) (number fields done : ℕ) (start now : Frame) → AreFreeFrom start.tables.forms class number fields (contents start)
+pub cleared : (class : Class) (number fields done : ℕ) (start now : Transaction) → AreFreeFrom start.tables.forms class number fields (contents start)
     → fields ≤ done → IsClearing class number done start now → IsReseated class number [] start now
 cleared class number fields done start now free all way = record {
   store = way.store;
@@ -180,7 +180,7 @@ cleared class number fields done start now free all way = record {
         (way.later field high) (free field (omega (arith, all, high)))
 
 -- how far the rows have come in: those of the last fields are in, and those that are left are out
-pub record IsSeating (class : Class) (number : ℕ) (whole left : List FieldRow) (start now : Frame) : Type 0 where
+pub record IsSeating (class : Class) (number : ℕ) (whole left : List FieldRow) (start now : Transaction) : Type 0 where
   pub rest : List FieldRow
   pub parts : whole ≡ left ++ rest
   pub own : HaveRows now.tables.forms class number rest (contents now)
@@ -193,7 +193,7 @@ whole_alone : (rows : List FieldRow) → rows ≡ rows ++ []
 whole_alone [] = refl
 whole_alone (row ∷ rows) = ap (λ l. row ∷ l) (whole_alone rows)
 
-pub seating : (class : Class) (number : ℕ) (rows : List FieldRow) (start : Frame) → HaveRows start.tables.forms class number [] (contents start)
+pub seating : (class : Class) (number : ℕ) (rows : List FieldRow) (start : Transaction) → HaveRows start.tables.forms class number [] (contents start)
     → IsSeating class number rows rows start start
 seating class number rows start free = record {
   rest = [];
@@ -213,7 +213,7 @@ apart_behind : (left rest : List FieldRow) → AreApart (left ++ rest) → AreAp
 apart_behind [] rest apart = apart
 apart_behind (x ∷ left) rest apart = apart_behind left rest apart.1
 
-module _ (class : Class) (number : ℕ) (whole left : List FieldRow) (one : FieldRow) (start now : Frame) (apart : AreApart whole)
+module _ (class : Class) (number : ℕ) (whole left : List FieldRow) (one : FieldRow) (start now : Transaction) (apart : AreApart whole)
     (way : IsSeating class number whole (left ++ one ∷ []) start now) where
   parted : whole ≡ left ++ (one ∷ way.rest)
   parted = way.parts ∙ regrouped left way.rest one
@@ -225,7 +225,7 @@ module _ (class : Class) (number : ℕ) (whole left : List FieldRow) (one : Fiel
   pub waits_not : (contents now).waits (seat_in class number one.field) ≡ None
   waits_not = no_wait_there now.tables.forms (row_of_field one.field way.rest) (seat_in class number one.field) (contents now) new_field_row (way.own one.field)
 
-  pub seated_more : (next : Frame) → IsWaiting (seat_in class number one.field) (Some (row_lent one.row)) now next → next.store ≡ now.store → GoesOn now next
+  pub seated_more : (next : Transaction) → IsWaiting (seat_in class number one.field) (Some (row_lent one.row)) now next → next.store ≡ now.store → GoesOn now next
       → IsSeating class number whole left start next
   seated_more next waits store goes = record {
     rest = one ∷ way.rest;
@@ -261,7 +261,7 @@ module _ (class : Class) (number : ℕ) (whole left : List FieldRow) (one : Fiel
           (stays (seat_in class number field) (other_field class number one.field field (λ same. false≢true (sym e ∙ (unsigned_Decides one.field field).1 same))))
           (way.own field))
 
-pub seated : (class : Class) (number : ℕ) (whole left : List FieldRow) (start now : Frame) → IsSeating class number whole left start now → left ≡ []
+pub seated : (class : Class) (number : ℕ) (whole left : List FieldRow) (start now : Transaction) → IsSeating class number whole left start now → left ≡ []
     → IsReseated class number whole start now
 seated class number whole left start now way none =
     let all : way.rest ≡ whole = sym (way.parts ∙ ap (λ (l : List FieldRow). l ++ way.rest) none) in
@@ -273,7 +273,7 @@ seated class number whole left start now way none =
     }
 
 -- cleared, and then seated
-pub reseated : (class : Class) (number : ℕ) (rows : List FieldRow) (f a b : Frame) → IsReseated class number [] f a → IsReseated class number rows a b
+pub reseated : (class : Class) (number : ℕ) (rows : List FieldRow) (f a b : Transaction) → IsReseated class number [] f a → IsReseated class number rows a b
     → IsReseated class number rows f b
 reseated class number rows f a b first second = record {
   store = second.store ∙ first.store;
@@ -284,14 +284,14 @@ reseated class number rows f a b first second = record {
 
 -- ---- the rows, the record and the index
 
-follows_from : (k : Class) (number : ℕ) (e : Entry) (f b g : Frame) → b.tables.index ≡ f.tables.index → b.store.keys ≡ f.store.keys → IndexFollows k number e b g → IndexFollows k number e f g
+follows_from : (k : Class) (number : ℕ) (e : Entry) (f b g : Transaction) → b.tables.index ≡ f.tables.index → b.store.keys ≡ f.store.keys → IndexFollows k number e b g → IndexFollows k number e f g
 follows_from Authority number e f b g index keys follows = (
   subst (λ (x : Indexed). FollowsAuthority g.tables.forms number (authority_brought (arrival_of e)) x g.tables.index) index follows.0,
   subst (λ (ks : KeyNumbers). IsInOrder ks.authorities g.tables.index) keys follows.1,
 )
 follows_from Bibliographic number e f b g index keys follows = follows ∙ index
 
-placed_all : (number : ℕ) (e : Entry) (rows : List FieldRow) (r : Option KeptRecord) (f a b g : Frame) → IsReseated e.class number rows f a
+placed_all : (number : ℕ) (e : Entry) (rows : List FieldRow) (r : Option KeptRecord) (f a b g : Transaction) → IsReseated e.class number rows f a
     → contents b ≡ apply (ToRecord e.class number r) (contents a) → b.tables ≡ a.tables → r ≡ record_brought (arrival_of e) → g.store ≡ b.store → FormsKeep b.tables g.tables
     → IndexFollows e.class number e b g → StaysInSeats b g → IsPlaced number e rows f g
 placed_all number e rows r f a b g seats now tables kept store forms follows stays =
@@ -312,7 +312,7 @@ placed_all number e rows r f a b g seats now tables kept store forms follows sta
           record { link = (here seat).link ∙ was.link; waiting = (here seat).waiting ∙ was.waiting };
     }
 
-pub placed_on : {T E : Type 0} (result : Result T E) (number : ℕ) (e : Entry) (rows : List FieldRow) (r : Option KeptRecord) (f a b g : Frame) → IsReseated e.class number rows f a
+pub placed_on : {T E : Type 0} (result : Result T E) (number : ℕ) (e : Entry) (rows : List FieldRow) (r : Option KeptRecord) (f a b g : Transaction) → IsReseated e.class number rows f a
     → contents b ≡ apply (ToRecord e.class number r) (contents a) → b.tables ≡ a.tables → r ≡ record_brought (arrival_of e) → g.store ≡ b.store → FormsKeep b.tables g.tables
     → OnOk result (IndexFollows e.class number e b g) → OnOk result (StaysInSeats b g) → OnOk result (IsPlaced number e rows f g)
 placed_on (Ok x) number e rows r f a b g seats now tables kept store forms follows stays = placed_all number e rows r f a b g seats now tables kept store forms follows stays

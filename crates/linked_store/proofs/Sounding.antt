@@ -14,12 +14,12 @@ use Rattle.catalogue_tables.proofs.Followed.{tells_rows_kept}
 use Rattle.catalogue_rules.specs.State.{State, linkable_authorities}
 use Rattle.catalogue_tables.specs.Seam.{AreDistinct, KeysKeep}
 use Rattle.linked_store.specs.Contents.{CanGoBack, Contents, CanReturn, Fits, Step, ToIndex, ToLink, ToRecord, ToWait, apply, apply_back, at_seat}
-use Rattle.linked_store.specs.Frames.{FormsKeep, GoesBack, GoesOn, IsKept, IsRoomy, StaysButHeld, contents, steps_of}
+use Rattle.linked_store.specs.Transactions.{FormsKeep, GoesBack, GoesOn, IsKept, IsRoomy, StaysButHeld, contents, steps_of}
 use Rattle.catalogue_tables.specs.declared.tables.CatalogueTables.{CatalogueTables}
-use Rattle.linked_store.proofs.Framed.{forms_same}
+use Rattle.linked_store.proofs.Noted.{forms_same}
 use Rattle.linked_store.specs.Linked.{Linked}
 use Rattle.linked_store.specs.Sound.{AgreesWith, IsSound, at_mark, at_start, key_lists, keys_of, linked_view, state_in}
-use Rattle.linked_store.specs.declared.frame.Frame.{Frame}
+use Rattle.linked_store.specs.declared.transaction.Transaction.{Transaction}
 use Rattle.linked_store.proofs.Agreed.{agrees_grown, keys_keep}
 use Rattle.linked_store.proofs.Going.{back_join, can_join}
 
@@ -111,7 +111,7 @@ can_drop (suc n) [] c can = tt
 can_drop (suc n) (step ∷ steps) c can = can_drop n steps c can.0
 
 -- keys and forms got numbers, and nothing else
-pub record IsGrown (f g : Frame) : Type 0 where
+pub record IsGrown (f g : Transaction) : Type 0 where
   pub grows : GrowsTo (contents f) (contents g)
   pub keep : KeysKeep (keys_of (contents f)) (keys_of (contents g))
   pub distinct : AreDistinct (keys_of (contents g))
@@ -119,7 +119,7 @@ pub record IsGrown (f g : Frame) : Type 0 where
   pub steps : steps_of g ≡ steps_of f
   pub rooms : IsRoomy f → IsRoomy g
 
-module _ (f g : Frame) (marked : ℕ) (grown : IsGrown f g) (sound : IsSound f marked) where
+module _ (f g : Transaction) (marked : ℕ) (grown : IsGrown f g) (sound : IsSound f marked) where
   along : CanGoBack (steps_of f) (contents g) × GrowsTo (at_start f) (apply_back (steps_of f) (contents g))
   along = back_grown (steps_of f) (contents f) (contents g) grown.grows sound.can
 
@@ -160,8 +160,8 @@ agrees_still old new steps c rows distinct agrees =
     agrees_grown old new (apply_back steps c) (apply_back steps c) rows (subst (λ (k : KeyNumbers). AreDistinct (key_lists k)) (sym (keys_back steps c)) distinct)
     (keys_keep (keys_of (apply_back steps c))) refl refl refl refl agrees
 
--- the frame went on, and its keys stayed
-module _ (f g : Frame) (marked : ℕ) (goes : GoesOn f g) (keys : g.store.keys ≡ f.store.keys) (sound : IsSound f marked) where
+-- the transaction went on, and its keys stayed
+module _ (f g : Transaction) (marked : ℕ) (goes : GoesOn f g) (keys : g.store.keys ≡ f.store.keys) (sound : IsSound f marked) where
   pub start_stays : at_start g ≡ at_start f
   start_stays =
       ap (λ (l : List Step). apply_back l (contents g)) goes.steps ∙ back_join (steps_of f) goes.more (contents g) ∙ ap (apply_back (steps_of f)) goes.back
@@ -194,7 +194,7 @@ module _ (f g : Frame) (marked : ℕ) (goes : GoesOn f g) (keys : g.store.keys �
 -- ---- the way back
 
 -- the same contents and the same steps, where forms may have got numbers
-module _ (f g : Frame) (marked : ℕ) (steps : steps_of g ≡ steps_of f) (now : contents g ≡ contents f) (sound : IsSound f marked) where
+module _ (f g : Transaction) (marked : ℕ) (steps : steps_of g ≡ steps_of f) (now : contents g ≡ contents f) (sound : IsSound f marked) where
   pub same_start : at_start g ≡ at_start f
   same_start = λ i. apply_back (steps i) (now i)
 
@@ -242,15 +242,15 @@ taken_long (suc n) [] low = low
 taken_long (suc n) (x ∷ xs) low = let rest = taken_long n xs (omega (arith, low)) in omega (arith, rest)
 
 -- back to where some changes began
-pub steps_undone : (f middle g : Frame) → GoesOn f middle → GoesBack (length (steps_of f)) middle g → steps_of g ≡ steps_of f
+pub steps_undone : (f middle g : Transaction) → GoesOn f middle → GoesBack (length (steps_of f)) middle g → steps_of g ≡ steps_of f
 steps_undone f middle g goes back = back.steps ∙ ap (take (length (steps_of f))) goes.steps ∙ take_join (steps_of f) goes.more
 
-pub now_undone : (f middle g : Frame) → GoesOn f middle → GoesBack (length (steps_of f)) middle g → contents g ≡ contents f
+pub now_undone : (f middle g : Transaction) → GoesOn f middle → GoesBack (length (steps_of f)) middle g → contents g ≡ contents f
 now_undone f middle g goes back =
     back.now ∙ ap (λ (l : List Step). apply_back l (contents middle)) (ap (drop (length (steps_of f))) goes.steps ∙ drop_own (steps_of f) goes.more) ∙ goes.back
 
 -- back to the mark
-module _ (f g : Frame) (marked : ℕ) (back : GoesBack marked f g) (sound : IsSound f marked) where
+module _ (f g : Transaction) (marked : ℕ) (back : GoesBack marked f g) (sound : IsSound f marked) where
   mark_now : at_mark g marked ≡ contents g
   mark_now = ap (λ (l : List Step). apply_back l (contents g)) (ap (drop marked) back.steps ∙ drop_taken marked (steps_of f))
 
@@ -291,7 +291,7 @@ abbrev pub undone : Linked → Linked
 undone x = record { state = x.before; keys = x.keys; marked = x.before; before = x.before }
 
 -- back to what was before all changes
-module _ (f g : Frame) (marked : ℕ) (back : GoesBack 0 f g) (sound : IsSound f marked) where
+module _ (f g : Transaction) (marked : ℕ) (back : GoesBack 0 f g) (sound : IsSound f marked) where
   from_start : IsSound f 0
   from_start = record {
     distinct = sound.distinct;
@@ -315,7 +315,7 @@ drop_all : (xs : List Step) → drop (length xs) xs ≡ []
 drop_all [] = refl
 drop_all (x ∷ xs) = drop_all xs
 
-pub sound_at : (f : Frame) (marked now : ℕ) → now ≡ length (steps_of f) → IsSound f marked → IsSound f now
+pub sound_at : (f : Transaction) (marked now : ℕ) → now ≡ length (steps_of f) → IsSound f marked → IsSound f now
 sound_at f marked now is sound =
     subst (λ n. IsSound f n) (sym is) (record {
       distinct = sound.distinct;
@@ -327,7 +327,7 @@ sound_at f marked now is sound =
       start = sound.start;
     })
 
-pub view_at : (f : Frame) (marked now : ℕ) → now ≡ length (steps_of f)
+pub view_at : (f : Transaction) (marked now : ℕ) → now ≡ length (steps_of f)
     → linked_view f now ≡ record { state = state_in (contents f); keys = keys_of (contents f); marked = state_in (contents f); before = state_in (at_start f) }
 view_at f marked now is = λ i. record {
   state = state_in (contents f);
@@ -353,7 +353,7 @@ agrees_held tables c d held agrees =
       naming = agrees.naming;
     })
 
-module _ (f g : Frame) (marked : ℕ) (kept : IsKept f g) (sound : IsSound f marked) where
+module _ (f g : Transaction) (marked : ℕ) (kept : IsKept f g) (sound : IsSound f marked) where
   kept_start : at_start g ≡ contents g
   kept_start = ap (λ (l : List Step). apply_back l (contents g)) kept.steps
 

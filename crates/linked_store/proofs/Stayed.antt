@@ -19,13 +19,13 @@ use Rattle.linking_laws.specs.Tables.{linked_at}
 use Rattle.catalogue_tables.specs.Seam.{IsSeatOf, place_at}
 use Rattle.catalogue_tables.proofs.Seams.{seat_back}
 use Rattle.linked_store.specs.Contents.{Contents, at_seat, with_field_in}
-use Rattle.linked_store.specs.Frames.{GoesOn, contents}
+use Rattle.linked_store.specs.Transactions.{GoesOn, contents}
 use Rattle.linked_store.specs.Holding.{HasNoOther, can_be_heading, row_held_for}
 use Rattle.linked_store.specs.Linked.{IsAhead, Linked, SuitsSeat, field_of}
 use Rattle.linked_store.specs.Sound.{AgreesWith, IsSound, keys_of, linked_view, seen_links, state_in}
 use Rattle.linked_store.specs.Staying.{is_linked_alike, same_link}
 use Rattle.linked_store.specs.Turning.{IsLinkOf, turned}
-use Rattle.linked_store.specs.declared.frame.Frame.{Frame}
+use Rattle.linked_store.specs.declared.transaction.Transaction.{Transaction}
 use Rattle.linked_store.specs.declared.held.RowHeld.{RowHeld}
 use Rattle.linked_store.specs.declared.held.RowHeld.TheVariants.{Link, Waiting, Nothing}
 use Rattle.linked_store.proofs.Agreed.{agrees_turned, state_turned}
@@ -83,7 +83,7 @@ itself_at {V} seat things s = by (same_seat seat s) refl
     by true e = ap things (sym ((seat_Decides seat s).0 e))
     by false e = refl
 
-module _ (f g : Frame) (marked : ℕ) (seat : Seat) (h : KeptField) (sound : IsSound f marked) (once : IsDistinct same_form f.tables.forms) (suits : SuitsSeat seat h (linked_view f marked))
+module _ (f g : Transaction) (marked : ℕ) (seat : Seat) (h : KeptField) (sound : IsSound f marked) (once : IsDistinct same_form f.tables.forms) (suits : SuitsSeat seat h (linked_view f marked))
     (alike : is_linked_alike h.tie (field_of seat (linked_view f marked)) ≡ true) (goes : GoesOn f g) (now : contents g ≡ with_field_in seat h (contents f)) where
   abbrev c : Contents
   c = contents f
@@ -147,7 +147,7 @@ module _ (f g : Frame) (marked : ℕ) (seat : Seat) (h : KeptField) (sound : IsS
   ahead_alike = ahead_turned f g marked sound goes keys_alike
 
 -- how the exchange leaves the store, of which its caller saw this
-pub left_alike : (f g : Frame) (marked : ℕ) (seen : Linked) → linked_view f marked ≡ seen → IsSound f marked → (seat : Seat) (h : KeptField) → IsDistinct same_form f.tables.forms
+pub left_alike : (f g : Transaction) (marked : ℕ) (seen : Linked) → linked_view f marked ≡ seen → IsSound f marked → (seat : Seat) (h : KeptField) → IsDistinct same_form f.tables.forms
     → SuitsSeat seat h seen → is_linked_alike h.tie (field_of seat seen) ≡ true → GoesOn f g → contents g ≡ with_field_in seat h (contents f)
     → IsLeft seen (swapped (place_at seen.keys seat) h seen.state) g marked
 left_alike f g marked seen view sound seat h once suits alike goes now =

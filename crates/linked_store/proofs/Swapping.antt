@@ -14,10 +14,10 @@ use Rattle.catalogue_rules.specs.Store.{StaysFit, StaysRecord, field_at, with_fi
 use Rattle.numbered_store.specs.Kept.{kept_record}
 use Rattle.numbered_store.specs.Numbered.{IsNumber, Numbered, SuitsSeat, field_of, keys_in, record_at, with_field_of, with_record}
 use Rattle.numbered_store.specs.Rows.{row_under}
-use Rattle.numbered_store.specs.declared.kept.Kept.{Kept}
+use Rattle.numbered_store.specs.declared.kept.StoredRecord.{StoredRecord}
 use Rattle.linked_store.specs.Contents.{ToRecord, apply, with_field_in}
-use Rattle.linked_store.specs.Frames.{contents, contents_of}
-use Rattle.linked_store.specs.declared.frame.Frame.{Frame}
+use Rattle.linked_store.specs.Transactions.{contents, contents_of}
+use Rattle.linked_store.specs.declared.transaction.Transaction.{Transaction}
 
 within_by : {X : Type 0} (xs : List X) (i : ℕ) → IsSome (slice_get xs i) → i < length xs
 within_by [] i some = absurd (false≢true some)
@@ -25,7 +25,7 @@ within_by (x ∷ xs) zero some = omega arith
 within_by (x ∷ xs) (suc i) some = let rest = within_by xs i some in omega (arith, rest)
 
 -- where a field stands, a record was found
-pub record_found : (found : Option (Bor Kept)) (o : Option KeptRecord) (i : ℕ) → option_map (λ (kept : Bor Kept). kept_record kept.now) found ≡ o
+pub record_found : (found : Option (Bor StoredRecord)) (o : Option KeptRecord) (i : ℕ) → option_map (λ (kept : Bor StoredRecord). kept_record kept.now) found ≡ o
     → IsSome (option_and_then (field_at i) o) → IsSome found
 record_found None o i is some = absurd (false≢true (subst (λ o. IsSome (option_and_then (field_at i) o)) (sym is) some))
 record_found (Some kept) o i is some = refl
@@ -49,11 +49,11 @@ module _ (seat : Seat) (s : Numbered) (r : KeptRecord) (stands : record_at seat.
   stays_fit field suits low = (subst (λ o. IfSome o (StaysFit seat.field field)) stands suits.fits) low
 
 -- the record that is found stands under the number
-pub stands_there : (found : Option (Bor Kept)) (kept : Bor Kept) (o : Option KeptRecord) → found ≡ Some kept → option_map (λ (k : Bor Kept). kept_record k.now) found ≡ o → o ≡ Some (kept_record kept.now)
-stands_there found kept o is found_is = sym found_is ∙ ap (option_map (λ (k : Bor Kept). kept_record k.now)) is
+pub stands_there : (found : Option (Bor StoredRecord)) (kept : Bor StoredRecord) (o : Option KeptRecord) → found ≡ Some kept → option_map (λ (k : Bor StoredRecord). kept_record k.now) found ≡ o → o ≡ Some (kept_record kept.now)
+stands_there found kept o is found_is = sym found_is ∙ ap (option_map (λ (k : Bor StoredRecord). kept_record k.now)) is
 
 -- the record with the field in place of the one that stood there
-pub field_swapped : (f g : Frame) (seat : Seat) (h : KeptField) (r made : KeptRecord) → made ≡ with_field seat.field h r
+pub field_swapped : (f g : Transaction) (seat : Seat) (h : KeptField) (r made : KeptRecord) → made ≡ with_field seat.field h r
     → with_record seat.class seat.number (Some (with_field seat.field h r)) f.store ≡ with_field_of seat h f.store
     → contents g ≡ apply (ToRecord seat.class seat.number (Some made)) (contents f) → contents g ≡ with_field_in seat h (contents f)
 field_swapped f g seat h r made is same now =

@@ -6,13 +6,13 @@ use Rattle.numbered_store.specs.Numbered.{with_field_of}
 use Rattle.wait_table.specs.declared.waiting.Waiting.{Waiting}
 use Rattle.catalogue_tables.specs.declared.tables.CatalogueTables.{CatalogueTables}
 use Rattle.linked_store.specs.Contents.{Contents, ToLink, ToWait, apply, at_seat, with_field_in}
-use Rattle.linked_store.specs.Frames.{contents}
+use Rattle.linked_store.specs.Transactions.{contents}
 use Rattle.linked_store.specs.Turning.{turned}
 use Rattle.linked_store.specs.Turns.{HasRows, IsTurned, IsWaiting, IsWaitingOf, without_rows}
-use Rattle.linked_store.specs.declared.frame.Frame.{Frame}
+use Rattle.linked_store.specs.declared.transaction.Transaction.{Transaction}
 use Rattle.linked_store.specs.declared.turns.Row.{Row}
 use Rattle.linked_store.proofs.Outside.{gone_at, none_at}
-use Rattle.linked_store.proofs.Framed.{set_again}
+use Rattle.linked_store.proofs.Noted.{set_again}
 
 -- no link comes to a seat that has none
 pub no_link_comes : (seat : Seat) (link : Option ℕ) (c : Contents) → link ≡ None → c.links seat ≡ None → c ≡ apply (ToLink seat link) c
@@ -23,7 +23,7 @@ no_link_comes seat link c is free = λ i. record {
   waits = c.waits;
 }
 
-pub no_row_comes : (seat : Seat) (row : Option Row) (f : Frame) → ((r : Row) → row ≡ Some r → ⊥) → (contents f).waits seat ≡ None → IsWaiting seat row f f
+pub no_row_comes : (seat : Seat) (row : Option Row) (f : Transaction) → ((r : Row) → row ≡ Some r → ⊥) → (contents f).waits seat ≡ None → IsWaiting seat row f f
 no_row_comes seat None f none free = record {
   waiting = None;
   is = tt;
@@ -47,7 +47,7 @@ all_again seat h link waiting c = λ i. record {
   waits = λ s. set_again seat waiting None c.waits s i;
 }
 
-pub turned_rows : (start without with_rows now : Frame) (seat : Seat) (h : KeptField) (link : Option ℕ) (row : Option Row) → contents without ≡ without_rows seat (contents start)
+pub turned_rows : (start without with_rows now : Transaction) (seat : Seat) (h : KeptField) (link : Option ℕ) (row : Option Row) → contents without ≡ without_rows seat (contents start)
     → HasRows seat link row without with_rows → now.tables ≡ with_rows.tables → contents now ≡ with_field_in seat h (contents with_rows) → IsTurned seat h link row start now
 turned_rows start without with_rows now seat h link row out rows tables is = record {
   waiting = rows.waiting;

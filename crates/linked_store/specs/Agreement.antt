@@ -12,7 +12,7 @@ use Rattle.catalogue_tables.specs.Following.{TellsAuthorities}
 use Rattle.catalogue_tables.specs.Told.{LinksFit, linked_by}
 use Rattle.catalogue_tables.specs.Waiting.{WaitsFit, asking_by, naming_by}
 use Rattle.catalogue_tables.specs.declared.tables.CatalogueTables.{CatalogueTables}
-use Rattle.linked_store.specs.Frames.{links_in, waits_in}
+use Rattle.linked_store.specs.Transactions.{links_in, waits_in}
 use Rattle.linked_store.specs.Leading.{leading_by, leads_at}
 use Rattle.linked_store.specs.Linked.{Linked}
 

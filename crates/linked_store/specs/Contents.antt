@@ -6,7 +6,7 @@ use Rattle.marc_types.specs.declared.key.Class.{Class}
 use Rattle.marc_types.specs.declared.key.Key.{Key}
 use Rattle.numbering.specs.declared.seat.Seat.{Seat}
 use Rattle.numbering.specs.Seats.{same_seat}
-use Rattle.place_names.specs.Counts.{brought}
+use Rattle.postings.specs.Counts.{brought}
 use Rattle.catalogue_rules.specs.State.{KeptField, KeptRecord}
 use Rattle.numbered_store.specs.Kept.{kept_record}
 use Rattle.numbered_store.specs.Numbered.{Numbered, IsNumber, with_field_of, with_record}
@@ -18,6 +18,7 @@ use Rattle.catalogue_tables.specs.Following.{CanRestore, restored, without_row}
 use Rattle.linked_store.specs.declared.change.Change.{Change}
 use Rattle.linked_store.specs.declared.change.Change.TheVariants.{Exchanged, Followed, Relinked, Awaited}
 
+-- records by number, and what the three tables say
 pub record Contents : Type 0 where
   pub numbered : Numbered
   pub index : Indexed
@@ -36,12 +37,14 @@ pub data Step : Type 0 where
   ToLink : Seat → Option ℕ → Step
   ToWait : Seat → Option Waiting → Step
 
+-- a change of the log as a step back
 abbrev pub step_of : Change → Step
 step_of (Exchanged class number before) = ToRecord class number (option_map kept_record before)
 step_of (Followed number before) = ToIndex number before
 step_of (Relinked seat before) = ToLink seat before
 step_of (Awaited seat before) = ToWait seat before
 
+-- what a step makes of the contents
 abbrev pub apply : Step → Contents → Contents
 apply (ToRecord class number r) c = record {
   numbered = with_record class number r c.numbered;
@@ -88,6 +91,7 @@ CanGoBack (step ∷ steps) c = CanGoBack steps c × Fits step (apply_back steps 
 
 -- ---- the rooms of rows that are out
 
+-- 1 at this seat, else 0
 abbrev pub one_at : Seat → Seat → ℕ
 one_at one seat = if same_seat one seat then 1 else 0
 
@@ -99,6 +103,7 @@ link_rooms (ToLink at None) seat = 0
 link_rooms (ToLink at (Some number)) seat = one_at at seat
 link_rooms (ToWait at waiting) seat = 0
 
+-- of links to this key
 abbrev pub key_rooms : Step → ℕ → Seat → ℕ
 key_rooms (ToRecord class number r) n seat = 0
 key_rooms (ToIndex number row) n seat = 0
@@ -106,6 +111,7 @@ key_rooms (ToLink at None) n seat = 0
 key_rooms (ToLink at (Some number)) n seat = if same_seat at seat then (if nat_eq number n then 1 else 0) else 0
 key_rooms (ToWait at waiting) n seat = 0
 
+-- of waiting rows
 abbrev pub wait_rooms : Step → Seat → ℕ
 wait_rooms (ToRecord class number r) seat = 0
 wait_rooms (ToIndex number row) seat = 0
@@ -113,6 +119,7 @@ wait_rooms (ToLink at number) seat = 0
 wait_rooms (ToWait at None) seat = 0
 wait_rooms (ToWait at (Some waiting)) seat = one_at at seat
 
+-- of rows for this form
 abbrev pub form_rooms : Step → ℕ → Seat → ℕ
 form_rooms (ToRecord class number r) n seat = 0
 form_rooms (ToIndex number row) n seat = 0
@@ -120,6 +127,7 @@ form_rooms (ToLink at number) n seat = 0
 form_rooms (ToWait at None) n seat = 0
 form_rooms (ToWait at (Some waiting)) n seat = brought nat_eq same_seat (forms_of waiting.forms) at n seat
 
+-- of rows for this key
 abbrev pub name_rooms : Step → ℕ → Seat → ℕ
 name_rooms (ToRecord class number r) n seat = 0
 name_rooms (ToIndex number row) n seat = 0

@@ -22,6 +22,7 @@ pub record SaysWants (class : Class) (h : KeptField) (keys : List Key) (row : Ro
   pub wants : Wants class h (one_or_two row.form row.other) named
   pub numbers : AreNumbersOf same_key keys named row.keys
 
+-- the row, or none, is what a field wants in the waiting table
 abbrev pub IsRowFor : Class → KeptField → List Key → Option Row → Type 0
 IsRowFor class h keys None = Wants class h [] []
 IsRowFor class h keys (Some row) = SaysWants class h keys row

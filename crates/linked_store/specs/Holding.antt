@@ -21,6 +21,7 @@ abbrev pub heading_beginnings : Class → List ℕ
 heading_beginnings Authority = codes "5"
 heading_beginnings Bibliographic = codes "6178"
 
+-- the character begins a heading's tag
 abbrev pub begins_heading : Class → ℕ → Bool
 begins_heading class a = list_any (λ c. a == c) (heading_beginnings class)
 
@@ -32,6 +33,7 @@ can_be_heading class tag = begins_heading class tag.a && is_some (any_kind tag.b
 abbrev pub row_held_by : Class → Tag → Tie → RowHeld
 row_held_by class tag tie = if is_some tie.key then Link else if can_be_heading class tag then Waiting else Nothing
 
+-- which table has a row of a field
 abbrev pub row_held_for : Class → KeptField → RowHeld
 row_held_for class h = row_held_by class (tag_of h.field) h.tie
 

@@ -18,6 +18,7 @@ abbrev pub leads_form : ℕ → Option Waiting → Bool
 leads_form n None = false
 leads_form n (Some waiting) = nat_eq (first_of waiting.forms) n
 
+-- the first number of what the seat waits for is that of this form
 abbrev pub leads : ℕ → Waits → Seat → Bool
 leads n waits seat = leads_form n (waits.waiting seat)
 

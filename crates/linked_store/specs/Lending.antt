@@ -10,6 +10,7 @@ use Rattle.linked_store.specs.Wanted.{NamesKeys, forms_sought, sought_by}
 use Rattle.linked_store.specs.declared.lending.LentForms.{LentForms}
 use Rattle.linked_store.specs.declared.wanted.Sought.{Sought}
 
+-- the forms that are lent
 abbrev pub forms_lent : LentForms → Sought
 forms_lent lent = record { form = lent.form.now; other = option_copied lent.other }
 

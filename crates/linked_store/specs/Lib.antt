@@ -1,7 +1,7 @@
 pub mod Agreement
 pub mod Contents
 pub mod Fielding
-pub mod Frames
+pub mod Transactions
 pub mod Holding
 pub mod Leading
 pub mod Lending

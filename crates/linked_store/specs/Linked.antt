@@ -17,6 +17,7 @@ use Rattle.linking_laws.specs.Tables.{IsListing}
 use Rattle.form_index.specs.Order.{key_at}
 use Rattle.catalogue_tables.specs.Seam.{HasKey, KeyLists, KeysKeep, keys_in, place_at}
 
+-- a state, the keys by their numbers, and the states to which it can go back
 pub record Linked : Type 0 where
   pub state : State
   -- the keys of each class, in the order of their numbers
@@ -25,6 +26,7 @@ pub record Linked : Type 0 where
   pub marked : State
   pub before : State
 
+-- no key has a number
 abbrev pub no_keys : KeyLists
 no_keys = record { authorities = []; bibliographic = [] }
 

@@ -16,9 +16,9 @@ use Rattle.catalogue_tables.specs.Following.{FollowsAuthority, authority_brought
 use Rattle.numbered_store.specs.Numbered.{with_record}
 use Rattle.linked_store.specs.Contents.{Contents}
 use Rattle.linked_store.specs.Fielding.{IsRowFor}
-use Rattle.linked_store.specs.Frames.{contents}
+use Rattle.linked_store.specs.Transactions.{contents}
 use Rattle.linked_store.specs.Turns.{IsWaitingOf, row_lent}
-use Rattle.linked_store.specs.declared.frame.Frame.{Frame}
+use Rattle.linked_store.specs.declared.transaction.Transaction.{Transaction}
 use Rattle.linked_store.specs.declared.own.OwnRecord.{OwnRecord}
 use Rattle.linked_store.specs.declared.seating.FieldRow.{FieldRow}
 use Rattle.linked_store.specs.declared.turns.LentRow.{LentRow}
@@ -28,6 +28,7 @@ use Rattle.linked_store.specs.declared.turns.Row.{Row}
 abbrev pub record_brought : Arrival → Option KeptRecord
 record_brought a = if is_deletion a.leader then None else Some (new_record a.leader a.fields)
 
+-- the fields that an arrival brings; a deletion brings none
 abbrev pub fields_brought : Arrival → List Field
 fields_brought a = if is_deletion a.leader then [] else a.fields
 
@@ -38,18 +39,18 @@ own_record class number = record { class = class; number = number }
 -- ---- the index
 
 -- what the seats have stays
-pub record StaysInSeats (old new : Frame) : Type 0 where
+pub record StaysInSeats (old new : Transaction) : Type 0 where
   pub links : (contents new).links ≡ (contents old).links
   pub waits : (contents new).waits ≡ (contents old).waits
 
 -- the index has the row of the entry's authority under the number, or none; all else stays
-pub record IsFollowed (number : ℕ) (e : Entry) (old new : Frame) : Type 0 where
+pub record IsFollowed (number : ℕ) (e : Entry) (old new : Transaction) : Type 0 where
   pub follows : FollowsAuthority new.tables.forms number (authority_brought (arrival_of e)) old.tables.index new.tables.index
   pub ordered : IsInOrder old.store.keys.authorities new.tables.index
   pub seats : StaysInSeats old new
 
 -- the index follows an authority's entry, and stays with a bibliographic one
-abbrev pub IndexFollows : Class → ℕ → Entry → Frame → Frame → Type 0
+abbrev pub IndexFollows : Class → ℕ → Entry → Transaction → Transaction → Type 0
 IndexFollows Authority number e old new =
     FollowsAuthority new.tables.forms number (authority_brought (arrival_of e)) old.tables.index new.tables.index
     × IsInOrder old.store.keys.authorities new.tables.index
@@ -57,6 +58,7 @@ IndexFollows Bibliographic number e old new = new.tables.index ≡ old.tables.in
 
 -- ---- seats
 
+-- the seat of a field under a key's number
 abbrev pub seat_in : Class → ℕ → ℕ → Seat
 seat_in class number field = record { class = class; number = number; field = field }
 
@@ -100,7 +102,7 @@ pub record StaysAt (seat : Seat) (old new : Contents) : Type 0 where
   pub waiting : new.waits seat ≡ old.waits seat
 
 -- the seats of a record's fields have these rows, and all else stays
-pub record IsReseated (class : Class) (number : ℕ) (rows : List FieldRow) (old new : Frame) : Type 0 where
+pub record IsReseated (class : Class) (number : ℕ) (rows : List FieldRow) (old new : Transaction) : Type 0 where
   pub store : new.store ≡ old.store
   pub index : new.tables.index ≡ old.tables.index
   pub own : HaveRows new.tables.forms class number rows (contents new)
@@ -109,7 +111,7 @@ pub record IsReseated (class : Class) (number : ℕ) (rows : List FieldRow) (old
 -- ---- the whole
 
 -- another record, or none, stands under the number, with the index and the rows
-pub record IsPlaced (number : ℕ) (e : Entry) (rows : List FieldRow) (old new : Frame) : Type 0 where
+pub record IsPlaced (number : ℕ) (e : Entry) (rows : List FieldRow) (old new : Transaction) : Type 0 where
   pub store : new.store ≡ with_record e.class number (record_brought (arrival_of e)) old.store
   pub index : IndexFollows e.class number e old new
   pub own : HaveRows new.tables.forms e.class number rows (contents new)

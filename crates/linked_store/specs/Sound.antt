@@ -19,17 +19,20 @@ use Rattle.catalogue_tables.specs.Seam.{AreDistinct, KeyLists}
 use Rattle.catalogue_tables.specs.Told.{LinksFit, linked_by}
 use Rattle.catalogue_tables.specs.Waiting.{WaitsFit, asking_by, naming_by}
 use Rattle.linked_store.specs.Contents.{CanGoBack, Contents, apply_back}
-use Rattle.linked_store.specs.Frames.{IsRoomy, contents, steps_of}
+use Rattle.linked_store.specs.Transactions.{IsRoomy, contents, steps_of}
 use Rattle.linked_store.specs.Leading.{leading_by, leads_at}
 use Rattle.linked_store.specs.Linked.{Linked}
-use Rattle.linked_store.specs.declared.frame.Frame.{Frame}
+use Rattle.linked_store.specs.declared.transaction.Transaction.{Transaction}
 
+-- the keys of both classes
 abbrev pub key_lists : KeyNumbers → KeyLists
 key_lists keys = record { authorities = keys.authorities; bibliographic = keys.bibliographic }
 
+-- the keys of the contents
 abbrev pub keys_of : Contents → KeyLists
 keys_of c = key_lists c.numbered.keys
 
+-- the state of the contents
 abbrev pub state_in : Contents → State
 state_in c = c.numbered.state
 
@@ -37,6 +40,7 @@ state_in c = c.numbered.state
 abbrev pub seen_links : (Seat → Option ℕ) → Links
 seen_links links = record { key_of = links; taken = λ seat. 0; taken_from = λ n seat. 0 }
 
+-- a waiting table with these rows, of which none is taken out
 abbrev pub seen_waits : (Seat → Option Waiting) → Waits
 seen_waits waits = record { waiting = waits; taken = λ seat. 0; taken_forms = λ n seat. 0; taken_keys = λ n seat. 0 }
 
@@ -54,14 +58,15 @@ pub record AgreesWith (tables : CatalogueTables) (c : Contents) : Type 0 where
       naming_by (keys_of c) (seen_waits c.waits) key p ≡ holds_at (waits_for_key key) (state_in c) p
 
 -- what was at the mark, and before all changes
-abbrev pub at_mark : Frame → ℕ → Contents
+abbrev pub at_mark : Transaction → ℕ → Contents
 at_mark f marked = apply_back (drop marked (steps_of f)) (contents f)
 
-abbrev pub at_start : Frame → Contents
+-- the contents before all changes
+abbrev pub at_start : Transaction → Contents
 at_start f = apply_back (steps_of f) (contents f)
 
 -- the tables agree with the records now, at the mark and before all changes, and there is a way back
-pub record IsSound (f : Frame) (marked : ℕ) : Type 0 where
+pub record IsSound (f : Transaction) (marked : ℕ) : Type 0 where
   pub distinct : AreDistinct (keys_of (contents f))
   pub low : marked ≤ length (steps_of f)
   pub can : CanGoBack (steps_of f) (contents f)
@@ -71,7 +76,7 @@ pub record IsSound (f : Frame) (marked : ℕ) : Type 0 where
   pub start : AgreesWith f.tables (at_start f)
 
 -- what callers see
-abbrev pub linked_view : Frame → ℕ → Linked
+abbrev pub linked_view : Transaction → ℕ → Linked
 linked_view f marked = record {
   state = state_in (contents f);
   keys = keys_of (contents f);

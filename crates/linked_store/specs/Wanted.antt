@@ -14,6 +14,7 @@ use Rattle.linked_store.specs.Turning.{Wants}
 use Rattle.linked_store.specs.declared.wanted.Sought.{Sought}
 use Rattle.linked_store.specs.declared.wanted.Wanted.{Wanted}
 
+-- one or two forms
 abbrev pub forms_sought : Sought → List Form
 forms_sought sought = one_or_two sought.form sought.other
 
@@ -26,6 +27,7 @@ pub record AsksFor (class : Class) (kind : Kind) (h : KeptField) (sought : Sough
 abbrev pub NamesKeys : KeptField → List Key → Type 0
 NamesKeys h keys = (key : Key) → is_valid_key key ≡ true → list_any (same_key key) keys ≡ names_key key h
 
+-- what a field waits for is this, or nothing
 abbrev pub IsWanted : Class → KeptField → Option Wanted → Type 0
 IsWanted class h None = Wants class h [] []
 IsWanted class h (Some wanted) = Wants class h (forms_sought wanted.sought) wanted.keys.items

@@ -4,38 +4,38 @@ ghost use Rattle.std.specs.Option.{option_map};
 ghost use Rattle.numbered_store.specs.Kept.{kept_record};
 ghost use Rattle.numbered_store.specs.Numbered.{IsNumber};
 ghost use Rattle.linked_store.specs.Contents.{CanGoBack, Fits, ToIndex, ToLink, ToRecord, ToWait, step_of};
-ghost use Rattle.linked_store.specs.Frames.{GoesBack, IsInSomeOrder, IsKept, IsRoomy, IsRowOut, KeepsRows, LetsGo, TakesBack, contents, links_in, steps_of, waits_in};
+ghost use Rattle.linked_store.specs.Transactions.{GoesBack, IsInSomeOrder, IsKept, IsRoomy, IsRowOut, KeepsRows, LetsGo, TakesBack, contents, links_in, steps_of, waits_in};
 ghost use Rattle.linked_store.specs.Rooms.{IsOut, IsWaitOut};
 
 use crate::change::Change;
-use crate::frame::Frame;
 use crate::rows::{forget_link, forget_waiting, relink, wait_again};
+use crate::transaction::Transaction;
 use catalogue_tables::CatalogueTables;
 use form_index::FormRow;
 use marc_types::Class;
-use numbered_store::Kept;
+use numbered_store::StoredRecord;
 use numbering::Seat;
 use wait_table::Waiting;
 
 /// Takes back all changes behind a position of the log.
-pub(crate) fn go_back(frame: &mut Frame, position: usize)
-    requires can { CanGoBack (steps_of frame.old) (contents frame.old) }
-    requires rooms { IsRoomy frame.old }
-    ensures { GoesBack position frame.old frame.new }
+pub(crate) fn go_back(transaction: &mut Transaction, position: usize)
+    requires can { CanGoBack (steps_of transaction.old) (contents transaction.old) }
+    requires rooms { IsRoomy transaction.old }
+    ensures { GoesBack position transaction.old transaction.new }
 {
-    while let Some(change) = pop_above(&mut frame.log, position) {
-        undo(frame, change);
+    while let Some(change) = pop_above(&mut transaction.log, position) {
+        undo(transaction, change);
     }
 }
 
 /// Lets all changes go: there is no way back from here.
-pub(crate) fn keep_all(frame: &mut Frame)
-    requires rooms { IsRoomy frame.old }
-    requires order { IsInSomeOrder frame.old.tables.index }
-    ensures { IsKept frame.old frame.new }
+pub(crate) fn keep_all(transaction: &mut Transaction)
+    requires rooms { IsRoomy transaction.old }
+    requires order { IsInSomeOrder transaction.old.tables.index }
+    ensures { IsKept transaction.old transaction.new }
 {
-    while let Some(change) = frame.log.pop() {
-        forget(&mut frame.tables, change);
+    while let Some(change) = transaction.log.pop() {
+        forget(&mut transaction.tables, change);
     }
 }
 
@@ -53,50 +53,55 @@ fn pop_above(log: &mut Vec<Change>, position: usize) -> Option<Change>
     }
 }
 
-fn undo(frame: &mut Frame, change: Change)
-    requires fits { Fits (step_of change) (contents frame.old) }
-    requires out { IsRowOut (step_of change) frame.old.tables }
-    ensures { TakesBack (step_of change) frame.old frame.new }
+fn undo(transaction: &mut Transaction, change: Change)
+    requires fits { Fits (step_of change) (contents transaction.old) }
+    requires out { IsRowOut (step_of change) transaction.old.tables }
+    ensures { TakesBack (step_of change) transaction.old transaction.new }
 {
     match change {
         Change::Exchanged {
             class,
             number,
             before,
-        } => exchange_back(frame, class, number, before),
-        Change::Followed { number, before } => index_back(frame, number, before),
-        Change::Relinked { seat, before } => link_back(frame, seat, before),
-        Change::Awaited { seat, before } => wait_back(frame, seat, before),
+        } => exchange_back(transaction, class, number, before),
+        Change::Followed { number, before } => index_back(transaction, number, before),
+        Change::Relinked { seat, before } => link_back(transaction, seat, before),
+        Change::Awaited { seat, before } => wait_back(transaction, seat, before),
     }
 }
 
-fn exchange_back(frame: &mut Frame, class: Class, number: u32, before: Option<Kept>)
-    requires { IsNumber class number frame.old.store }
-    ensures { TakesBack (ToRecord class number (option_map kept_record before)) frame.old frame.new }
+fn exchange_back(
+    transaction: &mut Transaction,
+    class: Class,
+    number: u32,
+    before: Option<StoredRecord>,
+)
+    requires { IsNumber class number transaction.old.store }
+    ensures { TakesBack (ToRecord class number (option_map kept_record before)) transaction.old transaction.new }
 {
-    let _after = frame.store.exchange(class, number, before);
+    let _after = transaction.store.exchange(class, number, before);
 }
 
-fn index_back(frame: &mut Frame, number: u32, before: Option<FormRow>)
-    requires { Fits (ToIndex number before) (contents frame.old) }
-    ensures { TakesBack (ToIndex number before) frame.old frame.new }
+fn index_back(transaction: &mut Transaction, number: u32, before: Option<FormRow>)
+    requires { Fits (ToIndex number before) (contents transaction.old) }
+    ensures { TakesBack (ToIndex number before) transaction.old transaction.new }
 {
-    let keys = frame.store.keys(Class::Authority);
-    frame.tables.restore_authority(keys, number, before);
+    let keys = transaction.store.keys(Class::Authority);
+    transaction.tables.restore_authority(keys, number, before);
 }
 
-fn link_back(frame: &mut Frame, seat: Seat, before: Option<u32>)
-    requires { IsOut seat before (links_in frame.old.tables) }
-    ensures { TakesBack (ToLink seat before) frame.old frame.new }
+fn link_back(transaction: &mut Transaction, seat: Seat, before: Option<u32>)
+    requires { IsOut seat before (links_in transaction.old.tables) }
+    ensures { TakesBack (ToLink seat before) transaction.old transaction.new }
 {
-    relink(&mut frame.tables, seat, before);
+    relink(&mut transaction.tables, seat, before);
 }
 
-fn wait_back(frame: &mut Frame, seat: Seat, before: Option<Waiting>)
-    requires { IsWaitOut seat before (waits_in frame.old.tables) }
-    ensures { TakesBack (ToWait seat before) frame.old frame.new }
+fn wait_back(transaction: &mut Transaction, seat: Seat, before: Option<Waiting>)
+    requires { IsWaitOut seat before (waits_in transaction.old.tables) }
+    ensures { TakesBack (ToWait seat before) transaction.old transaction.new }
 {
-    wait_again(&mut frame.tables, seat, before);
+    wait_again(&mut transaction.tables, seat, before);
 }
 
 // Gives back the places that the index holds for the row.

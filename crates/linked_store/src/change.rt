@@ -1,6 +1,6 @@
 use form_index::FormRow;
 use marc_types::Class;
-use numbered_store::Kept;
+use numbered_store::StoredRecord;
 use numbering::Seat;
 use wait_table::Waiting;
 
@@ -10,7 +10,7 @@ pub(crate) enum Change {
     Exchanged {
         class: Class,
         number: u32,
-        before: Option<Kept>,
+        before: Option<StoredRecord>,
     },
     Followed {
         number: u32,

@@ -33,8 +33,8 @@ impl LinkedStore {
         ensures { IfOk result (λ chosen. chosen ≡ option_map (chosen_for self.now.keys.authorities)
             (heading_choice (linkable_authorities self.now.state) class (kept_field field.now tie.now))) }
     {
-        let keys = self.frame.store.keys(Class::Authority);
-        self.frame
+        let keys = self.transaction.store.keys(Class::Authority);
+        self.transaction
             .tables
             .choose_field(alloc, keys, class, field, tie, base)
     }
@@ -55,9 +55,11 @@ impl LinkedStore {
         ensures { IfOk result (λ chosen. chosen ≡ option_map (chosen_for self.now.keys.authorities)
             (heading_choice (linkable_authorities self.now.state) seat.class (kept_field field.now tie.now))) }
     {
-        self.frame.tables.each_form_has_one_number();
-        let keys = self.frame.store.keys(Class::Authority);
-        self.frame.tables.choose_at(alloc, keys, seat, field, tie)
+        self.transaction.tables.each_form_has_one_number();
+        let keys = self.transaction.store.keys(Class::Authority);
+        self.transaction
+            .tables
+            .choose_at(alloc, keys, seat, field, tie)
     }
 
     /// The kind and the forms of the authority under the key that has the number, if fields can be linked to it. It visits no record.
@@ -69,6 +71,6 @@ impl LinkedStore {
         requires { IsNumber AnAuthority number self.now.keys }
         ensures { IfOk result (IsKnownAs (find (has_key (key_of AnAuthority number self.now.keys)) (linkable_authorities self.now.state))) }
     {
-        self.frame.tables.known_authority(alloc, number)
+        self.transaction.tables.known_authority(alloc, number)
     }
 }

@@ -38,7 +38,7 @@ impl LinkedStore {
         let wanted = wants_of(alloc, seat.class, &field, &tie)?;
         let link = self.link_number(alloc, &tie)?;
         let row = self.numbered_row(alloc, wanted)?;
-        self.turn(alloc, seat, field, tie, link, row)
+        self.relink_field(alloc, seat, field, tie, link, row)
     }
 
     // The number of the key to which the field is linked.
@@ -84,7 +84,7 @@ impl LinkedStore {
     }
 
     // Exchanges the field with its rows, or leaves all as it was.
-    fn turn(
+    fn relink_field(
         &mut self,
         alloc: Global,
         seat: Seat,
@@ -100,10 +100,13 @@ impl LinkedStore {
         ensures err { OnErr result (self.new.state ≡ self.old.state) }
         ensures ahead { IsAhead self.old self.new }
     {
-        self.frame.tables.each_form_has_one_number();
-        let position = self.frame.log.len();
-        if let Err(error) = self.frame.turn(alloc, seat, field, tie, link, row) {
-            go_back(&mut self.frame, position);
+        self.transaction.tables.each_form_has_one_number();
+        let position = self.transaction.log.len();
+        if let Err(error) = self
+            .transaction
+            .relink_field(alloc, seat, field, tie, link, row)
+        {
+            go_back(&mut self.transaction, position);
             return Err(error);
         }
         Ok(())

@@ -8,10 +8,10 @@ ghost use Rattle.numbered_store.specs.Numbered.{field_of};
 ghost use Rattle.catalogue_rules.specs.Store.{field_at};
 ghost use Rattle.linked_store.specs.Holding.{begins_heading, can_be_heading, row_held, row_held_by};
 
-use crate::frame::Frame;
+use crate::transaction::Transaction;
 use heading_fields::authority_kind;
 use marc_types::{Class, Tag, Tie};
-use numbered_store::Kept;
+use numbered_store::StoredRecord;
 use numbering::Seat;
 
 /// The row that a seat can have.
@@ -22,7 +22,7 @@ pub(crate) enum RowHeld {
     Nothing,
 }
 
-impl Frame {
+impl Transaction {
     /// The row that a seat can have.
     pub(crate) fn row_held(&self, seat: Seat) -> RowHeld
         ensures { result ≡ row_held seat.class (field_of seat self.now.store) }
@@ -36,7 +36,7 @@ impl Frame {
 
 /// The row of the field at a place of a record.
 #[tactic(auto, using(crate::proofs::Holding::held_read, crate::proofs::Holding::held_off))]
-pub(crate) fn row_held_in(class: Class, kept: &Kept, place: u32) -> RowHeld
+pub(crate) fn row_held_in(class: Class, kept: &StoredRecord, place: u32) -> RowHeld
     ensures { result ≡ row_held class (field_at place (kept_record kept.now)) }
 {
     match kept.tag_at(place) {

@@ -14,7 +14,7 @@ use std::snapshot::Snapshot;
 pub fn tables_agree(store: &LinkedStore) -> Snapshot<CatalogueTables>
     ensures { TablesAgree result.value store.now }
 {
-    Snapshot::of(&store.frame.tables)
+    Snapshot::of(&store.transaction.tables)
 }
 
 /// With an admitted entry's record in its place the authorities stand in key order under proper keys, where they did before.

@@ -24,7 +24,7 @@ impl LinkedStore {
         ensures { IfOk result (λ seats.
             ListsSeats self.now.keys (holds_at (linked_at (key_of AnAuthority number self.now.keys)) self.now.state) seats.items) }
     {
-        self.frame.tables.linked(alloc, number)
+        self.transaction.tables.linked(alloc, number)
     }
 
     /// The seats of all places that wait for one of the forms or for the key, each once, in any order.
@@ -34,7 +34,7 @@ impl LinkedStore {
         ensures { IfOk result (λ seats.
             ListsSeats self.now.keys (holds_at (is_waiting_for (shown_forms forms.now) (key_of AnAuthority number self.now.keys)) self.now.state) seats.items) }
     {
-        let found = self.frame.tables.waiting(alloc, forms, number)?;
+        let found = self.transaction.tables.waiting(alloc, forms, number)?;
         let seats = in_turn(alloc, &found)?;
         Ok(seats)
     }
@@ -65,8 +65,8 @@ impl LinkedStore {
         ensures { IfOk result (λ seats. (successor : AnyKey)
             → ListsSeats self.now.keys (holds_at (dropped_at (key_of AnAuthority number self.now.keys) (Some successor)) self.now.state) seats.items) }
     {
-        let mut found = self.frame.tables.waiting(alloc, &[], number)?;
-        let linked = self.frame.tables.linked(alloc, number)?;
+        let mut found = self.transaction.tables.waiting(alloc, &[], number)?;
+        let linked = self.transaction.tables.linked(alloc, number)?;
         gather(&mut found, alloc, &linked)?;
         let seats = in_turn(alloc, &found)?;
         Ok(seats)

@@ -7,7 +7,7 @@ ghost use Rattle.linked_store.specs.Placing.{seat_in};
 
 use crate::store::LinkedStore;
 use marc_types::Class;
-use numbered_store::Kept;
+use numbered_store::StoredRecord;
 use numbering::Seat;
 
 /// A record that `place` has put into its place, by its class and the number of its key. Only `place` makes one.
@@ -18,12 +18,14 @@ pub struct OwnRecord {
 }
 
 impl OwnRecord {
+    /// Its class.
     pub fn class(&self) -> Class
         ensures { result ≡ self.now.class }
     {
         self.class
     }
 
+    /// The number of its key.
     pub fn number(&self) -> u32
         ensures { result ≡ self.now.number }
     {
@@ -44,7 +46,7 @@ impl OwnRecord {
 
 impl LinkedStore {
     /// The commit's own record, or none behind a deletion. It counts no step.
-    pub fn look_at_own(&self, own: OwnRecord) -> Option<&Kept>
+    pub fn look_at_own(&self, own: OwnRecord) -> Option<&StoredRecord>
         requires { IsNumber own.class own.number self.now.keys }
         ensures { option_map (λ kept. kept_record kept.now) result ≡ record_at own.class own.number self.now }
     {

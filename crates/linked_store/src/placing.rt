@@ -22,7 +22,7 @@ use crate::turns::LentRow;
 use crate::wanted::named;
 use entry_record::Preparation;
 use marc_types::{Class, Field, NoMemory, Record};
-use numbered_store::{Kept, NEW_TIE};
+use numbered_store::{NEW_TIE, StoredRecord};
 use std::alloc::Global;
 use written_record::WrittenRecord;
 
@@ -114,7 +114,7 @@ impl LinkedStore {
         &mut self,
         alloc: Global,
         number: u32,
-        kept: Option<Kept>,
+        kept: Option<StoredRecord>,
         rows: Vec<FieldRow<'_>>,
         item: &Preparation,
     ) -> Result<(), NoMemory>
@@ -126,10 +126,13 @@ impl LinkedStore {
         ensures ahead { IsAhead self.old self.new }
     {
         let fields = self.fields_under(item.class(), number);
-        self.frame.tables.each_form_has_one_number();
-        let position = self.frame.log.len();
-        if let Err(error) = self.frame.place(alloc, number, fields, kept, rows, item) {
-            go_back(&mut self.frame, position);
+        self.transaction.tables.each_form_has_one_number();
+        let position = self.transaction.log.len();
+        if let Err(error) = self
+            .transaction
+            .place(alloc, number, fields, kept, rows, item)
+        {
+            go_back(&mut self.transaction, position);
             return Err(error);
         }
         Ok(())
@@ -171,7 +174,7 @@ fn brought<'r>(rec: &'r Record, item: &Preparation) -> &'r [Field]
 }
 
 // The record that an entry brings, as it is kept; a deletion brings none.
-fn kept_of(alloc: Global, rec: Record, item: &Preparation) -> Result<Option<Kept>, NoMemory>
+fn kept_of(alloc: Global, rec: Record, item: &Preparation) -> Result<Option<StoredRecord>, NoMemory>
     requires own { rec ≡ item.now.rec }
     requires fit { IsTrue (fits item.now.rec.fields) }
     ensures { IfOk result (λ kept. option_map kept_record kept ≡ record_brought (arrival_of item.now)) }
@@ -180,5 +183,5 @@ fn kept_of(alloc: Global, rec: Record, item: &Preparation) -> Result<Option<Kept
         return Ok(None);
     }
     let written = WrittenRecord::of(alloc, &rec)?;
-    Ok(Some(Kept::new(written)))
+    Ok(Some(StoredRecord::new(written)))
 }

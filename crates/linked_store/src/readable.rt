@@ -21,7 +21,7 @@ ghost use Rattle.linked_store.specs.contracts.store.LinkedStore as changed;
 use crate::store::LinkedStore;
 use catalogue_tables::Standing;
 use marc_types::{Class, Field, Key, NoMemory, Tie};
-use numbered_store::{Kept, RowMap};
+use numbered_store::{RowMap, StoredRecord};
 use std::alloc::Global;
 use std::marker::Model;
 
@@ -104,7 +104,7 @@ impl ReadableStore {
     }
 
     /// The record under the key that has the number. It counts no step.
-    pub fn look(&self, class: Class, number: u32) -> Option<&Kept>
+    pub fn look(&self, class: Class, number: u32) -> Option<&StoredRecord>
         requires { IsNumber class number self.now.keys }
         ensures { option_map (λ kept. kept_record kept.now) result ≡ record_at class number self.now }
     {
@@ -138,7 +138,7 @@ impl ReadableStore {
         &self,
         alloc: Global,
         class: Class,
-        kept: &Kept,
+        kept: &StoredRecord,
         place: u32,
     ) -> Result<Option<Standing>, NoMemory>
         requires { AreAuthoritiesInOrder self.now.state }

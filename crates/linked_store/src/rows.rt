@@ -3,7 +3,7 @@ ghost use Rattle.std.specs.Prelude.{◌≡◌, None};
 ghost use Rattle.catalogue_tables.specs.Tables.{OnlyLinks, OnlyWaits};
 ghost use Rattle.link_table.specs.Links.{with_key};
 ghost use Rattle.wait_table.specs.Waits.{with_waiting};
-ghost use Rattle.linked_store.specs.Frames.{links_in, waits_in};
+ghost use Rattle.linked_store.specs.Transactions.{links_in, waits_in};
 ghost use Rattle.linked_store.specs.Rooms.{IsOut, IsWaitOut, link_back, link_gone, link_out, wait_back, wait_gone, wait_out};
 
 use catalogue_tables::CatalogueTables;

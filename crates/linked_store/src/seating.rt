@@ -5,15 +5,15 @@ ghost use Rattle.catalogue_rules.specs.Settle.{arrival_of};
 ghost use Rattle.numbered_store.specs.Kept.{kept_record};
 ghost use Rattle.form_index.specs.Index.{IsInOrder};
 ghost use Rattle.numbered_store.specs.Numbered.{IsNumber};
-ghost use Rattle.linked_store.specs.Frames.{GoesOn, contents};
+ghost use Rattle.linked_store.specs.Transactions.{GoesOn, contents};
 ghost use Rattle.linked_store.specs.Holding.{AreAsTold};
 ghost use Rattle.linked_store.specs.Placing.{AreApart, AreFreeFrom, HaveRows, IndexFollows, IsPlaced, IsReseated, StaysInSeats, record_brought};
 
-use crate::frame::Frame;
+use crate::transaction::Transaction;
 use crate::turns::LentRow;
 use entry_record::Preparation;
 use marc_types::{Class, NoMemory};
-use numbered_store::Kept;
+use numbered_store::StoredRecord;
 use numbering::Seat;
 use std::alloc::Global;
 
@@ -24,7 +24,7 @@ pub(crate) struct FieldRow<'a> {
     pub(crate) row: LentRow<'a>,
 }
 
-impl Frame {
+impl Transaction {
     /// Puts what an entry brings under a number, where so many fields stand, with these rows at its seats. Where memory ends, the
     /// log says how far it came.
     pub(crate) fn place(
@@ -32,7 +32,7 @@ impl Frame {
         alloc: Global,
         number: u32,
         fields: u32,
-        kept: Option<Kept>,
+        kept: Option<StoredRecord>,
         rows: Vec<FieldRow<'_>>,
         item: &Preparation,
     ) -> Result<(), NoMemory>

@@ -11,7 +11,7 @@ use crate::held::{RowHeld, row_held_in};
 use crate::store::LinkedStore;
 use catalogue_tables::Standing;
 use marc_types::{Class, Field, Key, NoMemory, Tie};
-use numbered_store::Kept;
+use numbered_store::StoredRecord;
 use std::alloc::Global;
 
 impl LinkedStore {
@@ -27,8 +27,10 @@ impl LinkedStore {
         ensures { IfOk result (λ standing.
             standing ≡ field_standing (linkable_authorities self.now.state) class (kept_field field.now tie.now)) }
     {
-        let keys = self.frame.store.keys(Class::Authority);
-        self.frame.tables.standing(alloc, keys, class, field, tie)
+        let keys = self.transaction.store.keys(Class::Authority);
+        self.transaction
+            .tables
+            .standing(alloc, keys, class, field, tie)
     }
 
     /// How the field at a place of a record stands, if there is one. It is decoded only where it isn't linked and can be a heading.
@@ -37,7 +39,7 @@ impl LinkedStore {
         &self,
         alloc: Global,
         class: Class,
-        kept: &Kept,
+        kept: &StoredRecord,
         place: u32,
     ) -> Result<Option<Standing>, NoMemory>
         requires { AreAuthoritiesInOrder self.now.state }
@@ -56,7 +58,7 @@ impl LinkedStore {
         &self,
         alloc: Global,
         class: Class,
-        kept: &Kept,
+        kept: &StoredRecord,
         place: u32,
     ) -> Result<Option<Standing>, NoMemory>
         requires ordered { AreAuthoritiesInOrder self.now.state }
@@ -77,7 +79,7 @@ impl LinkedStore {
         &self,
         alloc: Global,
         class: Class,
-        kept: &Kept,
+        kept: &StoredRecord,
         place: u32,
     ) -> Result<Option<Standing>, NoMemory>
         requires { AreAuthoritiesInOrder self.now.state }
@@ -100,8 +102,8 @@ impl LinkedStore {
         requires { AreAuthoritiesInOrder self.now.state }
         ensures { IfOk result (λ found. shown_keys found.items ≡ keys_sharing key.now (linkable_authorities self.now.state)) }
     {
-        let keys = self.frame.store.keys(Class::Authority);
-        self.frame.tables.sharing(alloc, keys, key)
+        let keys = self.transaction.store.keys(Class::Authority);
+        self.transaction.tables.sharing(alloc, keys, key)
     }
 
     /// The keys of the other authorities under whose heading a key's authority is found, in key order; none where the key has no
@@ -110,7 +112,7 @@ impl LinkedStore {
         requires { AreAuthoritiesInOrder self.now.state }
         ensures { IfOk result (λ found. shown_keys found.items ≡ keys_crossing key.now (linkable_authorities self.now.state)) }
     {
-        let keys = self.frame.store.keys(Class::Authority);
-        self.frame.tables.crossing(alloc, keys, key)
+        let keys = self.transaction.store.keys(Class::Authority);
+        self.transaction.tables.crossing(alloc, keys, key)
     }
 }

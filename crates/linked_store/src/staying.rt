@@ -10,10 +10,10 @@ ghost use Rattle.linked_store.specs.Linked.{IsAhead, SuitsSeat, field_of};
 ghost use Rattle.linked_store.specs.Staying.{is_linked_alike, same_link};
 
 use crate::back::go_back;
-use crate::frame::Frame;
 use crate::store::LinkedStore;
+use crate::transaction::Transaction;
 use marc_types::{Field, NoMemory, Tie};
-use numbered_store::Kept;
+use numbered_store::StoredRecord;
 use numbering::Seat;
 use std::alloc::Global;
 
@@ -23,7 +23,7 @@ impl LinkedStore {
         requires { HasKey self.now.keys seat }
         ensures { result ≡ is_linked_alike tie.now (field_of seat self.now) }
     {
-        self.frame.is_linked_alike(seat, tie)
+        self.transaction.is_linked_alike(seat, tie)
     }
 
     /// Puts a field and its tie at a seat where a field stands that is linked to the same key.
@@ -40,17 +40,17 @@ impl LinkedStore {
         ensures err { OnErr result (self.new.state ≡ self.old.state) }
         ensures ahead { IsAhead self.old self.new }
     {
-        self.frame.tables.each_form_has_one_number();
-        let position = self.frame.log.len();
-        if let Err(error) = self.frame.swap(alloc, seat, &field, tie) {
-            go_back(&mut self.frame, position);
+        self.transaction.tables.each_form_has_one_number();
+        let position = self.transaction.log.len();
+        if let Err(error) = self.transaction.swap(alloc, seat, &field, tie) {
+            go_back(&mut self.transaction, position);
             return Err(error);
         }
         Ok(())
     }
 }
 
-impl Frame {
+impl Transaction {
     fn is_linked_alike(&self, seat: Seat, tie: &Tie) -> bool
         ensures { result ≡ is_linked_alike tie.now (field_by_number seat self.now.store) }
     {
@@ -62,7 +62,7 @@ impl Frame {
 }
 
 #[tactic(auto, using(crate::proofs::Stayed::alike_read, crate::proofs::Stayed::alike_off))]
-fn is_linked_alike_in(kept: &Kept, place: u32, tie: &Tie) -> bool
+fn is_linked_alike_in(kept: &StoredRecord, place: u32, tie: &Tie) -> bool
     ensures { result ≡ is_linked_alike tie.now (field_at place (kept_record kept.now)) }
 {
     match kept.tie_at(place) {

@@ -12,11 +12,11 @@ ghost use Rattle.catalogue_tables.specs.Seam.{AreDistinct, keys_in};
 ghost use Rattle.numbered_store.specs.Rows.{IsProper};
 ghost use Rattle.linked_store.specs.Linked.{IsNumber, IsUnchanged, empty_linked, key_of, record_at};
 
-use crate::frame::Frame;
+use crate::transaction::Transaction;
 use catalogue_rules::Steps;
 use catalogue_tables::CatalogueTables;
 use marc_types::{Class, Key, NoMemory};
-use numbered_store::{Kept, NumberedStore, RowMap};
+use numbered_store::{NumberedStore, RowMap, StoredRecord};
 use std::alloc::Global;
 use std::marker::Model;
 use std::sync::ledger::Ledger;
@@ -25,7 +25,7 @@ use std::sync::ledger::Ledger;
 /// moment that a caller sees; each change can be taken back without memory.
 #[derive(Drop)]
 pub struct LinkedStore {
-    pub(crate) frame: Frame,
+    pub(crate) transaction: Transaction,
     pub(crate) marked: usize,
 }
 
@@ -36,9 +36,9 @@ impl Model for LinkedStore {
 
     ghost use Rattle.linked_store.specs.Sound.{IsSound, linked_view};
 
-    ghost view = { λ s. linked_view s.frame s.marked };
+    ghost view = { λ s. linked_view s.transaction s.marked };
 
-    ghost invariant = { λ s. IsSound s.frame s.marked };
+    ghost invariant = { λ s. IsSound s.transaction s.marked };
 }
 
 impl LinkedStore {
@@ -46,12 +46,15 @@ impl LinkedStore {
     pub(crate) fn new(alloc: Global) -> LinkedStore
         ensures { result ≡ empty_linked }
     {
-        let frame = Frame {
+        let transaction = Transaction {
             store: NumberedStore::new(alloc),
             tables: CatalogueTables::new(alloc),
             log: Vec::new(alloc),
         };
-        LinkedStore { frame, marked: 0 }
+        LinkedStore {
+            transaction,
+            marked: 0,
+        }
     }
 
     /// How many records of the class there are.
@@ -59,7 +62,7 @@ impl LinkedStore {
         ensures count { result ≡ length (rows_of class self.now.state) }
         ensures fits { result < 2 ^ 32 }
     {
-        self.frame.store.count(class)
+        self.transaction.store.count(class)
     }
 
     /// The key that has the number.
@@ -67,7 +70,7 @@ impl LinkedStore {
         requires { IsNumber class number self.now.keys }
         ensures { result.now ≡ key_of class number self.now.keys }
     {
-        self.frame.store.keys(class).at(number).unwrap()
+        self.transaction.store.keys(class).at(number).unwrap()
     }
 
     /// The number of a key, if it has one.
@@ -75,7 +78,7 @@ impl LinkedStore {
         ensures { result ≡ (if is_known same_key (keys_in class self.now.keys) key.now
             then Some (number_of same_key (keys_in class self.now.keys) key.now) else None) }
     {
-        self.frame.store.number_of(class, key)
+        self.transaction.store.number_of(class, key)
     }
 
     /// The number of a key, which gets the next one if it had none. No record changes.
@@ -85,31 +88,36 @@ impl LinkedStore {
         ensures unchanged { IsUnchanged self.old self.new }
         ensures err { OnErr result (self.new ≡ self.old) }
     {
-        self.frame.store.number(alloc, class, key)
+        self.transaction.store.number(alloc, class, key)
     }
 
     // The record under the key that has the number, for those who only read. It counts no step.
-    pub(crate) fn look(&self, class: Class, number: u32) -> Option<&Kept>
+    pub(crate) fn look(&self, class: Class, number: u32) -> Option<&StoredRecord>
         requires { IsNumber class number self.now.keys }
         ensures { option_map (λ kept. kept_record kept.now) result ≡ record_at class number self.now }
     {
-        self.frame.store.look(class, number)
+        self.transaction.store.look(class, number)
     }
 
     /// The record under the key that has the number. It counts one step.
-    pub fn visit<L: Ledger>(&self, class: Class, number: u32, steps: &mut Steps<L>) -> Option<&Kept>
+    pub fn visit<L: Ledger>(
+        &self,
+        class: Class,
+        number: u32,
+        steps: &mut Steps<L>,
+    ) -> Option<&StoredRecord>
         requires { IsNumber class number self.now.keys }
         ensures kept { option_map (λ kept. kept_record kept.now) result ≡ record_at class number self.now }
         ensures step { steps.new ≡ steps.old + 1 }
     {
-        self.frame.store.visit(class, number, steps)
+        self.transaction.store.visit(class, number, steps)
     }
 
     // The records of a class in key order, for those who only read. It is made anew at each call.
     pub(crate) fn rows(&self, alloc: Global, class: Class) -> Result<RowMap<'_>, NoMemory>
         ensures { IfOk result (λ rows. map shown_row rows.entries ≡ rows_of class self.now.state) }
     {
-        self.frame.store.rows(alloc, class)
+        self.transaction.store.rows(alloc, class)
     }
 
     /// The key of each authority that fields can be linked to has a number.
@@ -117,7 +125,7 @@ impl LinkedStore {
         ensures { (key : AnyKey) → IsSome (find (has_key key) (linkable_authorities self.now.state))
             → is_known same_key self.now.keys.authorities key ≡ true }
     {
-        let _frame = &self.frame;
+        let _transaction = &self.transaction;
     }
 
     /// Each key under which a record is kept has a number.
@@ -125,20 +133,20 @@ impl LinkedStore {
         ensures { (class : AnyClass) (key : AnyKey) → IsSome (kept_under class key self.now.state)
             → is_known same_key (keys_in class self.now.keys) key ≡ true }
     {
-        self.frame.store.each_record_has_a_number();
+        self.transaction.store.each_record_has_a_number();
     }
 
     /// Each kept record is a MARC record.
     pub fn each_record_is_proper(&self)
         ensures { (class : AnyClass) (key : AnyKey) → IfSome (kept_under class key self.now.state) IsProper }
     {
-        self.frame.store.each_record_is_proper();
+        self.transaction.store.each_record_is_proper();
     }
 
     /// No key has two numbers.
     pub fn each_key_has_one_number(&self)
         ensures { AreDistinct self.now.keys }
     {
-        let _frame = &self.frame;
+        let _transaction = &self.transaction;
     }
 }

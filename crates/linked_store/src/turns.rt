@@ -3,12 +3,12 @@ ghost use Rattle.std.specs.Prelude.{◌≡◌, OnOk, IsSome, None, Some};
 ghost use Rattle.catalogue_rules.specs.State.{kept_field};
 ghost use Rattle.numbered_store.specs.Numbered.{SuitsSeat, field_of};
 ghost use Rattle.linked_store.specs.Contents.{ToLink, apply};
-ghost use Rattle.linked_store.specs.Frames.{GoesOn, contents};
+ghost use Rattle.linked_store.specs.Transactions.{GoesOn, contents};
 ghost use Rattle.linked_store.specs.Holding.{IsAsTold};
 ghost use Rattle.linked_store.specs.Turns.{HasRows, IsTurned, IsWaiting, row_lent, without_rows};
 
-use crate::frame::Frame;
 use crate::held::RowHeld;
+use crate::transaction::Transaction;
 use marc_types::{Field, Form, NoMemory, Sequence, Tie};
 use numbering::Seat;
 use std::alloc::Global;
@@ -29,9 +29,9 @@ pub(crate) struct LentRow<'a> {
     pub(crate) keys: Sequence<u32>,
 }
 
-impl Frame {
+impl Transaction {
     /// Exchanges a field, its link, and what it waits for. Where memory ends, the log says how far it came.
-    pub(crate) fn turn(
+    pub(crate) fn relink_field(
         &mut self,
         alloc: Global,
         seat: Seat,

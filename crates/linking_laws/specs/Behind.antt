@@ -7,6 +7,7 @@ use Rattle.entry_record.specs.Authority.{Linkable, successor_of}
 use Rattle.catalogue_rules.specs.State.{KeptField, KeptRecord, Row, State, linkable_authorities, each_in_record}
 use Rattle.catalogue_rules.specs.Settle.{Arrival, place, loosen, settle_field}
 
+-- the record in its place, in its class
 abbrev pub placed_in : Class → Arrival → State → State
 placed_in Authority a s = record { authorities = place a s.authorities; bibliographic = s.bibliographic }
 placed_in Bibliographic a s = record { authorities = s.authorities; bibliographic = place a s.bibliographic }
@@ -19,6 +20,7 @@ placed a s = placed_in a.class a s
 abbrev pub linkable_behind : Arrival → State → List Linkable
 linkable_behind a s = linkable_authorities (placed a s)
 
+-- the key whose links may end, and its successor; none for a bibliographic record
 abbrev pub ended_in : Class → Arrival → Option (Key × Option Key)
 ended_in Authority a = Some (a.key, successor_of a.leader a.key a.fields)
 ended_in Bibliographic a = None
@@ -27,6 +29,7 @@ ended_in Bibliographic a = None
 abbrev pub ended_by : Arrival → Option (Key × Option Key)
 ended_by a = ended_in a.class a
 
+-- a field behind the ending of links
 abbrev pub loosened_by : List Linkable → Option (Key × Option Key) → Class → KeptField → KeptField
 loosened_by authorities None class h = h
 loosened_by authorities (Some (key, successor)) class h = loosen authorities key successor class h
@@ -36,9 +39,11 @@ abbrev pub record_behind : List Linkable → Option (Key × Option Key) → Clas
 record_behind authorities ended class r =
     each_in_record (settle_field authorities class) (each_in_record (loosened_by authorities ended class) r)
 
+-- the row behind a commit's first steps
 abbrev pub row_behind : List Linkable → Option (Key × Option Key) → Class → Row → Row
 row_behind authorities ended class row = (row.0, record_behind authorities ended class row.1)
 
+-- the rows behind a commit's first steps
 abbrev pub rows_behind : List Linkable → Option (Key × Option Key) → Class → List Row → List Row
 rows_behind authorities ended class rows = map (row_behind authorities ended class) rows
 

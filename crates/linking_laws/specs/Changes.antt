@@ -15,18 +15,23 @@ use Rattle.linking_laws.specs.Tables.{holds_at}
 
 -- ---- the stages of an authority's commit, and the states behind them
 
+-- what the stage that drops links makes of a field
 abbrev pub drop_of_commit : State → Entry → Class → KeptField → KeptField
 drop_of_commit s e = drop_by (dropping_of s e) (authorities_behind s e) e.key (successor_in (arrival_of e))
 
+-- what the stage that carries the heading makes of a field
 abbrev pub carry_of_commit : State → Entry → Class → KeptField → KeptField
 carry_of_commit s e = carry_by e.key (find (has_key e.key) (authorities_behind s e))
 
+-- what the stage that chooses makes of a field
 abbrev pub choose_of_commit : State → Entry → Class → KeptField → KeptField
 choose_of_commit s e = choose_field (authorities_behind s e) (forms_of_commit s e) e.key
 
+-- the state behind the stage that drops links
 abbrev pub state_dropped : State → Entry → State
 state_dropped s e = each_field (drop_of_commit s e) (placed_by Authority s e)
 
+-- the state behind the stage that carries the heading
 abbrev pub state_carried : State → Entry → State
 state_carried s e = each_field (carry_of_commit s e) (state_dropped s e)
 
@@ -52,6 +57,7 @@ are_exchanged (Some old) (Some new) = not (same_kept old new)
 abbrev pub is_exchanged_at : State → State → Place → Bool
 is_exchanged_at before now p = are_exchanged (field_under p before) (field_under p now)
 
+-- a change makes another field of this one
 abbrev pub is_another : (Class → KeptField → KeptField) → Class → KeptField → Bool
 is_another change class h = not (same_kept h (change class h))
 

@@ -28,6 +28,7 @@ pub record AreAuthoritiesInOrder (s : State) : Type 0 where
   pub ascend : IsAscending s.authorities
   pub rows : All (IsRow Authority) s.authorities
 
+-- what holds of a state between two stages
 pub record IsMiddle (s : State) : Type 0 where
   pub authorities_ascend : IsAscending s.authorities
   pub bibliographic_ascend : IsAscending s.bibliographic

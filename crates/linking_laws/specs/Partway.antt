@@ -14,9 +14,11 @@ use Rattle.catalogue_rules.specs.Receipt.{kept_under, same_class}
 use Rattle.catalogue_rules.specs.Valid.{IsAscending}
 use Rattle.catalogue_rules.specs.Store.{field_under, with_field_under, with_rows}
 
+-- whether two places are the same
 abbrev pub same_place : Place → Place → Bool
 same_place p q = same_class p.class q.class && same_key p.key q.key && (p.field == q.field)
 
+-- the place is one of these
 abbrev pub is_place_among : List Place → Place → Bool
 is_place_among places q = list_any (λ p. same_place p q) places
 
@@ -28,6 +30,7 @@ swapped p h s = with_rows p.class (with_field_under p.key p.field h (rows_of p.c
 abbrev pub row_outline : Row → Key × (Leader × ℕ)
 row_outline row = (row.0, (row.1.leader, length row.1.fields))
 
+-- of each row of a class its key, its leader and the number of its fields
 abbrev pub outlines : Class → State → List (Key × (Leader × ℕ))
 outlines class s = map row_outline (rows_of class s)
 

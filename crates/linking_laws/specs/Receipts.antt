@@ -18,6 +18,7 @@ use Rattle.catalogue_rules.specs.Sameness.{same_kept}
 use Rattle.catalogue_rules.specs.Store.{field_under}
 use Rattle.linking_laws.specs.Commits.{placed_by}
 
+-- the key is one of these
 abbrev pub is_key_among : List Key → Key → Bool
 is_key_among keys key = list_any (same_key key) keys
 
@@ -34,6 +35,7 @@ pub record IsExchanged (p : Place) (before now : State) : Type 0 where
   pub stands : field_under p now ≡ Some new
   pub differs : same_kept old new ≡ false
 
+-- the place of a field under a key of a class
 abbrev pub place_in : Class → Key → ℕ → Place
 place_in class key field = record { class = class; key = key; field = field }
 

@@ -31,6 +31,7 @@ dropping_by None (Some now) = DropNone
 dropping_by (Some before) (Some now) =
     if same_kind before.kind now.kind then (if is_bare now then DropNone else DropBases) else DropAll
 
+-- the successor that an arrival names, where it does
 abbrev pub successor_in : Arrival → Option Key
 successor_in a = successor_of a.leader a.key a.fields
 
@@ -42,6 +43,7 @@ drop_field now key only_base successor class h =
     then (if only_base && h.tie.whole then h else settle_unlinked now class (end_link key successor h))
     else (if awaits_key key h then option_map_or (λ other. settle_unlinked now class (await h other)) successor h else h)
 
+-- no link ends, those by the base end, or all to the key
 abbrev pub drop_by : Dropping → List Linkable → Key → Option Key → Class → KeptField → KeptField
 drop_by DropNone now key successor class h = h
 drop_by DropBases now key successor class h = drop_field now key true successor class h
@@ -57,6 +59,7 @@ carry_field key heading kind class h =
     }
     else h
 
+-- each field that is linked to the key gets its heading, where the key still has an authority
 abbrev pub carry_by : Key → Option Linkable → Class → KeptField → KeptField
 carry_by key None class h = h
 carry_by key (Some c) class h = carry_field key c.heading c.kind class h

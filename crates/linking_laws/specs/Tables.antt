@@ -25,6 +25,7 @@ pub record IndexRow : Type 0 where
   pub established : Form
   pub see_from : List Form
 
+-- what an index has of an authority
 abbrev pub index_row : Linkable → IndexRow
 index_row c = record { key = c.key; established = c.established; see_from = c.see_from }
 
@@ -42,6 +43,7 @@ asks_at form class h =
     if is_some h.tie.key then false
     else option_map_or (λ kind. is_form_among (asked_forms class kind h) form) (heading_kind class h.field) false
 
+-- the field is linked to the key
 abbrev pub linked_at : Key → Class → KeptField → Bool
 linked_at key class h = is_linked_to key h
 
@@ -72,6 +74,7 @@ abbrev pub AreOnce : List Place → Type 0
 AreOnce [] = Unit {0}
 AreOnce (p ∷ places) = (is_place_among places p ≡ false) × AreOnce places
 
+-- a list has exactly these places, each once
 pub record IsListing (members : Place → Bool) (places : List Place) : Type 0 where
   pub members_are : (p : Place) → is_place_among places p ≡ members p
   pub once : AreOnce places
@@ -105,12 +108,15 @@ pub record IsReplaced (a : Arrival) (placed : State) (before after : Tables) : T
 
 -- ---- a choice by the rows of the indexes
 
+-- the row's established form is this one
 abbrev pub has_established : Form → IndexRow → Bool
 has_established form r = same_form form r.established
 
+-- one of the row's see-from forms is this one
 abbrev pub has_traced : Form → IndexRow → Bool
 has_traced form r = list_any (same_form form) r.see_from
 
+-- the keys of the rows of which a test holds
 abbrev pub keys_with : (IndexRow → Bool) → List IndexRow → List Key
 keys_with test rows = map (λ r. r.key) (filter test rows)
 

@@ -38,6 +38,7 @@ drop_visits now key only_base successor class h =
     then 1 + (if awaits_key key h then option_map_or (λ other. link_visit now class (await h other)) successor 0 else 0)
     else 0
 
+-- what the stage that drops links visits at a field, by what ends
 abbrev pub drop_visits_by : Dropping → List Linkable → Key → Option Key → Class → KeptField → ℕ
 drop_visits_by DropNone now key successor class h = 0
 drop_visits_by DropBases now key successor class h = drop_visits now key true successor class h
@@ -56,6 +57,7 @@ own_visits now class h = if is_some h.tie.key then 0 else link_visit now class h
 unfoldable pub choose_visits : List Linkable → List Form → Key → Class → KeptField → ℕ
 choose_visits now forms key class h = if is_waiting_for forms key class h then 1 + link_visit now class h else 0
 
+-- what settling a record's own fields visits
 abbrev pub own_row_visits : List Linkable → Class → Key → Row → ℕ
 own_row_visits now class key row = if same_key key row.0 then sum_row (own_visits now class) row else 0
 
@@ -92,6 +94,7 @@ abbrev pub visits_in : Class → State → Entry → ℕ
 visits_in Authority s e = commit_visits s e
 visits_in Bibliographic s e = own_commit_visits s e
 
+-- what an arrival touches, by its class
 abbrev pub touched_in : Class → State → Arrival → ℕ
 touched_in Authority s a =
     arrival_weight a + state_weight a (linkable_authorities s) (linkable_authorities (placed_in Authority a s)) s
@@ -102,5 +105,6 @@ touched_in Bibliographic s a = arrival_weight a
 abbrev pub touched_by : State → Arrival → ℕ
 touched_by s a = touched_in a.class s a
 
+-- what a commit touches: the most visits that it may make
 abbrev pub touched : State → Entry → ℕ
 touched s e = touched_by s (arrival_of e)

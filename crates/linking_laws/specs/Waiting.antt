@@ -23,6 +23,7 @@ asked_full class kind h = if takes_subdivisions class h then full_form kind clas
 abbrev pub asked_base : Class → Kind → KeptField → List Form
 asked_base class kind h = if asks_base class h then base_form kind h.field ∷ [] else []
 
+-- the form is one of these
 abbrev pub is_form_among : List Form → Form → Bool
 is_form_among forms form = list_any (same_form form) forms
 

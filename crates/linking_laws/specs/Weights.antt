@@ -18,6 +18,7 @@ use Rattle.catalogue_rules.specs.Settle.{Arrival, is_linked_to}
 use Rattle.linking_laws.specs.Waiting.{names_key, is_waiting_for, forms_touched}
 use Rattle.linking_laws.specs.Stages.{successor_in}
 
+-- 1 where it holds, else 0
 abbrev pub one_if : Bool → ℕ
 one_if b = if b then 1 else 0
 
@@ -42,6 +43,7 @@ touched_weight forms key successor class h =
     then (if is_some successor && names_key key h then 2 * (1 + weight h) else 1 + weight h)
     else 0
 
+-- the sum over a row's fields
 abbrev pub sum_row : (KeptField → ℕ) → Row → ℕ
 sum_row f row = sum_by f row.1.fields
 

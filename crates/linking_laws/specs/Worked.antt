@@ -13,12 +13,15 @@ use Rattle.catalogue_rules.specs.Worked.{added_name, dlc_key, name_heading, numb
 abbrev pub leader_of : ℕ → ℕ → Leader
 leader_of status rtype = record { status = status; rtype = rtype; level = 32; control = 32; encoding = 97; form = 32; linked = 32 }
 
+-- Mark Twain's key
 abbrev pub twain_key : Key
 twain_key = dlc_key (codes "n79021164")
 
+-- the key of his successor
 abbrev pub clemens_key : Key
 clemens_key = dlc_key (codes "n2")
 
+-- Mark Twain's authority
 abbrev pub twain_row : Row
 twain_row = (twain_key, record { leader = leader_of 110 122; fields = new_field (name_heading (codes "Twain, Mark")) ∷ [] })
 
@@ -33,6 +36,7 @@ linked_name = record {
   tie = record { key = Some twain_key; whole = false; awaits = None };
 }
 
+-- Mark Twain, and a book linked to him
 abbrev pub linked_state : State
 linked_state = record { authorities = twain_row ∷ []; bibliographic = book_with linked_name ∷ [] }
 
@@ -53,15 +57,18 @@ deleted = record { class = Authority; key = twain_key; leader = leader_of 100 12
 abbrev pub plain_name : Field
 plain_name = added_name (subfield 97 (codes "Twain, Mark") ∷ [])
 
+-- the same name, which awaits the successor
 abbrev pub awaiting_name : KeptField
 awaiting_name = record { field = plain_name; tie = record { key = None; whole = false; awaits = Some clemens_key } }
 
+-- the state that the replacement leaves
 abbrev pub awaiting_state : State
 awaiting_state = record {
   authorities = [];
   bibliographic = book_with awaiting_name ∷ [];
 }
 
+-- the successor comes
 abbrev pub arrived : Arrival
 arrived = record { class = Authority; key = clemens_key; leader = leader_of 110 122; fields = name_heading (codes "Clemens, Samuel") ∷ [] }
 

@@ -21,11 +21,11 @@ use Rattle.wait_table.specs.contracts.waiting.Waiting as Waiting
 use Rattle.wait_table.specs.contracts.table.WaitTable as WaitTable
 use Rattle.link_table.specs.contracts.table.LinkTable as LinkTable
 use Rattle.catalogue_tables.specs.contracts.tables.CatalogueTables as CatalogueTables
-use Rattle.numbered_store.specs.contracts.kept.Kept as Kept
+use Rattle.numbered_store.specs.contracts.kept.StoredRecord as StoredRecord
 use Rattle.numbered_store.specs.contracts.shelf.Shelf as Shelf
 use Rattle.numbered_store.specs.contracts.store.NumberedStore as NumberedStore
 use Rattle.linked_store.specs.contracts.change.Change as Change
-use Rattle.linked_store.specs.contracts.frame.Frame as Frame
+use Rattle.linked_store.specs.contracts.transaction.Transaction as Transaction
 use Rattle.linked_store.specs.contracts.readable.ReadableStore as ReadableStore
 use Rattle.linked_store.specs.contracts.store.LinkedStore as LinkedStore
 use Rattle.catalogue_core.specs.contracts.engine.Engine as Engine
@@ -42,7 +42,7 @@ key_send = search (text_send, sendable, crosses) depth 40
 form_send : IsSend Form.the_row
 form_send = search (text_send, sendable, crosses) depth 40 fits 20000
 
-kept_send : IsSend Kept.the_row
+kept_send : IsSend StoredRecord.the_row
 kept_send = search (text_send, sendable, crosses) depth 40 fits 20000
 
 -- ---- the tables; one without a model is a field by its own row
@@ -95,7 +95,7 @@ records_send = search (shelf_send, sendable, crosses) depth 40 fits 20000
 change_send : IsSend Change.the_row
 change_send = search (text_send, kept_send, sendable, crosses) depth 40 fits 20000
 
-frame_send : IsSend (Frame.the_field).row
+frame_send : IsSend (Transaction.the_field).row
 frame_send = search (records_send, tables_send, change_send, Vec-send, sendable) depth 40 fits 20000
 
 store_send : IsSend LinkedStore.the_row

@@ -17,3 +17,5 @@ pub mod FileDone
 pub mod AllDone
 pub mod Under
 pub mod Crosses
+pub mod Follows
+pub mod Works

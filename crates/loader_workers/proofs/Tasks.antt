@@ -29,7 +29,7 @@ none_left [] n same none = refl
 none_left (x ∷ xs) n same none = absurd (omega (arith, same, none))
 
 -- what was written to a list's elements is the list
-written_back : {X : Type 0} (after before read : List X) (n : ℕ) → length after ≡ length read → read ≡ before → n ≡ length before
+pub written_back : {X : Type 0} (after before read : List X) (n : ℕ) → length after ≡ length read → read ≡ before → n ≡ length before
     → take n (after ++ drop (length after) before) ≡ after
 written_back {X} after before read n len same is =
     let whole : length after ≡ length before = len ∙ ap (length {A = X}) same in
@@ -55,17 +55,16 @@ module _ {J : Type 0} where
   pub same_places : (Is : J → Type 0) (places read : List (Option J)) → All (HasTask Is) places → read ≡ places → All (HasTask Is) read
   same_places Is places read all same = subst (All (HasTask Is)) (sym same) all
 
-  -- what was done where a list is read, is done in the list once it is written back
-  pub each_all : (Did : J → J → Type 0) (places read after : List (Option J)) (n : ℕ) → read ≡ places → length after ≡ length read
-      → ((k : ℕ) (d : Option J) → k < length read → IsDone Did (slice_index_or read k d) (slice_index_or after k d)) → n ≡ length places
-      → Each Did places (take n (after ++ drop (length after) places))
-  each_all Did places read after n same len done is =
-      subst (Each Did places) (sym (written_back after places read n len same is))
-      (subst (λ l. Each Did l after) same (each_of Did read after len done))
-
   pub each_count : (Did : J → J → Type 0) (before after : List (Option J)) → Each Did before after → length after ≡ length before
   each_count Did _ _ NoTask = refl
   each_count Did _ _ (NextTask before after task new did rest) = omega (arith, each_count Did before after rest)
+
+  -- what was done where a list is read, is done in the list once it is written back
+  pub each_all : (Did : J → J → Type 0) (places read after : List (Option J)) (n : ℕ) → read ≡ places → Each Did read after → n ≡ length places
+      → Each Did places (take n (after ++ drop (length after) places))
+  each_all Did places read after n same each is =
+      subst (Each Did places) (sym (written_back after places read n (each_count Did read after each) same is))
+      (subst (λ l. Each Did l after) same each)
 
   -- what holds of each task that was done
   pub each_so : (Did : J → J → Type 0) (Is : J → Type 0) → ((old new : J) → Did old new → Is new) → (before after : List (Option J)) → Each Did before after

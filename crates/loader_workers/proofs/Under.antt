@@ -1,6 +1,7 @@
 -- Loading files under a lock, from its passes to the catalogue that it gives back.
-use Rattle.std.proofs.Common.{◌≡◌, ◌∙◌, ℕ, ◌≤◌, List, [], ◌++◌, map, length, Option, Some, None, refl, sym, ap, subst, arith}
-use Rattle.std.specs.Prelude.{All, IsTrue}
+use Rattle.std.proofs.Common.{◌≡◌, ◌∙◌, ℕ, zero, suc, ◌+◌, ◌-◌, ◌<◌, ◌≤◌, List, [], ◌∷◌, ◌++◌, map, length, Option, Some, None, refl, sym, ap, subst, arith}
+use Rattle.std.specs.Prelude.{All, IsTrue, IfOk, Result, slice_get}
+use Rattle.marc_types.specs.declared.copying.NoMemory.{NoMemory}
 use Rattle.std.specs.List.{range_with_len}
 use Rattle.std.proofs.lemmas.List.Elements.{All-from_recursion, recursion_from_All}
 use Rattle.std.proofs.lemmas.List.FromFn.{length-map-range_with_len}
@@ -10,6 +11,7 @@ use Rattle.marc_types.specs.Valid.{is_code}
 use Rattle.entry_history.specs.Commits.{IsCommit}
 use Rattle.entry_history.specs.declared.event.Event.{Event}
 use Rattle.entry_history.specs.declared.reply.BatchReply.{BatchReply}
+use Rattle.catalogue_lock.specs.History.{items_by}
 use Rattle.catalogue_lock.specs.Passes.{Lock, Pass, Closed, IsPassOf}
 use Rattle.catalogue_lock.proofs.Numbers.{items_by-other}
 use Rattle.durable_catalogue.specs.Durables.{marked, events}
@@ -26,6 +28,48 @@ use Rattle.loader_workers.proofs.AllDone.{DidSo, as_many, are_loaded, all_own}
 -- passes that are put behind no others
 pub none_given : {X : Type 0} (given all passes : List X) → given ≡ [] → all ≡ given ++ passes → all ≡ passes
 none_given given all passes none is = is ∙ ap (λ l. l ++ passes) none
+
+-- What is known at the end of the passes behind one that added nothing and has the last number.
+module _ {O : Type 0} (files : ℕ) (idle : Pass O Event) (passes : List (Pass O Event)) (brought left : List Event) (none : idle.added ≡ []) (last : idle.number ≡ files)
+    (closed : Closed (files + 1) (idle ∷ passes) brought left) where
+  behind_idle : (n : ℕ) → n < files → (k : ℕ) (p : Pass O Event) → slice_get (idle ∷ passes) k ≡ Some p → p.number ≡ n
+      → (k : ℕ) × (p : Pass O Event) × (slice_get passes k ≡ Some p) × (p.number ≡ n)
+  behind_idle n lt zero p there is =
+      let same : idle ≡ p = cc there in absurd (omega (arith, lt, ap (λ (q : Pass O Event). q.number) same, last, is))
+  behind_idle n lt (suc k) p there is = (k, p, there, is)
+
+  nobody_else : (n more : ℕ) → n ≡ files + more → items_by (Some n) closed.history ≡ []
+  nobody_else n zero is =
+      let same : n ≡ idle.number = omega (arith, is, last) in
+      ap (λ m. items_by (Some m) closed.history) same ∙ (closed.own 0 idle refl ∙ none)
+  nobody_else n (suc more) is = closed.nobody n (omega (arith, is))
+
+  pub without_idle : Closed files passes brought left
+  without_idle = record {
+    history = closed.history;
+    whole = closed.whole;
+    unnumbered = closed.unnumbered;
+    begins = λ k p there. closed.begins (suc k) p there;
+    own = λ k p there. closed.own (suc k) p there;
+    every = λ n lt. let at = closed.every n (omega (arith, lt)) in behind_idle n lt at.0 at.1 at.2 at.3;
+    nobody = λ n le. nobody_else n (n - files) (omega (arith, le));
+  }
+
+module _ {X : Type 0} where
+  -- one thing is put into an empty list
+  pub one_more : (none one : List X) (x : X) → none ≡ [] → one ≡ none ++ x ∷ [] → length one ≡ 1
+  one_more none one x empty is = ap (length {A = X}) (is ∙ ap (λ l. l ++ x ∷ []) empty)
+
+  -- what holds of the first of a list and of the others
+  pub all_with : (P : X → Type 0) (first : X) (rest all : List X) → all ≡ first ∷ rest → P first → All P rest → All P all
+  all_with P first rest all is one others =
+      subst (All P) (sym is) (All-from_recursion P (first ∷ rest) (one, recursion_from_All P rest others))
+
+-- what is known at the end, of the passes as they were put together
+pub closed_so : {O : Type 0} (callers files : ℕ) (all passes : List (Pass O Event)) (brought left : List Event) → callers ≡ files + 1 → all ≡ passes
+    → Closed callers all brought left → Closed (files + 1) passes brought left
+closed_so callers files all passes brought left count is closed =
+    subst (λ n. Closed n passes brought left) count (subst (λ ps. Closed callers ps brought left) is closed)
 
 -- what an object of this origin replies
 abbrev pub replies_of : Limits → ℕ → List Event → List Entry → BatchReply → List Event → Type 0
@@ -98,3 +142,16 @@ module _ {O S : Type 0} (before : List Entry) (mark : Option (List Entry)) (limi
           (subst (λ m. Closed (length files) passes_now (events before m) (events entries mark_now)) over.whole
           (subst (λ n. Closed n passes_now (events before mark) (events entries mark_now)) same closed))
           can.some refl few
+
+-- what was loaded, of the same things by other names
+pub loaded_so : {S : Type 0} (left : S → Option (List ℕ)) (faults : S → ℕ) (limits limits' : Limits) (before before' : List Entry) (files back back' : List (InputFile S))
+    (results results' : Result (List FileResult) NoMemory) (after after' : List Entry) (mark mark' : Option (List Entry))
+    → limits' ≡ limits → before' ≡ before → back' ≡ back → results' ≡ results → after' ≡ after → mark' ≡ mark
+    → IfOk results (λ rs. AreLoaded left faults limits before files back rs after mark) → IfOk results' (λ rs. AreLoaded left faults limits' before' files back' rs after' mark')
+loaded_so left faults l l' b b' files k k' r r' a a' m m' same_limits same_before same_back same_results same_after same_mark loaded =
+    subst (λ x. IfOk r' (λ rs. AreLoaded left faults x b' files k' rs a' m')) (sym same_limits)
+    (subst (λ x. IfOk r' (λ rs. AreLoaded left faults l x files k' rs a' m')) (sym same_before)
+    (subst (λ x. IfOk r' (λ rs. AreLoaded left faults l b files x rs a' m')) (sym same_back)
+    (subst (λ x. IfOk x (λ rs. AreLoaded left faults l b files k rs a' m')) (sym same_results)
+    (subst (λ x. IfOk r (λ rs. AreLoaded left faults l b files k rs x m')) (sym same_after)
+    (subst (λ x. IfOk r (λ rs. AreLoaded left faults l b files k rs a x)) (sym same_mark) loaded)))))

@@ -10,6 +10,7 @@ use Rattle.loader_workers.specs.declared.file_end.FileEnd.{FileEnd}
 use Rattle.loader_workers.specs.declared.file_end.FileEnd.TheVariants.{NoMemory}
 use Rattle.loader_workers.specs.declared.result.FileResult.{FileResult}
 
+-- nothing counted
 abbrev pub no_counts : Counts
 no_counts = record { accepted = 0; sums = no_sums }
 
@@ -25,6 +26,7 @@ pub record HasCounted (c now : Counts) (receipts : List Receipt) : Type 0 where
   pub sums : now.sums ≡ with_receipts c.sums receipts
   pub few : AddsFew c.sums now.sums (length receipts)
 
+-- what became of a file, of what was counted and refused, and how it ended
 abbrev pub result_of : Counts → List RefusedItem → FileEnd → FileResult
 result_of c refused end = record { refused = refused; accepted = c.accepted; sums = c.sums; end = end }
 

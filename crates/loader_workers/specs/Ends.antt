@@ -12,6 +12,7 @@ file_end_of fault.NoMemory = NoMemory
 file_end_of fault.DeviceFault = DeviceFault
 file_end_of fault.Broken = DeviceFault
 
+-- the end of a file by the fault of a commit, where there is one
 abbrev pub end_of_commit : Option CommitFault → Option FileEnd
 end_of_commit None = None
 end_of_commit (Some fault) = Some (file_end_of fault)

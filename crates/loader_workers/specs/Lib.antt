@@ -6,3 +6,5 @@ pub mod Loading
 pub mod SideBySide
 pub mod Tasks
 pub mod Files
+pub mod Following
+pub mod Beside

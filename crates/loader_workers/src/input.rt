@@ -7,4 +7,5 @@ pub struct InputFile<S> {
     pub code: Text,
 }
 
+/// Files that are to be loaded, in the order of the words.
 pub type InputFiles<S> = Sequence<InputFile<S>>;

@@ -29,6 +29,30 @@ fn load_at<O: Object<Item = Event, Call = Batch, Reply = BatchReply>, R: Wait, S
     }
 }
 
+/// Does the tasks at these places side by side, each in a thread of its own, and leaves each at its place.
+pub fn load_each<
+    O: Object<Item = Event, Call = Batch, Reply = BatchReply> + Send,
+    R: Threads + Wait + Sync,
+    S: Source + Send,
+    G: Gate + Sync,
+>(rt: &R, shared: &Shared<'_, O, G>, places: &mut [Option<FileTask<O, S>>])
+    requires wait { All (HasTask (λ task. CanLoad shared.now.lock.now task.pass task.file.code)) places.old }
+    requires catalogue { IsCatalogue O.takes (O.replies (O.origin shared.now.lock.now.opened)) }
+    ensures { Each (LoadsTask (O.replies (O.origin shared.now.lock.now.opened)) S.left S.bound S.faults) places.old places.new }
+{
+    let threads = places.len().max(1);
+    for_each_mut(
+        rt,
+        places,
+        threads,
+        &|_, place: &mut Option<FileTask<O, S>>|
+            requires { HasTask (λ task. CanLoad shared.now.lock.now task.pass task.file.code) place.now
+                × IsCatalogue O.takes (O.replies (O.origin shared.now.lock.now.opened)) }
+            ensures { IsDone (LoadsTask (O.replies (O.origin shared.entry.now.lock.now.opened)) S.left S.bound S.faults) place.entry.now place.exit.now }
+        { load_at(rt, shared, place) },
+    );
+}
+
 /// Does many tasks side by side, each in a thread of its own, and leaves each at its place.
 pub fn load_all<
     O: Object<Item = Event, Call = Batch, Reply = BatchReply> + Send,
@@ -45,16 +69,6 @@ pub fn load_all<
     ensures each { Each (LoadsTask (O.replies (O.origin shared.now.lock.now.opened)) S.left S.bound S.faults) places.items result.items }
 {
     let mut places = places;
-    let threads = places.len().max(1);
-    for_each_mut(
-        rt,
-        places.as_mut_slice(),
-        threads,
-        &|_, place: &mut Option<FileTask<O, S>>|
-            requires { HasTask (λ task. CanLoad shared.now.lock.now task.pass task.file.code) place.now
-                × IsCatalogue O.takes (O.replies (O.origin shared.now.lock.now.opened)) }
-            ensures { IsDone (LoadsTask (O.replies (O.origin shared.entry.now.lock.now.opened)) S.left S.bound S.faults) place.entry.now place.exit.now }
-        { load_at(rt, shared, place) },
-    );
+    load_each(rt, shared, places.as_mut_slice());
     places
 }

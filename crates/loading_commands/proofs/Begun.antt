@@ -16,8 +16,8 @@ use Rattle.loader_workers.specs.declared.file_end.FileEnd.TheVariants as end
 use Rattle.loader_workers.specs.declared.result.FileResult.{FileResult}
 use Rattle.loader_workers.specs.declared.input.InputFile.{InputFile}
 use Rattle.loader_workers.specs.Files.{EachLoaded, AreOfOneFile, AreLoaded}
-use Rattle.room_files.specs.Faults.{fault_of_opening}
-use Rattle.room_files.specs.Journals.{journal_limits, IsOpenedFrom, IsClosedTo}
+use Rattle.journal_files.specs.Faults.{fault_of_opening}
+use Rattle.journal_files.specs.Journals.{journal_limits, IsOpenedFrom, IsClosedTo}
 use Rattle.loading_commands.specs.Inputs.{AreInputs, IsFresh, RisesFrom, lefts_of_inputs}
 use Rattle.loading_commands.specs.Outcomes.{any_ends, loading_fault, AreLoadedBehind, IsLoadedWhole, AreUnread, IsUnbegun, Unbegun, IsLoadingFault, NotBegun, InPart, IsFinished, IsStopped, Unloaded, Faulty}
 use Rattle.loading_commands.proofs.LoadedFiles.{inputs_count, libraries_loaded, libraries_read, none_failed, results_count, after_count, has_mark, had_fault, each_failed, HadFault}

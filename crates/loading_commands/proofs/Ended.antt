@@ -1,5 +1,5 @@
 -- How the commands end that load files into a journal, from what their steps say.
-use Rattle.std.proofs.Common.{◌≡◌, ◌≢◌, ◌⊎◌, inl, inr, ℕ, Bool, true, false, true≢false, List, [], ◌∷◌, Some, None, refl, sym, ap, subst, ◌∙◌}
+use Rattle.std.proofs.Common.{◌≡◌, ◌≢◌, ◌⊎◌, inl, inr, ℕ, Bool, true, false, true≢false, List, [], ◌∷◌, None, refl, sym, ap, subst, ◌∙◌}
 use Rattle.std.specs.Io.KnownBytes.{Appends}
 use Rattle.std.specs.Str.{bytes_eq}
 use Rattle.std.proofs.lemmas.Slice.Eq.{bytes_eq-Decides}
@@ -9,7 +9,6 @@ use Rattle.outside.specs.Room.{RoomView, SameBut}
 use Rattle.outside.specs.Sink.{WritesFront}
 use Rattle.outside.proofs.Rooms.{same_but_first, same_but_more, same_but_then}
 use Rattle.command_words.specs.declared.library.Library.{Library}
-use Rattle.command_words.specs.Command.{AreNames}
 use Rattle.catalogue_rules.specs.Settle.{state_of}
 use Rattle.catalogue_rules.specs.Output.{export_of, all_keys}
 use Rattle.console_lines.specs.Ends.{Outcome, IsTold, IsSilent, IsResultTold, end_of, out_unwritten, side_unwritten}
@@ -17,15 +16,15 @@ use Rattle.console_lines.specs.declared.end.End.TheVariants.{Told}
 use Rattle.console_lines.specs.declared.end.Unwritten.TheVariants as unwritten
 use Rattle.console_lines.specs.declared.fault.Fault.{Fault}
 use Rattle.console_lines.specs.declared.fault.Fault.TheVariants as fault
-use Rattle.console_lines.proofs.Ends.{told_once, told_not_unwritten, never_told, told_not_all, all_not_unwritten, out_not_console, out_not_side, side_not_console, result_untold, result_done, result_line, result_front, result_no_output, result_cause}
+use Rattle.console_lines.proofs.Ends.{told_once, told_not_unwritten, never_told, told_not_all, all_not_unwritten, out_not_console, out_not_side, side_not_console, result_untold, result_done, result_line, result_front, result_no_output, result_no_pages, result_cause}
 use Rattle.loader_workers.specs.declared.result.FileResult.{FileResult}
 use Rattle.output_files.specs.Outputs.{IsOutputLeft}
 use Rattle.loading_commands.specs.Outcomes.{Fails}
 use Rattle.loading_commands.specs.Texts.{files_text, has_refused}
-use Rattle.loading_commands.specs.Runs.{EndsLoad, EndsRun, AreOutputs, AreOutAndLeft, WhyNotLoad, WhyNotRun, NoMemory, NoMemoryForReport}
+use Rattle.loading_commands.specs.Runs.{EndsLoad, EndsRun, AreOutputs, AreOutAndLeft, WhyNotLoad}
 use Rattle.loading_commands.specs.Loading.{Loads, Runs}
 use Rattle.loading_commands.proofs.OneHistory.{MergedBy}
-use Rattle.loading_commands.proofs.Missing.{told_of_loading, loading_untold, running_untold, unloaded_keeps, unrun_keeps}
+use Rattle.loading_commands.proofs.Missing.{told_of_loading, loading_untold, running_untold, unloaded_keeps}
 
 pub decide_name : {P : Type 0} (a b : List ℕ) → (a ≡ b → P) → (a ≢ b → P) → P
 decide_name {P} a b same other = decided (bytes_eq a b) refl
@@ -81,7 +80,7 @@ module _ (libraries : List Library) (journal : List ℕ) (o : Outcome) where
       → (o.old.tells ≡ true → MergedBy o.old o.new journal libraries entries results) → Loads libraries journal o
   loads_told entries results t merged =
       let untold = result_untold t.told in record {
-        ends = loading_untold o.end untold (result_no_output t.told);
+        ends = loading_untold o.end untold (result_no_output t.told) (result_no_pages t.told);
         told = λ why also. absurd (never_told o.end why untold also);
         because = λ why also. absurd (never_told o.end why untold also);
         missing = λ why also. absurd (never_told o.end why untold also);
@@ -106,22 +105,22 @@ module _ (libraries : List Library) (journal : List ℕ) (o : Outcome) where
   neither first second (inr b) = absurd (second b)
 
   module _ (out report : List ℕ) where
-    pub runs_failed : (why : Fault) → o.end ≡ Told why → IsTold why o → (why ≢ fault.Memory → SameBut o.old o.new (journal ∷ []))
-        → SameBut o.old o.new (journal ∷ out ∷ []) → Fails o.old o.new journal libraries why (WhyNotRun o.old o.new journal out report libraries why) → Runs libraries journal out report o
-    runs_failed why is told apart no_report f =
+    pub runs_failed : (why : Fault) → o.end ≡ Told why → IsTold why o → SameBut o.old o.new (journal ∷ [])
+        → Fails o.old o.new journal libraries why (WhyNotLoad o.old o.new journal libraries why) → Runs libraries journal out report o
+    runs_failed why is told apart f =
         let no = told_not_unwritten o.end why in record {
           ends = subst EndsRun (sym is) (told_of_loading why f.no_usage f.no_other_history);
           told = λ other also. subst (λ w. IsTold w o × (w ≢ fault.Usage)) (told_once o.end why other is also) (told, f.no_usage);
-          because = λ other also tells. subst (WhyNotRun o.old o.new journal out report libraries) (told_once o.end why other is also) (f.because tells);
-          missing = λ other also tells. unrun_keeps o.old o.new journal out report libraries why tells (f.because tells);
-          untouched = λ other also no_memory. apart (λ memory. no_memory (sym (told_once o.end why other is also) ∙ memory));
+          because = λ other also tells. subst (WhyNotLoad o.old o.new journal libraries) (told_once o.end why other is also) (f.because tells);
+          missing = λ other also tells. unloaded_keeps o.old o.new journal libraries why tells (f.because tells);
+          untouched = λ other also. apart;
           device = λ also. f.device (told_once o.end why fault.Device is also);
           input = λ also. f.input (told_once o.end why fault.Input is also);
           out_cause = λ also. absurd (no unwritten.Out is also);
           report_cause = λ also. absurd (no unwritten.Side is also);
           console_cause = λ also. absurd (no unwritten.Console is also);
           whole = λ all. absurd (told_not_all o.end why is all);
-          no_report = λ either. no_report;
+          no_report = λ also. absurd (no unwritten.Out is also);
           silent = neither (no unwritten.Out is) (no unwritten.Side is);
           in_out = λ also. absurd (no unwritten.Out is also);
           in_report = λ also. absurd (no unwritten.Side is also);
@@ -134,7 +133,7 @@ module _ (libraries : List Library) (journal : List ℕ) (o : Outcome) where
     runs_told entries results t merged outputs =
         let untold = result_untold t.told in
         let no_output = result_no_output t.told in record {
-          ends = running_untold o.end untold;
+          ends = running_untold o.end untold (result_no_pages t.told);
           told = λ why also. absurd (never_told o.end why untold also);
           because = λ why also. absurd (never_told o.end why untold also);
           missing = λ why also. absurd (never_told o.end why untold also);
@@ -152,7 +151,7 @@ module _ (libraries : List Library) (journal : List ℕ) (o : Outcome) where
                 console = subst (Appends o.told o.now) (t.text_is ∙ m.text_is) (result_line t.told all);
                 end_is = result_done t.told all ∙ ap (λ b. end_of b) (t.refused_is ∙ m.any_is);
               };
-          no_report = neither no_output.0 (λ also. never_told o.end fault.Memory untold also);
+          no_report = λ also. absurd (no_output.0 also);
           silent = neither no_output.0 no_output.1;
           in_out = λ also. absurd (no_output.0 also);
           in_report = λ also. absurd (no_output.1 also);
@@ -184,7 +183,7 @@ module _ (libraries : List Library) (journal : List ℕ) (o : Outcome) where
             report_cause = λ also. absurd (out_not_side o.end is also);
             console_cause = λ also. absurd (out_not_console o.end is also);
             whole = λ all. absurd (all_not_unwritten o.end unwritten.Out all is);
-            no_report = λ either. apart;
+            no_report = λ also. apart;
             silent = λ either. silent;
             in_out = λ also tells.
                 let m = merged tells in
@@ -208,7 +207,7 @@ module _ (libraries : List Library) (journal : List ℕ) (o : Outcome) where
             report_cause = λ also. rose;
             console_cause = λ also. absurd (side_not_console o.end is also);
             whole = λ all. absurd (all_not_unwritten o.end unwritten.Side all is);
-            no_report = neither (λ also. out_not_side o.end also is) (no fault.Memory);
+            no_report = λ also. absurd (out_not_side o.end also is);
             silent = λ either. silent;
             in_out = λ also. absurd (out_not_side o.end also is);
             in_report = λ also tells.
@@ -216,20 +215,6 @@ module _ (libraries : List Library) (journal : List ℕ) (o : Outcome) where
                 record { merged = m.merged; outputs = subst (AreOutAndLeft o.old o.new out report) m.entries_are (left tells) };
             untold = λ also. absurd (side_not_console o.end is also);
           }
-
--- memory ran out behind loading: before OUT was begun, or before REPORT was
-pub why_no_memory : (old new : RoomView) (journal out report : List ℕ) (libraries : List Library) (entries : List Entry) (results : List FileResult)
-    → AreNames (journal ∷ out ∷ report ∷ []) → MergedBy old new journal libraries entries results → old.tells ≡ true → SameBut old new (journal ∷ out ∷ [])
-    → SameBut old new (journal ∷ []) ⊎ (old.tells ≡ true → new.file out ≡ Some (export_of all_keys (state_of entries)))
-    → WhyNotRun old new journal out report libraries fault.Memory
-why_no_memory old new journal out report libraries entries results names m tells no_report (inl apart) =
-    NoMemory refl m.merged (apart.files out ((λ same. names.1.0 (sym same)), tt)) (apart.files report ((λ same. names.1.1.0 (sym same)), tt))
-why_no_memory old new journal out report libraries entries results names m tells no_report (inr export) =
-    NoMemoryForReport refl (record {
-      merged = m.merged;
-      export = subst (λ es. new.file out ≡ Some (export_of all_keys (state_of es))) m.entries_are (export tells);
-      no_report = no_report.files report ((λ same. names.1.1.0 (sym same)), ((λ same. names.2.1.0 (sym same)), tt));
-    })
 
 -- memory ran out behind loading
 pub no_memory : (old new : RoomView) (journal : List ℕ) (libraries : List Library) (so : Type 0) → new.open_as journal ≡ None → (old.tells ≡ true → so)

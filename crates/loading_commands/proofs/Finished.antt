@@ -1,5 +1,5 @@
 -- What loading ends with, once the journal and the files are open: the files were loaded and closed, and the journal was kept or closed.
-use Rattle.std.proofs.Common.{◌≡◌, ℕ, List, [], ◌∷◌, ◌++◌, Option, Some, None, length, Result, IfOk, sym, ap, subst, ◌∙◌, arith}
+use Rattle.std.proofs.Common.{◌≡◌, ℕ, List, [], ◌∷◌, ◌++◌, Option, Some, length, Result, IfOk, sym, ap, subst, ◌∙◌, arith}
 use Rattle.marc_types.specs.declared.copying.NoMemory.{NoMemory}
 use Rattle.outside.specs.Room.{RoomView, AsLog, SameBut}
 use Rattle.command_words.specs.declared.library.Library.{Library}
@@ -9,7 +9,7 @@ use Rattle.durable_catalogue.specs.Views.{DurableView}
 use Rattle.loader_workers.specs.declared.result.FileResult.{FileResult}
 use Rattle.loader_workers.specs.declared.input.InputFile.{InputFile}
 use Rattle.loader_workers.specs.Files.{AreLoaded}
-use Rattle.room_files.specs.Journals.{IsOpenedFrom, IsOpenedAs}
+use Rattle.journal_files.specs.Journals.{IsOpenedFrom, IsOpenedAs}
 use Rattle.loading_commands.specs.Inputs.{RisesFrom, lefts_of_inputs}
 use Rattle.loading_commands.specs.Outcomes.{IsLoadingFault, IsFinished, IsClosedBy, HasBegun, IsWaiting, HasRead, HasLoaded, Fails}
 use Rattle.loading_commands.proofs.Opened.{get_within, rises_around}

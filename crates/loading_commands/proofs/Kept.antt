@@ -9,9 +9,9 @@ use Rattle.durable_catalogue.specs.Images.{HoldsEntries}
 use Rattle.durable_catalogue.specs.Logs.{IsLogOf, HasHistory}
 use Rattle.durable_catalogue.proofs.Images.{front_of, whole_is}
 use Rattle.loader_workers.specs.declared.result.FileResult.{FileResult}
-use Rattle.room_files.specs.Journals.{log_bytes, KeepsHistory}
-use Rattle.room_files.specs.Journals as journals
-use Rattle.room_files.proofs.Histories.{reading_once}
+use Rattle.journal_files.specs.Journals.{log_bytes, KeepsHistory}
+use Rattle.journal_files.specs.Journals as journals
+use Rattle.journal_files.proofs.Histories.{reading_once}
 use Rattle.loading_commands.specs.Outcomes.{AreLibrariesLoaded, NoLibrary, OneLibrary, IsUnbegun, Unopened, Unbegun, IsLoadingFault, NotBegun, InPart, IsFileMissing, HasSameHistory}
 
 some_same : {A : Type 0} {x y : A} → Some x ≡ Some y → x ≡ y

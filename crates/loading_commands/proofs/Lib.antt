@@ -4,10 +4,10 @@ mod Begun
 mod Finished
 pub mod Kept
 mod Merging
-mod OneHistory
+pub mod OneHistory
 mod Textual
-mod Written
+pub mod Written
 mod Missing
 pub mod Ended
-mod Ran
+pub mod Ran
 pub mod Requests

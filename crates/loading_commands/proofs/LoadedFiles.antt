@@ -11,8 +11,8 @@ use Rattle.loader_workers.specs.declared.file_end.FileEnd.{FileEnd}
 use Rattle.loader_workers.specs.declared.file_end.FileEnd.TheVariants as end
 use Rattle.loader_workers.specs.declared.result.FileResult.{FileResult}
 use Rattle.loader_workers.specs.declared.input.InputFile.{InputFile}
-use Rattle.loader_workers.specs.Files.{IsFileLoaded, LoadsFile, EachLoaded, NoFile, OneMore}
-use Rattle.room_files.specs.Journals.{journal_limits}
+use Rattle.loader_workers.specs.Files.{LoadsFile, EachLoaded, NoFile, OneMore}
+use Rattle.journal_files.specs.Journals.{journal_limits}
 use Rattle.file_entries.specs.Files.{IsJudged}
 use Rattle.loading_commands.specs.Inputs.{IsInputOf, AreInputs, NoInput, OneInput, IsFresh, lefts_of_inputs}
 use Rattle.loading_commands.specs.Outcomes.{IsLibraryLoaded, AreLibrariesLoaded, NoLibrary, OneLibrary, AreReadTo, ends_so, any_ends}

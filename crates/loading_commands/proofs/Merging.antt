@@ -21,7 +21,7 @@ use Rattle.loader_workers.specs.declared.file_end.FileEnd.{FileEnd}
 use Rattle.loader_workers.specs.declared.file_end.FileEnd.TheVariants as end
 use Rattle.loader_workers.specs.declared.result.FileResult.{FileResult}
 use Rattle.loader_workers.specs.Files.{IsFileLoaded, IsEndOfFile}
-use Rattle.room_files.specs.Journals.{journal_limits}
+use Rattle.journal_files.specs.Journals.{journal_limits}
 use Rattle.loading_commands.specs.Outcomes.{AreLibrariesLoaded, NoLibrary, OneLibrary, ends_so, any_ends, loading_fault}
 use Rattle.loading_commands.specs.Merged.{AreJudged, NoFile, OneFile}
 use Rattle.loading_commands.specs.Console.{refused_part, totals_part, any_refused}

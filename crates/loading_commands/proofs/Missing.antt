@@ -1,9 +1,9 @@
 -- How loading ends, and what the journal keeps where a file isn't there.
-use Rattle.std.proofs.Common.{◌≡◌, ◌≢◌, ◌∙◌, ℕ, ◌+◌, true, suc, zero, List, [], slice_get, Some, None, refl, sym, ap}
+use Rattle.std.proofs.Common.{◌≡◌, ◌≢◌, ◌∙◌, ℕ, ◌+◌, true, suc, zero, List, slice_get, Some, None, refl, sym, ap}
 use Rattle.marc_types.specs.declared.entry.Entry.{Entry}
 use Rattle.outside.specs.Room.{RoomView}
 use Rattle.command_words.specs.declared.library.Library.{Library}
-use Rattle.console_lines.specs.Ends.{TellsNoFault, out_unwritten, side_unwritten}
+use Rattle.console_lines.specs.Ends.{TellsNoFault, out_unwritten, side_unwritten, pages_unwritten}
 use Rattle.console_lines.specs.declared.end.End.{End}
 use Rattle.console_lines.specs.declared.end.End.TheVariants.{Done, Refused, Unwritten, Told}
 use Rattle.console_lines.specs.declared.end.Unwritten.TheVariants as unwritten
@@ -13,7 +13,7 @@ use Rattle.file_entries.specs.declared.refused.RefusedItem.{RefusedItem}
 use Rattle.loading_commands.specs.Outcomes.{IsFileMissing, HasSameHistory}
 use Rattle.loading_commands.proofs.Kept.{loading_keeps}
 use Rattle.loading_commands.specs.Merged.{AreJudged, NoFile, OneFile}
-use Rattle.loading_commands.specs.Runs.{IsToldOfLoading, EndsLoad, EndsRun, IsMergedLoad, WhyNotLoad, WhyNotRun}
+use Rattle.loading_commands.specs.Runs.{IsToldOfLoading, EndsLoad, EndsRun, IsMergedLoad, WhyNotLoad}
 use Rattle.loading_commands.specs.Runs as runs
 
 pub told_of_loading : (why : Fault) → why ≢ fault.Usage → why ≢ fault.OtherHistory → IsToldOfLoading why
@@ -26,19 +26,23 @@ told_of_loading fault.Memory no_usage no_other = tt
 told_of_loading fault.OldVersion no_usage no_other = tt
 told_of_loading fault.OtherHistory no_usage no_other = absurd (no_other refl)
 
-pub loading_untold : (end : End) → TellsNoFault end → (end ≢ out_unwritten) × (end ≢ side_unwritten) → EndsLoad end
-loading_untold Done untold others = tt
-loading_untold Refused untold others = tt
-loading_untold (Unwritten unwritten.Out) untold others = absurd (others.0 refl)
-loading_untold (Unwritten unwritten.Side) untold others = absurd (others.1 refl)
-loading_untold (Unwritten unwritten.Console) untold others = tt
-loading_untold (Told why) untold others = absurd untold
+pub loading_untold : (end : End) → TellsNoFault end → (end ≢ out_unwritten) × (end ≢ side_unwritten) → end ≢ pages_unwritten → EndsLoad end
+loading_untold Done untold others no_pages = tt
+loading_untold Refused untold others no_pages = tt
+loading_untold (Unwritten unwritten.Out) untold others no_pages = absurd (others.0 refl)
+loading_untold (Unwritten unwritten.Side) untold others no_pages = absurd (others.1 refl)
+loading_untold (Unwritten unwritten.Pages) untold others no_pages = absurd (no_pages refl)
+loading_untold (Unwritten unwritten.Console) untold others no_pages = tt
+loading_untold (Told why) untold others no_pages = absurd untold
 
-pub running_untold : (end : End) → TellsNoFault end → EndsRun end
-running_untold Done untold = tt
-running_untold Refused untold = tt
-running_untold (Unwritten which) untold = tt
-running_untold (Told why) untold = absurd untold
+pub running_untold : (end : End) → TellsNoFault end → end ≢ pages_unwritten → EndsRun end
+running_untold Done untold no_pages = tt
+running_untold Refused untold no_pages = tt
+running_untold (Unwritten unwritten.Out) untold no_pages = tt
+running_untold (Unwritten unwritten.Side) untold no_pages = tt
+running_untold (Unwritten unwritten.Pages) untold no_pages = absurd (no_pages refl)
+running_untold (Unwritten unwritten.Console) untold no_pages = tt
+running_untold (Told why) untold no_pages = absurd untold
 
 some_same : {A : Type 0} {x y : A} → Some x ≡ Some y → x ≡ y
 some_same is = cc
@@ -63,9 +67,3 @@ module _ (old new : RoomView) (journal : List ℕ) where
       → HasSameHistory old new journal
   unloaded_keeps libraries why tells (runs.NotLoaded so) gone = loading_keeps old new journal libraries why tells so gone
   unloaded_keeps libraries why tells (runs.NoMemory is merged) gone = absurd (merged_there libraries merged gone)
-
-  pub unrun_keeps : (out report : List ℕ) (libraries : List Library) (why : Fault) → old.tells ≡ true → WhyNotRun old new journal out report libraries why
-      → IsFileMissing libraries old → HasSameHistory old new journal
-  unrun_keeps out report libraries why tells (runs.NotLoaded so as_was too) gone = loading_keeps old new journal libraries why tells so gone
-  unrun_keeps out report libraries why tells (runs.NoMemory is merged as_was too) gone = absurd (merged_there libraries merged gone)
-  unrun_keeps out report libraries why tells (runs.NoMemoryForReport is written) gone = absurd (merged_there libraries written.merged gone)

@@ -17,7 +17,7 @@ use Rattle.durable_catalogue.proofs.Framed.{framed_append}
 use Rattle.durable_catalogue.proofs.Images.{front_of, whole_is}
 use Rattle.loader_workers.specs.declared.result.FileResult.{FileResult}
 use Rattle.durable_catalogue.specs.Views.{DurableView}
-use Rattle.room_files.specs.Journals.{journal_limits, log_bytes, IsOpenedFrom, IsClosedTo, IsClosedAs}
+use Rattle.journal_files.specs.Journals.{journal_limits, log_bytes, IsOpenedFrom, IsClosedTo, IsClosedAs}
 use Rattle.loading_commands.specs.Outcomes.{IsLoadedWhole}
 use Rattle.loading_commands.specs.Merged.{IsOneHistory}
 use Rattle.loading_commands.specs.Console.{any_refused, refused_part}
@@ -97,24 +97,32 @@ pub record MergedBy (old new : RoomView) (journal : List ℕ) (libraries : List 
   pub text_is : files_text libraries results ≡ told_of merged
   pub any_is : has_refused results ≡ any_refused merged.refused
 
-pub merged_by : (old new : RoomView) (journal : List ℕ) (libraries : List Library) (d : DurableView) (results : List FileResult)
+-- and it has as many entries before it as the journal was opened with
+pub merged_behind : (old new : RoomView) (journal : List ℕ) (libraries : List Library) (d : DurableView) (results : List FileResult)
     → IsWithin d.opened.origin.limits d.entries → IsLoadedWhole old journal libraries d results → (d.opened.tells ≡ true → IsClosedAs new journal d) → old.tells ≡ true
-    → MergedBy old new journal libraries d.entries results
-merged_by old new journal libraries d results within w closing tells =
+    → (m : MergedBy old new journal libraries d.entries results) × (d.opened.opened ≡ length m.merged.before)
+merged_behind old new journal libraries d results within w closing tells =
     let o = d.opened in
     let closed = subst (λ m. IsClosedTo new journal (w.before ++ w.added) m o) w.unmarked (subst (λ es. IsClosedTo new journal es d.mark o) w.entries_are (closing (w.opened.tells tells))) in
     let made = merges old w.before w.added 0 libraries results w.loaded.files (all_done results w.faultless) in
-    let loaders = subst (λ es. All (λ (e : Entry). e.loader < length libraries) es) (append-nil w.added) w.loaded.loaders in
-    record {
-      merged = record {
-        before = w.before;
-        added = w.added;
-        accepted = made.accepted;
-        refused = made.refused;
-        history = one_history old new journal libraries w.before w.added o results tells w.opened closed made loaders
-            (subst (λ es. IsWithin journal_limits es) w.entries_are (subst (λ limits. IsWithin limits d.entries) w.opened.limits within));
-      };
-      entries_are = w.entries_are;
-      text_is = ap (λ text. text ++ totals_text libraries results) made.refused_is ∙ ap (λ text. refused_part libraries made.refused ++ text) made.totals_is;
-      any_is = made.any_is;
-    }
+    let loaders = subst (λ es. All (λ (e : Entry). e.loader < length libraries) es) (append-nil w.added) w.loaded.loaders in (
+      record {
+        merged = record {
+          before = w.before;
+          added = w.added;
+          accepted = made.accepted;
+          refused = made.refused;
+          history = one_history old new journal libraries w.before w.added o results tells w.opened closed made loaders
+              (subst (λ es. IsWithin journal_limits es) w.entries_are (subst (λ limits. IsWithin limits d.entries) w.opened.limits within));
+        };
+        entries_are = w.entries_are;
+        text_is = ap (λ text. text ++ totals_text libraries results) made.refused_is ∙ ap (λ text. refused_part libraries made.refused ++ text) made.totals_is;
+        any_is = made.any_is;
+      },
+      w.opened.opened,
+    )
+
+pub merged_by : (old new : RoomView) (journal : List ℕ) (libraries : List Library) (d : DurableView) (results : List FileResult)
+    → IsWithin d.opened.origin.limits d.entries → IsLoadedWhole old journal libraries d results → (d.opened.tells ≡ true → IsClosedAs new journal d) → old.tells ≡ true
+    → MergedBy old new journal libraries d.entries results
+merged_by old new journal libraries d results within w closing tells = (merged_behind old new journal libraries d results within w closing tells).0

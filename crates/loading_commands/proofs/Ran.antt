@@ -8,19 +8,20 @@ use Rattle.console_lines.specs.declared.end.End.TheVariants.{Unwritten as NotWri
 use Rattle.console_lines.specs.declared.end.OutputsFault.{OutputsFault}
 use Rattle.console_lines.specs.declared.end.OutputsFault.TheVariants.{NoMemory, Unwritten}
 use Rattle.console_lines.specs.declared.end.Unwritten.{Unwritten as Which}
-use Rattle.console_lines.specs.declared.end.Unwritten.TheVariants.{Out, Side, Console}
+use Rattle.console_lines.specs.declared.end.Unwritten.TheVariants.{Out, Side, Pages, Console}
 use Rattle.console_lines.specs.declared.fault.Fault.TheVariants as fault
 use Rattle.entry_record.specs.History.{IsWithin}
 use Rattle.durable_catalogue.specs.Views.{DurableView}
 use Rattle.loader_workers.specs.declared.result.FileResult.{FileResult}
-use Rattle.room_files.specs.Journals.{IsClosedAs}
+use Rattle.journal_files.specs.Journals.{IsClosedAs}
 use Rattle.loading_commands.specs.Outcomes.{IsLoadedWhole}
 use Rattle.loading_commands.specs.Outputs.{AreUnwritten}
-use Rattle.loading_commands.specs.Runs.{AreOutputs, WhyNotRun}
+use Rattle.loading_commands.specs.Runs.{AreOutputs}
 use Rattle.loading_commands.specs.Texts.{files_text, has_refused}
+use Rattle.loading_commands.specs.Runs as runs
 use Rattle.loading_commands.specs.Loading.{Runs}
 use Rattle.loading_commands.proofs.OneHistory.{MergedBy, merged_by}
-use Rattle.loading_commands.proofs.Ended.{TellsLines, runs_failed, runs_told, runs_in_out, runs_in_report, why_no_memory, no_memory}
+use Rattle.loading_commands.proofs.Ended.{TellsLines, runs_failed, runs_told, runs_in_out, runs_in_report, no_memory}
 use Rattle.loading_commands.proofs.Written.{outputs_are, out_rose, report_rose_too, no_report, in_out, in_report, ran_out}
 
 module _ (libraries : List Library) (journal out report : List ℕ) (o : Outcome) (mid wrote : RoomView) (d : DurableView) (results : List FileResult)
@@ -52,15 +53,13 @@ module _ (libraries : List Library) (journal out report : List ℕ) (o : Outcome
       (report_rose_too o.old mid wrote o.new journal out report d.entries names opened closing (Unwritten Side) are refl)
       (in_report o.old mid wrote o.new journal out report d.entries names opened closing (Unwritten Side) are refl)
 
-  -- memory ran out before OUT, or before REPORT
+  -- memory ran out before any output was begun
   pub ran_to_memory : AreUnwritten mid wrote out report d.entries NoMemory → o.end ≡ Told fault.Memory → IsTold fault.Memory o → o.new.open_as journal ≡ None
       → Runs libraries journal out report o
   ran_to_memory are is told closed =
-      let unreported = no_report o.old mid wrote o.new journal out report d.entries names opened closing NoMemory are (λ same. cc) in
-      runs_failed libraries journal o out report fault.Memory is told (λ other. absurd (other refl)) unreported
-      (no_memory o.old o.new journal libraries (WhyNotRun o.old o.new journal out report libraries fault.Memory) closed (λ tells.
-      why_no_memory o.old o.new journal out report libraries d.entries results names (merged tells) tells unreported
-      (ran_out o.old mid wrote o.new journal out report d.entries names opened closing NoMemory are refl)))
+      runs_failed libraries journal o out report fault.Memory is told
+      (ran_out o.old mid wrote o.new journal out report d.entries names opened closing NoMemory are refl)
+      (no_memory o.old o.new journal libraries _ closed (λ tells. runs.NoMemory refl (merged tells).merged))
 
   -- they were written or not, and the console was told the lines, or want of memory
   pub ran_ended : {T : Type 0} → (written : Result T OutputsFault) (text : List ℕ) (refused : Bool) → text ≡ files_text libraries results
@@ -76,6 +75,7 @@ module _ (libraries : List Library) (journal out report : List ℕ) (o : Outcome
       ran_to_out are (unwritten Out refl) (silent Out refl)
   ran_ended (Err (Unwritten Side)) text refused text_is refused_is outputs are told unwritten silent memory tells closed =
       ran_to_report are (unwritten Side refl) (silent Side refl)
+  ran_ended (Err (Unwritten Pages)) text refused text_is refused_is outputs are told unwritten silent memory tells closed = absurd (are.no_pages refl)
   ran_ended (Err (Unwritten Console)) text refused text_is refused_is outputs are told unwritten silent memory tells closed = absurd (are.no_console refl)
   ran_ended (Err NoMemory) text refused text_is refused_is outputs are told unwritten silent memory tells closed =
       ran_to_memory are (memory refl) (tells refl) closed

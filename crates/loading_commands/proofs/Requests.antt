@@ -1,8 +1,8 @@
 -- How a command ends that a request asks for, with outputs or with none.
-use Rattle.std.proofs.Common.{◌≡◌, ◌≢◌, ℕ, true, List, [], ◌∷◌, length, Option, Some, None, refl, sym, ap, subst}
+use Rattle.std.proofs.Common.{◌≡◌, [], ◌∷◌, length, Option, Some, None, refl, sym, ap, subst}
 use Rattle.outside.specs.Room.{RoomView, SameBut}
 use Rattle.outside.proofs.Rooms.{same_but_first}
-use Rattle.command_words.specs.Command.{names_of, AreNames}
+use Rattle.command_words.specs.Command.{names_of}
 use Rattle.command_words.specs.Asked.{load_asked, loading_of}
 use Rattle.command_words.specs.declared.asked.LoadRequest.{LoadRequest}
 use Rattle.command_words.specs.declared.asked.Outputs.{Outputs}
@@ -61,8 +61,4 @@ loading_failed asked o why proper is told apart f = ended asked.outputs refl
     ended : (outputs : Option Outputs) → asked.outputs ≡ outputs → EndsWithOutputs asked.libraries asked.journal.now outputs o
     ended None none = loads_failed asked.libraries asked.journal.now o why is told (fails _ (λ so. NotLoaded so))
     ended (Some outputs) some =
-        let names : AreNames (asked.journal.now ∷ outputs.out.now ∷ outputs.report.now ∷ []) = subst AreNames (names_with asked (Some outputs) some) proper.names in
-        runs_failed asked.libraries asked.journal.now o outputs.out.now outputs.report.now why is told (λ other. apart)
-        (same_but_first o.old o.new asked.journal.now (outputs.out.now ∷ []) apart)
-        (fails _ (λ so. NotLoaded so (apart.files outputs.out.now ((λ same. names.1.0 (sym same)), tt))
-        (apart.files outputs.report.now ((λ same. names.1.1.0 (sym same)), tt))))
+        runs_failed asked.libraries asked.journal.now o outputs.out.now outputs.report.now why is told apart (fails _ (λ so. NotLoaded so))

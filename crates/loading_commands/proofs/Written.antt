@@ -1,5 +1,5 @@
 -- What a run's outputs are, from what was written one after the other.
-use Rattle.std.proofs.Common.{◌≡◌, ◌≢◌, ◌⊎◌, inl, inr, ◌∙◌, ℕ, true, List, [], ◌∷◌, Some, sym, arith}
+use Rattle.std.proofs.Common.{◌≡◌, ◌≢◌, ◌∙◌, ℕ, true, List, [], ◌∷◌, sym, arith}
 use Rattle.marc_types.specs.declared.entry.Entry.{Entry}
 use Rattle.outside.specs.Fault.{Rose}
 use Rattle.outside.specs.Room.{RoomView, SameBut}
@@ -19,12 +19,13 @@ module _ (old new : RoomView) (out report : List ℕ) (entries : List Entry) whe
   pub nothing_begun : SameBut old new [] → AreUnwritten old new out report entries NoMemory
   nothing_begun apart = record {
     no_console = λ is. cc;
+    no_pages = λ is. cc;
     out_cause = λ is. cc;
     report_cause = λ is. cc;
     no_report = λ other. same_but_none old new (out ∷ []) apart;
     in_out = λ is. cc;
     in_report = λ is. cc;
-    memory = λ is. inl apart;
+    memory = λ is. apart;
   }
 
 -- the same where a journal was opened before that and closed behind it
@@ -71,13 +72,7 @@ module _ (old mid wrote new : RoomView) (journal out report : List ℕ) (entries
           report_is = left_between report (report_of (state_of entries)) (λ same. names.1.1.0 (sym same)) is.report_is;
         }
 
-    pub ran_out : why ≡ NoMemory → SameBut old new (journal ∷ []) ⊎ (old.tells ≡ true → new.file out ≡ Some (export_of all_keys (state_of entries)))
-    ran_out is = by_case (are.memory is)
-      where
-        names_too : List (List ℕ)
-        names_too = journal ∷ []
-
-        by_case : SameBut mid wrote [] ⊎ (mid.tells ≡ true → wrote.file out ≡ Some (export_of all_keys (state_of entries)))
-            → SameBut old new names_too ⊎ (old.tells ≡ true → new.file out ≡ Some (export_of all_keys (state_of entries)))
-        by_case (inl apart) = inl (same_but_then old mid new names_too opened (same_but_then mid wrote new names_too (same_but_none mid wrote names_too apart) closing))
-        by_case (inr export) = inr (λ tells. out_is ∙ export (opened.tells ∙ tells))
+    pub ran_out : why ≡ NoMemory → SameBut old new (journal ∷ [])
+    ran_out is =
+        let names_too = journal ∷ [] in
+        same_but_then old mid new names_too opened (same_but_then mid wrote new names_too (same_but_none mid wrote names_too (are.memory is)) closing)

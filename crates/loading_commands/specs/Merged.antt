@@ -13,7 +13,7 @@ use Rattle.file_entries.specs.declared.refused.RefusedItem.{RefusedItem}
 use Rattle.entry_record.specs.History.{IsMerged, IsWithin}
 use Rattle.durable_catalogue.specs.Logs.{HasHistory}
 use Rattle.durable_catalogue.specs.Images.{HoldsEntries, framed_lengths}
-use Rattle.room_files.specs.Journals.{journal_limits, log_bytes}
+use Rattle.journal_files.specs.Journals.{journal_limits, log_bytes}
 
 -- The accepted entries and the refused items of the files of libraries, in their order: each file is there, and each of its items
 -- is judged by itself. The first of these files has that loader.

@@ -23,8 +23,8 @@ use Rattle.loader_workers.specs.declared.file_end.FileEnd.TheVariants as end
 use Rattle.loader_workers.specs.declared.result.FileResult.{FileResult}
 use Rattle.loader_workers.specs.Files.{IsFileLoaded, AreOfOneFile, AreLoaded}
 use Rattle.loader_workers.specs.declared.input.InputFile.{InputFile}
-use Rattle.room_files.specs.Faults.{fault_of_opening}
-use Rattle.room_files.specs.Journals.{journal_limits, log_bytes, IsOpenedFrom, IsOpenedAs, IsClosedTo, IsClosedAs, KeepsHistory}
+use Rattle.journal_files.specs.Faults.{fault_of_opening}
+use Rattle.journal_files.specs.Journals.{journal_limits, log_bytes, IsOpenedFrom, IsOpenedAs, IsClosedTo, IsClosedAs, KeepsHistory}
 use Rattle.loading_commands.specs.Inputs.{IsProper, IsInputFault, AreInputs, IsFresh}
 
 -- the file of a library was loaded by the loader with that number
@@ -57,6 +57,7 @@ pub record AreLoadedBehind (room : RoomView) (libraries : List Library) (before 
   pub loaders : All (λ e. e.loader < length libraries) (added ++ marked mark)
   pub frame : AreOfOneFile (length libraries) (marked mark)
 
+-- a file has this end
 abbrev pub ends_so : FileEnd → FileEnd → Bool
 ends_so end.Done end.Done = true
 ends_so end.ReadFault end.ReadFault = true
@@ -65,6 +66,7 @@ ends_so end.DeviceFault end.DeviceFault = true
 ends_so end.NoMemory end.NoMemory = true
 ends_so a b = false
 
+-- some file has this end
 abbrev pub any_ends : FileEnd → List FileResult → Bool
 any_ends e results = list_any (λ r. ends_so e r.end) results
 

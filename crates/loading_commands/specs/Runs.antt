@@ -36,6 +36,7 @@ EndsLoad Done = Unit {0}
 EndsLoad Refused = Unit {0}
 EndsLoad (Unwritten unwritten.Out) = ⊥
 EndsLoad (Unwritten unwritten.Side) = ⊥
+EndsLoad (Unwritten unwritten.Pages) = ⊥
 EndsLoad (Unwritten unwritten.Console) = Unit {0}
 EndsLoad (Told why) = IsToldOfLoading why
 
@@ -43,7 +44,10 @@ EndsLoad (Told why) = IsToldOfLoading why
 abbrev pub EndsRun : End → Type 0
 EndsRun Done = Unit {0}
 EndsRun Refused = Unit {0}
-EndsRun (Unwritten which) = Unit {0}
+EndsRun (Unwritten unwritten.Out) = Unit {0}
+EndsRun (Unwritten unwritten.Side) = Unit {0}
+EndsRun (Unwritten unwritten.Pages) = ⊥
+EndsRun (Unwritten unwritten.Console) = Unit {0}
 EndsRun (Told why) = IsToldOfLoading why
 
 -- Files were loaded whole, and make one history behind what the journal had.
@@ -101,28 +105,13 @@ pub record IsRunInReport (old new : RoomView) (journal out report : List ℕ) (l
   pub merged : IsMergedLoad old new journal libraries
   pub outputs : AreOutAndLeft old new out report (merged.before ++ merged.added)
 
--- Memory ran out before REPORT was begun: the files were loaded whole, OUT is the export, and REPORT is as it was.
-pub record IsRunToOut (old new : RoomView) (journal out report : List ℕ) (libraries : List Library) : Type 0 where
-  pub merged : IsMergedLoad old new journal libraries
-  pub export : new.file out ≡ Some (export_of all_keys (state_of (merged.before ++ merged.added)))
-  pub no_report : new.file report ≡ old.file report
-
 -- The console could not be written: the files were loaded whole, OUT and REPORT are, and the console was told a front of the lines.
 pub record IsUntoldRun (old new : RoomView) (journal out report : List ℕ) (libraries : List Library) (told now : Option (List ℕ)) : Type 0 where
   pub merged : IsMergedLoad old new journal libraries
   pub outputs : AreOutputs new out report (merged.before ++ merged.added)
   pub console : WritesFront told now (told_of merged)
 
--- why `load` told a fault: the files were not loaded whole, or they were and memory ran out
+-- why a command told a fault: the files were not loaded whole, or they were and memory ran out
 pub data WhyNotLoad (old new : RoomView) (journal : List ℕ) (libraries : List Library) (why : Fault) : Type 0 where
   NotLoaded : IsLoadingFault old new journal libraries why → WhyNotLoad old new journal libraries why
   NoMemory : why ≡ Memory → IsMergedLoad old new journal libraries → WhyNotLoad old new journal libraries why
-
--- why `run` told a fault: the files were not loaded whole, or memory ran out behind that, and OUT and REPORT are as they were; or
--- memory ran out behind OUT, and REPORT is as it was
-pub data WhyNotRun (old new : RoomView) (journal out report : List ℕ) (libraries : List Library) (why : Fault) : Type 0 where
-  NotLoaded : IsLoadingFault old new journal libraries why → new.file out ≡ old.file out → new.file report ≡ old.file report
-      → WhyNotRun old new journal out report libraries why
-  NoMemory : why ≡ Memory → IsMergedLoad old new journal libraries → new.file out ≡ old.file out → new.file report ≡ old.file report
-      → WhyNotRun old new journal out report libraries why
-  NoMemoryForReport : why ≡ Memory → IsRunToOut old new journal out report libraries → WhyNotRun old new journal out report libraries why

@@ -20,6 +20,7 @@ unfoldable pub totals_text : List Library → List FileResult → List ℕ
 totals_text (library ∷ libraries) (r ∷ results) = totals_line library.file (totals_in r) ++ totals_text libraries results
 totals_text libraries results = []
 
+-- the refused lines of each file, and then a line for each file
 abbrev pub files_text : List Library → List FileResult → List ℕ
 files_text libraries results = refused_text libraries results ++ totals_text libraries results
 

@@ -12,9 +12,9 @@ use crate::outputs::write_outputs;
 use crate::texts::{files_text, has_refused};
 use command_words::Outputs;
 use console_lines::{End, Fault, end_of_outputs, tell, tell_result};
+use journal_files::close_journal;
 use marc_types::NoMemory;
 use outside::Room;
-use room_files::close_journal;
 use std::alloc::Global;
 
 /// Ends `load`.

@@ -1,21 +1,24 @@
 //! A command's files, loaded into a journal in three calls: one that opens, one that loads, and one that closes. The call that loads
 //! has no room: so whatever it waits for, it can't harm a file.
 ghost use Rattle.std.specs.Prelude.{◌≡◌, ℕ, List, true, Some, None, All, ◌∷◌, [], IfOk, IfErr, OnOk, OnErr};
+ghost use mathlib.Core.List.{IsPrefix};
 ghost use Rattle.outside.specs.Room.{AsLog, SameBut};
 ghost use Rattle.durable_catalogue.specs.Views.{durable_view};
-ghost use Rattle.room_files.specs.Journals.{IsOpenedAs};
+ghost use Rattle.journal_files.specs.Journals.{IsOpenedAs};
 ghost use Rattle.loading_commands.specs.Inputs.{AreLoadable, AreInputs, IsFresh, IsProper};
 ghost use Rattle.loading_commands.specs.Outcomes.{IsUnbegun, IsLoadingFault, IsFinished, IsClosedBy, IsFileMissing, HasSameHistory, HasBegun, IsWaiting, Reads, HasRead, HasLoaded, Fails};
 
 use crate::faults::loading_fault;
 use crate::inputs::{close_inputs, open_inputs};
+use catalogue_core::Catalogue;
 use command_words::{Libraries, Library, LoadRequest};
 use console_lines::Fault;
 use durable_catalogue::Durable;
-use loader_workers::{InputFiles, Results, load_files};
+use heading_rows::HeadingTaker;
+use journal_files::{close_journal, fault_of_opening, open_journal};
+use loader_workers::{Followed, InputFiles, Pager, Results, load_files, load_files_followed};
 use marc_types::NoMemory;
 use outside::{Gate, Room};
-use room_files::{close_journal, fault_of_opening, open_journal};
 use std::alloc::Global;
 use std::snapshot::Snapshot;
 use std::sync::Wait;
@@ -40,7 +43,7 @@ pub struct Loaded<'a, R: Room> {
 }
 
 /// The catalogue over a journal into which files were loaded whole, and which is still open; and the results of the files.
-pub(crate) struct LoadedJournal<'a, R: Room> {
+pub struct LoadedJournal<'a, R: Room> {
     pub asked: LoadRequest<'a>,
     pub durable: Durable<R::Log>,
     pub results: Results,
@@ -54,6 +57,22 @@ impl<'a, R: Room> Loading<'a, R> {
     {
         &self.asked.libraries
     }
+
+    /// The catalogue over the journal.
+    pub fn catalogue(&self) -> &Catalogue
+        ensures value { result.now ≡ self.now.durable.core }
+        ensures unstaged { result.now.staged ≡ [] }
+    {
+        self.durable.core()
+    }
+}
+
+/// What was loaded, what took the entries meanwhile, and what paged: `told` is that there was memory for all of these entries.
+pub struct FollowedLoad<'a, R: Room, T, P> {
+    pub loaded: Loaded<'a, R>,
+    pub taker: T,
+    pub told: Result<(), NoMemory>,
+    pub pager: P,
 }
 
 /// Opens the journal, and then all files, in their order. With a fault all is closed again.
@@ -163,6 +182,91 @@ pub fn load<'a, H: Threads + Wait + Sync, R: Room, G: Gate + Sync>(
     }
 }
 
+/// Loads the files as `load` does, and meanwhile hands what is committed on to what has taken what the catalogue has, beside what pages
+/// through that. It has no room either.
+pub fn load_followed<
+    'a,
+    H: Threads + Wait + Sync,
+    R: Room,
+    G: Gate + Sync,
+    T: HeadingTaker + Send,
+    P: Pager + Send,
+>(
+    rt: &H,
+    alloc: Global,
+    loading: Loading<'a, R>,
+    gate: &G,
+    taker: T,
+    pager: P,
+) -> FollowedLoad<'a, R, T, P>
+    requires begun { HasBegun R.In.left R.In.faults (R.seen loading.before.value) loading.asked (durable_view loading.durable) loading.inputs }
+    requires begins { T.taken taker ≡ loading.durable.core.history }
+    requires takes { T.takes taker }
+    requires page { P.can_page pager }
+    ensures asked { result.loaded.asked ≡ loading.entry.asked }
+    ensures before { result.loaded.before.value ≡ loading.entry.before.value }
+
+    // Its own inputs were read into its own catalogue.
+    ensures reads { Reads R.In.left R.In.faults (R.seen loading.entry.before.value) loading.entry.asked (durable_view loading.entry.durable)
+        loading.entry.inputs (durable_view result.loaded.durable) result.loaded.inputs result.loaded.results }
+    ensures read { HasRead R.In.left R.In.faults (R.seen result.loaded.before.value) result.loaded.asked (durable_view result.loaded.durable)
+        result.loaded.inputs result.loaded.results }
+
+    // All entries were taken, or, where there was no memory, a front of them.
+    ensures all { OnOk result.told (T.taken result.taker ≡ result.loaded.durable.core.history) }
+    ensures front { IsPrefix (T.taken result.taker) result.loaded.durable.core.history }
+    ensures takes { OnOk result.told (T.takes result.taker) }
+{
+    let Loading {
+        asked,
+        durable,
+        inputs,
+        before,
+    } = loading;
+    let Followed {
+        durable,
+        files,
+        results,
+        taker,
+        told,
+        pager,
+    } = load_files_followed(rt, alloc, durable, inputs, gate, taker, pager);
+    FollowedLoad {
+        loaded: Loaded {
+            asked,
+            durable,
+            inputs: files,
+            results,
+            before,
+        },
+        taker,
+        told,
+        pager,
+    }
+}
+
+/// A loading for which there is no memory: nothing is loaded.
+pub fn give_up<'a, R: Room>(loading: Loading<'a, R>) -> Loaded<'a, R>
+    requires begun { HasBegun R.In.left R.In.faults (R.seen loading.before.value) loading.asked (durable_view loading.durable) loading.inputs }
+    ensures asked { result.asked ≡ loading.entry.asked }
+    ensures before { result.before.value ≡ loading.entry.before.value }
+    ensures read { HasRead R.In.left R.In.faults (R.seen result.before.value) result.asked (durable_view result.durable) result.inputs result.results }
+{
+    let Loading {
+        asked,
+        durable,
+        inputs,
+        before,
+    } = loading;
+    Loaded {
+        asked,
+        durable,
+        inputs,
+        results: Err(NoMemory),
+        before,
+    }
+}
+
 /// Closes the journal, unless all files were loaded whole.
 fn close_unless_whole<R: Room>(
     room: &mut R,
@@ -194,7 +298,7 @@ fn close_unless_whole<R: Room>(
 
 /// Closes the files of a loading, and the journal too, unless all were loaded whole. The first of these faults decides: a device's, a
 /// full catalogue, a source's, want of memory.
-pub(crate) fn finish<'a, R: Room>(
+pub fn finish<'a, R: Room>(
     room: &mut R,
     loaded: Loaded<'a, R>,
 ) -> Result<LoadedJournal<'a, R>, Fault>
@@ -203,6 +307,7 @@ pub(crate) fn finish<'a, R: Room>(
     ensures apart { SameBut (R.seen loaded.entry.before.value) (R.seen room.new) (loaded.entry.asked.journal.now ∷ []) }
     ensures asked { IfOk result (λ l. l.asked ≡ loaded.entry.asked) }
     ensures before { IfOk result (λ l. l.before.value ≡ loaded.entry.before.value) }
+    ensures durable { IfOk result (λ l. l.durable ≡ loaded.entry.durable) }
     ensures loaded { IfOk result (λ l. HasLoaded (R.seen l.before.value) (R.seen room.new) l.asked.journal.now l.asked.libraries
         (durable_view l.durable) l.results) }
     ensures failed { IfErr result (λ why. Fails (R.seen loaded.entry.before.value) (R.seen room.new) loaded.entry.asked.journal.now

@@ -2,7 +2,7 @@
 ghost use Rattle.std.specs.Prelude.{◌≡◌, ℕ, List, [], ◌∷◌, None, IfOk, IfErr, OnOk, OnErr};
 ghost use Rattle.command_words.specs.Command.{names_of};
 ghost use Rattle.command_words.specs.Asked.{load_asked};
-ghost use Rattle.console_lines.specs.Ends.{outcome};
+ghost use Rattle.console_lines.specs.Ends.{TellsNoFault, outcome};
 ghost use Rattle.durable_catalogue.specs.Views.{durable_view};
 ghost use Rattle.outside.specs.Room.{SameBut};
 ghost use Rattle.loading_commands.specs.Inputs.{IsProper};
@@ -34,7 +34,8 @@ pub fn begin<'a, R: Room>(
     ensures waiting { IfOk result (λ l. IsWaiting (R.seen l.before.value) (R.seen room.new) l.asked.journal.now) }
     ensures silent { OnOk result (console.new ≡ console.old) }
 
-    // Or the command has ended.
+    // Or the command has ended, with a fault that was told.
+    ensures told { IfErr result (λ end. TellsNoFault end → ⊥) }
     ensures closed { OnErr result ((name : List ℕ) → (R.seen room.new).open_as name ≡ None) }
     ensures apart { OnErr result (SameBut (R.seen room.old) (R.seen room.new) (names_of (load_asked asked.entry))) }
     ensures ends { IfErr result (λ end. EndsLoading asked.entry

@@ -1,3 +1,4 @@
+-- The texts of a fault of MARC-8.
 use Rattle.std.specs.Prelude.{ℕ, List, Option, Some, codes}
 use Rattle.marc8_latin.specs.declared.fault.Marc8Fault.{Marc8Fault}
 use Rattle.marc8_latin.specs.declared.fault.Marc8Fault.TheVariants.{BadByte, OtherSet, NoMemory}

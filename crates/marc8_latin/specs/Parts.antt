@@ -42,6 +42,7 @@ character sets byte =
 abbrev pub is_first_side : ℕ → Bool
 is_first_side byte = (byte == 0x28) || (byte == 0x2c)
 
+-- the byte of an escape sequence that designates a set as G1
 abbrev pub is_second_side : ℕ → Bool
 is_second_side byte = (byte == 0x29) || (byte == 0x2d)
 
@@ -50,6 +51,7 @@ abbrev pub designation_code : Charset → List ℕ
 designation_code BasicLatin = 0x42 ∷ []
 designation_code ExtendedLatin = 0x21 ∷ 0x45 ∷ []
 
+-- the set is designated as G0 or G1, by the byte behind ESC
 abbrev pub designates : ℕ → Charset → Option Meaning
 designates side set =
     if is_first_side side then Some (DesignatesG0 set) else if is_second_side side then Some (DesignatesG1 set) else None
@@ -105,6 +107,7 @@ abbrev pub code_fault : List ℕ → Option Marc8Fault
 code_fault [] = Some (BadByte 0)
 code_fault (byte ∷ rest) = if is_graphic byte then None else Some (BadByte 1)
 
+-- a byte that means nothing is a fault at its place
 abbrev pub byte_fault : Option Meaning → Option Marc8Fault
 byte_fault None = Some (BadByte 0)
 byte_fault (Some meaning) = None

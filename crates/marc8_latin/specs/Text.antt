@@ -15,6 +15,7 @@ pub record Part : Type 0 where
   pub bytes : List ℕ
   pub meaning : Meaning
 
+-- the bytes of parts, one behind the other
 abbrev pub joined : List Part → List ℕ
 joined parts = flat_map (λ part. part.bytes) parts
 
@@ -27,6 +28,7 @@ after sets (Mark _) = sets
 after sets (Control _) = sets
 after sets (Subfield _) = sets
 
+-- the sets behind parts
 abbrev pub after_all : Designations → List Part → Designations
 after_all sets [] = sets
 after_all sets (part ∷ parts) = after_all (after sets part.meaning) parts
@@ -49,6 +51,7 @@ shown (Mark c) = Mark c ∷ []
 shown (Control c) = Control c ∷ []
 shown (Subfield code) = Subfield code ∷ []
 
+-- what parts show, without the designations
 abbrev pub shown_of : List Part → List Meaning
 shown_of parts = flat_map (λ part. shown part.meaning) parts
 

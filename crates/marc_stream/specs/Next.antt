@@ -16,6 +16,7 @@ pub record GivesRefusal (old new : Stream) (ordinal offset : ℕ) (refusal : Ref
   pub bytes : List ℕ
   pub answers : Answers old new (record { ordinal = ordinal; offset = offset; bytes = bytes; refusal = Some refusal })
 
+-- the next item is a piece, refused, the end, or a fault of the source, and what is then left to come
 abbrev pub NextGives : Stream → Next → Stream → Type 0
 NextGives old (Piece ordinal offset bytes) new = GivesPiece old new ordinal offset bytes.now
 NextGives old (Refused ordinal offset refusal) new = GivesRefusal old new ordinal offset refusal

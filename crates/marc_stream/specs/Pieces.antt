@@ -38,6 +38,7 @@ abbrev pub refusal_of : List ℕ → Option Refusal
 refusal_of bytes =
     if nat_lt longest_piece (length bytes) then Some Overlong else if ends_with_byte record_terminator bytes then None else Some Unfinished
 
+-- an item with its place and the reason for which it is no piece, where there is one
 abbrev pub item_at : ℕ → ℕ → List ℕ → Item
 item_at ordinal offset bytes = record { ordinal = ordinal; offset = offset; bytes = bytes; refusal = refusal_of bytes }
 

@@ -32,6 +32,7 @@ pub record Stream : Type 0 where
 abbrev pub told : Option (List ℕ) → List ℕ
 told bytes = unwrap_or bytes []
 
+-- what is still to come of a source, behind the items that were answered
 abbrev pub stream_of : ℕ → Bool → View → Stream
 stream_of answered over v = record {
   tells = is_some v.left;

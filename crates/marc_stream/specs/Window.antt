@@ -58,6 +58,7 @@ pub record IsEnded (bytes : List ℕ) : Type 0 where
   pub ended : bytes ≡ front ++ record_terminator ∷ []
   pub none : EndsNone front
 
+-- all bytes are carriage returns and line feeds
 abbrev pub AreLineEnds : List ℕ → Type 0
 AreLineEnds bytes = All (λ b. is_line_end b ≡ true) bytes
 

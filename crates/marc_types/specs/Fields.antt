@@ -5,6 +5,7 @@ use Rattle.marc_types.specs.declared.field.Subfield.{Subfield}
 use Rattle.marc_types.specs.declared.field.Field.{Field}
 use Rattle.marc_types.specs.declared.field.Field.TheVariants.{Control, Variable}
 
+-- the tag of a field
 abbrev pub tag_of : Field → Tag
 tag_of (Control tag text) = tag
 tag_of (Variable tag ind1 ind2 subs) = tag

@@ -43,6 +43,7 @@ split_second a b h = second_so (is_eq a) (is_eq b) (tied_then a b ∙ h)
 unfoldable pub key_cmp : Key → Key → Ordering
 key_cmp = then_cmp (on (λ k. k.code) (slice_cmp nat_cmp)) (on (λ k. k.number) (slice_cmp nat_cmp))
 
+-- whether two keys are the same
 abbrev pub same_key : Key → Key → Bool
 same_key = eq_by_cmp key_cmp
 
@@ -75,6 +76,7 @@ key_ties_else x y c = ap (λ b. b && bytes_eq x.number y.number) c ∙ key_ties 
 pub key_Decides : (x y : Key) → Decides (eq_by_cmp key_cmp x y) (x ≡ y)
 key_Decides = decided_by key_cmp_total key_ties_same
 
+-- what a hash table reads of a key
 unfoldable pub key_writes : Key → HashWrites
 key_writes k = fed.str k.code ++ fed.str k.number
 
@@ -101,6 +103,7 @@ class_rank_same c d e = sym (class_at-rank c) ∙ ap class_at e ∙ class_at-ran
 unfoldable pub place_cmp : Place → Place → Ordering
 place_cmp = then_cmp (on (λ p. class_rank p.class) nat_cmp) (then_cmp (on (λ p. p.key) key_cmp) (on (λ p. p.field) nat_cmp))
 
+-- whether two places are the same
 abbrev pub same_place : Place → Place → Bool
 same_place = eq_by_cmp place_cmp
 
@@ -127,6 +130,7 @@ place_ties_same = record {
 pub place_Decides : (x y : Place) → Decides (eq_by_cmp place_cmp x y) (x ≡ y)
 place_Decides = decided_by place_cmp_total place_ties_same
 
+-- what a hash table reads of a place
 unfoldable pub place_writes : Place → HashWrites
 place_writes p = fed.u8 (class_rank p.class) ++ key_writes p.key ++ fed.u32 p.field
 
@@ -186,6 +190,7 @@ items_same xs ys h = (pointwise_decides item_Decides xs ys).0 (lists_ties item_c
 unfoldable pub form_cmp : Form → Form → Ordering
 form_cmp = then_cmp (on (λ f. kind_rank f.kind) nat_cmp) (on (λ f. f.items) (slice_cmp item_cmp))
 
+-- whether two forms are the same, and so the headings by the rules of comparison
 abbrev pub same_form : Form → Form → Bool
 same_form = eq_by_cmp form_cmp
 
@@ -241,12 +246,14 @@ form_ties_else x y c =
 pub form_Decides : (x y : Form) → Decides (eq_by_cmp form_cmp x y) (x ≡ y)
 form_Decides = decided_by form_cmp_total form_ties_same
 
+-- what a hash table reads of an item
 unfoldable pub item_writes : Item → HashWrites
 item_writes t = fed.u8 t.code ++ fed.str t.text
 
 pub item_writes_alike : (x y : Item) → eq_by_cmp item_cmp x y ≡ true → item_writes x ≡ item_writes y
 item_writes_alike x y h = ap item_writes ((item_Decides x y).0 h)
 
+-- what a hash table reads of a form
 unfoldable pub form_writes : Form → HashWrites
 form_writes f = fed.u8 (kind_rank f.kind) ++ fed.slice item_writes f.items
 

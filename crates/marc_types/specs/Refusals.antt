@@ -1,3 +1,4 @@
+-- The numbers of the refusals. They are this project's own.
 use Rattle.std.specs.Prelude.{ℕ}
 use Rattle.marc_types.specs.declared.refusal.Refusal.{Refusal}
 use Rattle.marc_types.specs.declared.refusal.Refusal.TheVariants.{Overlong, Unfinished, BadLength, BadLeader, BadDirectory, BadField, UnknownCoding, BadText, OtherType, NoNumber, BadCode, NoHeading, HeadingTooLong, NoRoom, OtherSet}

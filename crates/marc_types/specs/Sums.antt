@@ -5,6 +5,7 @@ use Rattle.marc_types.specs.Limits.{most_entries}
 use Rattle.marc_types.specs.declared.entry.Receipt.{Receipt}
 use Rattle.marc_types.specs.declared.sums.Sums.{Sums}
 
+-- the sums over no receipts
 abbrev pub no_sums : Sums
 no_sums = record { linked = 0; ambiguous = 0; unlinked = 0; changed = 0 }
 

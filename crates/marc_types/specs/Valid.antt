@@ -16,6 +16,7 @@ is_printable b = nat_le 0x20 b && nat_le b 0x7e
 abbrev pub is_graphic : ℕ → Bool
 is_graphic b = nat_le 0x21 b && nat_le b 0x7e
 
+-- a digit
 abbrev pub is_digit : ℕ → Bool
 is_digit b = nat_le 48 b && nat_le b 57
 
@@ -27,6 +28,7 @@ is_alphanumeric b = is_digit b || (nat_le 65 b && nat_le b 90) || (nat_le 97 b &
 abbrev pub is_data : ℕ → Bool
 is_data b = not (nat_le 0x1d b && nat_le b 0x1f)
 
+-- three digits or ASCII letters
 abbrev pub is_tag : Tag → Bool
 is_tag t = is_alphanumeric t.a && is_alphanumeric t.b && is_alphanumeric t.c
 
@@ -34,17 +36,21 @@ is_tag t = is_alphanumeric t.a && is_alphanumeric t.b && is_alphanumeric t.c
 abbrev pub is_control_tag : Tag → Bool
 is_control_tag t = (t.a == 48) && (t.b == 48)
 
+-- the bytes 05 to 08 and 17 to 19, each a blank or a graphic ASCII character
 unfoldable pub is_leader : Leader → Bool
 is_leader l =
     list_all is_printable
     (l.status ∷ l.rtype ∷ l.level ∷ l.control ∷ l.encoding ∷ l.form ∷ l.linked ∷ [])
 
+-- no byte of the text is a terminator or a delimiter
 unfoldable pub is_text : List ℕ → Bool
 is_text bytes = list_all is_data bytes
 
+-- a graphic code, and a text
 unfoldable pub is_subfield : Subfield → Bool
 is_subfield s = is_graphic s.code && is_text s.text
 
+-- a control field has a control tag and a text; any other has another tag, two printable indicators and subfields
 unfoldable pub is_field : Field → Bool
 is_field (Control tag text) = is_tag tag && is_control_tag tag && is_text text
 is_field (Variable tag ind1 ind2 subs) =
@@ -55,6 +61,7 @@ abbrev pub subfields_size : List Subfield → ℕ
 subfields_size [] = 0
 subfields_size (s ∷ ss) = 2 + length s.text + subfields_size ss
 
+-- the bytes of a field's texts, and two for each subfield
 unfoldable pub field_size : Field → ℕ
 field_size (Control tag text) = length text
 field_size (Variable tag ind1 ind2 subs) = subfields_size subs

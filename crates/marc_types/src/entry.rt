@@ -15,6 +15,7 @@ pub struct Tie {
     pub awaits: Option<TiedKey>,
 }
 
+/// The ties of a record's fields, one each.
 pub type Links = Sequence<Tie>;
 
 /// A committed record: which loader brought it as which piece of its file (from 1), its class and key, in which run, and
@@ -30,6 +31,7 @@ pub struct Entry {
     pub library: Text,
 }
 
+/// Entries in the order of their commits.
 pub type Entries = Sequence<Entry>;
 
 /// What one commit did: the number of entries before it; of the committed record's heading fields, how many are linked,

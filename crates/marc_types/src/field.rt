@@ -26,12 +26,14 @@ pub struct Leader {
     pub linked: u8,
 }
 
+/// A code and a text.
 #[derive(Debug, Drop, PartialEq, Eq, Hash)]
 pub struct Subfield {
     pub code: u8,
     pub text: Text,
 }
 
+/// The subfields of a field, in their order.
 pub type Subfields = Sequence<Subfield>;
 
 /// A control field has a tag that begins with `00` and a text; any other field two indicators and subfields.
@@ -49,9 +51,11 @@ pub enum Field {
     },
 }
 
+/// The fields of a record, in their order.
 pub type Fields = Sequence<Field>;
 
 impl Field {
+    /// The tag of the field.
     pub fn tag(&self) -> &Tag
         ensures { result.now ≡ tag_of self.now }
     {

@@ -47,6 +47,7 @@ pub struct Item {
     pub text: Text,
 }
 
+/// The items of a form, in the order of the subfields.
 pub type Items = Sequence<Item>;
 
 /// A heading as headings are compared. Two headings are the same where their forms are equal.
@@ -56,6 +57,7 @@ pub struct Form {
     pub items: Items,
 }
 
+/// Forms, as those under which an authority is found.
 pub type Forms = Sequence<Form>;
 
 impl TryCopy for Item {

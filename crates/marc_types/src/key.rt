@@ -35,6 +35,7 @@ pub struct Key {
     pub number: Text,
 }
 
+/// Keys, mostly in key order.
 pub type Keys = Sequence<Key>;
 
 /// One field of one record: the record's class and key, and the field's place in it, from 0. Places are ordered so.
@@ -45,6 +46,7 @@ pub struct Place {
     pub field: u32,
 }
 
+/// Places of fields.
 pub type Places = Sequence<Place>;
 
 impl TryCopy for Key {

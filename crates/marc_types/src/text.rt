@@ -65,6 +65,7 @@ impl Text {
         })
     }
 
+    /// A copy of a text.
     pub fn from_str(alloc: Global, text: &str) -> Result<Text, NoMemory>
         ensures { IfOk result (λ made. made ≡ text.now) }
     {
@@ -157,6 +158,7 @@ impl Text {
         }
     }
 
+    /// The text as a `str`.
     pub fn as_str(&self) -> &str
         ensures { result.now ≡ self.now }
     {
@@ -166,6 +168,7 @@ impl Text {
         }
     }
 
+    /// The bytes of the text.
     pub fn as_bytes(&self) -> &[u8]
         ensures { result.now ≡ self.now }
     {
@@ -182,6 +185,7 @@ impl Text {
         self.as_bytes().len()
     }
 
+    /// Whether it has no byte.
     pub fn is_empty(&self) -> bool
         ensures { IsTrue result ↔ (self.now ≡ []) }
     {

@@ -20,6 +20,7 @@ impl Model for TiedKey {
 }
 
 impl TiedKey {
+    /// A key, behind a pointer.
     pub fn new(alloc: Global, key: Key) -> Result<TiedKey, NoMemory>
         ensures { IfOk result (λ made. made ≡ key) }
     {
@@ -28,6 +29,7 @@ impl TiedKey {
         })
     }
 
+    /// The key itself.
     pub fn key(&self) -> &Key
         ensures { result.now ≡ self.now }
     {

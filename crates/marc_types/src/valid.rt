@@ -19,6 +19,7 @@ pub fn is_data_byte(byte: u8) -> bool
 }
 
 impl Tag {
+    /// Whether its characters are those of MARC 21.
     pub fn is_valid(self) -> bool
         ensures { result ≡ is_tag self }
     {
@@ -36,6 +37,7 @@ impl Tag {
 }
 
 impl Leader {
+    /// Whether its characters are those of MARC 21.
     #[tactic(auto, unfolding(crate::specs::Valid::is_leader))]
     pub fn is_valid(&self) -> bool
         ensures { result ≡ is_leader self.now }

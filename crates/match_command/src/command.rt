@@ -6,9 +6,8 @@ ghost use Rattle.match_command.specs.Telling.{TellsMatches};
 use crate::taking::HistoryMatches;
 use crate::writing::write_history;
 use console_lines::{End, end_of_output, tell};
-use history_logs::open_history;
+use journal_files::{fault_of_opening, open_history};
 use outside::Room;
-use room_files::fault_of_opening;
 use std::alloc::Global;
 
 /// The command `matches`: writes which of a journal's bibliographic records share a number into the file `out`. It makes no

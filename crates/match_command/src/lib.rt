@@ -2,6 +2,8 @@
 #![tactic(auto)]
 
 pub use command::write_matches;
+pub use taking::HistoryMatches;
+pub use writing::write_table;
 
 mod command;
 mod taking;

@@ -3,14 +3,14 @@ ghost use Rattle.std.specs.Prelude.{◌≡◌, []};
 ghost use Rattle.match_report.specs.Matches.{table_after};
 
 use entry_record::Prepared;
-use history_logs::EntryTaker;
+use journal_files::EntryTaker;
 use marc_types::NoMemory;
 use match_report::Matches;
 use std::alloc::Global;
 
 /// The numbers of a history's records.
 #[derive(Drop)]
-pub(crate) struct HistoryMatches {
+pub struct HistoryMatches {
     pub table: Matches,
 }
 

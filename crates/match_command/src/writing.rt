@@ -3,10 +3,10 @@ ghost use Rattle.std.specs.Prelude.{◌≡◌, ◌∷◌, [], true, Some, None, 
 ghost use Rattle.outside.specs.Fault.{HasWriteCause};
 ghost use Rattle.outside.specs.Room.{AsLog, SameBut};
 ghost use Rattle.output_files.specs.Outputs.{IsOutput, IsOutputLeft};
-ghost use Rattle.room_files.specs.Journals.{IsClosedDisk};
+ghost use Rattle.journal_files.specs.Journals.{IsClosedDisk};
 ghost use Rattle.match_report.specs.Groups.{lines_of, matches_of};
 
-use history_logs::{HistoryLog, close_history};
+use journal_files::{JournalScan, close_history};
 use match_report::{Groups, Matches};
 use output_files::{Document, write_document};
 use outside::{Room, Sink, WriteFault};
@@ -30,7 +30,7 @@ impl<'a> Document for GroupLines<'a> {
 /// Writes the lines of a table's groups into the file of that name. Only the finding of the groups takes memory, and without it no
 /// file is begun.
 #[tactic(auto, using(outside::proofs::Rooms::same_but_itself))]
-fn write_table<R: Room>(
+pub fn write_table<R: Room>(
     alloc: Global,
     room: &mut R,
     name: &str,
@@ -60,7 +60,7 @@ pub(crate) fn write_history<R: Room>(
     journal: &str,
     out: &str,
     table: &Matches,
-    history: HistoryLog<R::Log>,
+    history: JournalScan<R::Log>,
 ) -> Result<(), WriteFault>
     requires opened { (R.seen room.old).open_as journal.now ≡ Some AsLog }
     requires free { (R.seen room.old).open_as out.now ≡ None }

@@ -14,9 +14,11 @@ use Rattle.match_report.specs.declared.number.Number.TheVariants.{Isbn, Lccn}
 abbrev pub RecordNumbers : Type 0
 RecordNumbers = Key × List Number
 
+-- a number and a key that has it
 abbrev pub posting : Number → Key → Posting
 posting number key = record { number = number; key = key }
 
+-- each number of a record, with its key
 abbrev pub postings_of_row : RecordNumbers → List Posting
 postings_of_row row = map (λ number. posting number row.0) row.1
 
@@ -29,9 +31,11 @@ pub record NumberGroup : Type 0 where
   pub number : Number
   pub keys : List Key
 
+-- a number and the keys that have it
 abbrev pub number_group : Number → List Key → NumberGroup
 number_group number keys = record { number = number; keys = keys }
 
+-- whether two numbers are the same
 abbrev pub same_number : Number → Number → Bool
 same_number m n = (number_rank m == number_rank n) && bytes_eq (number_text m) (number_text n)
 
@@ -55,6 +59,7 @@ is_match g = nat_le 2 (length g.keys)
 unfoldable pub matches_of : List RecordNumbers → List NumberGroup
 matches_of rows = filter is_match (groups_of (postings_of rows))
 
+-- `ISBN` or `LCCN`
 abbrev pub number_word : Number → List ℕ
 number_word (Isbn text) = codes "ISBN"
 number_word (Lccn text) = codes "LCCN"
@@ -63,6 +68,7 @@ number_word (Lccn text) = codes "LCCN"
 abbrev pub group_line : NumberGroup → List ℕ
 group_line g = line (number_word g.number ++ then_words (number_text g.number ∷ map key_text g.keys))
 
+-- `TOTAL groups=N`
 abbrev pub total_line : List NumberGroup → List ℕ
 total_line groups = line (codes "TOTAL groups=" ++ decimal (length groups))
 

@@ -8,6 +8,7 @@ use Rattle.marc_types.specs.Valid.{is_digit}
 abbrev pub printed_number : List ℕ → List ℕ
 printed_number text = filter (λ b. not (b == 45)) (take_while (λ b. not (b == 32)) text)
 
+-- `X` or `x`, which counts ten
 abbrev pub is_x : ℕ → Bool
 is_x b = (b == 88) || (b == 120)
 
@@ -53,6 +54,7 @@ check_digit digits = 48 + (10 - weighted in_turn digits % 10) % 10
 unfoldable pub thirteen_of : List ℕ → List ℕ
 thirteen_of ten = let digits = codes "978" ++ take 9 ten in digits ++ check_digit digits ∷ []
 
+-- the ISBN of thirteen digits that ten or thirteen characters give, where they do
 abbrev pub isbn_of_printed : List ℕ → Option (List ℕ)
 isbn_of_printed text =
     if is_isbn_ten text then Some (thirteen_of text) else (if is_isbn_thirteen text then Some text else None)

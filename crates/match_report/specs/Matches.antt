@@ -12,6 +12,7 @@ use Rattle.catalogue_rules.specs.Settle.{Arrival, arrival_of}
 use Rattle.match_report.specs.Numbers.{numbers_of}
 use Rattle.match_report.specs.Groups.{RecordNumbers, matches_of, lines_of}
 
+-- the key of a kept record, and its numbers
 abbrev pub numbered_row : Row → RecordNumbers
 numbered_row row = (row.0, numbers_of (fields_of row.1))
 

@@ -22,6 +22,7 @@ lccn_of text = if is_number (without_blanks text) then Some (without_blanks text
 abbrev pub isbn_of_subfield : Subfield → Option Number
 isbn_of_subfield s = if s.code == 97 then option_map (λ text. Isbn text) (isbn_of s.text) else None
 
+-- the LCCN of a `$a`, where it is one
 abbrev pub lccn_of_subfield : Subfield → Option Number
 lccn_of_subfield s = if s.code == 97 then option_map (λ text. Lccn text) (lccn_of s.text) else None
 
@@ -29,6 +30,7 @@ lccn_of_subfield s = if s.code == 97 then option_map (λ text. Lccn text) (lccn_
 unfoldable pub isbns_of_field : Field → List Number
 isbns_of_field f = if has_tag 48 50 48 (tag_of f) then filter_map isbn_of_subfield (subfields_of f) else []
 
+-- the LCCNs of a 010, in its order
 unfoldable pub lccns_of_field : Field → List Number
 lccns_of_field f = if has_tag 48 49 48 (tag_of f) then filter_map lccn_of_subfield (subfields_of f) else []
 

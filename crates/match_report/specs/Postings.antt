@@ -14,10 +14,12 @@ pub record Posting : Type 0 where
   pub number : Number
   pub key : Key
 
+-- ISBNs stand before LCCNs
 abbrev pub number_rank : Number → ℕ
 number_rank (Isbn text) = 0
 number_rank (Lccn text) = 1
 
+-- the characters of a number
 abbrev pub number_text : Number → List ℕ
 number_text (Isbn text) = text
 number_text (Lccn text) = text

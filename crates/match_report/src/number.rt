@@ -13,6 +13,7 @@ pub enum Number {
     Lccn(Text),
 }
 
+/// The numbers of a record: ISBNs, then LCCNs, each in the record's order.
 pub type Numbers = Sequence<Number>;
 
 impl Number {

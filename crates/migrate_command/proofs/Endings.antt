@@ -14,15 +14,15 @@ use Rattle.console_lines.specs.declared.end.Unwritten.TheVariants.{Console}
 use Rattle.console_lines.specs.declared.fault.Fault.{Fault}
 use Rattle.console_lines.specs.declared.fault.Fault.TheVariants.{Device}
 use Rattle.console_lines.proofs.Ends.{told_once, told_not_done, told_not_unwritten, done_not_unwritten, never_told}
-use Rattle.room_files.specs.Faults.{fault_of_opening}
-use Rattle.room_files.specs.Journals.{journal_limits, log_bytes, KeepsHistory}
-use Rattle.room_files.proofs.Journals.{keeps_where}
+use Rattle.journal_files.specs.Faults.{fault_of_opening, IsDeviceOf}
+use Rattle.journal_files.specs.Journals.{journal_limits, log_bytes, KeepsHistory}
+use Rattle.journal_files.proofs.Journals.{keeps_where}
 use Rattle.migrate_command.specs.Migrations.{IsUnfit}
 use Rattle.migrate_command.specs.declared.fault.MigrateFault.{MigrateFault}
 use Rattle.migrate_command.specs.declared.fault.MigrateFault.TheVariants as migrating
 use Rattle.migrate_command.specs.Told.{fault_of_migrating}
 use Rattle.migrate_command.specs.Bringing.{IsDeviceFaultOf, IsBroughtOver}
-use Rattle.migrate_command.specs.Migrates.{EndsMigrating, WhyNotFrom, NotOpened, Newest, WhyNotInto, IsDeviceOf, migrated_line, Migrates}
+use Rattle.migrate_command.specs.Migrates.{EndsMigrating, WhyNotFrom, NotOpened, Newest, WhyNotInto, migrated_line, Migrates}
 
 opening_ends : (reason : OpenFault) → EndsMigrating (Told (fault_of_opening reason))
 opening_ends opening.DeviceFault = tt
@@ -74,6 +74,7 @@ module _ (from into : List ℕ) (o : Outcome) (result : Result ℕ Fault) (over 
     told = λ other also. subst (λ w. IsTold w o × ((WhyNotFrom o.old from w × SameBut o.old o.new (from ∷ [])) ⊎ WhyNotInto o.old from into w))
         (told_once o.end why other is also) (told, over.refused why err);
     kept = λ other also differs. over.kept why err (λ device. differs (sym (told_once o.end why other is also) ∙ device));
+    settled = λ other also differs. over.settled why err (λ device. differs (sym (told_once o.end why other is also) ∙ device));
     device = λ also. over.device (err ∙ ap Err (told_once o.end why Device is also));
     history = λ untold. absurd (never_told o.end why untold is);
     version = λ untold. absurd (never_told o.end why untold is);
@@ -104,6 +105,7 @@ module _ (from into : List ℕ) (o : Outcome) (result : Result ℕ Fault) (over 
       alone = left_alone;
       told = λ why also. absurd (told_not_done o.end why also is);
       kept = λ why also. absurd (told_not_done o.end why also is);
+      settled = λ why also. absurd (told_not_done o.end why also is);
       device = λ also. absurd (told_not_done o.end Device also is);
       history = λ untold. over.history count ok;
       version = λ untold. over.version count ok;
@@ -123,6 +125,7 @@ module _ (from into : List ℕ) (o : Outcome) (result : Result ℕ Fault) (over 
       alone = left_alone;
       told = λ why also. absurd (told_not_unwritten o.end why Console also is);
       kept = λ why also. absurd (told_not_unwritten o.end why Console also is);
+      settled = λ why also. absurd (told_not_unwritten o.end why Console also is);
       device = λ also. absurd (told_not_unwritten o.end Device Console also is);
       history = λ untold. over.history count ok;
       version = λ untold. over.version count ok;

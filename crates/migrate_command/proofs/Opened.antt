@@ -5,7 +5,7 @@ use Rattle.std.proofs.lemmas.Option.{none-some}
 use Rattle.std.proofs.Math.Logic.{∥∥₁_map, ∥∥₁_elim, ∥∥₁_prop}
 use Rattle.marc_types.specs.declared.entry.Entry.{Entry}
 use Rattle.marc_types.specs.declared.entry.Limits.{Limits}
-use Rattle.outside.specs.Disk.{DiskView}
+use Rattle.outside.specs.Disk.{DiskView, OnlyContent, SameDisk}
 use Rattle.outside.specs.Fault.{Rose}
 use Rattle.commit_journal.specs.declared.frame.Frame.{Frame}
 use Rattle.commit_journal.specs.declared.fault.JournalFault.{JournalFault}
@@ -82,7 +82,6 @@ pub left_found : (frames : List Frame) (place version : ℕ) (old mid : DiskView
 left_found frames place version old mid found fault log told = record {
   content = λ now is. record { leaves = same_leaves old mid found.unwritten.content log now told is; bytes = λ other. (let same = found.unwritten.content in inl cc) };
   images = λ s c synced left. found.opens.crash s log c synced told left;
-  settled = λ other. inl found.only;
 }
 
 -- a device failed as it was brought into order
@@ -90,7 +89,6 @@ pub left_faulted : (old new : DiskView) → IsSettling old new → (log : List �
 left_faulted old new settling log told = record {
   content = λ now is. record { leaves = settling.content log now told is; bytes = λ other. absurd (other refl) };
   images = λ s c synced left. settling.opens.crash s log c synced told left;
-  settled = λ other. absurd (other refl);
 }
 
 -- what was brought behind the first entries of a history is brought behind those of the frames
@@ -244,8 +242,13 @@ pub left_unopened : (old new : DiskView) (fault : JournalFault) → Opens old ne
 left_unopened old new fault opens leaves cause log told = record {
   content = λ now is. unwritten_alone old new leaves (migrate_fault fault ≡ DeviceFault) fault cause (device_words fault) log now told is;
   images = λ s c synced left. opens.crash s log c synced told left;
-  settled = λ other. ⊎_elim (λ only. inl only) (λ same. inr (ap migrate_fault same.0, same.1)) (cause.settled (λ device. other (ap migrate_fault device)));
 }
+
+-- unless a device failed, it is in order, or as it was
+pub settled_unopened : (old new : DiskView) (fault : JournalFault) → HasOpenCause old new fault → migrate_fault fault ≢ DeviceFault
+    → OnlyContent new ⊎ ((migrate_fault fault ≡ NoMemory) × SameDisk old new)
+settled_unopened old new fault cause other =
+    ⊎_elim (λ only. inl only) (λ same. inr (ap migrate_fault same.0, same.1)) (cause.settled (λ device. other (ap migrate_fault device)))
 
 -- a log that was found, whose frames and version were handed on
 module _ (named version : Version) (handed frames : List Frame) (limits : Limits) (history : List Entry) (name : named ≡ version) (hands : handed ≡ frames) where

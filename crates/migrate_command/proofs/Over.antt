@@ -17,20 +17,20 @@ use Rattle.durable_catalogue.specs.declared.fault.OpenFault.TheVariants as openi
 use Rattle.durable_catalogue.proofs.Opened.{either_version}
 use Rattle.console_lines.specs.declared.fault.Fault.{Fault}
 use Rattle.console_lines.specs.declared.fault.Fault.TheVariants.{Device, OldVersion}
-use Rattle.room_files.specs.Faults.{fault_of_opening}
-use Rattle.room_files.specs.Journals as journals
-use Rattle.room_files.specs.Journals.{journal_limits, log_bytes, IsClosedDisk, KeepsHistory, KeepsLog}
-use Rattle.room_files.proofs.Faults.{opening_device}
-use Rattle.room_files.proofs.Histories.{reading_once}
-use Rattle.room_files.proofs.Journals.{closed_keeps, keeps_where, unopened_keeps}
+use Rattle.journal_files.specs.Faults.{fault_of_opening}
+use Rattle.journal_files.specs.Journals as journals
+use Rattle.journal_files.specs.Journals.{journal_limits, log_bytes, IsClosedDisk, KeepsHistory, KeepsLog}
+use Rattle.journal_files.proofs.Faults.{opening_device}
+use Rattle.journal_files.proofs.Histories.{reading_once}
+use Rattle.journal_files.proofs.Journals.{closed_keeps, keeps_where, unopened_keeps}
 use Rattle.archive_commands.specs.Archives.{HasFittingHistory}
 use Rattle.archive_commands.proofs.Histories.{fitting_history}
 use Rattle.migrate_command.specs.Migrations.{IsFit, IsUnfit, IsUnmigrated, IsBrought}
 use Rattle.migrate_command.specs.Bringing as bringing
 use Rattle.migrate_command.specs.Bringing.{IsBroughtInto, IsUnbrought, Refused, IsDeviceFaultOf, IsBroughtOver}
-use Rattle.migrate_command.specs.Migrates.{BringsInto, Unopened, HasInEachImage, NotOpened, Newest}
+use Rattle.migrate_command.specs.Migrates.{BringsInto, Unopened, IsSettledLog, Untouched, HasInEachImage, NotOpened, Newest}
 use Rattle.migrate_command.proofs.Endings.{ok_not_err, err_once}
-use Rattle.migrate_command.proofs.Rooms.{bytes_first, bytes_last, brings_across, images_across, keeps_across}
+use Rattle.migrate_command.proofs.Rooms.{bytes_first, bytes_last, brings_across, images_across, settled_across, keeps_across}
 use mathlib.Core.HLevel.{⊥_prop}
 
 -- the old log was not opened
@@ -54,6 +54,7 @@ module _ (from into : List ℕ) (differ : into ≢ from) (old opened : RoomView)
         brings = λ entries tells has. ∣ Unopened other_untouched ∣₁;
         alone = λ entries tells has unfit. journals.Unopened other_untouched;
         kept = λ why also other tells. ap bytes_or_none other_untouched.file;
+        settled = λ why also other tells. Untouched other_untouched;
         refused = λ why also. inl (NotOpened reason current (err_once result why fault also is) so, apart);
         device = λ also. inl (rose (opening_device reason (err_once result fault Device is also)));
         history = λ count ok. absurd (ok_not_err result count fault ok is);
@@ -126,6 +127,7 @@ module _ (from into : List ℕ) (differ : into ≢ from) (old opened brought clo
         let f = b.fit (first.tells ∙ tells) in
         absurd (unfit_any entries (log_bytes old into) tells also none f.0 (subst (λ l. IsFit journal_limits history f.0 l) first_bytes f.1));
     kept = λ why err. absurd (ok_not_err result count why is err);
+    settled = λ why err. absurd (ok_not_err result count why is err);
     refused = λ why err. absurd (ok_not_err result count why is err);
     device = λ err. absurd (ok_not_err result count Device is err);
     history = λ n ok. fits;
@@ -167,15 +169,22 @@ module _ (from into : List ℕ) (differ : into ≢ from) (old opened brought clo
       bytes_last history old opened brought closed from into differ first last
       ∙ kept (λ device. other (err_once result w why err is ∙ device)) (first.tells ∙ tells) ∙ first_bytes
 
+  settled_still : (why : Fault) (result : Result ℕ Fault) → result ≡ Err why → (why ≢ Device → opened.tells ≡ true → IsSettledLog opened brought into)
+      → (w : Fault) → result ≡ Err w → w ≢ Device → old.tells ≡ true → IsSettledLog old closed into
+  settled_still why result is settled w err other tells =
+      settled_across history old opened brought closed from into differ first last
+      (settled (λ device. other (err_once result w why err is ∙ device)) (first.tells ∙ tells))
+
   over_unbrought : (why : Fault) (result : Result ℕ Fault) → result ≡ Err why → (why ≢ Device → opened.tells ≡ true → log_bytes brought into ≡ log_bytes opened into)
-      → IsUnbrought history version opened brought into why → IsBroughtOver from into old closed result
-  over_unbrought why result is unchanged (bringing.Newest newest other stays) = record {
+      → (why ≢ Device → opened.tells ≡ true → IsSettledLog opened brought into) → IsUnbrought history version opened brought into why → IsBroughtOver from into old closed result
+  over_unbrought why result is unchanged settled (bringing.Newest newest other stays) = record {
     keeps = keeps_opened (IsDeviceFaultOf old closed from result);
     brings = brings_opened;
     alone = λ entries tells also none.
         let failed = IsDeviceFaultOf old closed into result in
         keeps_across history old opened brought closed from into differ first last failed (unopened_keeps failed opened brought into stays);
     kept = still why result is unchanged;
+    settled = settled_still why result is settled;
     refused = λ w err. inl (Newest (err_once result w why err is ∙ newest) (λ tells. (two tells, fits tells)), apart);
     device = λ err. let device : why ≡ Device = err_once result why Device is err in let never : OldVersion ≡ Device = sym newest ∙ device in cc;
     history = λ count ok. absurd (ok_not_err result count why ok is);
@@ -193,7 +202,7 @@ module _ (from into : List ℕ) (differ : into ≢ from) (old opened brought clo
 
       apart : SameBut old closed (from ∷ [])
       apart = same_but_then old opened closed (from ∷ []) first (same_but_then opened brought closed (from ∷ []) (same_but_none opened brought (from ∷ []) stays) last)
-  over_unbrought why result is unchanged (Refused reason oldest told so alone rose) = record {
+  over_unbrought why result is unchanged settled (Refused reason oldest told so alone rose) = record {
     keeps = keeps_opened (IsDeviceFaultOf old closed from result);
     brings = brings_opened;
     alone = λ entries tells also none.
@@ -202,6 +211,7 @@ module _ (from into : List ℕ) (differ : into ≢ from) (old opened brought clo
         (alone (log_bytes old from) (first.tells ∙ tells) (has tells)
         (subst (IsUnfit journal_limits history) (sym first_bytes) (unfit_any entries (log_bytes old into) tells also none))));
     kept = still why result is unchanged;
+    settled = settled_still why result is settled;
     refused = λ w err. inr (record {
       reason = reason;
       is = err_once result w why err is ∙ told;
@@ -226,6 +236,7 @@ module _ (from into : List ℕ) (differ : into ≢ from) (old opened brought clo
 
   pub over_either : (result : Result ℕ Fault) → IfOk result (λ count. count ≡ length history) → OnOk result (IsBroughtInto history version opened brought into)
       → IfErr result (IsUnbrought history version opened brought into)
-      → IfErr result (λ fault. fault ≢ Device → opened.tells ≡ true → log_bytes brought into ≡ log_bytes opened into) → IsBroughtOver from into old closed result
-  over_either (Ok count) number it why unchanged = over_brought count (Ok count) refl number it
-  over_either (Err fault) number it why unchanged = over_unbrought fault (Err fault) refl unchanged why
+      → IfErr result (λ fault. fault ≢ Device → opened.tells ≡ true → log_bytes brought into ≡ log_bytes opened into)
+      → IfErr result (λ fault. fault ≢ Device → opened.tells ≡ true → IsSettledLog opened brought into) → IsBroughtOver from into old closed result
+  over_either (Ok count) number it why unchanged settled = over_brought count (Ok count) refl number it
+  over_either (Err fault) number it why unchanged settled = over_unbrought fault (Err fault) refl unchanged settled why

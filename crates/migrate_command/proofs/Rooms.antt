@@ -1,26 +1,24 @@
 -- What a room keeps of a log into which a history was brought.
-use Rattle.std.proofs.Common.{◌≡◌, ◌≢◌, ◌∙◌, inl, inr, ⊎_elim, ℕ, ◌≤◌, true, List, [], ◌∷◌, Some, None, is_some, sym, ap, subst}
+use Rattle.std.proofs.Common.{◌≡◌, ◌≢◌, ◌⊎◌, ◌∙◌, inl, inr, ⊎_elim, ℕ, ◌≤◌, true, List, [], ◌∷◌, Some, is_some, sym, ap, subst}
 use Rattle.std.proofs.Math.Logic.{∥∥₁_map}
 use Rattle.marc_types.specs.declared.entry.Entry.{Entry}
-use Rattle.outside.specs.Disk.{DiskView, SameDisk}
+use Rattle.outside.specs.Disk.{DiskView, OnlyContent, SameDisk}
 use Rattle.outside.specs.Fault.{Rose, count_sum}
 use Rattle.outside.specs.Room.{RoomView, SameBut, IsUntouched, bytes_or_none}
 use Rattle.outside.proofs.Counts.{rose_closed}
 use Rattle.outside.proofs.Disks.{same_disk_then}
-use Rattle.outside.proofs.Rooms.{same_but_then, same_but_first, same_but_more}
 use Rattle.commit_journal.specs.Journal.{LeavesLog}
 use Rattle.durable_catalogue.specs.Logs.{HasHistory}
 use Rattle.durable_catalogue.specs.Refused.{LeavesAlone}
 use Rattle.durable_catalogue.proofs.Keeping.{some_of}
 use Rattle.durable_catalogue.proofs.Readings.{same_log}
-use Rattle.room_files.specs.Journals as journals
-use Rattle.room_files.specs.Journals.{journal_limits, log_bytes, IsClosedDisk, KeepsHistory}
-use Rattle.room_files.proofs.Journals.{IsTimed, settled_now, closed_history}
-use Rattle.archive_commands.proofs.Rooms.{closed_opened}
+use Rattle.journal_files.specs.Journals as journals
+use Rattle.journal_files.specs.Journals.{journal_limits, log_bytes, IsClosedDisk, KeepsHistory}
+use Rattle.journal_files.proofs.Journals.{IsTimed, settled_now, closed_history}
 use Rattle.migrate_command.specs.declared.fault.MigrateFault.{MigrateFault}
 use Rattle.migrate_command.specs.declared.fault.MigrateFault.TheVariants as migrating
 use Rattle.migrate_command.specs.Migrations.{IsFit, IsUnfit, LeavesRefused, LeavesUnfitAlone, IsBrought, IsMigration, IsAmid}
-use Rattle.migrate_command.specs.Migrates.{BringsInto, Unopened, Opened, IsAmidInto, HasInEachImage}
+use Rattle.migrate_command.specs.Migrates.{BringsInto, Unopened, Opened, IsAmidInto, IsSettledLog, Untouched, Settled, HasInEachImage}
 
 -- a log was opened as a disk, into which a history was brought, and the disk was closed as the log
 module _ (history : List Entry) (old new : RoomView) (name : List ℕ) (before disk : DiskView) (told : before.content ≡ Some (log_bytes old name))
@@ -46,14 +44,15 @@ module _ (history : List Entry) (old new : RoomView) (name : List ℕ) (before d
 
   -- a log that isn't fit keeps what it has
   pub alone_into : before.moment ≡ 0 → IsClosedDisk disk new name → IsTimed disk → (fault : MigrateFault) → LeavesUnfitAlone journal_limits history fault before disk
+      → (fault ≢ migrating.DeviceFault → OnlyContent disk ⊎ ((fault ≡ migrating.NoMemory) × SameDisk before disk))
       → IsUnfit journal_limits history (log_bytes old name) → KeepsHistory (fault ≡ migrating.DeviceFault) old new name
-  alone_into begins closed timed fault alone unfit =
+  alone_into begins closed timed fault alone settled unfit =
       closed_history old new name disk closed (fault ≡ migrating.DeviceFault)
       (subst (λ o. LeavesAlone (fault ≡ migrating.DeviceFault) log (bytes_or_none o)) (sym told_now.1) content)
       (λ entries has. subst (λ o. HasHistory entries (bytes_or_none o)) (sym told_now.1) (∥∥₁_map has (same_log entries log told_now.0 content.leaves.same)))
       (λ s c synced was. left.images s c (ap disk.synced begins ∙ synced) was)
       (λ dated none. ap bytes_or_none (m.unsynced (sym m.dated ∙ dated) (ap disk.synced begins ∙ none) ∙ told))
-      (λ other synced. settled_now before disk begins timed synced told_now.0 told_now.1 (⊎_elim (λ only. inl only) (λ same. inr same.1) (left.settled other)))
+      (λ other synced. settled_now before disk begins timed synced told_now.0 told_now.1 (⊎_elim (λ only. inl only) (λ same. inr same.1) (settled other)))
     where
       log : List ℕ
       log = log_bytes old name
@@ -64,13 +63,26 @@ module _ (history : List Entry) (old new : RoomView) (name : List ℕ) (before d
       content : LeavesAlone (fault ≡ migrating.DeviceFault) log told_now.0
       content = left.content told_now.0 told_now.1
 
+-- unless a device failed, a crash leaves of a log what stands in its file
+pub settled_into : (old new : RoomView) (name : List ℕ) (before disk : DiskView) → before.content ≡ Some (log_bytes old name) → disk.content ≡ before.content
+    → before.moment ≡ 0 → IsClosedDisk disk new name → IsTimed disk → (fault : MigrateFault) → fault ≢ migrating.DeviceFault
+    → (fault ≢ migrating.DeviceFault → OnlyContent disk ⊎ ((fault ≡ migrating.NoMemory) × SameDisk before disk)) → IsSettledLog old new name
+settled_into old new name before disk told same begins closed timed fault other settled =
+    let unchanged = closed.same.unchanged in
+    Settled closed.is_log (λ synced c image.
+    settled_now before disk begins timed (λ dated. ap is_some (sym (unchanged.syncs 0)) ∙ synced (unchanged.dated ∙ dated)) (log_bytes old name) (same ∙ told)
+    (⊎_elim (λ only. inl only) (λ same. inr same.1) (settled other)) c ((unchanged.images c).0 image)
+    ∙ ap bytes_or_none (sym closed.file))
+
 pub images_into : (history : List Entry) (room : RoomView) (name : List ℕ) (disk : DiskView) → room.has_log name ≡ true → SameDisk disk (room.log name)
     → ((c : List ℕ) → disk.image c → IsBrought history c) → HasInEachImage history room name
 images_into history room name disk is_log same all = record { is_log = is_log; images = λ c image. all c ((same.unchanged.images c).0 image) }
 
+pub untouched_of : (old new : RoomView) (name : List ℕ) → SameBut old new [] → IsUntouched old new name
+untouched_of old new name stays = record { file = stays.files name tt; is_log = stays.log_names name tt; log = stays.logs name tt }
+
 pub untouched_into : (history : List Entry) (old new : RoomView) (name : List ℕ) → SameBut old new [] → BringsInto history old new name
-untouched_into history old new name stays =
-    Unopened (record { file = stays.files name tt; is_log = stays.log_names name tt; log = stays.logs name tt })
+untouched_into history old new name stays = Unopened (untouched_of old new name stays)
 
 -- a fault of a log that had none when it was opened is one of its name
 pub rose_into : (before opened closed was now : ℕ) → was ≡ 0 → before ≤ opened → closed ≡ count_sum opened now → Rose was now → Rose before closed
@@ -121,6 +133,13 @@ module _ (history : List Entry) (old opened brought closed : RoomView) (from int
     images = λ c image. has.images c (((last.logs into (differ, tt) has.is_log).unchanged.images c).0 image);
   }
 
+  pub settled_across : IsSettledLog opened brought into → IsSettledLog old closed into
+  settled_across (Untouched u) = Untouched (untouched_across u)
+  settled_across (Settled is_log only) =
+      let unchanged = (last.logs into (differ, tt) is_log).unchanged in
+      Settled (last.log_names into (differ, tt) ∙ is_log) (λ synced c image.
+      only (λ dated. ap is_some (sym (unchanged.syncs 0)) ∙ synced (unchanged.dated ∙ dated)) c ((unchanged.images c).0 image) ∙ sym bytes_last)
+
   pub keeps_across : (failed : Type 0) → KeepsHistory failed opened brought into → KeepsHistory failed old closed into
   keeps_across failed (journals.Unopened u) = journals.Unopened (untouched_across u)
   keeps_across failed (journals.Opened c) =
@@ -137,21 +156,3 @@ module _ (history : List Entry) (old opened brought closed : RoomView) (from int
         settled = λ other synced i image.
             c.settled other (λ dated. ap is_some (sym (unchanged.syncs 0)) ∙ synced (unchanged.dated ∙ dated)) i ((unchanged.images i).0 image) ∙ sym bytes_last;
       })
-
--- three steps that touch two names alone
-module _ (old opened brought closed : RoomView) (from into : List ℕ) (first : SameBut old opened (from ∷ [])) (second : SameBut opened brought (into ∷ []))
-    (third : SameBut brought closed (from ∷ [])) where
-  apart_behind : SameBut opened closed (from ∷ into ∷ [])
-  apart_behind =
-      let names : List (List ℕ) = from ∷ into ∷ [] in
-      same_but_then opened brought closed names (same_but_more opened brought (into ∷ []) names (λ n other. (other.1.0, tt)) second)
-      (same_but_first brought closed from (into ∷ []) third)
-
-  pub apart_over : SameBut old closed (from ∷ into ∷ [])
-  apart_over = same_but_then old opened closed (from ∷ into ∷ []) (same_but_first old opened from (into ∷ []) first) apart_behind
-
-  -- where no name was open, and the two were opened and closed again, none is open
-  pub closed_over : into ≢ from → closed.open_as from ≡ None → brought.open_as into ≡ None → ((name : List ℕ) → old.open_as name ≡ None)
-      → (name : List ℕ) → closed.open_as name ≡ None
-  closed_over differ closed_from closed_into free =
-      closed_opened old opened closed from into first apart_behind closed_from (third.open_names into (differ, tt) ∙ closed_into) free

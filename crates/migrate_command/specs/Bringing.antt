@@ -7,12 +7,12 @@ use Rattle.commit_journal.specs.Log.{version_of}
 use Rattle.durable_catalogue.specs.Logs.{HasHistory}
 use Rattle.console_lines.specs.declared.fault.Fault.{Fault}
 use Rattle.console_lines.specs.declared.fault.Fault.TheVariants.{Device, OldVersion}
-use Rattle.room_files.specs.Journals.{journal_limits, log_bytes, KeepsHistory}
+use Rattle.journal_files.specs.Journals.{journal_limits, log_bytes, KeepsHistory}
 use Rattle.archive_commands.specs.Archives.{HasFittingHistory}
 use Rattle.migrate_command.specs.declared.fault.MigrateFault.{MigrateFault}
 use Rattle.migrate_command.specs.Migrations.{IsFit, IsUnfit, IsUnmigrated, IsBrought}
 use Rattle.migrate_command.specs.Told.{fault_of_migrating}
-use Rattle.migrate_command.specs.Migrates.{BringsInto, HasInEachImage, WhyNotFrom, WhyNotInto}
+use Rattle.migrate_command.specs.Migrates.{BringsInto, IsSettledLog, HasInEachImage, WhyNotFrom, WhyNotInto}
 
 -- the history of a log of version 1 was brought into the log of that name
 pub record IsBroughtInto (history : List Entry) (version : ℕ) (old new : RoomView) (into : List ℕ) : Type 0 where
@@ -42,6 +42,7 @@ pub record IsBroughtOver (from into : List ℕ) (old new : RoomView) (result : R
   pub alone : (entries : List Entry) → old.tells ≡ true → HasHistory entries (log_bytes old from) → IsUnfit journal_limits entries (log_bytes old into)
       → KeepsHistory (IsDeviceFaultOf old new into result) old new into
   pub kept : (why : Fault) → result ≡ Err why → why ≢ Device → old.tells ≡ true → log_bytes new into ≡ log_bytes old into
+  pub settled : (why : Fault) → result ≡ Err why → why ≢ Device → old.tells ≡ true → IsSettledLog old new into
   pub refused : (why : Fault) → result ≡ Err why → (WhyNotFrom old from why × SameBut old new (from ∷ [])) ⊎ WhyNotInto old from into why
   pub device : result ≡ Err Device → Rose (old.log_faults from) (new.log_faults from) ⊎ Rose (old.log_faults into) (new.log_faults into)
   pub history : (count : ℕ) → result ≡ Ok count → old.tells ≡ true → HasFittingHistory (log_bytes old from)

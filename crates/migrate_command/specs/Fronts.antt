@@ -6,6 +6,7 @@ use Rattle.outside.specs.Disk.{DiskView, LeavesOnly}
 use Rattle.commit_journal.specs.declared.frame.Frame.{Frame}
 use Rattle.commit_journal.specs.Log.{version_of}
 use Rattle.commit_journal.specs.Journal.{IsFound}
+use Rattle.entry_record.specs.History.{IsWithin}
 use Rattle.entry_history.specs.Payloads.{CanFollow, IsHistory}
 use Rattle.durable_catalogue.specs.Logs.{payloads_of, IsLogOf, HasHistory}
 use Rattle.durable_catalogue.specs.Images.{framed_length, framed_lengths}
@@ -39,7 +40,7 @@ abbrev pub HoldNoFront : ℕ → List Frame → Limits → List Entry → Migrat
 HoldNoFront version frames limits history (NotAJournal place) = IsBadFrame version frames place
 HoldNoFront version frames limits history OldVersion = (version ≢ 2) × ((entries : List Entry) × IsHistory version [] (payloads_of frames) entries)
 HoldNoFront version frames limits history Full =
-    (version ≡ 2) × ((entries : List Entry) × IsHistory version [] (payloads_of frames) entries × (AreWithin limits history entries → ⊥))
+    (version ≡ 2) × ((entries : List Entry) × IsHistory version [] (payloads_of frames) entries × (IsWithin limits entries → ⊥))
 HoldNoFront version frames limits history NotPrefix =
     (version ≡ 2) × ((entries : List Entry) × IsHistory version [] (payloads_of frames) entries × AreWithin limits history entries × (Begins history entries → ⊥))
 HoldNoFront version frames limits history NoMemory = Unit {0}

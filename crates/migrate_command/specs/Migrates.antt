@@ -14,11 +14,11 @@ use Rattle.durable_catalogue.specs.declared.fault.OpenFault.TheVariants as openi
 use Rattle.console_lines.specs.Ends.{Outcome, IsTold, TellsNoFault, console_unwritten}
 use Rattle.console_lines.specs.declared.end.End.{End}
 use Rattle.console_lines.specs.declared.end.End.TheVariants.{Done, Refused, Unwritten, Told}
-use Rattle.console_lines.specs.declared.end.Unwritten.TheVariants.{Out, Side, Console}
+use Rattle.console_lines.specs.declared.end.Unwritten.TheVariants.{Out, Side, Pages, Console}
 use Rattle.console_lines.specs.declared.fault.Fault.{Fault}
 use Rattle.console_lines.specs.declared.fault.Fault.TheVariants.{Usage, Input, Device, NotAJournal, Full, Memory, OldVersion, OtherHistory}
-use Rattle.room_files.specs.Faults.{fault_of_opening}
-use Rattle.room_files.specs.Journals.{journal_limits, log_bytes, KeepsHistory}
+use Rattle.journal_files.specs.Faults.{fault_of_opening, IsDeviceOf}
+use Rattle.journal_files.specs.Journals.{journal_limits, log_bytes, KeepsHistory, HasSynced}
 use Rattle.archive_commands.specs.Archives.{HasFittingHistory}
 use Rattle.migrate_command.specs.declared.fault.MigrateFault.{MigrateFault}
 use Rattle.migrate_command.specs.Migrations.{IsFit, IsUnfit, IsUnmigrated, IsBrought, IsAmid}
@@ -30,6 +30,7 @@ EndsMigrating Done = Unit {0}
 EndsMigrating Refused = ⊥
 EndsMigrating (Unwritten Out) = ⊥
 EndsMigrating (Unwritten Side) = ⊥
+EndsMigrating (Unwritten Pages) = ⊥
 EndsMigrating (Unwritten Console) = Unit {0}
 EndsMigrating (Told Usage) = ⊥
 EndsMigrating (Told Input) = ⊥
@@ -74,16 +75,20 @@ pub data BringsInto (history : List Entry) (old new : RoomView) (name : List ℕ
       → ((new.log name).dated ≡ true → (new.log name).synced 0 ≡ None → log_bytes new name ≡ log_bytes old name)
       → BringsInto history old new name
 
+-- the log of that name was not opened, and is as it was; or it is a closed log, and once it has synced its file is all that a crash may
+-- leave of it
+pub data IsSettledLog (old new : RoomView) (name : List ℕ) : Type 0 where
+  Untouched : IsUntouched old new name → IsSettledLog old new name
+  Settled : new.has_log name ≡ true → (HasSynced (new.log name) → (c : List ℕ) → (new.log name).image c → c ≡ log_bytes new name)
+      → IsSettledLog old new name
+
 -- the file of that name is a closed log, and all that a crash may leave of it has this history, in version 2, and ends with its closed
 -- gate
 pub record HasInEachImage (history : List Entry) (room : RoomView) (name : List ℕ) : Type 0 where
   pub is_log : room.has_log name ≡ true
   pub images : (c : List ℕ) → (room.log name).image c → IsBrought history c
 
--- a device's fault was told, and the count of faults of that name's logs rose
-abbrev pub IsDeviceOf : Outcome → List ℕ → Type 0
-IsDeviceOf o name = (o.end ≡ Told Device) × Rose (o.old.log_faults name) (o.new.log_faults name)
-
+-- `migrated N`
 abbrev pub migrated_line : ℕ → List ℕ
 migrated_line count = codes "migrated " ++ decimal count ++ 10 ∷ []
 
@@ -95,8 +100,9 @@ pub record Migrates (from into : List ℕ) (o : Outcome) : Type 0 where
   -- a new one that is not fit for the history is left alone, whatever the end is, in its file and in what a crash may leave
   pub alone : (entries : List Entry) → o.old.tells ≡ true → HasHistory entries (log_bytes o.old from)
       → IsUnfit journal_limits entries (log_bytes o.old into) → KeepsHistory (IsDeviceOf o into) o.old o.new into
-  -- unless a device failed, a new one that doesn't get the history is as it was, byte for byte
+  -- unless a device failed, a new one that doesn't get the history is as it was, byte for byte, and a crash leaves the same of it
   pub kept : (why : Fault) → o.end ≡ Told why → why ≢ Device → o.old.tells ≡ true → log_bytes o.new into ≡ log_bytes o.old into
+  pub settled : (why : Fault) → o.end ≡ Told why → why ≢ Device → o.old.tells ≡ true → IsSettledLog o.old o.new into
   -- a fault is told for its reason; one of the old journal comes before the new one is opened
   pub told : (why : Fault) → o.end ≡ Told why
       → IsTold why o × ((WhyNotFrom o.old from why × SameBut o.old o.new (from ∷ [])) ⊎ WhyNotInto o.old from into why)

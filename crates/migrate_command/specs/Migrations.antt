@@ -36,12 +36,10 @@ abbrev pub IsUnfit : Limits → List Entry → List ℕ → Type 0
 IsUnfit limits history log = (entries : List Entry) → IsFit limits history entries log → ⊥
 
 -- What a refused migration leaves of a log: its content is left alone, and each image since the first sync that succeeded is the same
--- log. Unless a device failed, the content is all that a crash may leave; or there was no memory for the opening to begin, and the disk
--- is as it was.
+-- log.
 pub record LeavesRefused (fault : MigrateFault) (log : List ℕ) (old new : DiskView) : Type 0 where
   pub content : (now : List ℕ) → new.content ≡ Some now → LeavesAlone (fault ≡ DeviceFault) log now
   pub images : (s : ℕ) (c : List ℕ) → new.synced old.moment ≡ Some s → new.left s c → LeavesLog log c
-  pub settled : fault ≢ DeviceFault → OnlyContent new ⊎ ((fault ≡ NoMemory) × SameDisk old new)
 
 -- so is a log that is not fit for the history, where the disk tells its content
 abbrev pub LeavesUnfitAlone : Limits → List Entry → MigrateFault → DiskView → DiskView → Type 0
@@ -52,7 +50,7 @@ abbrev pub IsUnmigrated : Limits → List Entry → List ℕ → MigrateFault �
 IsUnmigrated limits history log DeviceFault = Unit {0}
 IsUnmigrated limits history log (NotAJournal place) = IsNoJournal log place
 IsUnmigrated limits history log OldVersion = (version_of log ≡ 1) × ((entries : List Entry) × IsLogOf entries log)
-IsUnmigrated limits history log Full = (version_of log ≡ 2) × ((entries : List Entry) × IsLogOf entries log × (AreWithin limits history entries → ⊥))
+IsUnmigrated limits history log Full = (version_of log ≡ 2) × ((entries : List Entry) × IsLogOf entries log × (IsWithin limits entries → ⊥))
 IsUnmigrated limits history log NotPrefix =
     (version_of log ≡ 2) × ((entries : List Entry) × IsLogOf entries log × AreWithin limits history entries × (Begins history entries → ⊥))
 IsUnmigrated limits history log NoMemory = Unit {0}
@@ -91,9 +89,11 @@ pub record IsMigrated (limits : Limits) (history : List Entry) (old new : DiskVi
   pub content : (was c : List ℕ) → HasHistory history was → new.content ≡ Some c → IsBrought history c
 
 -- A history was refused for that reason, which comes only where the log is so, and a device's only where the count of faults rose. Unless a
--- device failed, every byte is as it was. A log that isn't fit for the history is left alone, whatever the reason is.
+-- device's fault is the reason, every byte is as it was, and is all that a crash may leave; or there was no memory for the opening to begin,
+-- and the disk is as it was, no call having failed. A log that isn't fit for the history is left alone, whatever the reason is.
 pub record IsRefusedHistory (limits : Limits) (history : List Entry) (old new : DiskView) (why : MigrateFault) : Type 0 where
   pub so : (log : List ℕ) → old.content ≡ Some log → IsUnmigrated limits history log why
   pub left_alone : LeavesUnfitAlone limits history why old new
   pub kept : why ≢ DeviceFault → Unwritten old new
+  pub settled : why ≢ DeviceFault → OnlyContent new ⊎ ((why ≡ NoMemory) × SameDisk old new)
   pub failed : why ≡ DeviceFault → Rose old.faults new.faults

@@ -4,18 +4,18 @@ ghost use Rattle.outside.specs.Room.{SameBut};
 ghost use Rattle.entry_record.specs.History.{IsWithin};
 ghost use Rattle.durable_catalogue.specs.Logs.{HasHistory};
 ghost use Rattle.console_lines.specs.declared.fault.Fault.TheVariants.{Device};
-ghost use Rattle.room_files.specs.Journals.{journal_limits, log_bytes};
+ghost use Rattle.journal_files.specs.Journals.{journal_limits, log_bytes};
 ghost use Rattle.migrate_command.specs.Bringing.{IsBroughtInto, IsUnbrought, IsBroughtOver};
-ghost use Rattle.migrate_command.specs.Migrates.{BringsInto};
+ghost use Rattle.migrate_command.specs.Migrates.{BringsInto, IsSettledLog};
 
-use crate::history::HistoryEntries;
 use crate::migration::migrate;
 use crate::told::fault_of_migrating;
 use console_lines::Fault;
 use entry_history::EntryPayload;
-use history_logs::{close_history, open_history};
+use journal_files::{
+    HistoryEntries, JOURNAL_LIMITS, close_history, fault_of_opening, open_history,
+};
 use outside::Room;
-use room_files::{JOURNAL_LIMITS, fault_of_opening};
 use std::alloc::Global;
 
 /// Brings the history of a log of that version into the file of that name, and answers how many entries it has. A log of the newest
@@ -37,9 +37,11 @@ fn bring_into<R: Room>(
     ensures brought { OnOk result (IsBroughtInto history.now version (R.seen room.old) (R.seen room.new) into.now) }
     ensures fault { IfErr result (IsUnbrought history.now version (R.seen room.old) (R.seen room.new) into.now) }
 
-    // Unless a device failed, a file that doesn't take it is as it was, byte for byte.
+    // Unless a device failed, a file that doesn't take it is as it was, byte for byte, and a crash leaves the same of it.
     ensures kept { IfErr result (λ fault. fault ≢ Device → (R.seen room.old).tells ≡ true →
         log_bytes (R.seen room.new) into.now ≡ log_bytes (R.seen room.old) into.now) }
+    ensures settled { IfErr result (λ fault. fault ≢ Device → (R.seen room.old).tells ≡ true →
+        IsSettledLog (R.seen room.old) (R.seen room.new) into.now) }
 {
     if version != 1 {
         return Err(Fault::OldVersion);

@@ -3,7 +3,6 @@
 
 pub use command::migrate_journal;
 pub use fault::MigrateFault;
-pub use history::HistoryEntries;
 pub use migration::migrate;
 
 mod appending;
@@ -11,6 +10,5 @@ mod bringing;
 mod command;
 mod fault;
 mod front;
-mod history;
 mod migration;
 mod told;

@@ -11,6 +11,7 @@ use Rattle.naco_form.specs.Comparison.{comparison_bytes}
 abbrev pub item_of : Subfield → Item
 item_of sub = record { code = sub.code; text = comparison_bytes sub.code sub.text }
 
+-- a comparison text isn't empty
 abbrev pub is_filled : List ℕ → Bool
 is_filled [] = false
 is_filled (b ∷ bs) = true

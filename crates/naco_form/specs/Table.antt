@@ -3,9 +3,11 @@
 -- so it names small letters alone.
 use Rattle.std.specs.Prelude.{ℕ, Bool, ◌==◌, ◌||◌, ◌&&◌, not, nat_lt, nat_le, List, [], ◌∷◌, codes, if◌then◌else◌}
 
+-- the blank
 abbrev pub blank : ℕ
 blank = 0x20
 
+-- the comma
 abbrev pub comma : ℕ
 comma = 0x2C
 

@@ -13,7 +13,7 @@ use Rattle.catalogue_rules.specs.State.{KeptRecord}
 use Rattle.catalogue_rules.specs.Receipt.{kept_under}
 use Rattle.numbered_store.specs.Numbered.{Numbered, keys_in, numbered}
 use Rattle.numbered_store.specs.Kept.{kept_record}
-use Rattle.numbered_store.specs.declared.kept.Kept.{Kept}
+use Rattle.numbered_store.specs.declared.kept.StoredRecord.{StoredRecord}
 use Rattle.numbered_store.specs.Rows.{IsProper, Shelved, present, rows_by, slot_records}
 use Rattle.numbered_store.proofs.Tied.{kept_fields}
 use Rattle.numbered_store.proofs.Ordered.{lookup_ordered}
@@ -31,7 +31,7 @@ apart : (key : Key) (keys : List Key) → is_known same_key keys key ≡ false �
 apart key [] unknown = tt
 apart key (k ∷ keys) unknown = apart_by key k keys (same_key key k) refl unknown (apart key keys)
 
-known_by : (key : Key) (keys : List Key) (slots : List (Option Kept)) (b : Bool) → is_known same_key keys key ≡ b → IsSome (lookup (same_key key) (rows_by keys slots)) → b ≡ true
+known_by : (key : Key) (keys : List Key) (slots : List (Option StoredRecord)) (b : Bool) → is_known same_key keys key ≡ b → IsSome (lookup (same_key key) (rows_by keys slots)) → b ≡ true
 known_by key keys slots true known some = refl
 known_by key keys slots false unknown some =
     let none : lookup (same_key key) (rows_by keys slots) ≡ None =
@@ -39,20 +39,20 @@ known_by key keys slots false unknown some =
     sym (ap is_some none) ∙ some
 
 -- a key under which a record stands has a number
-pub kept_known : (keys : List Key) (slots : List (Option Kept)) (key : Key) → IsSome (lookup (same_key key) (rows_by keys slots)) → is_known same_key keys key ≡ true
+pub kept_known : (keys : List Key) (slots : List (Option StoredRecord)) (key : Key) → IsSome (lookup (same_key key) (rows_by keys slots)) → is_known same_key keys key ≡ true
 kept_known keys slots key some = known_by key keys slots (is_known same_key keys key) refl some
 
 -- ---- MARC records
 
-pub proper_kept : (kept : Kept) → IsProper (kept_record kept)
+pub proper_kept : (kept : StoredRecord) → IsProper (kept_record kept)
 unfolding kept_record
 proper_kept kept = ap (is_record kept.written.leader) (kept_fields kept) ∙ kept.written.valid
 
-proper_at : (kept : Kept) (b : Bool) (o : Option KeptRecord) → IfSome o IsProper → IfSome (cond b (Some (kept_record kept)) o) IsProper
+proper_at : (kept : StoredRecord) (b : Bool) (o : Option KeptRecord) → IfSome o IsProper → IfSome (cond b (Some (kept_record kept)) o) IsProper
 proper_at kept true o rest = proper_kept kept
 proper_at kept false o rest = rest
 
-proper_present : (key : Key) (keys : List Key) (slots : List (Option Kept)) → IfSome (lookup (same_key key) (present keys (slot_records slots))) IsProper
+proper_present : (key : Key) (keys : List Key) (slots : List (Option StoredRecord)) → IfSome (lookup (same_key key) (present keys (slot_records slots))) IsProper
 proper_present key [] slots = tt
 proper_present key (k ∷ keys) [] = tt
 proper_present key (k ∷ keys) (None ∷ slots) = proper_present key keys slots
@@ -60,7 +60,7 @@ proper_present key (k ∷ keys) (Some kept ∷ slots) =
     proper_at kept (same_key key k) (lookup (same_key key) (present keys (slot_records slots))) (proper_present key keys slots)
 
 -- a record under a key is a MARC record
-pub kept_proper : (keys : List Key) (slots : List (Option Kept)) (key : Key) → IfSome (lookup (same_key key) (rows_by keys slots)) IsProper
+pub kept_proper : (keys : List Key) (slots : List (Option StoredRecord)) (key : Key) → IfSome (lookup (same_key key) (rows_by keys slots)) IsProper
 kept_proper keys slots key =
     subst (λ (o : Option KeptRecord). IfSome o IsProper) (sym (lookup_ordered key (present keys (slot_records slots)))) (proper_present key keys slots)
 

@@ -13,7 +13,7 @@ use Rattle.marc_types.specs.declared.key.Key.{Key}
 use Rattle.catalogue_rules.specs.State.{KeptField, KeptRecord}
 use Rattle.catalogue_rules.specs.Store.{with_field}
 use Rattle.numbered_store.specs.Kept.{kept_record}
-use Rattle.numbered_store.specs.declared.kept.Kept.{Kept}
+use Rattle.numbered_store.specs.declared.kept.StoredRecord.{StoredRecord}
 use Rattle.numbered_store.specs.Rows.{HaveSlots, count_in, in_key_order, present, row_under, rows_by, slot_at, slot_records, with_row, with_row_field}
 use Rattle.numbered_store.proofs.Ordered.{lookup_ordered, ordered, row_back, row_changed}
 use Rattle.numbered_store.proofs.Tied.{set_long}
@@ -21,25 +21,25 @@ use Rattle.numbered_store.proofs.Slotted.{length_present, length_rows, length_se
 
 -- ---- slots as a state has them
 
-pub records_long : (slots : List (Option Kept)) → length (slot_records slots) ≡ length slots
+pub records_long : (slots : List (Option StoredRecord)) → length (slot_records slots) ≡ length slots
 records_long [] = refl
 records_long (s ∷ slots) = ap suc (records_long slots)
 
-records_set : (slots : List (Option Kept)) (n : ℕ) (x : Option Kept) → slot_records (slice_set slots n x) ≡ slice_set (slot_records slots) n (option_map kept_record x)
+records_set : (slots : List (Option StoredRecord)) (n : ℕ) (x : Option StoredRecord) → slot_records (slice_set slots n x) ≡ slice_set (slot_records slots) n (option_map kept_record x)
 records_set [] n x = refl
 records_set (s ∷ slots) zero x = refl
 records_set (s ∷ slots) (suc n) x = ap (λ l. option_map kept_record s ∷ l) (records_set slots n x)
 
-records_more : (slots : List (Option Kept)) → slot_records (slots ++ None ∷ []) ≡ slot_records slots ++ None ∷ []
+records_more : (slots : List (Option StoredRecord)) → slot_records (slots ++ None ∷ []) ≡ slot_records slots ++ None ∷ []
 records_more [] = refl
 records_more (s ∷ slots) = ap (λ l. option_map kept_record s ∷ l) (records_more slots)
 
-records_at : (slots : List (Option Kept)) (n : ℕ) → slot_at (slot_records slots) n ≡ option_map kept_record (slot_at slots n)
+records_at : (slots : List (Option StoredRecord)) (n : ℕ) → slot_at (slot_records slots) n ≡ option_map kept_record (slot_at slots n)
 records_at [] n = refl
 records_at (s ∷ slots) zero = refl
 records_at (s ∷ slots) (suc n) = records_at slots n
 
-slot_held : (slots : List (Option Kept)) (n : ℕ) (x : Option Kept) → slice_get slots n ≡ Some x → slot_at slots n ≡ x
+slot_held : (slots : List (Option StoredRecord)) (n : ℕ) (x : Option StoredRecord) → slice_get slots n ≡ Some x → slot_at slots n ≡ x
 slot_held slots n x e = ap (option_and_then (λ slot. slot)) e
 
 beyond : {X : Type 0} (xs : List X) (n : ℕ) → length xs ≤ n → slice_get xs n ≡ None
@@ -52,7 +52,7 @@ not_below [] n e = omega arith
 not_below (x ∷ xs) zero e = absurd (false≢true (sym (ap is_some e)))
 not_below (x ∷ xs) (suc n) e = let rest = not_below xs n e in omega arith
 
-module _ (keys : List Key) (slots : List (Option Kept)) (have : HaveSlots keys slots) where
+module _ (keys : List Key) (slots : List (Option StoredRecord)) (have : HaveSlots keys slots) where
   records_have : length (slot_records slots) ≡ length keys
   records_have = records_long slots ∙ have.long
 
@@ -65,40 +65,40 @@ module _ (keys : List Key) (slots : List (Option Kept)) (have : HaveSlots keys s
   pub row_at : (n : ℕ) → row_under (slice_get keys n) (rows_by keys slots) ≡ option_map kept_record (slot_at slots n)
   row_at n = row_by n (slice_get keys n) refl ∙ records_at slots n
 
-  pub row_held : (n : ℕ) (x : Option Kept) → slice_get slots n ≡ Some x → option_map kept_record x ≡ row_under (slice_get keys n) (rows_by keys slots)
+  pub row_held : (n : ℕ) (x : Option StoredRecord) → slice_get slots n ≡ Some x → option_map kept_record x ≡ row_under (slice_get keys n) (rows_by keys slots)
   row_held n x e = ap (option_map kept_record) (sym (slot_held slots n x e)) ∙ sym (row_at n)
 
   -- the slot as it is lent
-  pub row_lent : (n : ℕ) (found : Option (Bor Kept)) → option_copied found ≡ slot_at slots n
+  pub row_lent : (n : ℕ) (found : Option (Bor StoredRecord)) → option_copied found ≡ slot_at slots n
       → option_map (λ kept. kept_record kept.now) found ≡ row_under (slice_get keys n) (rows_by keys slots)
   row_lent n found e = lent found ∙ ap (option_map kept_record) e ∙ sym (row_at n)
     where
-      lent : (found : Option (Bor Kept)) → option_map (λ kept. kept_record kept.now) found ≡ option_map kept_record (option_copied found)
+      lent : (found : Option (Bor StoredRecord)) → option_map (λ kept. kept_record kept.now) found ≡ option_map kept_record (option_copied found)
       lent None = refl
       lent (Some kept) = refl
 
   -- ---- another thing in a slot
 
-  pub have_set : (n : ℕ) (x : Option Kept) → HaveSlots keys (slice_set slots n x)
+  pub have_set : (n : ℕ) (x : Option StoredRecord) → HaveSlots keys (slice_set slots n x)
   have_set n x = record { long = set_long slots n x ∙ have.long; once = have.once }
 
-  pub rows_exchanged : (n : ℕ) (x : Option Kept) → n < length keys → rows_by keys (slice_set slots n x) ≡ with_row (slice_get keys n) (option_map kept_record x) (rows_by keys slots)
+  pub rows_exchanged : (n : ℕ) (x : Option StoredRecord) → n < length keys → rows_by keys (slice_set slots n x) ≡ with_row (slice_get keys n) (option_map kept_record x) (rows_by keys slots)
   rows_exchanged n x low =
       ap (λ l. in_key_order (present keys l)) (records_set slots n x)
       ∙ rows_set keys (slot_records slots) n (option_map kept_record x) records_have have.once (slice_get keys n) refl low
 
-  pub rows_back : (n : ℕ) (x was : Option Kept) → n < length keys → slice_get slots n ≡ Some was
+  pub rows_back : (n : ℕ) (x was : Option StoredRecord) → n < length keys → slice_get slots n ≡ Some was
       → with_row (slice_get keys n) (option_map kept_record was) (rows_by keys (slice_set slots n x)) ≡ rows_by keys slots
   rows_back n x was low stood =
       ap (with_row (slice_get keys n) (option_map kept_record was)) (rows_exchanged n x low)
       ∙ row_back (slice_get keys n) (option_map kept_record x) (rows_by keys slots) (ordered (present keys (slot_records slots))) (option_map kept_record was) (λ k is.
       row_held n was stood ∙ ap (λ key. row_under key (rows_by keys slots)) is)
 
-  some_kept : (o : Option Kept) → is_some (option_map kept_record o) ≡ is_some o
+  some_kept : (o : Option StoredRecord) → is_some (option_map kept_record o) ≡ is_some o
   some_kept None = refl
   some_kept (Some kept) = refl
 
-  pub count_set : (n : ℕ) (x was : Option Kept) → n < length keys → slice_get slots n ≡ Some was
+  pub count_set : (n : ℕ) (x was : Option StoredRecord) → n < length keys → slice_get slots n ≡ Some was
       → count_in keys (slice_set slots n x) + (if is_some was then 1 else 0) ≡ count_in keys slots + (if is_some x then 1 else 0)
   count_set n x was low stood =
       let same = length_set keys (slot_records slots) n (option_map kept_record x) records_have low in
@@ -107,7 +107,7 @@ module _ (keys : List Key) (slots : List (Option Kept)) (have : HaveSlots keys s
       let new = ap {B = ℕ} (λ b. if b then 1 else 0) (some_kept x) in
       omega (arith, same, now, old, new)
 
-  pub count_there : (n : ℕ) (was : Option Kept) → n < length keys → slice_get slots n ≡ Some was → (if is_some was then 1 else 0) ≤ count_in keys slots
+  pub count_there : (n : ℕ) (was : Option StoredRecord) → n < length keys → slice_get slots n ≡ Some was → (if is_some was then 1 else 0) ≤ count_in keys slots
   count_there n was low stood = let counts = count_set n None was low stood in omega (arith, counts)
 
   pub count_low : count_in keys slots ≤ length keys
@@ -130,7 +130,7 @@ known_by false old key more = refl
 pub is_longer : (old new : List Key) (key : Key) → new ≡ with_thing same_key old key → length old < length new → new ≡ old ++ key ∷ []
 is_longer old new key is more = is ∙ known_by (is_known same_key old key) old key (subst (λ l. length old < length l) is more)
 
-module _ (old new : List Key) (key : Key) (slots now : List (Option Kept)) (have : HaveSlots old slots) (is : new ≡ with_thing same_key old key) (more : length slots < length new) (items : now ≡ slots ++ None ∷ []) where
+module _ (old new : List Key) (key : Key) (slots now : List (Option StoredRecord)) (have : HaveSlots old slots) (is : new ≡ with_thing same_key old key) (more : length slots < length new) (items : now ≡ slots ++ None ∷ []) where
   keys_are : new ≡ old ++ key ∷ []
   keys_are = is_longer old new key is (omega (arith, more, have.long))
 

@@ -17,10 +17,12 @@ pub record KeyNumbers : Type 0 where
   pub authorities : List Key
   pub bibliographic : List Key
 
+-- the keys of a class, in the order of their numbers
 abbrev pub keys_in : Class → KeyNumbers → List Key
 keys_in Authority keys = keys.authorities
 keys_in Bibliographic keys = keys.bibliographic
 
+-- a state, and the keys of each class by their numbers
 pub record Numbered : Type 0 where
   pub state : State
   pub keys : KeyNumbers
@@ -29,6 +31,7 @@ pub record Numbered : Type 0 where
 abbrev pub empty_numbered : Numbered
 empty_numbered = record { state = empty_state; keys = record { authorities = []; bibliographic = [] } }
 
+-- the state that two shelves are, one of each class
 abbrev pub numbered : Shelved → Shelved → Numbered
 numbered authorities bibliographic = record {
   state = record { authorities = authorities.rows; bibliographic = bibliographic.rows };

@@ -10,7 +10,7 @@ use Rattle.marc_types.specs.Order.{key_cmp, same_key}
 use Rattle.catalogue_rules.specs.State.{KeptField, KeptRecord, Row, fields_of}
 use Rattle.catalogue_rules.specs.Store.{with_field_under}
 use Rattle.numbered_store.specs.Kept.{kept_record}
-use Rattle.numbered_store.specs.declared.kept.Kept.{Kept}
+use Rattle.numbered_store.specs.declared.kept.StoredRecord.{StoredRecord}
 
 -- the keys whose slot isn't blank, each with what it holds
 abbrev pub present : {V : Type 0} → List Key → List (Option V) → List (Key × V)
@@ -34,27 +34,29 @@ pub record Shelved : Type 0 where
   pub rows : List Row
 
 -- each slot as a state has it
-abbrev pub slot_records : List (Option Kept) → List (Option KeptRecord)
+abbrev pub slot_records : List (Option StoredRecord) → List (Option KeptRecord)
 slot_records slots = map (option_map kept_record) slots
 
 -- the rows of a shelf with these keys and slots, and how many they are
-abbrev pub rows_by : List Key → List (Option Kept) → List Row
+abbrev pub rows_by : List Key → List (Option StoredRecord) → List Row
 rows_by keys slots = in_key_order (present keys (slot_records slots))
 
-abbrev pub count_in : List Key → List (Option Kept) → ℕ
+-- how many records stand
+abbrev pub count_in : List Key → List (Option StoredRecord) → ℕ
 count_in keys slots = length (present keys (slot_records slots))
 
-abbrev pub shelved : List Key → List (Option Kept) → Shelved
+-- the keys and the rows of one class
+abbrev pub shelved : List Key → List (Option StoredRecord) → Shelved
 shelved keys slots = record { keys = keys; rows = rows_by keys slots }
 
 -- the rows with that of a slot put in, if it has one
-abbrev pub with_slot : Option Key → Option Kept → List Row → List Row
+abbrev pub with_slot : Option Key → Option StoredRecord → List Row → List Row
 with_slot None slot rows = rows
 with_slot (Some key) None rows = rows
 with_slot (Some key) (Some kept) rows = insert_entry key_cmp rows key (kept_record kept)
 
 -- each key has a slot, and no key has two
-pub record HaveSlots (keys : List Key) (slots : List (Option Kept)) : Type 0 where
+pub record HaveSlots (keys : List Key) (slots : List (Option StoredRecord)) : Type 0 where
   pub long : length slots ≡ length keys
   pub once : IsDistinct same_key keys
 

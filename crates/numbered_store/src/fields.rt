@@ -9,7 +9,7 @@ ghost use Rattle.catalogue_rules.specs.State.{fields_of, kept_field, new_field, 
 ghost use Rattle.catalogue_rules.specs.Store.{field_at, with_field};
 ghost use Rattle.numbered_store.specs.Kept.{blanks, found_field, kept_record, tied_record, with_ties};
 
-use crate::kept::{FoundField, Kept};
+use crate::kept::{FoundField, StoredRecord};
 use marc_types::{Field, Links, NoMemory, Sequence, Tag, Tie, TryCopy};
 use std::alloc::Global;
 use written_record::WrittenRecord;
@@ -33,14 +33,14 @@ impl<'a> FoundField<'a> {
     }
 }
 
-impl Kept {
+impl StoredRecord {
     /// A record that comes in: all ties are blank. It takes no memory.
     #[tactic(auto, unfolding(crate::specs::Kept::kept_record))]
-    pub fn new(written: WrittenRecord) -> Kept
+    pub fn new(written: WrittenRecord) -> StoredRecord
         ensures { kept_record result ≡ new_record written.leader written.fields }
     {
         written.fits();
-        Kept {
+        StoredRecord {
             written,
             ties: None,
         }
@@ -138,7 +138,7 @@ impl Kept {
         place: u32,
         field: &Field,
         tie: Tie,
-    ) -> Result<Kept, NoMemory>
+    ) -> Result<StoredRecord, NoMemory>
         requires within { place < length (kept_record self.now).fields }
         requires valid { is_record (kept_record self.now).leader (slice_set (fields_of (kept_record self.now)) place field.now) ≡ true }
         requires fit { IsTrue (fits (slice_set (fields_of (kept_record self.now)) place field.now)) }
@@ -163,12 +163,12 @@ impl Kept {
 
 // A record with these ties.
 #[tactic(auto, unfolding(crate::specs::Kept::kept_record))]
-fn with_these(written: WrittenRecord, ties: Links) -> Kept
+fn with_these(written: WrittenRecord, ties: Links) -> StoredRecord
     requires { length ties ≡ length written.fields }
     ensures { kept_record result ≡ tied_record written.leader written.fields ties }
 {
     written.fits();
-    Kept {
+    StoredRecord {
         written,
         ties: Some(ties),
     }

@@ -8,7 +8,7 @@ use written_record::WrittenRecord;
 
 /// A record of the catalogue: its written bytes, and one tie per field. Where no ties are kept, all are blank.
 #[derive(Debug, Drop)]
-pub struct Kept {
+pub struct StoredRecord {
     pub(crate) written: WrittenRecord,
     pub(crate) ties: Option<Links>,
     ghost fit: { IsTrue (fits written.fields) },

@@ -2,7 +2,7 @@
 #![tactic(auto)]
 
 pub use fields::NEW_TIE;
-pub use kept::{FoundField, Kept};
+pub use kept::{FoundField, StoredRecord};
 pub use listing::RowMap;
 pub use store::NumberedStore;
 

@@ -2,7 +2,7 @@ ghost use Rattle.std.specs.Prelude.{◌≡◌, ◌<◌, map, IfOk, OnOk, slice_g
 ghost use Rattle.numbered_store.specs.Kept.{shown_row};
 ghost use Rattle.numbered_store.specs.Rows.{HaveSlots, rows_by, slot_at, with_slot};
 
-use crate::kept::Kept;
+use crate::kept::StoredRecord;
 use crate::slots::{Slots, slot};
 use marc_types::{Key, NoMemory};
 use numbering::Numbering;
@@ -10,7 +10,7 @@ use std::alloc::Global;
 use std::collections::BTreeMap;
 
 /// Records in key order, as they are lent.
-pub type RowMap<'a> = BTreeMap<&'a Key, &'a Kept>;
+pub type RowMap<'a> = BTreeMap<&'a Key, &'a StoredRecord>;
 
 /// The records of the slots in the order of their keys, put in from the last number to the first.
 #[tactic(auto, using(crate::proofs::Listed::all_in, crate::proofs::Listed::none_in))]

@@ -9,7 +9,7 @@ ghost use Rattle.catalogue_rules.specs.Store.{with_field};
 ghost use Rattle.numbered_store.specs.Kept.{kept_record, shown_row};
 ghost use Rattle.numbered_store.specs.Rows.{IsProper, row_under, with_row, with_row_field};
 
-use crate::kept::Kept;
+use crate::kept::StoredRecord;
 use crate::listing::{RowMap, in_order};
 use crate::slots::{Slots, exchange_slot, kept_at, recounted};
 use marc_types::{Key, NoMemory};
@@ -102,14 +102,18 @@ impl Shelf {
         let _slots = &self.slots;
     }
 
-    pub(crate) fn get(&self, number: u32) -> Option<&Kept>
+    pub(crate) fn get(&self, number: u32) -> Option<&StoredRecord>
         ensures { option_map (λ kept. kept_record kept.now) result ≡ row_under (slice_get self.now.keys number) self.now.rows }
     {
         kept_at(&self.keys, &self.slots, number)
     }
 
     /// Puts a record, or none, under the key that has the number, and gives what stood there.
-    pub(crate) fn exchange(&mut self, number: u32, kept: Option<Kept>) -> Option<Kept>
+    pub(crate) fn exchange(
+        &mut self,
+        number: u32,
+        kept: Option<StoredRecord>,
+    ) -> Option<StoredRecord>
         requires { number < length self.old.keys }
         ensures rows { self.new.rows ≡ with_row (slice_get self.old.keys number) (option_map kept_record kept) self.old.rows }
         ensures before { option_map kept_record result ≡ row_under (slice_get self.old.keys number) self.old.rows }

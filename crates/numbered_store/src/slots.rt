@@ -3,15 +3,19 @@ ghost use Rattle.std.specs.Option.{option_copied, option_map};
 ghost use Rattle.numbered_store.specs.Kept.{kept_record};
 ghost use Rattle.numbered_store.specs.Rows.{HaveSlots, count_in, row_under, rows_by, slot_at, with_row};
 
-use crate::kept::Kept;
+use crate::kept::StoredRecord;
 use marc_types::Key;
 use numbering::Numbering;
 use std::mem;
 
-pub(crate) type Slots = Vec<Option<Kept>>;
+pub(crate) type Slots = Vec<Option<StoredRecord>>;
 
 /// The record under the key that has the number.
-pub(crate) fn kept_at<'a>(keys: &Numbering<Key>, slots: &'a Slots, number: u32) -> Option<&'a Kept>
+pub(crate) fn kept_at<'a>(
+    keys: &Numbering<Key>,
+    slots: &'a Slots,
+    number: u32,
+) -> Option<&'a StoredRecord>
     requires { HaveSlots keys.now slots.now.items }
     ensures { option_map (λ kept. kept_record kept.now) result ≡ row_under (slice_get keys.now number) (rows_by keys.now slots.now.items) }
 {
@@ -19,7 +23,7 @@ pub(crate) fn kept_at<'a>(keys: &Numbering<Key>, slots: &'a Slots, number: u32) 
 }
 
 /// The record in the slot with a number.
-pub(crate) fn slot(slots: &Slots, number: u32) -> Option<&Kept>
+pub(crate) fn slot(slots: &Slots, number: u32) -> Option<&StoredRecord>
     ensures { option_copied result ≡ slot_at slots.now.items number }
 {
     match slots.get(number as usize) {
@@ -33,8 +37,8 @@ pub(crate) fn exchange_slot(
     keys: &Numbering<Key>,
     slots: &mut Slots,
     number: u32,
-    kept: Option<Kept>,
-) -> Option<Kept>
+    kept: Option<StoredRecord>,
+) -> Option<StoredRecord>
     requires slots { HaveSlots keys.now slots.old.items }
     requires known { number < length keys.now }
     ensures slots { HaveSlots keys.now slots.new.items }
@@ -48,7 +52,7 @@ pub(crate) fn exchange_slot(
 }
 
 // Puts a thing into a slot, and gives what stood there.
-fn replaced(slots: &mut Slots, number: u32, kept: Option<Kept>) -> Option<Kept>
+fn replaced(slots: &mut Slots, number: u32, kept: Option<StoredRecord>) -> Option<StoredRecord>
     requires { number < length slots.old.items }
     ensures after { slots.new.items ≡ slice_set slots.old.items number kept }
     ensures before { slice_get slots.old.items number ≡ Some result }
@@ -57,7 +61,7 @@ fn replaced(slots: &mut Slots, number: u32, kept: Option<Kept>) -> Option<Kept>
 }
 
 /// How many rows there are once a thing has come into a slot, and what stood there has gone.
-pub(crate) fn recounted(count: u64, before: &Option<Kept>, more: bool) -> u64
+pub(crate) fn recounted(count: u64, before: &Option<StoredRecord>, more: bool) -> u64
     requires fits { count < 2 ^ 32 }
     requires there { (if is_some before.now then 1 else 0) ≤ count }
     ensures { result + (if is_some before.now then 1 else 0) ≡ count + (if more then 1 else 0) }

@@ -12,7 +12,7 @@ ghost use Rattle.numbered_store.specs.Kept.{kept_record, shown_row};
 ghost use Rattle.numbered_store.specs.Rows.{IsProper};
 ghost use Rattle.numbered_store.specs.Numbered.{IsNumber, empty_numbered, keys_in, record_at, with_field_of, with_number, with_record};
 
-use crate::kept::Kept;
+use crate::kept::StoredRecord;
 use crate::listing::RowMap;
 use crate::shelf::Shelf;
 use catalogue_rules::Steps;
@@ -39,6 +39,7 @@ impl Model for NumberedStore {
 }
 
 impl NumberedStore {
+    /// A store of no record.
     pub fn new(alloc: Global) -> NumberedStore
         ensures { result ≡ empty_numbered }
     {
@@ -86,14 +87,19 @@ impl NumberedStore {
     }
 
     /// The record under the key that has the number, for those who only read. It counts no step.
-    pub fn look(&self, class: Class, number: u32) -> Option<&Kept>
+    pub fn look(&self, class: Class, number: u32) -> Option<&StoredRecord>
         ensures { option_map (λ kept. kept_record kept.now) result ≡ record_at class number self.now }
     {
         self.shelf(class).get(number)
     }
 
     /// The record under the key that has the number. It counts one step.
-    pub fn visit<L: Ledger>(&self, class: Class, number: u32, steps: &mut Steps<L>) -> Option<&Kept>
+    pub fn visit<L: Ledger>(
+        &self,
+        class: Class,
+        number: u32,
+        steps: &mut Steps<L>,
+    ) -> Option<&StoredRecord>
         ensures kept { option_map (λ kept. kept_record kept.now) result ≡ record_at class number self.now }
         ensures step { steps.new ≡ steps.old + 1 }
     {
@@ -126,7 +132,12 @@ impl NumberedStore {
 
     /// Puts a record, or none, under the key that has the number, and gives what stood there. It takes no memory, and the
     /// same call with the result undoes it.
-    pub fn exchange(&mut self, class: Class, number: u32, kept: Option<Kept>) -> Option<Kept>
+    pub fn exchange(
+        &mut self,
+        class: Class,
+        number: u32,
+        kept: Option<StoredRecord>,
+    ) -> Option<StoredRecord>
         requires { IsNumber class number self.old }
         ensures now { self.new ≡ with_record class number (option_map kept_record kept) self.old }
         ensures before { option_map kept_record result ≡ record_at class number self.old }

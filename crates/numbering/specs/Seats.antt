@@ -58,6 +58,7 @@ seat_ties x y =
     ∙ ap (λ b. is_eq (nat_cmp (class_rank x.class) (class_rank y.class)) && b) (tied_then (nat_cmp x.number y.number) (nat_cmp x.field y.field))
     ∙ tied_then (nat_cmp (class_rank x.class) (class_rank y.class)) (then_cmp (on (λ s. s.number) nat_cmp) (on (λ s. s.field) nat_cmp) x y)
 
+-- what a hash table reads of a seat
 unfoldable pub seat_writes : Seat → HashWrites
 seat_writes seat = fed.u32 seat.number ++ fed.u32 seat.field
 

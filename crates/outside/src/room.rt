@@ -7,10 +7,13 @@ use crate::{Disk, Failed, Sink, Source};
 
 /// Files by name. Each object that a room opens is given back to it by a close of its sort; an output may be given up in its place.
 pub trait Room {
+    /// What an input is read by.
     type In: Source + Send;
 
+    /// What an output is written to.
     type Out: Sink;
 
+    /// What a log is read and written by.
     type Log: Disk + Send;
 
     // What a room is, for the clauses: its files, closed logs, open names, counts of faults, how far outputs came that failed, what closed

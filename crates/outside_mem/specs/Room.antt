@@ -23,6 +23,7 @@ sort_of (Closed bytes) output = if output then Some AsOutput else None
 sort_of (ClosedLog disk) output = if output then Some AsOutput else None
 sort_of OpenLog output = Some AsLog
 
+-- as what the file is open, where it is
 abbrev pub open_sort : NamedFile → Option OpenSort
 open_sort file = sort_of file.state file.is_output
 
@@ -93,9 +94,11 @@ pub record ChangesUnder (old new : MemRoom) (name : List ℕ) (file : NamedFile)
 abbrev pub in_count : MemRoom → ℕ
 in_count room = room.in_faults
 
+-- how often an output was at fault
 abbrev pub out_count : MemRoom → ℕ
 out_count room = room.out_faults
 
+-- how often a log was at fault
 abbrev pub log_count : MemRoom → ℕ
 log_count room = room.log_faults
 

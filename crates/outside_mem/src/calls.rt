@@ -31,6 +31,7 @@ impl Calls {
         }
     }
 
+    /// How many calls failed.
     pub fn faults(&self) -> u64
         ensures { result ≡ self.now.faults }
     {
@@ -44,12 +45,14 @@ impl Calls {
         self.fails.contains(&self.made)
     }
 
+    /// Counts a call that did not fail.
     pub fn count_success(&mut self)
         ensures { self.new ≡ after_call self.old false }
     {
         self.made = self.made.saturating_add(1);
     }
 
+    /// Counts a call that failed.
     pub fn count_fault(&mut self)
         ensures counted { self.new ≡ after_call self.old true }
         ensures later { self.old.faults ≤ self.new.faults }

@@ -112,6 +112,7 @@ pub fn enter(alloc: Global, files: &mut Vec<MemFile>, name: &str) -> Result<usiz
     Ok(place)
 }
 
+/// The file at a place has this state from now on.
 pub fn set_state(files: &mut Vec<MemFile>, place: usize, state: FileState)
     requires { place < vec_len files.old }
     ensures { (name : List ℕ) → IsPlaceOf files.old.items name place
@@ -121,6 +122,7 @@ pub fn set_state(files: &mut Vec<MemFile>, place: usize, state: FileState)
     file.state = state;
 }
 
+/// Whether an output of the file at a place is open, from now on.
 pub fn set_output(files: &mut Vec<MemFile>, place: usize, is_output: bool)
     requires { place < vec_len files.old }
     ensures { (name : List ℕ) → IsPlaceOf files.old.items name place
@@ -141,6 +143,7 @@ pub fn close(files: &mut Vec<MemFile>, place: usize, state: FileState)
     file.is_output = false;
 }
 
+/// Each later opening of the file at a place fails.
 pub fn let_opening_fail(files: &mut Vec<MemFile>, place: usize)
     requires { place < vec_len files.old }
     ensures { (name : List ℕ) → IsPlaceOf files.old.items name place
@@ -150,6 +153,7 @@ pub fn let_opening_fail(files: &mut Vec<MemFile>, place: usize)
     file.opening_fails = true;
 }
 
+/// The call with this number fails, on an object that is opened by the name of the file at a place.
 pub fn let_call_fail(files: &mut Vec<MemFile>, place: usize, call: u64) -> Result<(), AllocError>
     requires { place < vec_len files.old }
     ensures ok { OnOk result ((name : List ℕ) → IsPlaceOf files.old.items name place

@@ -36,6 +36,7 @@ impl Tape {
         }
     }
 
+    /// The content now.
     pub fn bytes(&self) -> &[u8]
         ensures { result.now ≡ self.now.bytes }
     {

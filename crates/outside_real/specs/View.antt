@@ -27,6 +27,7 @@ file_disk_view disk = untold_disk disk.len disk.faults
 abbrev pub opened : Bool → Bool → Option OpenSort
 opened as_output as_log = if as_output then Some AsOutput else if as_log then Some AsLog else None
 
+-- a room that tells no file, with the names that are open and its counts
 abbrev pub untold_room : (List ℕ → Bool) → (List ℕ → Bool) → ℕ → ℕ → ℕ → List (Option (List ℕ)) → RoomView
 untold_room is_output is_log ins outs logs lefts = record {
   tells = false;

@@ -18,6 +18,7 @@ pub struct HeldFiles {
 }
 
 impl HeldFiles {
+    /// No file is held.
     pub fn new(alloc: Global) -> Self
         ensures { (n : List ℕ) → has_file result n ≡ false }
     {

@@ -11,6 +11,7 @@ pub struct Names {
 }
 
 impl Names {
+    /// No name is open.
     pub fn new(alloc: Global) -> Self
         ensures { (n : List ℕ) → contains_text result.set n ≡ false }
     {
@@ -19,6 +20,7 @@ impl Names {
         }
     }
 
+    /// The name is open from now on.
     pub fn add(&mut self, alloc: Global, name: &str) -> Result<(), AllocError>
         ensures added { OnOk result (contains_text self.new.set name.now ≡ true) }
         ensures others { (n : List ℕ) → n ≢ name.now → contains_text self.new.set n ≡ contains_text self.old.set n }
@@ -29,6 +31,7 @@ impl Names {
         Ok(())
     }
 
+    /// The name is open no longer.
     pub fn remove(&mut self, name: &str)
         ensures removed { contains_text self.new.set name.now ≡ false }
         ensures others { (n : List ℕ) → n ≢ name.now → contains_text self.new.set n ≡ contains_text self.old.set n }

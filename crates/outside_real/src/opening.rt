@@ -5,7 +5,7 @@ ghost use Rattle.std.specs.declared.fs.locks.TryLockError.TheVariants.{WouldBloc
 ghost use Rattle.outside_real.specs.declared.opening.OpenedAs.TheVariants.{Input};
 
 use crate::cause::Cause;
-use crate::slips::{begins_a_journal, is_library_word};
+use crate::slips::{begins_a_journal, is_library_word, sort_of};
 use std::fs;
 use std::fs::{File, OpenOptions, TryLockError};
 use std::io::{ErrorKind, Read};
@@ -16,6 +16,8 @@ use std::rt::Files;
 #[derive(Clone, Copy, Debug, PartialEq, Eq)]
 pub enum OpenedAs {
     Input,
+    /// As an input that isn't held, and that another may have.
+    Look,
     Output,
     Log,
 }
@@ -23,9 +25,12 @@ pub enum OpenedAs {
 /// How many bytes a journal's format line has.
 const LINE: usize = 16;
 
-/// Opens the file of that name and holds it: an input shared, others alone. It has the bytes that it had. A new file isn't made
+/// Opens the file of that name and holds it: an input shared, others alone, and one that is only looked at not at all. It has the bytes that it had. A new file isn't made
 /// under a name that has the form of a library's word.
 pub fn opened<R: Files<File = File>>(rt: &R, name: &str, sort: OpenedAs) -> Result<File, Cause> {
+    if sort == OpenedAs::Look {
+        return opened_with(rt, name, OpenedAs::Input, &options(OpenedAs::Input));
+    }
     if sort != OpenedAs::Input && is_library_word(name) && is_missing(rt, name) {
         return Err(Cause::LibraryWord);
     }
@@ -53,13 +58,28 @@ pub fn is_missing<R: Files<File = File>>(rt: &R, name: &str) -> bool {
 /// Whether a regular file of that name begins with a journal's format line. It is read by an opening of its own; one that can't be read is
 /// refused, since it may be a journal.
 pub fn is_journal<R: Files<File = File>>(rt: &R, name: &str) -> Result<bool, Cause> {
+    match front_of(rt, name)? {
+        Some(line) => Ok(begins_a_journal(&line)),
+        None => Ok(false),
+    }
+}
+
+/// What a regular file of that name is that is to be read as MARC, where its first bytes show that it is something else.
+pub fn foreign_sort<R: Files<File = File>>(rt: &R, name: &str) -> Option<&'static str> {
+    match front_of(rt, name) {
+        Ok(Some(front)) => sort_of(&front),
+        _ => None,
+    }
+}
+
+// The first bytes of a regular file, by an opening of its own; none of one that has fewer.
+fn front_of<R: Files<File = File>>(rt: &R, name: &str) -> Result<Option<[u8; LINE]>, Cause> {
     match fs::metadata(rt, name) {
         Ok(found) if found.is_file() && found.len() >= LINE as u64 => {}
-        _ => return Ok(false),
+        _ => return Ok(None),
     }
     let mut file = opened_with(rt, name, OpenedAs::Input, &options(OpenedAs::Input))?;
-    let line = first_line(&mut file)?;
-    Ok(begins_a_journal(&line))
+    Ok(Some(first_line(&mut file)?))
 }
 
 // The first bytes of a file, as many as a format line has.
@@ -120,7 +140,7 @@ fn options(sort: OpenedAs) -> OpenOptions
 {
     let mut how = OpenOptions::new();
     match sort {
-        OpenedAs::Input => how.read(true),
+        OpenedAs::Input | OpenedAs::Look => how.read(true),
         OpenedAs::Output => how.write(true).create(true),
         OpenedAs::Log => how.read(true).write(true).create(true),
     };
@@ -138,7 +158,7 @@ fn hold(file: &File, sort: OpenedAs) -> Result<(), Cause> {
         return Ok(());
     }
     judged(match sort {
-        OpenedAs::Input => file.try_lock_shared(),
+        OpenedAs::Input | OpenedAs::Look => file.try_lock_shared(),
         OpenedAs::Output | OpenedAs::Log => file.try_lock(),
     })
 }

@@ -11,17 +11,19 @@ use crate::disk::FileDisk;
 use crate::folder::folder_of;
 use crate::held::HeldFiles;
 use crate::names::Names;
-use crate::opening::{OpenedAs, emptied, is_journal, is_missing};
+use crate::opening::{OpenedAs, emptied, foreign_sort, is_journal, is_missing};
 use crate::sink::FileSink;
 use crate::slips::is_library_word;
 use crate::source::FileSource;
 use crate::straight::Straight;
+use crate::tally::Tally;
 use crate::target::Target;
 use outside::{Disk, Failed, GivenUp, Room, Sink, Source};
 use std::alloc::Global;
 use std::fs;
 use std::fs::File;
 use std::rt::Files;
+use std::time::Clock;
 
 /// The files of the system, by their names. It keeps one count of faults per sort, which stands for every name.
 ///
@@ -49,11 +51,28 @@ pub struct FileRoom<R: Files> {
 pub struct Intent {
     /// The names of the command's outputs.
     pub outputs: Vec<String>,
-    /// Whether the command only reads its journal, so that one that isn't there is told.
+    /// Whether the command only reads its journal, so that one that isn't there is told, and one that is held can be read otherwise.
     pub reads: bool,
+    /// Whether it looks at its inputs without holding them.
+    pub looks: bool,
+    /// What is told of how much was written.
+    pub counts: Counts,
+    /// Whether standard error is a terminal.
+    pub is_terminal: bool,
 }
 
-impl<R: Files<File = File> + Print + Eprint + Alloc + Clone + Drop> FileRoom<R> {
+/// What is told of how much a command wrote into its outputs.
+#[derive(Clone, Copy, Debug, PartialEq, Eq)]
+pub enum Counts {
+    Nothing,
+    /// How many records, or lines.
+    Records,
+    /// How many records of a code; that there are none is most often a slip.
+    RecordsOfCode,
+    Lines,
+}
+
+impl<R: Files<File = File> + Print + Eprint + Clock + Alloc + Clone + Drop> FileRoom<R> {
     /// A room of the process with that number.
     pub fn new(rt: R, alloc: Global, process: u32) -> Self
         ensures closed { (n : List ℕ) → (file_room_view result).open_as n ≡ None }
@@ -74,6 +93,9 @@ impl<R: Files<File = File> + Print + Eprint + Alloc + Clone + Drop> FileRoom<R> 
             intent: Intent {
                 outputs: Vec::new(alloc),
                 reads: false,
+                looks: false,
+                counts: Counts::Nothing,
+                is_terminal: false,
             },
         }
     }
@@ -123,6 +145,18 @@ impl<R: Files<File = File> + Print + Eprint + Alloc + Clone + Drop> FileRoom<R> 
         }
     }
 
+    // An input that is to be MARC and begins like something else.
+    fn tell_foreign(&self, name: &str) {
+        if self.intent.looks {
+            return;
+        }
+        if let Some(sort) = foreign_sort(&self.rt, name) {
+            let _told = eprintln!(self.rt;
+                "union_cat: {name}: this looks like no MARC file ({sort})"
+            );
+        }
+    }
+
     // A command that only reads its journal was given none, and goes on as if it were empty.
     fn tell_empty(&self, name: &str, is_new: bool) {
         if is_new {
@@ -162,17 +196,53 @@ impl<R: Files<File = File> + Print + Eprint + Alloc + Clone + Drop> FileRoom<R> 
         }
     }
 
+    fn tally_of(&self, name: &str) -> Tally<R> {
+        Tally::new(self.alloc, &self.rt, name, self.intent.is_terminal)
+    }
+
+    // How much is in an output that was closed.
+    fn tell_count(&self, name: &str, tally: &Tally<R>) {
+        let (records, lines) = (tally.records(), tally.lines());
+        let _told = match self.intent.counts {
+            Counts::Nothing => return,
+            Counts::RecordsOfCode if records == 0 => {
+                eprintln!(self.rt; "union_cat: {name}: no records: no key has that code")
+            }
+            Counts::Records | Counts::RecordsOfCode => {
+                eprintln!(self.rt; "union_cat: {name}: {records} records")
+            }
+            Counts::Lines => eprintln!(self.rt; "union_cat: {name}: {lines} lines"),
+        };
+    }
+
+    fn tell_closed(&self, name: &str, is_closed: bool, object: &FileSink<Target<R>>) {
+        if let Some(tally) = object.tally() {
+            if is_closed {
+                self.tell_count(name, tally);
+            }
+        }
+    }
+
+    // Another command has the journal, which can be looked at meanwhile.
+    fn tell_held(&self, name: &str, cause: Cause) {
+        if cause == Cause::InUse && self.intent.reads {
+            let _told = eprintln!(self.rt;
+                "union_cat: {name} can be read meanwhile: with `reading` before export, report or matches"
+            );
+        }
+    }
+
     // Where an output goes whose file is held: to a new file beside it, or over it, which is empty then.
     fn target_of(&self, name: &str, file: File, is_new: bool) -> Result<Target<R>, Cause> {
         if is_journal(&self.rt, name)? {
             return Err(Cause::IsJournal);
         }
         match way_of(self.alloc, &self.rt, name, &file, is_new, self.process)? {
-            Way::Beside(draft) => Ok(Target::Draft(draft)),
+            Way::Beside(draft) => Ok(Target::Draft(draft, self.tally_of(name))),
             Way::Straight(why) => {
                 self.tell_straight(name, why);
                 emptied(&file)?;
-                Ok(Target::File(file))
+                Ok(Target::File(file, self.tally_of(name)))
             }
         }
     }
@@ -253,7 +323,7 @@ impl<R: Files<File = File> + Print + Eprint + Alloc + Clone + Drop> FileRoom<R> 
     }
 }
 
-impl<R: Files<File = File> + Print + Eprint + Alloc + Clone + Drop> Room for FileRoom<R> {
+impl<R: Files<File = File> + Print + Eprint + Clock + Alloc + Clone + Drop> Room for FileRoom<R> {
     ghost use Rattle.std.proofs.Common.{refl};
 
     type In = FileSource<File>;
@@ -281,8 +351,16 @@ impl<R: Files<File = File> + Print + Eprint + Alloc + Clone + Drop> Room for Fil
         ensures holds { Holds self.old.held self.new.held name.now result }
         ensures lefts { self.new.closed ≡ self.old.closed }
     {
-        match self.held.open(self.alloc, &self.rt, name, OpenedAs::Input) {
-            Ok(file) => Ok(FileSource::new(file)),
+        let sort = if self.intent.looks {
+            OpenedAs::Look
+        } else {
+            OpenedAs::Input
+        };
+        match self.held.open(self.alloc, &self.rt, name, sort) {
+            Ok(file) => {
+                self.tell_foreign(name);
+                Ok(FileSource::new(file))
+            }
             Err(cause) => {
                 self.tell(name, cause);
                 self.ins = raised(self.ins);
@@ -339,7 +417,10 @@ impl<R: Files<File = File> + Print + Eprint + Alloc + Clone + Drop> Room for Fil
                     }
                     Err(cause) => self.tell(name, cause),
                 },
-                Err(cause) => self.tell(name, cause),
+                Err(cause) => {
+                    self.tell(name, cause);
+                    self.tell_held(name, cause);
+                }
             }
             self.open_logs.remove(name);
         }
@@ -377,6 +458,7 @@ impl<R: Files<File = File> + Print + Eprint + Alloc + Clone + Drop> Room for Fil
     {
         let closed = object.close(&self.rt);
         self.tell_some(name, object.cause());
+        self.tell_closed(name, closed.is_ok(), &object);
         self.outs = added(self.outs, object.faults());
         self.forget(name);
         closed

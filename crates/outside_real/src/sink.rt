@@ -6,6 +6,7 @@ ghost use Rattle.outside_real.specs.Gathering.{GathersNothing};
 
 use crate::cause::Cause;
 use crate::count::raised;
+use crate::tally::Tally;
 use crate::target::{Keep, Target};
 use crate::writing::{pass_on, write_whole};
 use outside::{Failed, Sink};
@@ -13,6 +14,7 @@ use std::alloc::Global;
 use std::fs::File;
 use std::io::Write;
 use std::rt::Files;
+use std::time::Clock;
 
 /// How many bytes a file's sink gathers before it writes them.
 const BUFFER: usize = 131_072;
@@ -151,7 +153,7 @@ impl<W: Write + Keep + Drop> FileSink<W> {
     }
 }
 
-impl<R: Print + Drop> FileSink<Target<R>> {
+impl<R: Print + Eprint + Clock + Drop> FileSink<Target<R>> {
     /// Writes what was gathered, has the system keep it, and puts a draft in its place. Where that fails, a draft is removed.
     pub fn close<F: Files>(&mut self, files: &F) -> Result<(), Failed>
         // A fault counts once. Behind one this fails.
@@ -159,6 +161,7 @@ impl<R: Print + Drop> FileSink<Target<R>> {
         ensures cause { HasCause (⟦<FileSink<Target<R>> as Sink>⟧.faults self.old) (⟦<FileSink<Target<R>> as Sink>⟧.faults self.new) result }
         ensures behind { 0 < self.old.faults → IsErr result }
     {
+        self.to.end();
         let put = self.put(files);
         if put.is_err() {
             let _removed = self.to.give_up(files);
@@ -180,6 +183,11 @@ impl<R: Print + Drop> FileSink<Target<R>> {
     /// Removes a draft. What is gathered isn't written.
     pub fn give_up<F: Files>(&self, files: &F) -> Result<(), Cause> {
         self.to.give_up(files)
+    }
+
+    /// What was counted of what was written; nothing of the console.
+    pub fn tally(&self) -> Option<&Tally<R>> {
+        self.to.tally()
     }
 
     /// The new file, where there is one.

@@ -1,4 +1,5 @@
-//! What a slip of the hand looks like: the name of an output that is a journal, and a library's word in the place of a file.
+//! What a slip of the hand looks like: the name of an output that is a journal, a library's word in the place of a file, and a file that is no
+//! MARC.
 const FIRST_VERSION: &[u8] = b"UNIONCAT JNL 01\n";
 
 const SECOND_VERSION: &[u8] = b"UNIONCAT JNL 02\n";
@@ -24,4 +25,19 @@ pub fn is_library_word(name: &str) -> bool {
 // A slash is no sign of a code here, so that `./A=b` is the way to such a name.
 fn can_stand_in_code(byte: u8) -> bool {
     matches!(byte, b'!'..=b'~') && byte != b'(' && byte != b')' && byte != b'/'
+}
+
+/// What a file is that begins so and is no MARC file in ISO 2709, where that can be told.
+pub fn sort_of(front: &[u8]) -> Option<&'static str> {
+    match front {
+        [0xEF, 0xBB, 0xBF, ..] => return Some("a byte order mark"),
+        [0xFF, 0xFE, ..] | [0xFE, 0xFF, ..] => return Some("UTF-16"),
+        [0xFF, 0xD8, 0xFF, ..] => return Some("JPEG"),
+        _ => {}
+    }
+    match front.iter().find(|byte| !byte.is_ascii_whitespace()) {
+        Some(b'<') => Some("MARCXML"),
+        Some(b'{' | b'[') => Some("JSON"),
+        _ => None,
+    }
 }

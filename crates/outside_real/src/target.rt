@@ -3,10 +3,12 @@ ghost use Rattle.std.specs.Prelude.{◌≤◌, length, IfOk, OnOk, ⊤};
 use crate::cause::Cause;
 use crate::draft::Draft;
 use crate::opening::synced;
+use crate::tally::Tally;
 use std::fs::File;
 use std::io;
 use std::io::Write;
 use std::rt::Files;
+use std::time::Clock;
 
 /// What can be asked to keep what was written to it over a crash.
 pub trait Keep {
@@ -21,8 +23,8 @@ pub trait Keep {
 /// Where an output goes: a new file that is to replace another, a file that is written straight, or what the runtime prints to.
 #[derive(Drop)]
 pub enum Target<R> {
-    Draft(Draft),
-    File(File),
+    Draft(Draft, Tally<R>),
+    File(File, Tally<R>),
     Console(R),
 }
 
@@ -30,24 +32,43 @@ impl<R> Target<R> {
     /// Puts a draft in its place.
     pub fn put<F: Files>(&mut self, files: &F) -> Result<(), Cause> {
         match self {
-            Target::Draft(draft) => draft.put(files),
-            Target::File(_) | Target::Console(_) => Ok(()),
+            Target::Draft(draft, _) => draft.put(files),
+            Target::File(_, _) | Target::Console(_) => Ok(()),
         }
     }
 
     /// Removes a draft that isn't in its place. What was written straight stays.
     pub fn give_up<F: Files>(&self, files: &F) -> Result<(), Cause> {
         match self {
-            Target::Draft(draft) => draft.give_up(files),
-            Target::File(_) | Target::Console(_) => Ok(()),
+            Target::Draft(draft, _) => draft.give_up(files),
+            Target::File(_, _) | Target::Console(_) => Ok(()),
+        }
+    }
+
+    /// No more is written to it.
+    pub fn end(&mut self)
+    where
+        R: Eprint + Clock,
+    {
+        match self {
+            Target::Draft(_, tally) | Target::File(_, tally) => tally.end(),
+            Target::Console(_) => {}
+        }
+    }
+
+    /// What was counted of it; nothing of the console.
+    pub fn tally(&self) -> Option<&Tally<R>> {
+        match self {
+            Target::Draft(_, tally) | Target::File(_, tally) => Some(tally),
+            Target::Console(_) => None,
         }
     }
 
     /// The new file, where there is one.
     pub fn draft(&self) -> Option<&File> {
         match self {
-            Target::Draft(draft) => Some(&draft.file),
-            Target::File(_) | Target::Console(_) => None,
+            Target::Draft(draft, _) => Some(&draft.file),
+            Target::File(_, _) | Target::Console(_) => None,
         }
     }
 }
@@ -58,26 +79,34 @@ impl<R> Keep for Target<R> {
 
     fn keep(&self) -> Result<(), Cause> {
         match self {
-            Target::Draft(draft) => draft.keep(),
-            Target::File(file) => synced(file),
+            Target::Draft(draft, _) => draft.keep(),
+            Target::File(file, _) => synced(file),
             Target::Console(_) => Ok(()),
         }
     }
 }
 
-impl<R: Print> Write for Target<R> {
+impl<R: Print + Eprint + Clock> Write for Target<R> {
     fn write(&mut self, buf: &[u8]) -> io::Result<usize> {
         match self {
-            Target::Draft(draft) => draft.file.write(buf),
-            Target::File(file) => file.write(buf),
+            Target::Draft(draft, tally) => {
+                let answer = draft.file.write(buf);
+                tally.count(&answer, buf);
+                answer
+            }
+            Target::File(file, tally) => {
+                let answer = file.write(buf);
+                tally.count(&answer, buf);
+                answer
+            }
             Target::Console(rt) => rt.write_some(buf),
         }
     }
 
     fn flush(&mut self) -> io::Result<()> {
         match self {
-            Target::Draft(draft) => draft.file.flush(),
-            Target::File(file) => file.flush(),
+            Target::Draft(draft, _) => draft.file.flush(),
+            Target::File(file, _) => file.flush(),
             Target::Console(_) => Ok(()),
         }
     }

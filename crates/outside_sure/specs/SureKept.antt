@@ -91,21 +91,25 @@ module _ {room : ℕ} where
   abbrev pub drawer_failed_at : Drawer room → ℕ
   drawer_failed_at drawer = if nat_eq drawer.out_faults 0 && nat_eq drawer.log_faults 0 then 0 else room
 
+  -- the file that is told of what is kept under a name
   abbrev pub told_kept : Option (Kept room) → Option (List ℕ)
   told_kept None = None
   told_kept (Some (Input source)) = Some source
   told_kept (Some (InDrawer drawer)) = told_stored drawer.stored
 
+  -- as what it is open, where it is
   abbrev pub kept_sort : Option (Kept room) → Option OpenSort
   kept_sort None = None
   kept_sort (Some (Input source)) = None
   kept_sort (Some (InDrawer drawer)) = drawer_sort drawer
 
+  -- whether it is a file that was closed as a log
   abbrev pub is_kept_log : Option (Kept room) → Bool
   is_kept_log None = false
   is_kept_log (Some (Input source)) = false
   is_kept_log (Some (InDrawer drawer)) = is_stored_log drawer.stored
 
+  -- the disk of that log
   abbrev pub kept_log : Option (Kept room) → DiskView
   kept_log None = sure_view [] 0
   kept_log (Some (Input source)) = sure_view [] 0
@@ -159,6 +163,7 @@ module _ {room : ℕ} where
   kept_opened sort (Some (Input source)) = Some (Input source)
   kept_opened sort (Some (InDrawer drawer)) = Some (InDrawer (drawer_opened sort drawer))
 
+  -- a drawer gets back what was opened of it, and counts the faults; an input and nothing stay
   abbrev pub kept_closed : Closing room → ℕ → Option (Kept room) → Option (Kept room)
   kept_closed given more None = None
   kept_closed given more (Some (Input source)) = Some (Input source)
@@ -184,6 +189,7 @@ module _ {room : ℕ} where
     pub closed : drawer.log_faults ≢ 0 → drawer_sort drawer ≡ None
     pub full : drawer.log_faults ≢ 0 → length (bytes_or_none (told_stored drawer.stored)) ≡ room
 
+  -- a drawer is kept well; an input and nothing always are
   abbrev pub IsKeptWell : Option (Kept room) → Type 0
   IsKeptWell None = Unit {0}
   IsKeptWell (Some (Input source)) = Unit {0}

@@ -65,12 +65,14 @@ impl<const ROOM: usize> Held<ROOM> {
         Ok(held)
     }
 
+    /// The bytes that are held.
     pub fn bytes(&self) -> &[u8]
         ensures { result.now ≡ self.now.buffer.items }
     {
         self.buffer.as_slice()
     }
 
+    /// How many bytes are held.
     pub fn len(&self) -> usize
         ensures { result ≡ length self.now.buffer.items }
     {

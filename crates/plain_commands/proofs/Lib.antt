@@ -1,3 +1,4 @@
+pub mod GivenBack
 pub mod Lengths
 pub mod Taken
 pub mod Drafts

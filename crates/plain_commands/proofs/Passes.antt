@@ -8,54 +8,55 @@ use Rattle.outside.specs.Sink.{WritesFront}
 use Rattle.outside.proofs.Rooms.{same_but_then}
 use Rattle.marc_stream.specs.Pieces.{items}
 use Rattle.command_words.specs.declared.library.Library.{Library}
-use Rattle.catalogue_core.specs.Catalogues.{Catalogued}
 use Rattle.console_lines.specs.Ends.{Outcome, IsTold, IsAllDone, TellsNoFault, IsResultTold, end_of, out_unwritten, console_unwritten}
 use Rattle.console_lines.specs.declared.end.End.{End}
 use Rattle.console_lines.specs.declared.end.End.TheVariants.{Told}
-use Rattle.console_lines.specs.declared.end.Unwritten.TheVariants.{Out, Side, Console}
+use Rattle.console_lines.specs.declared.end.Unwritten.TheVariants.{Out, Side, Pages, Console}
 use Rattle.console_lines.specs.declared.fault.Fault.{Fault}
 use Rattle.console_lines.specs.declared.fault.Fault.TheVariants.{Input, Full, Memory}
-use Rattle.console_lines.proofs.Ends.{told_once, told_not_unwritten, told_not_all, all_not_unwritten, out_not_console, result_done, result_line, result_front, result_no_output, result_cause}
-use Rattle.plain_commands.specs.Totals.{holding}
+use Rattle.console_lines.proofs.Ends.{told_once, told_not_unwritten, told_not_all, all_not_unwritten, out_not_console, result_done, result_line, result_front, result_no_output, result_no_pages, result_cause}
 use Rattle.output_files.specs.Outputs.{IsOutputLeft}
 use Rattle.output_files.proofs.Parts.{left_since}
 use Rattle.plain_commands.specs.Loading.{IsFaultOfLoading, IsFullAt}
-use Rattle.plain_commands.specs.Passing.{exported, IsReady, IsPassed, IsPassedInPart, IsPassedUntold, IsPassDelivered, EndsDelivering, Passes}
+use Rattle.plain_commands.specs.Passing.{FileDue, IsReady, IsPassed, IsPassedInPart, IsPassedUntold, IsPassDelivered, EndsDelivering, PassesFile}
 use Rattle.plain_commands.proofs.There.{there_more}
 use Rattle.plain_commands.specs.declared.ready.Ready.{Ready}
 
-module _ (library : Library) (bytes : List ℕ) (ready : Ready) (core : Catalogued)
-    (is : IsReady library bytes ready) (holds : core ≡ holding ready.loaded.accepted) where
-  pub ended_whole : (new told now : Option (List ℕ)) (end : End) → new ≡ Some (exported core.history) → Appends told now (string_bytes ready.text)
-      → end ≡ end_of (nat_lt 0 (length ready.loaded.refused)) → IsPassed library bytes new told now end
+module _ (due : FileDue) (library : Library) (bytes : List ℕ) (ready : Ready) (is : IsReady library bytes ready) where
+  -- what is due of what was made ready
+  abbrev due_of_ready : List ℕ
+  due_of_ready = due bytes ready.loaded.accepted ready.loaded.refused
+
+  pub ended_whole : (new told now : Option (List ℕ)) (end : End) → new ≡ Some due_of_ready → Appends told now (string_bytes ready.text)
+      → end ≡ end_of (nat_lt 0 (length ready.loaded.refused)) → IsPassed due library bytes new told now end
   ended_whole new told now end written wrote ended = record {
     accepted = ready.loaded.accepted;
     refused = ready.loaded.refused;
     judged = is.loaded.judged;
     within = is.loaded.within;
-    export = written ∙ ap (λ (c : Catalogued). Some (exported c.history)) holds;
+    export = written;
     console = subst (Appends told now) is.text wrote;
     end_is = ended;
   }
 
-  pub ended_in_part : (before after : RoomView) (out : List ℕ) → IsOutputLeft before after out (exported core.history)
-      → IsPassedInPart library bytes before after out
+  pub ended_in_part : (before after : RoomView) (out : List ℕ) → IsOutputLeft before after out due_of_ready
+      → IsPassedInPart due library bytes before after out
   ended_in_part before after out left = record {
     accepted = ready.loaded.accepted;
     refused = ready.loaded.refused;
     judged = is.loaded.judged;
     within = is.loaded.within;
-    left = subst (λ (c : Catalogued). IsOutputLeft before after out (exported c.history)) holds left;
+    left = left;
   }
 
-  pub ended_untold : (new told now : Option (List ℕ)) → new ≡ Some (exported core.history) → WritesFront told now (string_bytes ready.text)
-      → IsPassedUntold library bytes new told now
+  pub ended_untold : (new told now : Option (List ℕ)) → new ≡ Some due_of_ready → WritesFront told now (string_bytes ready.text)
+      → IsPassedUntold due library bytes new told now
   ended_untold new told now written wrote = record {
     accepted = ready.loaded.accepted;
     refused = ready.loaded.refused;
     judged = is.loaded.judged;
     within = is.loaded.within;
-    export = written ∙ ap (λ (c : Catalogued). Some (exported c.history)) holds;
+    export = written;
     console = subst (WritesFront told now) is.text wrote;
   }
 
@@ -71,16 +72,16 @@ since mid o = record {
   end = o.end;
 }
 
-module _ (library : Library) (bytes out : List ℕ) (o : Outcome) where
+module _ (due : FileDue) (library : Library) (bytes out : List ℕ) (o : Outcome) where
   -- a fault was told, and nothing is said of what was delivered
-  pub delivered_nothing : (why : Fault) → o.end ≡ Told why → IsPassDelivered library bytes out o
+  pub delivered_nothing : (why : Fault) → o.end ≡ Told why → IsPassDelivered due library bytes out o
   delivered_nothing why is = record {
     whole = λ all. absurd (told_not_all o.end why is all);
     part = λ also. absurd (told_not_unwritten o.end why Out is also);
     untold = λ also. absurd (told_not_unwritten o.end why Console is also);
   }
 
-  pub delivered_in_part : o.end ≡ out_unwritten → IsPassedInPart library bytes o.old o.new out → IsPassDelivered library bytes out o
+  pub delivered_in_part : o.end ≡ out_unwritten → IsPassedInPart due library bytes o.old o.new out → IsPassDelivered due library bytes out o
   delivered_in_part ends is = record {
     whole = λ all. absurd (all_not_unwritten o.end Out all ends);
     part = λ also. is;
@@ -89,8 +90,8 @@ module _ (library : Library) (bytes out : List ℕ) (o : Outcome) where
 
   -- OUT was written, and the result was told as far as the console could be written
   pub delivered_told : {text : List ℕ} {refused : Bool} → IsResultTold o.told o.now o.faults o.faults_now text refused o.end
-      → (o.end ≡ end_of refused → Appends o.told o.now text → IsPassed library bytes (o.new.file out) o.told o.now o.end)
-      → (WritesFront o.told o.now text → IsPassedUntold library bytes (o.new.file out) o.told o.now) → IsPassDelivered library bytes out o
+      → (o.end ≡ end_of refused → Appends o.told o.now text → IsPassed due library bytes (o.new.file out) o.told o.now o.end)
+      → (WritesFront o.told o.now text → IsPassedUntold due library bytes (o.new.file out) o.told o.now) → IsPassDelivered due library bytes out o
   delivered_told told whole untold = record {
     whole = λ all. whole (result_done told all) (result_line told all);
     part = λ also. absurd ((result_no_output told).0 also);
@@ -103,35 +104,35 @@ pub ends_told : (out : List ℕ) (o : Outcome) {text : List ℕ} {refused : Bool
 ends_told out o told = record {
   out_cause = λ also. absurd ((result_no_output told).0 also);
   console_cause = result_cause told;
-  no_side = (result_no_output told).1;
+  no_side = ((result_no_output told).1, result_no_pages told);
   silent = λ also. absurd ((result_no_output told).0 also);
 }
 
-part_since : (library : Library) (bytes : List ℕ) (old mid new : RoomView) (out : List ℕ) → SameBut old mid [] → IsPassedInPart library bytes mid new out
-    → IsPassedInPart library bytes old new out
-part_since library bytes old mid new out stays part = record {
+part_since : (due : FileDue) (library : Library) (bytes : List ℕ) (old mid new : RoomView) (out : List ℕ) → SameBut old mid [] → IsPassedInPart due library bytes mid new out
+    → IsPassedInPart due library bytes old new out
+part_since due library bytes old mid new out stays part = record {
   accepted = part.accepted;
   refused = part.refused;
   judged = part.judged;
   within = part.within;
-  left = left_since old mid new out (exported part.accepted) [] tt stays part.left;
+  left = left_since old mid new out (due bytes part.accepted part.refused) [] tt stays part.left;
 }
 
 pub no_fault_told : (end : End) (why : Fault) → TellsNoFault end → end ≡ Told why → ⊥
 no_fault_told end why untold is = subst TellsNoFault is untold
 
-module _ (library : Library) (out : List ℕ) (o : Outcome) where
+module _ (due : FileDue) (library : Library) (out : List ℕ) (o : Outcome) where
   -- a fault was told before anything was written
   pub passes_told : (why : Fault) → o.end ≡ Told why → IsTold why o → IsFaultOfLoading why → SameBut o.old o.new []
       → (why ≡ Input → Rose (o.old.in_faults library.file) (o.new.in_faults library.file))
       → (why ≡ Full → o.old.tells ≡ true → IsSomeAnd (o.old.file library.file) (λ bytes. IsFullAt library.code (items bytes)))
-      → Passes library out o
+      → PassesFile due library out o
   passes_told why is told kind stays input full = record {
     told = λ other also. subst (λ w. IsTold w o × IsFaultOfLoading w × SameBut o.old o.new []) (told_once o.end why other is also) (told, kind, stays);
     input = λ also. input (told_once o.end why Input is also);
     out_cause = λ also. absurd (told_not_unwritten o.end why Out is also);
     console_cause = λ also. absurd (told_not_unwritten o.end why Console is also);
-    no_side = told_not_unwritten o.end why Side is;
+    no_side = (told_not_unwritten o.end why Side is, told_not_unwritten o.end why Pages is);
     full = λ also. full (told_once o.end why Full is also);
     whole = λ all. absurd (told_not_all o.end why is all);
     silent = λ also. absurd (told_not_unwritten o.end why Out is also);
@@ -140,12 +141,11 @@ module _ (library : Library) (out : List ℕ) (o : Outcome) where
   }
 
   -- what was made ready was delivered, into a room where the file had been read
-  pub passes_delivered : (mid : RoomView) (ready : Ready) → SameBut o.old mid []
+  pub passes_delivered : (mid : RoomView) → SameBut o.old mid []
       → ((why : Fault) → o.end ≡ Told why → (why ≡ Memory) × SameBut mid o.new [] × IsTold why o) → EndsDelivering out (since mid o)
-      → (o.old.tells ≡ true → IsSomeAnd (o.old.file library.file) (λ bytes. IsReady library bytes ready))
-      → ((l : Library) (bytes : List ℕ) → mid.tells ≡ true → IsReady l bytes ready → IsPassDelivered l bytes out (since mid o))
-      → Passes library out o
-  passes_delivered mid ready stays fault ends is delivered = record {
+      → (o.old.tells ≡ true → IsSomeAnd (o.old.file library.file) (λ bytes. IsPassDelivered due library bytes out (since mid o)))
+      → PassesFile due library out o
+  passes_delivered mid stays fault ends delivered = record {
     told = λ why also.
         let memory = fault why also in
         (memory.2, subst IsFaultOfLoading (sym memory.0) tt, same_but_then o.old mid o.new [] stays memory.1);
@@ -154,12 +154,9 @@ module _ (library : Library) (out : List ℕ) (o : Outcome) where
     console_cause = ends.console_cause;
     no_side = ends.no_side;
     full = λ also. let is : Full ≡ Memory = (fault Full also).0 in cc;
-    whole = λ all tells.
-        there_more (o.old.file library.file) (λ bytes ready_is. (delivered library bytes (stays.tells ∙ tells) ready_is).whole all) (is tells);
+    whole = λ all tells. there_more (o.old.file library.file) (λ bytes d. d.whole all) (delivered tells);
     silent = ends.silent;
     part = λ also tells.
-        there_more (o.old.file library.file)
-        (λ bytes ready_is. part_since library bytes o.old mid o.new out stays ((delivered library bytes (stays.tells ∙ tells) ready_is).part also)) (is tells);
-    untold = λ also tells.
-        there_more (o.old.file library.file) (λ bytes ready_is. (delivered library bytes (stays.tells ∙ tells) ready_is).untold also) (is tells);
+        there_more (o.old.file library.file) (λ bytes d. part_since due library bytes o.old mid o.new out stays (d.part also)) (delivered tells);
+    untold = λ also tells. there_more (o.old.file library.file) (λ bytes d. d.untold also) (delivered tells);
   }

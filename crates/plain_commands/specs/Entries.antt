@@ -22,6 +22,7 @@ tested_record c false invalid = None
 unfoldable pub record_of : Contents → Option Record
 record_of c = tested_record c (is_record c.leader c.fields) refl
 
+-- with the entry of one more record, where there is one
 abbrev pub with_entry : ℕ → Option Record → List Entry → List Entry
 with_entry ordinal (Some rec) entries = new_entry workload_library 0 ordinal rec ∷ entries
 with_entry ordinal None entries = entries
@@ -45,5 +46,6 @@ pub record IsTaken (c : Contents) : Type 0 where
   pub valid : is_record c.leader c.fields ≡ true
   pub taken : admission_refusal workload_library c.leader c.fields ≡ None
 
+-- each of these records is admitted
 abbrev pub AreTaken : List Contents → Type 0
 AreTaken cs = AllByRecursion IsTaken cs

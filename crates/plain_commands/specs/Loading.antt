@@ -24,12 +24,15 @@ pub record IsCommitted (core : Catalogued) (sums : Sums) : Type 0 where
   pub within : IsWithinLimits core.history
   pub summed : IsSummed core.history sums
 
+-- nothing accepted, nothing refused
 abbrev pub nothing_loaded : LoadedView
 nothing_loaded = record { accepted = []; refused = [] }
 
+-- with one more accepted entry
 abbrev pub with_accepted : LoadedView → Entry → LoadedView
 with_accepted l e = record { accepted = l.accepted ++ e ∷ []; refused = l.refused }
 
+-- with one more refused item
 abbrev pub with_refused : LoadedView → RefusedItem → LoadedView
 with_refused l item = record { accepted = l.accepted; refused = l.refused ++ item ∷ [] }
 

@@ -1,25 +1,24 @@
 -- What making a workload comes to.
-use Rattle.std.specs.Prelude.{◌≡◌, ◌⊎◌, ℕ, true, List, [], Some}
+use Rattle.std.specs.Prelude.{◌≡◌, ◌⊎◌, ℕ, true, List, Some}
 use Rattle.std.specs.Io.KnownBytes.{Appends}
 use Rattle.outside.specs.Fault.{Rose}
 use Rattle.outside.specs.Room.{IsUntouched}
 use Rattle.outside.specs.Sink.{WritesFront}
-use Rattle.catalogue_rules.specs.Receipts.{receipts_behind}
 use Rattle.workload.specs.Workload.{workload_bytes}
 use Rattle.plain_commands.specs.Entries.{workload_entries}
+use Rattle.plain_commands.specs.Totals.{sums_behind}
 use Rattle.console_lines.specs.Ends.{Outcome, IsTold, IsSilent, out_unwritten, console_unwritten}
 use Rattle.console_lines.specs.Lines.{made_line}
 use Rattle.console_lines.specs.declared.end.End.{End}
 use Rattle.console_lines.specs.declared.end.End.TheVariants.{Done, Refused, Unwritten, Told}
-use Rattle.console_lines.specs.declared.end.Unwritten.TheVariants.{Out, Side, Console}
+use Rattle.console_lines.specs.declared.end.Unwritten.TheVariants.{Out, Side, Pages, Console}
 use Rattle.console_lines.specs.declared.fault.Fault.TheVariants.{Memory}
-use Rattle.marc_types.specs.Sums.{sums_of}
 use Rattle.marc_types.specs.declared.sums.Sums.{Sums}
 use Rattle.output_files.specs.Outputs.{IsOutputLeft}
 
 -- the sums over the receipts of a workload's entries in an empty catalogue
 abbrev pub workload_sums : ℕ → ℕ → Sums
-workload_sums seed count = sums_of (receipts_behind [] (workload_entries seed count))
+workload_sums seed count = sums_behind (workload_entries seed count)
 
 -- what the console is told of a workload
 abbrev pub workload_line : ℕ → ℕ → List ℕ
@@ -31,6 +30,7 @@ EndsMaking Done = Unit {0}
 EndsMaking Refused = ⊥
 EndsMaking (Unwritten Out) = Unit {0}
 EndsMaking (Unwritten Side) = ⊥
+EndsMaking (Unwritten Pages) = ⊥
 EndsMaking (Unwritten Console) = Unit {0}
 EndsMaking (Told why) = why ≡ Memory
 

@@ -12,7 +12,7 @@ use Rattle.catalogue_rules.specs.Settle.{state_of}
 use Rattle.catalogue_rules.specs.Output.{export_of, all_keys}
 use Rattle.file_entries.specs.Files.{IsJudged}
 use Rattle.file_entries.specs.declared.refused.RefusedItem.{RefusedItem}
-use Rattle.console_lines.specs.Ends.{Outcome, IsTold, IsAllDone, IsSilent, end_of, out_unwritten, side_unwritten, console_unwritten}
+use Rattle.console_lines.specs.Ends.{Outcome, IsTold, IsAllDone, IsSilent, end_of, out_unwritten, side_unwritten, pages_unwritten, console_unwritten}
 use Rattle.console_lines.specs.Lines.{refused_lines, totals_line}
 use Rattle.console_lines.specs.Totals.{totals_of}
 use Rattle.console_lines.specs.declared.end.End.{End}
@@ -32,68 +32,80 @@ results file accepted refused = refused_lines file refused ++ totals_line file (
 abbrev pub exported : List Entry → List ℕ
 exported accepted = export_of all_keys (state_of accepted)
 
--- what is to be written, and told, of a file with these bytes
+-- what is due of a file with these bytes, of which these entries are accepted and these items refused
+abbrev pub FileDue : Type 0
+FileDue = List ℕ → List Entry → List RefusedItem → List ℕ
+
+-- of a pass: the accepted entries' export
+abbrev pub export_due : FileDue
+export_due bytes accepted refused = exported accepted
+
+-- what is to be told of a file with these bytes
 pub record IsReady (library : Library) (bytes : List ℕ) (ready : Ready) : Type 0 where
   pub loaded : IsLoaded library.code (items bytes) ready.loaded
   pub text : string_bytes ready.text ≡ results library.file ready.loaded.accepted ready.loaded.refused
 
--- a file with these bytes was passed: its accepted entries were committed to an empty catalogue, whose export was written, the
+-- a file with these bytes was passed: its accepted entries were committed to an empty catalogue, what is due was written, the
 -- console was told the results, and the end says whether something was refused
-pub record IsPassed (library : Library) (bytes : List ℕ) (written told now : Option (List ℕ)) (end : End) : Type 0 where
+pub record IsPassed (due : FileDue) (library : Library) (bytes : List ℕ) (written told now : Option (List ℕ)) (end : End) : Type 0 where
   pub accepted : List Entry
   pub refused : List RefusedItem
   pub judged : IsJudged library.code 0 (items bytes) accepted refused
   pub within : IsWithinLimits accepted
-  pub export : written ≡ Some (exported accepted)
+  pub export : written ≡ Some (due bytes accepted refused)
   pub console : Appends told now (results library.file accepted refused)
   pub end_is : end ≡ end_of (nat_lt 0 (length refused))
 
--- OUT could not be written: it is as it was, or holds the accepted entries' export
-pub record IsPassedInPart (library : Library) (bytes : List ℕ) (old new : RoomView) (out : List ℕ) : Type 0 where
+-- OUT could not be written: it is as it was, or holds what is due
+pub record IsPassedInPart (due : FileDue) (library : Library) (bytes : List ℕ) (old new : RoomView) (out : List ℕ) : Type 0 where
   pub accepted : List Entry
   pub refused : List RefusedItem
   pub judged : IsJudged library.code 0 (items bytes) accepted refused
   pub within : IsWithinLimits accepted
-  pub left : IsOutputLeft old new out (exported accepted)
+  pub left : IsOutputLeft old new out (due bytes accepted refused)
 
 -- the console could not be written: OUT is written whole, and the console was told a front of the results
-pub record IsPassedUntold (library : Library) (bytes : List ℕ) (written told now : Option (List ℕ)) : Type 0 where
+pub record IsPassedUntold (due : FileDue) (library : Library) (bytes : List ℕ) (written told now : Option (List ℕ)) : Type 0 where
   pub accepted : List Entry
   pub refused : List RefusedItem
   pub judged : IsJudged library.code 0 (items bytes) accepted refused
   pub within : IsWithinLimits accepted
-  pub export : written ≡ Some (exported accepted)
+  pub export : written ≡ Some (due bytes accepted refused)
   pub console : WritesFront told now (results library.file accepted refused)
 
 -- what there is after the delivery of a file with these bytes, by how it ends
-pub record IsPassDelivered (library : Library) (bytes out : List ℕ) (o : Outcome) : Type 0 where
-  pub whole : IsAllDone o.end → IsPassed library bytes (o.new.file out) o.told o.now o.end
-  pub part : o.end ≡ out_unwritten → IsPassedInPart library bytes o.old o.new out
-  pub untold : o.end ≡ console_unwritten → IsPassedUntold library bytes (o.new.file out) o.told o.now
+pub record IsPassDelivered (due : FileDue) (library : Library) (bytes out : List ℕ) (o : Outcome) : Type 0 where
+  pub whole : IsAllDone o.end → IsPassed due library bytes (o.new.file out) o.told o.now o.end
+  pub part : o.end ≡ out_unwritten → IsPassedInPart due library bytes o.old o.new out
+  pub untold : o.end ≡ console_unwritten → IsPassedUntold due library bytes (o.new.file out) o.told o.now
 
 -- Which of OUT and the console could not be written: each has its cause, and where OUT could not be, the console is as it was.
 pub record EndsDelivering (out : List ℕ) (o : Outcome) : Type 0 where
   pub out_cause : o.end ≡ out_unwritten → Rose (o.old.out_faults out) (o.new.out_faults out)
   pub console_cause : o.end ≡ console_unwritten → Rose o.faults o.faults_now
-  pub no_side : o.end ≢ side_unwritten
+  pub no_side : (o.end ≢ side_unwritten) × (o.end ≢ pages_unwritten)
   pub silent : o.end ≡ out_unwritten → IsSilent o
 
--- The command `pass`: one file through an empty catalogue, into the file OUT.
-pub record Passes (library : Library) (out : List ℕ) (o : Outcome) : Type 0 where
+-- A command that takes one file through an empty catalogue, and writes what is due of it into the file OUT.
+pub record PassesFile (due : FileDue) (library : Library) (out : List ℕ) (o : Outcome) : Type 0 where
   -- a fault that is told is one of loading, and leaves the room as it was
   pub told : (why : Fault) → o.end ≡ Told why → IsTold why o × IsFaultOfLoading why × SameBut o.old o.new []
   -- each fault has its cause
   pub input : o.end ≡ Told Input → Rose (o.old.in_faults library.file) (o.new.in_faults library.file)
   pub out_cause : o.end ≡ out_unwritten → Rose (o.old.out_faults out) (o.new.out_faults out)
   pub console_cause : o.end ≡ console_unwritten → Rose o.faults o.faults_now
-  pub no_side : o.end ≢ side_unwritten
+  pub no_side : (o.end ≢ side_unwritten) × (o.end ≢ pages_unwritten)
   pub full : o.end ≡ Told Full → o.old.tells ≡ true → IsSomeAnd (o.old.file library.file) (λ bytes. IsFullAt library.code (items bytes))
   -- the file was there, and was passed
   pub whole : IsAllDone o.end → o.old.tells ≡ true
-      → IsSomeAnd (o.old.file library.file) (λ bytes. IsPassed library bytes (o.new.file out) o.told o.now o.end)
+      → IsSomeAnd (o.old.file library.file) (λ bytes. IsPassed due library bytes (o.new.file out) o.told o.now o.end)
   -- where OUT could not be written the console is untouched; where the console could not, OUT is whole
   pub silent : o.end ≡ out_unwritten → IsSilent o
   pub part : o.end ≡ out_unwritten → o.old.tells ≡ true
-      → IsSomeAnd (o.old.file library.file) (λ bytes. IsPassedInPart library bytes o.old o.new out)
+      → IsSomeAnd (o.old.file library.file) (λ bytes. IsPassedInPart due library bytes o.old o.new out)
   pub untold : o.end ≡ console_unwritten → o.old.tells ≡ true
-      → IsSomeAnd (o.old.file library.file) (λ bytes. IsPassedUntold library bytes (o.new.file out) o.told o.now)
+      → IsSomeAnd (o.old.file library.file) (λ bytes. IsPassedUntold due library bytes (o.new.file out) o.told o.now)
+
+-- The command `pass`: the export of the file's accepted entries.
+abbrev pub Passes : Library → List ℕ → Outcome → Type 0
+Passes library out o = PassesFile export_due library out o

@@ -17,7 +17,11 @@ pub record IsWithinLimits (accepted : List Entry) : Type 0 where
   pub entries : length accepted ≤ most_entries
   pub bytes : entries_size accepted ≤ most_bytes
 
--- the sums over the receipts of these entries in an empty catalogue, and what keeps them within 64 bits
+-- the sums over the receipts of these entries in an empty catalogue
+unfoldable pub sums_behind : List Entry → Sums
+sums_behind accepted = sums_of (receipts_behind [] accepted)
+
+-- these are the sums, and what keeps them within 64 bits
 pub record IsSummed (accepted : List Entry) (sums : Sums) : Type 0 where
   pub are : sums ≡ sums_of (receipts_behind [] accepted)
   pub few : AreFew sums (length accepted)

@@ -2,7 +2,7 @@ ghost use Rattle.std.specs.Prelude.{◌≡◌, OnOk, OnErr, IfErr, [], length, n
 ghost use Rattle.catalogue_core.specs.Catalogues.{IsDue};
 ghost use Rattle.catalogue_rules.specs.Receipts.{receipts_behind};
 ghost use Rattle.console_lines.specs.Totals.{totals_of};
-ghost use Rattle.plain_commands.specs.Totals.{holding, IsWithinLimits};
+ghost use Rattle.plain_commands.specs.Totals.{holding, sums_behind, IsWithinLimits};
 ghost use Rattle.plain_commands.specs.Loading.{nothing_loaded, lacks_room, with_accepted, with_refused};
 
 use catalogue_core::{Catalogue, CoreFault};
@@ -80,6 +80,7 @@ impl Loaded {
         &self.core
     }
 
+    /// The items that were refused, in their order.
     pub fn refused(&self) -> &[RefusedItem]
         ensures { result.now ≡ self.now.refused }
     {
@@ -102,6 +103,14 @@ impl Loaded {
             refused: self.refused.len() as u64,
             sums: self.sums,
         }
+    }
+
+    /// The sums over their receipts.
+    #[tactic(auto, unfolding(crate::specs::Totals::sums_behind))]
+    pub fn sums(&self) -> Sums
+        ensures { result ≡ sums_behind self.now.accepted }
+    {
+        self.sums
     }
 
     /// The accepted entries are within the limits.

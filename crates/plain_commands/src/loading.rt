@@ -87,7 +87,8 @@ fn load_counted<S: Source, L: Ledger>(
     }
 }
 
-fn load_source<S: Source>(alloc: Global, source: S, library: Text) -> (Result<Loaded, Fault>, S)
+/// Loads a source into an empty catalogue, and gives it back.
+pub fn load_source<S: Source>(alloc: Global, source: S, library: Text) -> (Result<Loaded, Fault>, S)
     requires library { IsTrue (is_code library) }
     ensures { LoadsItems library (option_map items (S.left source)) (S.faults source) (S.faults result.1) result.0 }
 {

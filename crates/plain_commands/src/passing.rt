@@ -3,20 +3,51 @@ ghost use Rattle.marc_types.specs.Valid.{is_code};
 ghost use Rattle.outside.specs.Room.{SameBut};
 ghost use Rattle.command_words.specs.declared.library.Library.{Library};
 ghost use Rattle.console_lines.specs.Ends.{outcome, IsTold};
-ghost use Rattle.plain_commands.specs.Passing.{IsReady, IsPassDelivered, EndsDelivering, Passes};
+ghost use Rattle.plain_commands.specs.Passing.{FileDue, export_due, IsReady, IsPassDelivered, EndsDelivering, Passes};
 
 use crate::ready::{Ready, prepare};
 use command_words::Library;
 use console_lines::{End, Fault, Unwritten, tell, tell_result};
 use marc_types::NoMemory;
-use output_files::{Export, write_document};
-use outside::{Room, Sink, WriteFault};
+use output_files::{Document, Export, write_document};
+use outside::{Room, WriteFault};
 use std::alloc::Global;
 use std::mem;
 
+/// Writes a document whose memory is taken into the file `out`, and then tells the console.
+pub(crate) fn deliver<R: Room, D: Document>(
+    room: &mut R,
+    console: &mut R::Out,
+    out: &str,
+    ready: &Ready,
+    document: D,
+) -> End
+    requires free { (R.seen room.old).open_as out.now ≡ None }
+    requires made { D.takes_memory document → ⊥ }
+    ensures apart { SameBut (R.seen room.old) (R.seen room.new) (out.now ∷ []) }
+    ensures closed { (R.seen room.new).open_as out.now ≡ None }
+    ensures no_fault { (why : Fault) → result ≡ End.Told why → ⊥ }
+
+    // Which of the two could not be written.
+    ensures unwritten { EndsDelivering out.now
+        (outcome R.seen R.Out.written R.Out.faults room.old room.new console.old console.new result) }
+
+    // What is there then, of a file with these bytes, where the document is what is due of it.
+    ensures delivered { (due : FileDue) (library : Library) (bytes : List ℕ) → (R.seen room.old).tells ≡ true → IsReady library bytes ready.now →
+        D.due document ≡ due bytes ready.now.loaded.accepted ready.now.loaded.refused → IsPassDelivered due library bytes out.now
+        (outcome R.seen R.Out.written R.Out.faults room.old room.new console.old console.new result) }
+{
+    match write_document(room, out, document) {
+        Ok(()) => tell_result(console, ready.text.as_str(), ready.loaded.has_refused()),
+        Err(WriteFault::OutputFault) => End::Unwritten(Unwritten::Out),
+        // its memory is taken
+        Err(WriteFault::NoMemory) => unreachable!(),
+    }
+}
+
 /// Writes the export into the file `out`, and then tells the console.
 #[tactic(auto, using(outside::proofs::Rooms::same_but_itself))]
-fn deliver<R: Room>(
+fn deliver_export<R: Room>(
     alloc: Global,
     room: &mut R,
     console: &mut R::Out,
@@ -37,17 +68,12 @@ fn deliver<R: Room>(
 
     // What is there then, of a file with these bytes.
     ensures delivered { (library : Library) (bytes : List ℕ) → (R.seen room.old).tells ≡ true → IsReady library bytes ready.now →
-        IsPassDelivered library bytes out.now
+        IsPassDelivered export_due library bytes out.now
         (outcome R.seen R.Out.written R.Out.faults room.old room.new console.old console.new result) }
 {
-    let export = match Export::of(alloc, ready.loaded.core(), None) {
-        Ok(export) => export,
-        Err(NoMemory) => return tell(console, Fault::Memory),
-    };
-    match write_document(room, out, export) {
-        Ok(()) => tell_result(console, ready.text.as_str(), ready.loaded.has_refused()),
-        Err(WriteFault::OutputFault) => End::Unwritten(Unwritten::Out),
-        Err(WriteFault::NoMemory) => tell(console, Fault::Memory),
+    match Export::of(alloc, ready.loaded.core(), None) {
+        Ok(export) => deliver(room, console, out, ready, export),
+        Err(NoMemory) => tell(console, Fault::Memory),
     }
 }
 
@@ -70,7 +96,7 @@ pub fn pass<R: Room>(
 {
     match prepare(alloc, room, library) {
         Ok(ready) => {
-            let end = deliver(alloc, room, console, out, &ready);
+            let end = deliver_export(alloc, room, console, out, &ready);
             // its memory is given back by the end of the process, which comes now
             mem::forget(ready);
             end

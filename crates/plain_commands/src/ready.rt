@@ -1,4 +1,4 @@
-ghost use Rattle.std.specs.Prelude.{◌≡◌, ℕ, List, true, None, IsSomeAnd, IsTrue, IfOk, IfErr, []};
+ghost use Rattle.std.specs.Prelude.{◌≡◌, ◌≢◌, ℕ, List, true, None, IsSomeAnd, IsTrue, IfOk, IfErr, []};
 ghost use Rattle.marc_types.specs.Valid.{is_code};
 ghost use Rattle.outside.specs.Fault.{Rose};
 ghost use Rattle.outside.specs.Room.{SameBut};
@@ -7,11 +7,12 @@ ghost use Rattle.plain_commands.specs.Loading.{IsFaultOfLoading, IsLoaded, IsFul
 ghost use Rattle.plain_commands.specs.Passing.{IsReady};
 
 use crate::loaded::Loaded;
-use crate::loading::load_file;
+use crate::loading::{load_file, load_source};
 use command_words::Library;
 use console_lines::{Fault, results_text};
 use marc_types::{NoMemory, TryCopy};
 use outside::Room;
+use outside_sure::SureSource;
 use std::alloc::Global;
 
 /// What a file comes to, before anything is written: the catalogue of its accepted entries with its refused items, and what
@@ -32,6 +33,29 @@ fn ready_of(alloc: Global, library: &Library, loaded: Loaded) -> Result<Ready, N
         &loaded.totals(),
     )?;
     Ok(Ready { loaded, text })
+}
+
+/// Makes what is to be written and told of a file with these bytes.
+pub fn prepare_bytes(alloc: Global, library: &Library, bytes: &[u8]) -> Result<Ready, Fault>
+    requires proper { IsTrue (is_code library.now.code) }
+    ensures ready { IfOk result (IsReady library.now bytes.now) }
+    ensures full { IfErr result (λ fault. fault ≡ Fault.Full → IsFullAt library.now.code (items bytes.now)) }
+    ensures kind { IfErr result IsFaultOfLoading }
+    ensures read { IfErr result (λ fault. fault ≢ Fault.Input) }
+{
+    let code = match library.code.copy(alloc) {
+        Ok(code) => code,
+        Err(NoMemory) => return Err(Fault::Memory),
+    };
+    let (loaded, _source) = load_source(alloc, SureSource::new(bytes), code);
+    let loaded = match loaded {
+        Ok(loaded) => loaded,
+        Err(fault) => return Err(fault),
+    };
+    match ready_of(alloc, library, loaded) {
+        Ok(ready) => Ok(ready),
+        Err(NoMemory) => Err(Fault::Memory),
+    }
 }
 
 /// Reads a file whole, and makes what is to be written and told of it.

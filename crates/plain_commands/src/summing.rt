@@ -54,7 +54,7 @@ fn sum_counted<L: Ledger>(
     'entries: while let Some(entry) = entries.next(alloc)? {
         commit(alloc, &mut loaded, entry, &mut steps)?;
     }
-    Ok(loaded.totals().sums)
+    Ok(loaded.sums())
 }
 
 /// Commits the records of a workload to an empty catalogue, and sums their receipts.

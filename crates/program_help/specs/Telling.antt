@@ -6,10 +6,10 @@ use Rattle.outside.specs.Sink.{WritesFront}
 use Rattle.console_lines.specs.Ends.{Outcome, console_unwritten}
 use Rattle.console_lines.specs.declared.end.End.{End}
 use Rattle.console_lines.specs.declared.end.End.TheVariants.{Done, Refused, Unwritten, Told}
-use Rattle.console_lines.specs.declared.end.Unwritten.TheVariants.{Out, Side, Console}
+use Rattle.console_lines.specs.declared.end.Unwritten.TheVariants.{Out, Side, Pages, Console}
 use Rattle.command_words.specs.declared.topic.Topic.{Topic}
 use Rattle.command_words.specs.declared.topic.Topic.TheVariants as topic
-use Rattle.program_help.specs.declared.texts.TheConstants.{ALL, PASS, RUN, LOAD, EXPORT, REPORT, MAKE, VERIFY, MATCHES, HOLDINGS, MIGRATE, CHECKPOINT, QUICK, HELP, VERSION, STATUSES, THIS_VERSION}
+use Rattle.program_help.specs.declared.texts.TheConstants.{ALL, PASS, RUN, LOAD, BROWSE, EXPORT, REPORT, MAKE, VERIFY, MATCHES, HOLDINGS, MIGRATE, CHECKPOINT, QUICK, READING, REFUSED, HELP, VERSION, STATUSES, THIS_VERSION}
 
 -- the text of a topic
 abbrev pub help_text : Topic → List ℕ
@@ -17,6 +17,7 @@ help_text topic.All = ALL.now
 help_text topic.Pass = PASS.now
 help_text topic.Run = RUN.now
 help_text topic.Load = LOAD.now
+help_text topic.Browse = BROWSE.now
 help_text topic.Export = EXPORT.now
 help_text topic.Report = REPORT.now
 help_text topic.Make = MAKE.now
@@ -26,6 +27,8 @@ help_text topic.Holdings = HOLDINGS.now
 help_text topic.Migrate = MIGRATE.now
 help_text topic.Checkpoint = CHECKPOINT.now
 help_text topic.Quick = QUICK.now
+help_text topic.Reading = READING.now
+help_text topic.Refused = REFUSED.now
 help_text topic.Help = HELP.now
 help_text topic.Version = VERSION.now
 help_text topic.Statuses = STATUSES.now
@@ -40,6 +43,7 @@ EndsTelling Done = Unit {0}
 EndsTelling Refused = ⊥
 EndsTelling (Unwritten Out) = ⊥
 EndsTelling (Unwritten Side) = ⊥
+EndsTelling (Unwritten Pages) = ⊥
 EndsTelling (Unwritten Console) = Unit {0}
 EndsTelling (Told fault) = ⊥
 

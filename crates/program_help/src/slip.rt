@@ -24,6 +24,10 @@ pub enum Slip<'a> {
         word: &'a str,
         nearest: Option<&'static str>,
     },
+    /// A command behind `reading` that isn't had so.
+    Unread {
+        word: &'a str,
+    },
     TooFew {
         topic: Topic,
     },
@@ -66,7 +70,7 @@ struct Form {
     names: usize,
     files: Files,
     may_have_code: bool,
-    ghost few: { names ≤ 3 },
+    ghost few: { names ≤ 4 },
 }
 
 #[derive(Clone, Copy, PartialEq, Eq)]
@@ -76,10 +80,11 @@ enum Files {
     Many,
 }
 
-const VERBS: [&str; 14] = [
+const VERBS: [&str; 17] = [
     "pass",
     "run",
     "load",
+    "browse",
     "export",
     "report",
     "make",
@@ -89,6 +94,8 @@ const VERBS: [&str; 14] = [
     "holdings",
     "checkpoint",
     "quick",
+    "reading",
+    "refused",
     "help",
     "version",
 ];
@@ -123,9 +130,10 @@ fn nearest(alloc: Global, word: &str) -> Result<Option<&'static str>, NoMemory> 
 
 fn form_of(topic: Topic) -> Form {
     let (names, files, may_have_code) = match topic {
-        Topic::Pass => (1, Files::One, false),
+        Topic::Pass | Topic::Refused => (1, Files::One, false),
         Topic::Run => (3, Files::Many, false),
         Topic::Load => (1, Files::Many, false),
+        Topic::Browse => (4, Files::Many, false),
         Topic::Export => (2, Files::None, true),
         Topic::Report | Topic::Matches | Topic::Migrate | Topic::Checkpoint => {
             (2, Files::None, false)
@@ -133,6 +141,7 @@ fn form_of(topic: Topic) -> Form {
         Topic::Make | Topic::Quick => (3, Files::None, false),
         Topic::Verify => (1, Files::None, false),
         Topic::Holdings => (3, Files::One, true),
+        Topic::Reading => (2, Files::None, false),
         Topic::Help | Topic::All | Topic::Version | Topic::Statuses => (0, Files::None, false),
     };
     Form {
@@ -145,17 +154,35 @@ fn form_of(topic: Topic) -> Form {
 
 /// What is wrong with the words behind a command's name.
 fn slip_behind<'a>(alloc: Global, topic: Topic, behind: &'a [Text]) -> Result<Slip<'a>, NoMemory> {
-    if topic == Topic::Help {
-        return slip_of_help(alloc, behind);
+    match topic {
+        Topic::Help => slip_of_help(alloc, behind),
+        Topic::Reading => Ok(slip_of_reading(behind)),
+        topic => Ok(slip_of_form(&form_of(topic), behind)),
     }
-    let form = form_of(topic);
-    Ok(
-        slip_of_count(&form, behind)
-            .or(slip_of_names(&form, behind))
-            .or(slip_of_files(&form, behind))
-            .or(slip_of_code(&form, behind))
-            .unwrap_or(Slip::TooFew { topic }),
-    )
+}
+
+/// What is wrong with words that are to have a form.
+fn slip_of_form<'a>(form: &Form, behind: &'a [Text]) -> Slip<'a> {
+    slip_of_count(form, behind)
+        .or(slip_of_names(form, behind))
+        .or(slip_of_files(form, behind))
+        .or(slip_of_code(form, behind))
+        .unwrap_or(Slip::TooFew { topic: form.topic })
+}
+
+/// What is wrong with the words behind `reading`, the first of which is a command's name.
+fn slip_of_reading(behind: &[Text]) -> Slip<'_> {
+    let topic = Topic::Reading;
+    let Some((verb, behind)) = behind.split_first() else {
+        return Slip::TooFew { topic };
+    };
+    let mut form = form_of(topic);
+    match verb.as_str() {
+        "export" => form.may_have_code = true,
+        "report" | "matches" => {}
+        word => return Slip::Unread { word },
+    }
+    slip_of_form(&form, behind)
 }
 
 fn slip_of_help<'a>(alloc: Global, behind: &'a [Text]) -> Result<Slip<'a>, NoMemory> {
@@ -297,6 +324,7 @@ impl Slip<'_> {
     fn topic(&self) -> Option<Topic> {
         match *self {
             Slip::NoCommand | Slip::Unknown { .. } => None,
+            Slip::Unread { .. } => Some(Topic::Reading),
             Slip::TooFew { topic }
             | Slip::TooMany { topic, .. }
             | Slip::TooManyFiles { topic, .. }
@@ -319,6 +347,10 @@ impl Slip<'_> {
                 word,
                 nearest: Some(nearest),
             } => write!(f, "there is no command {word}: did you mean {nearest}?"),
+            Slip::Unread { word } => write!(
+                f,
+                "reading stands before export, report or matches, and not before {word}"
+            ),
             Slip::TooFew { .. } => f.write_str("a word is missing"),
             Slip::TooMany { first, .. } => write!(f, "one word too many: {first}"),
             Slip::TooManyFiles { files, .. } => {

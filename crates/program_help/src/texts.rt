@@ -6,6 +6,7 @@ pub const ALL: &str = "union_cat, a union catalogue for MARC 21 records
 pass OUT CODE=FILE                   take one file alone, and write its records
 run JOURNAL OUT REPORT CODE=FILE ..  load files; write the export and the report
 load JOURNAL CODE=FILE ..            load files into the journal
+browse JOURNAL OUT REPORT PAGES CODE=FILE ..  as run, and pages of headings
 export JOURNAL OUT [CODE]            write the journal's records into OUT
 report JOURNAL OUT                   write the report on the headings into OUT
 make SEED COUNT OUT                  write made-up records, to try the program
@@ -15,10 +16,14 @@ holdings JOURNAL OUT REST CODE=FILE  write the records with a file's holdings
 migrate OLD NEW                      bring a journal of version 1 into a new one
 checkpoint JOURNAL POINT             keep the journal's catalogue behind POINT
 quick JOURNAL POINT OUT              export from POINT's last checkpoint on
+reading export JOURNAL OUT [CODE]    the same without holding JOURNAL, even while
+                                     a load has it; also report and matches
+refused OUT CODE=FILE                write the pieces of a file that are refused
 help [COMMAND]                       tell this, or how that command is used
 version                              tell the program's version
 ";
 
+/// The page of `pass`.
 pub const PASS: &str = "union_cat pass OUT CODE=FILE
 
 Takes one file through an empty catalogue, without a journal, and writes its
@@ -33,6 +38,7 @@ records than a catalogue takes; 8 memory ran out.
 Example: union_cat pass out.mrc ULIB=new.mrc
 ";
 
+/// The page of `run`.
 pub const RUN: &str = "union_cat run JOURNAL OUT REPORT CODE=FILE ..
 
 Loads 1 to 64 files into the journal, side by side; then writes the export of
@@ -48,6 +54,7 @@ journal's disk failed; 6 it is no journal; 7 it takes no more; 8 memory ran out;
 Example: union_cat run union.jnl all.out union.rep ALIB=a.mrc BLIB=b.mrc
 ";
 
+/// The page of `load`.
 pub const LOAD: &str = "union_cat load JOURNAL CODE=FILE ..
 
 Loads 1 to 64 files into the journal, side by side.
@@ -84,6 +91,21 @@ A journal takes 1,048,576 records, or 536,870,912 bytes, all that ever came.
 A file is read up to its first 1 GiB.
 ";
 
+/// The page of `browse`.
+pub const BROWSE: &str = "union_cat browse JOURNAL OUT REPORT PAGES CODE=FILE ..
+
+Does what run does; and while the files are loaded, a reader pages through the
+established headings.
+A page is a line AT with the number of the journal's records, all that ever
+came, and a line for each of its first 20 headings: the key, and the heading as
+it is compared. The last page is of all that the journal has in the end; how
+many stand before it is open.
+Writes: what run does; PAGES.
+Status: as run; 4 PAGES couldn't be written; 8 memory ran out.
+Example: union_cat browse union.jnl all.out union.rep union.pag ALIB=a.mrc
+";
+
+/// The page of `export`.
 pub const EXPORT: &str = "union_cat export JOURNAL OUT
 union_cat export JOURNAL OUT CODE
 
@@ -96,6 +118,7 @@ journal's disk failed; 6 it is no journal; 7 it has more than a catalogue takes;
 Example: union_cat export union.jnl a.out ALIB
 ";
 
+/// The page of `report`.
 pub const REPORT: &str = "union_cat report JOURNAL OUT
 
 Writes the report on the journal's headings: which are ambiguous, shared,
@@ -107,6 +130,7 @@ journal's disk failed; 6 it is no journal; 7 it has more than a catalogue takes;
 Example: union_cat report union.jnl union.rep
 ";
 
+/// The page of `make`.
 pub const MAKE: &str = "union_cat make SEED COUNT OUT
 
 Writes COUNT made-up records, at most 1048576, to try the program with. The same
@@ -117,6 +141,7 @@ written; 8 memory ran out.
 Example: union_cat make 1 1000 tried.mrc
 ";
 
+/// The page of `verify`.
 pub const VERIFY: &str = "union_cat verify JOURNAL
 
 Reads the journal from its first byte to its last, as an input.
@@ -128,6 +153,7 @@ Status: 0 it is a journal; 2 wrong words; 3 it isn't there, or couldn't be read;
 Example: union_cat verify union.jnl
 ";
 
+/// The page of `matches`.
 pub const MATCHES: &str = "union_cat matches JOURNAL OUT
 
 Writes which of the journal's bibliographic records have an ISBN or an LCCN in
@@ -139,6 +165,7 @@ journal's disk failed; 6 it is no journal; 7 it has more than a catalogue takes;
 Example: union_cat matches union.jnl same.txt
 ";
 
+/// The page of `holdings`.
 pub const HOLDINGS: &str = "union_cat holdings JOURNAL OUT REST CODE=FILE
 union_cat holdings JOURNAL OUT REST CODE=FILE LIB
 
@@ -157,6 +184,7 @@ journal's disk failed; 6 it is no journal; 7 it has more than a catalogue takes;
 Example: union_cat holdings union.jnl all.out late.mrc ALIB=a_holdings.mrc
 ";
 
+/// The page of `migrate`.
 pub const MIGRATE: &str = "union_cat migrate OLD NEW
 
 Brings the history of the journal OLD, of version 1, into the journal NEW, of
@@ -170,6 +198,7 @@ than a catalogue takes; 8 memory ran out; 9 OLD isn't of version 1, or NEW is;
 Example: union_cat migrate old.jnl union.jnl
 ";
 
+/// The page of `checkpoint`.
 pub const CHECKPOINT: &str = "union_cat checkpoint JOURNAL POINT
 
 Puts a checkpoint of the journal's catalogue behind those that POINT has, for
@@ -184,6 +213,7 @@ catalogue takes; 8 memory ran out; 9 POINT is of version 1.
 Example: union_cat checkpoint union.jnl union.pnt
 ";
 
+/// The page of `quick`.
 pub const QUICK: &str = "union_cat quick JOURNAL POINT OUT
 
 Writes the journal's records in the order of their keys, as export does, but
@@ -199,6 +229,39 @@ catalogue takes; 8 memory ran out; 9 POINT is of version 1.
 Example: union_cat quick union.jnl union.pnt all.out
 ";
 
+/// The page of `reading`.
+pub const READING: &str = "union_cat reading export JOURNAL OUT
+union_cat reading export JOURNAL OUT CODE
+union_cat reading report JOURNAL OUT
+union_cat reading matches JOURNAL OUT
+
+Writes what the command behind `reading` writes, but reads JOURNAL as an input:
+it isn't held, made or put in order, so that it can be on a read-only disk, or
+be loaded into meanwhile. OUT is that of the history of the bytes that were
+read. It may have entries that a crash would still take away.
+The journal's bytes are kept in memory too.
+Writes: OUT. JOURNAL is only read.
+Status: 0 all was written; 2 wrong words; 3 JOURNAL isn't there, or couldn't be
+read; 4 OUT couldn't be written; 6 it is no journal, or was read while it was
+cut; 7 it has more than a catalogue takes; 8 memory ran out.
+Example: union_cat reading export union.jnl all.out
+";
+
+/// The page of `refused`.
+pub const REFUSED: &str = "union_cat refused OUT CODE=FILE
+
+Takes one file as pass does, and writes the refused pieces, each as it stands in
+FILE: from its first byte through its record terminator, or to the end of FILE.
+CODE is the code of the library that sent FILE. It stands in the keys of the
+records that have no 003.
+Writes: OUT; on the console the lines of pass. FILE is kept in memory.
+Status: 0 none was refused, and OUT is empty; 1 some were; 2 wrong words; 3 FILE
+couldn't be read; 4 OUT or the console couldn't be written; 7 there are more
+records than a catalogue takes; 8 memory ran out.
+Example: union_cat refused back.mrc ULIB=new.mrc
+";
+
+/// The page of `help`.
 pub const HELP: &str = "union_cat help
 union_cat help COMMAND
 union_cat help statuses
@@ -211,6 +274,7 @@ Status: 0 it is told; 2 wrong words; 4 the console couldn't be written.
 Example: union_cat help load
 ";
 
+/// The page of `version`.
 pub const VERSION: &str = "union_cat version
 
 Tells the program's version, and the kit that proved it. --version and -V alone
@@ -220,6 +284,7 @@ Status: 0 it is told; 2 wrong words; 4 the console couldn't be written.
 Example: union_cat version
 ";
 
+/// The page of the exit statuses.
 pub const STATUSES: &str = "union_cat help statuses
 
 The exit statuses of all commands:

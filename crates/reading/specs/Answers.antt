@@ -18,6 +18,7 @@ IsRefusedText coding bytes entry start (Refused refusal) =
     (fault : Marc8Fault) × IsFaultIn coding bytes fault × IsTextRefusal entry start fault refusal
 IsRefusedText coding bytes entry start NoMemory = Unit {0}
 
+-- the fault of an entry is so, or memory ran out
 abbrev pub IsRefusedEntry : List ℕ → ℕ → RecordFault → Type 0
 IsRefusedEntry bytes entry (Refused refusal) = IsEntryFault bytes entry refusal
 IsRefusedEntry bytes entry NoMemory = Unit {0}

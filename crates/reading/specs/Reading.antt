@@ -17,6 +17,7 @@ use Rattle.marc8_latin.specs.declared.fault.Marc8Fault.{Marc8Fault}
 use Rattle.marc8_latin.specs.declared.fault.Marc8Fault.TheVariants.{BadByte, NoMemory}
 use Rattle.marc8_latin.specs.declared.fault.Marc8Fault.TheVariants as marc8
 
+-- leader byte 09 is a blank
 abbrev pub is_marc8 : ℕ → Bool
 is_marc8 coding = coding == 0x20
 
@@ -32,6 +33,7 @@ text_start bytes entry = if is_control_tag (tag_at bytes entry) then 0 else 2
 abbrev pub indicators_at : List ℕ → ℕ → List ℕ
 indicators_at bytes entry = take (text_start bytes entry) (data_at bytes entry)
 
+-- the bytes of an entry's text
 abbrev pub text_at : List ℕ → ℕ → List ℕ
 text_at bytes entry = drop (text_start bytes entry) (data_at bytes entry)
 

@@ -1,7 +1,7 @@
 -- A whole checkpoint behind a log: what it is of, and that it is the last one then.
-use Rattle.std.proofs.Common.{◌≡◌, ◌∙◌, ℕ, zero, suc, ◌+◌, ◌≤◌, Bool, true, false, cond, List, [], ◌∷◌, ◌++◌, length, map, Option, Some, None, Result, Ok, Err, refl, sym, ap, subst, ◌⊎◌, inl, inr, arith, append_assoc}
+use Rattle.std.proofs.Common.{◌≡◌, ◌∙◌, ℕ, suc, ◌+◌, ◌≤◌, Bool, true, false, cond, List, [], ◌∷◌, ◌++◌, length, map, Option, refl, sym, ap, subst, ◌⊎◌, inl, inr, arith}
 use mathlib.Core.List.{map-append}
-use Rattle.std.specs.Prelude.{All, filter}
+use Rattle.std.specs.Prelude.{filter}
 use Rattle.std.specs.List.{flat_map}
 use Rattle.std.proofs.lemmas.List.{append-nil}
 use Rattle.std.proofs.lemmas.List.Elements.{All-append, All-from_recursion}
@@ -15,14 +15,14 @@ use Rattle.catalogue_rules.proofs.Elements.{Each, each_weaker}
 use Rattle.kept_rows.specs.declared.row.KeptRow.{KeptRow}
 use Rattle.kept_rows.specs.Rows.{row_of, is_of, rows_in, state_of_rows, are_in_order}
 use Rattle.kept_rows.proofs.Classes.{ascending_ordered}
-use Rattle.commit_journal.specs.Log.{frames_of, version_of}
+use Rattle.commit_journal.specs.Log.{frames_of}
 use Rattle.commit_journal.specs.Journal.{and_frames, frames_from, frames_len, HasAllOrNone}
 use Rattle.commit_journal.specs.declared.frame.Frame.{Frame}
 use Rattle.commit_journal.specs.declared.format.TheConstants.{LENGTH_BYTES}
 use Rattle.commit_journal.proofs.Steps.{leaves_weaker}
 use Rattle.checkpoint.specs.Format.{part_bytes}
 use Rattle.checkpoint.specs.Parts.{IsPart, ArePartsOf}
-use Rattle.checkpoint.specs.Points.{IsCheckpoint, IsSnapshot, IsPointOf, half_checkpoint, last_point, payloads_of, point_of}
+use Rattle.checkpoint.specs.Points.{IsSnapshot, half_checkpoint, payloads_of, point_of}
 use Rattle.checkpoint.specs.declared.part.Part.{Part}
 use Rattle.checkpoint.specs.declared.part.Part.TheVariants.{End}
 use Rattle.checkpoint.specs.declared.point.Point.{Point}

@@ -1,7 +1,7 @@
 -- What each row has after a history of admitted entries, besides what makes a state valid: its key has the number of its 001, its
 -- record doesn't delete, and its fields await proper keys alone.
 use Rattle.std.proofs.Common.{◌≡◌, ◌∙◌, ℕ, Bool, true, false, cond, ◌&&◌, List, [], ◌∷◌, map, Option, Some, None, IfSome, refl, sym, ap, if◌then◌else◌}
-use Rattle.std.specs.Prelude.{◌==◌, not, All, fold, find, unwrap_or, option_and_then}
+use Rattle.std.specs.Prelude.{◌==◌, not, All, fold, find, unwrap_or}
 use Rattle.std.specs.Option.{option_map_or}
 use Rattle.std.specs.BTreeMap.{insert_entry}
 use Rattle.std.specs.Map.{remove_entry}
@@ -20,10 +20,10 @@ use Rattle.heading_fields.specs.Rewriting.{rewriting, unlinking}
 use Rattle.entry_record.specs.Identity.{has_tag, first_control, control_number_of, key_of, is_deletion}
 use Rattle.entry_record.specs.Authority.{Linkable, heading_kind, option_filter, is_left_parenthesis, is_valid_key, key_split_at_parenthesis, key_of_text, only_number_text, replacement_numbers, replacement_key, successor_of}
 use Rattle.entry_record.specs.History.{IsAdmitted}
-use Rattle.catalogue_rules.specs.State.{KeptField, KeptRecord, Row, State, empty_state, fields_of, rows_of, new_field, new_record, each_in_row, each_field, linkable_authorities}
+use Rattle.catalogue_rules.specs.State.{KeptField, KeptRecord, Row, State, empty_state, fields_of, new_field, new_record, each_in_row, each_field, linkable_authorities}
 use Rattle.catalogue_rules.specs.Choice.{Choice, Link, Ambiguous, Unlinked, has_key, choice}
-use Rattle.catalogue_rules.specs.Settle.{Arrival, place, keeps_link, is_linked_to, awaits_key, end_link, await, hand_on, loosen, loosen_all, put_in, put, link_to, take_choice, settle_linked, settle_unlinked, settle_field, settle, step, state_after, arrival_of, state_of}
-use Rattle.catalogue_rules.proofs.Elements.{Each, each_weaker, each_map, if_some_then}
+use Rattle.catalogue_rules.specs.Settle.{Arrival, place, keeps_link, is_linked_to, awaits_key, end_link, await, loosen, loosen_all, put_in, put, link_to, take_choice, settle_linked, settle_unlinked, settle_field, settle, step, state_after, arrival_of, state_of}
+use Rattle.catalogue_rules.proofs.Elements.{Each, each_map, if_some_then}
 use Rattle.catalogue_rules.proofs.Rows.{each_place}
 
 abbrev pub IsProper : Key → Type 0

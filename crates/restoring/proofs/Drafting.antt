@@ -1,5 +1,5 @@
 -- A checkpoint in memory, as it grows.
-use Rattle.std.proofs.Common.{◌≡◌, ◌∙◌, ℕ, zero, suc, ◌+◌, ◌<◌, ◌≤◌, ◌^◌, true, List, [], ◌∷◌, ◌++◌, length, map, refl, sym, ap, subst, arith, append_assoc, length-append}
+use Rattle.std.proofs.Common.{◌≡◌, ◌∙◌, ℕ, suc, ◌+◌, ◌<◌, ◌≤◌, ◌^◌, List, [], ◌∷◌, ◌++◌, length, map, refl, sym, ap, subst, arith, append_assoc, length-append}
 use mathlib.Core.List.{map-append}
 use Rattle.std.specs.Prelude.{All}
 use Rattle.std.specs.Int.{w64, to_be_bytes}
@@ -9,21 +9,18 @@ use Rattle.std.proofs.lemmas.List.Elements.{All-nil, All-cons, All-append}
 use Rattle.std.proofs.lemmas.Grind.{flat_map-append}
 use Rattle.marc_types.specs.declared.key.Class.{Class}
 use Rattle.marc_types.specs.declared.key.Key.{Key}
-use Rattle.marc_types.specs.declared.field.Field.{Field}
-use Rattle.marc_types.specs.declared.entry.Tie.{Tie}
 use Rattle.iso2709_record.specs.Texts.{HasUtf8Texts}
 use Rattle.entry_record.specs.Identity.{control_number_of}
 use Rattle.reading.proofs.Written.{written_reads}
-use Rattle.catalogue_rules.specs.State.{KeptField, KeptRecord, Row, kept_field, fields_of, tied}
+use Rattle.catalogue_rules.specs.State.{KeptField, KeptRecord, Row, fields_of, tied}
 use Rattle.numbered_store.specs.Kept.{kept_record, tied_record}
-use Rattle.numbered_store.specs.declared.kept.Kept.{Kept}
+use Rattle.numbered_store.specs.declared.kept.StoredRecord.{StoredRecord}
 use Rattle.numbered_store.proofs.Tied.{kept_fields}
 use Rattle.kept_rows.specs.declared.row.KeptRow.{KeptRow}
 use Rattle.kept_rows.specs.Rows.{row_of}
 use Rattle.commit_journal.specs.Journal.{IsPayload}
-use Rattle.commit_journal.specs.declared.format.TheConstants.{LARGEST_PAYLOAD}
 use Rattle.checkpoint.specs.Format.{part_bytes, row_bytes, kept_bytes, head_bytes, ties_of}
-use Rattle.checkpoint.specs.Parts.{IsPart, IsKeptRow, IsWritable, ArePartsOf}
+use Rattle.checkpoint.specs.Parts.{IsPart, IsKeptRow, ArePartsOf}
 use Rattle.checkpoint.specs.Points.{half_checkpoint}
 use Rattle.checkpoint.specs.declared.part.Part.{Part}
 use Rattle.checkpoint.specs.declared.part.Part.TheVariants.{Begin, Rows, End}
@@ -123,27 +120,27 @@ length_mapped : {A B : Type 0} (f : A → B) (xs : List A) → length (map f xs)
 length_mapped f [] = refl
 length_mapped f (x ∷ xs) = ap suc (length_mapped f xs)
 
-ties_long : (kept : Kept) → length (ties_of (kept_record kept)) ≡ length kept.written.fields
+ties_long : (kept : StoredRecord) → length (ties_of (kept_record kept)) ≡ length kept.written.fields
 ties_long kept =
     length_mapped (λ (h : KeptField). h.tie) (kept_record kept).fields ∙ sym (length_mapped (λ (h : KeptField). h.field) (kept_record kept).fields) ∙ ap length (kept_fields kept)
 
-abbrev row_made : Class → Key → Kept → KeptRow
+abbrev row_made : Class → Key → StoredRecord → KeptRow
 row_made class key kept = record { class = class; key = key; rec = kept.written; ties = ties_of (kept_record kept); tied = ties_long kept }
 
-leader_kept : (kept : Kept) → kept.written.leader ≡ (kept_record kept).leader
+leader_kept : (kept : StoredRecord) → kept.written.leader ≡ (kept_record kept).leader
 unfolding kept_record
 leader_kept kept = refl
 
-made_record : (kept : Kept) → tied_record kept.written.leader kept.written.fields (ties_of (kept_record kept)) ≡ kept_record kept
+made_record : (kept : StoredRecord) → tied_record kept.written.leader kept.written.fields (ties_of (kept_record kept)) ≡ kept_record kept
 made_record kept =
     let fields = ap (λ fs. tied fs (ties_of (kept_record kept))) (sym (kept_fields kept)) ∙ tied_back (kept_record kept).fields in
     let leader = leader_kept kept in
     λ i. record { leader = leader i; fields = fields i }
 
-made_row : (class : Class) (key : Key) (kept : Kept) → row_of (row_made class key kept) ≡ (key, kept_record kept)
+made_row : (class : Class) (key : Key) (kept : StoredRecord) → row_of (row_made class key kept) ≡ (key, kept_record kept)
 made_row class key kept = ap (λ (r : KeptRecord). (key, r)) (made_record kept)
 
-made_can : (class : Class) (key : Key) (kept : Kept) → CanBeKept (key, kept_record kept) → All HasUtf8Texts (fields_of (kept_record kept)) → IsKeptRow (row_made class key kept)
+made_can : (class : Class) (key : Key) (kept : StoredRecord) → CanBeKept (key, kept_record kept) → All HasUtf8Texts (fields_of (kept_record kept)) → IsKeptRow (row_made class key kept)
 made_can class key kept can utf8 = record {
   key = can.key;
   number = can.number ∙ ap control_number_of (kept_fields kept);
@@ -154,12 +151,12 @@ made_can class key kept can utf8 = record {
   ties = can.ties;
 }
 
-made_bytes : (class : Class) (key : Key) (kept : Kept) → row_bytes (row_made class key kept) ≡ kept_bytes class (key, kept_record kept)
+made_bytes : (class : Class) (key : Key) (kept : StoredRecord) → row_bytes (row_made class key kept) ≡ kept_bytes class (key, kept_record kept)
 unfolding row_bytes
 made_bytes class key kept = ap (kept_bytes class) (made_row class key kept)
 
 -- a kept record comes behind the others
-pub added : (rows : List ClassRow) (whole now : List (List ℕ)) (filling out : List ℕ) (class : Class) (key : Key) (kept : Kept) → length filling ≤ 1726389 → CanBeKept (key, kept_record kept)
+pub added : (rows : List ClassRow) (whole now : List (List ℕ)) (filling out : List ℕ) (class : Class) (key : Key) (kept : StoredRecord) → length filling ≤ 1726389 → CanBeKept (key, kept_record kept)
     → All HasUtf8Texts (fields_of (kept_record kept)) → out ≡ filling ++ kept_bytes class (key, kept_record kept) → now ≡ whole → IsDraft rows whole filling
     → IsDraft (rows ++ (class, (key, kept_record kept)) ∷ []) now out
 added rows whole now filling out class key kept room can utf8 is same d =

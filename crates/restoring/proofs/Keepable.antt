@@ -1,11 +1,10 @@
 -- Each row of a state behind a history of admitted entries can stand in a checkpoint.
-use Rattle.std.proofs.Common.{◌≡◌, ℕ, Bool, true, false, List, [], ◌∷◌, map, Option, Some, None, IfSome, refl, sym, subst}
+use Rattle.std.proofs.Common.{◌≡◌, true, false, List, [], ◌∷◌, map, Option, Some, None, IfSome, refl, sym, subst}
 use Rattle.std.specs.Prelude.{◌&&◌, ◌||◌, All, find}
 use Rattle.std.specs.Option.{option_map_or}
 use Rattle.std.proofs.lemmas.List.Elements.{All-from_recursion, recursion_from_All}
 use Rattle.marc_types.specs.Order.{key_Decides}
 use Rattle.marc_types.specs.declared.entry.Entry.{Entry}
-use Rattle.marc_types.specs.declared.entry.Tie.{Tie}
 use Rattle.marc_types.specs.declared.key.Class.{Class}
 use Rattle.marc_types.specs.declared.key.Class.TheVariants.{Authority, Bibliographic}
 use Rattle.marc_types.specs.declared.key.Key.{Key}
@@ -22,7 +21,7 @@ use Rattle.catalogue_rules.proofs.Proper.{proper_linkable, each_linkable}
 use Rattle.kept_rows.specs.Standing.{IsStanding}
 use Rattle.checkpoint.specs.Parts.{IsProperKey, IsProperTie}
 use Rattle.restoring.specs.Drafts.{CanBeKept}
-use Rattle.restoring.proofs.Carried.{IsOwn, AreOwn, own_after}
+use Rattle.restoring.proofs.Carried.{IsOwn, own_after}
 
 key_of_row : (class : Class) (row : Row) → IsRow class row → IsProperKey row.0
 key_of_row class row r = rw (r.code, r.number) refl

@@ -1,23 +1,20 @@
 -- How a history is taken up from a checkpoint.
-use Rattle.std.proofs.Common.{◌≡◌, ◌∙◌, ℕ, zero, suc, ◌+◌, ◌<◌, ◌≤◌, true, List, [], ◌∷◌, ◌++◌, length, map, take, drop, Option, Some, None, IfSome, refl, sym, ap, subst, ◌⊎◌, inl, inr, arith}
-use Rattle.std.specs.Prelude.{All, fold}
+use Rattle.std.proofs.Common.{◌≡◌, ◌∙◌, ℕ, ◌+◌, ◌≤◌, List, length, take, Option, Some, None, IfSome, refl, sym, ap, subst, ◌⊎◌, inl, inr}
+use Rattle.std.specs.Prelude.{All}
 use Rattle.std.proofs.lemmas.List.Elements.{All-take}
 use Rattle.marc_types.specs.declared.entry.Entry.{Entry}
 use Rattle.entry_record.specs.History.{IsAdmitted}
-use Rattle.catalogue_rules.specs.State.{State, empty_state}
-use Rattle.catalogue_rules.specs.Settle.{step, arrival_of, state_after, state_of}
+use Rattle.catalogue_rules.specs.State.{State}
+use Rattle.catalogue_rules.specs.Settle.{state_after, state_of}
 use Rattle.catalogue_rules.proofs.States.{every_state_valid}
-use Rattle.linking_laws.specs.Visits.{touched}
 use Rattle.commit_journal.specs.declared.frame.Frame.{Frame}
-use Rattle.catalogue_core.specs.Engines.{Engined, kept_engine}
 use Rattle.checkpoint.specs.Points.{IsPointOf}
 use Rattle.checkpoint.specs.Resuming.{gone_on, resumed}
 use Rattle.checkpoint.specs.declared.point.Point.{Point}
 use Rattle.checkpoint.proofs.Going.{resumed_whole}
 use Rattle.checkpoint.proofs.Wholes.{last_is_whole}
 use Rattle.kept_rows.specs.Standing.{IsStanding}
-use Rattle.restoring.specs.Resuming.{BeginsWith, CanBeTaken, IsBlank, IsTakenUp, IsInOrder, IsOfHistory, IsResumed, held_state, touched_through}
-use Rattle.restoring.specs.declared.resuming.Restored.{Restored}
+use Rattle.restoring.specs.Resuming.{BeginsWith, CanBeTaken, IsBlank, IsTakenUp, IsInOrder, IsOfHistory, held_state, touched_through}
 use Rattle.restoring.proofs.Keepable.{history_stands}
 
 -- ---- what is begun with

@@ -1,9 +1,8 @@
 -- A checkpoint that is made in memory. It serves the writing of checkpoints.
-use Rattle.std.specs.Prelude.{◌≡◌, ℕ, ◌≤◌, true, List, [], ◌∷◌, ◌++◌, length, map, All}
+use Rattle.std.specs.Prelude.{◌≡◌, ℕ, ◌≤◌, List, [], ◌∷◌, ◌++◌, length, map, All}
 use Rattle.std.specs.List.{flat_map}
 use Rattle.marc_types.specs.declared.key.Class.{Class}
 use Rattle.marc_types.specs.declared.key.Class.TheVariants.{Authority, Bibliographic}
-use Rattle.iso2709_record.specs.Written.{fits}
 use Rattle.entry_record.specs.Identity.{control_number_of}
 use Rattle.catalogue_rules.specs.State.{Row, State, fields_of}
 use Rattle.kept_rows.specs.declared.row.KeptRow.{KeptRow}
@@ -11,15 +10,15 @@ use Rattle.kept_rows.specs.Rows.{row_of}
 use Rattle.commit_journal.specs.Journal.{IsPayload}
 use Rattle.commit_journal.specs.declared.format.TheConstants.{LARGEST_PAYLOAD}
 use Rattle.checkpoint.specs.Format.{part_bytes, ties_of}
-use Rattle.checkpoint.specs.Parts.{IsProperKey, IsProperTie, IsPart, IsKeptRow, ArePartsOf}
+use Rattle.checkpoint.specs.Parts.{IsProperKey, IsProperTie, IsKeptRow, ArePartsOf}
 use Rattle.checkpoint.specs.Points.{half_checkpoint}
-use Rattle.checkpoint.specs.declared.part.Part.{Part}
-use Rattle.checkpoint.specs.declared.part.Part.TheVariants.{Begin, Rows, End}
+use Rattle.checkpoint.specs.declared.part.Part.TheVariants.{Rows, End}
 
 -- a row, and its class
 abbrev pub ClassRow : Type 0
 ClassRow = Class × Row
 
+-- rows, each with that class
 abbrev pub of_class : Class → List Row → List ClassRow
 of_class class rows = map (λ row. (class, row)) rows
 
@@ -27,6 +26,7 @@ of_class class rows = map (λ row. (class, row)) rows
 abbrev pub rows_in_turn : State → List ClassRow
 rows_in_turn s = of_class Authority s.authorities ++ of_class Bibliographic s.bibliographic
 
+-- a kept row as a row with its class
 abbrev pub class_row_of : KeptRow → ClassRow
 class_row_of r = (r.class, row_of r)
 

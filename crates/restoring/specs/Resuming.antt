@@ -1,12 +1,12 @@
 -- A catalogue that is resumed from a checkpoint, and gone on with by the entries behind it. The rules are this project's own.
-use Rattle.std.specs.Prelude.{◌≡◌, ◌⊎◌, ℕ, ◌+◌, ◌≤◌, true, List, [], ◌∷◌, length, take, drop, Option, Some, None, IfSome}
+use Rattle.std.specs.Prelude.{◌≡◌, ◌⊎◌, ℕ, ◌+◌, ◌≤◌, true, List, [], ◌∷◌, length, take, Option, Some, None, IfSome}
 use Rattle.marc_types.specs.declared.entry.Entry.{Entry}
 use Rattle.catalogue_rules.specs.State.{State, empty_state}
 use Rattle.catalogue_rules.specs.Settle.{step, arrival_of, state_of}
 use Rattle.linking_laws.specs.Visits.{touched}
 use Rattle.kept_rows.specs.Rows.{state_of_rows, are_in_order}
 use Rattle.kept_rows.specs.Standing.{IsStanding}
-use Rattle.catalogue_core.specs.Engines.{Engined, kept_engine}
+use Rattle.catalogue_core.specs.Engines.{kept_engine}
 use Rattle.checkpoint.specs.Resuming.{resumed}
 use Rattle.checkpoint.specs.declared.point.Point.{Point}
 use Rattle.restoring.specs.declared.resuming.Restored.{Restored}

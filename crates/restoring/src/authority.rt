@@ -16,7 +16,6 @@ use marc_types::{Class, Key, NoMemory};
 use std::alloc::Global;
 
 /// The heading of the authority under a key, if fields can be linked to it.
-
 pub(crate) fn linked_heading(
     store: &ReadableStore,
     alloc: Global,

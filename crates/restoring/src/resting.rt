@@ -22,7 +22,7 @@ use field_settling::{Heading, link_to};
 use heading_fields::{belongs, has_subdivision, heading_kind, part_region, takes_subdivisions};
 use linked_store::{ReadableStore, can_be_heading};
 use marc_types::{Class, Field, Key, Kind, NoMemory, Subfield, Tag, Tie};
-use numbered_store::{FoundField, Kept};
+use numbered_store::{FoundField, StoredRecord};
 use numbering::Seat;
 use std::alloc::Global;
 
@@ -32,7 +32,7 @@ pub(crate) fn place_rests(
     store: &ReadableStore,
     alloc: Global,
     seat: Seat,
-    kept: &Kept,
+    kept: &StoredRecord,
 ) -> Result<bool, NoMemory>
     requires ordered { AreAuthoritiesInOrder store.now.state }
     requires known { HasKey store.now.keys seat }

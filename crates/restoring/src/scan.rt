@@ -11,7 +11,7 @@ ghost use Rattle.numbered_store.specs.Kept.{kept_record};
 use crate::resting::place_rests;
 use linked_store::ReadableStore;
 use marc_types::{Class, Key, NoMemory};
-use numbered_store::Kept;
+use numbered_store::StoredRecord;
 use numbering::Seat;
 use std::alloc::Global;
 
@@ -50,7 +50,7 @@ fn row_rests(
     alloc: Global,
     class: Class,
     key: &Key,
-    kept: &Kept,
+    kept: &StoredRecord,
 ) -> Result<bool, NoMemory>
     requires ordered { AreAuthoritiesInOrder store.now.state }
     requires stands { kept_under class key.now store.now.state ≡ Some (kept_record kept.now) }
@@ -69,7 +69,7 @@ fn record_rests(
     alloc: Global,
     class: Class,
     number: u32,
-    kept: &Kept,
+    kept: &StoredRecord,
 ) -> Result<bool, NoMemory>
     requires ordered { AreAuthoritiesInOrder store.now.state }
     requires known { IsNumber class number store.now.keys }

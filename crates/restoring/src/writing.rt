@@ -17,7 +17,7 @@ use catalogue_core::{Catalogue, Engine};
 use checkpoint::{append_row, begin_payload, begin_rows, end_payload};
 use commit_journal::{Journal, LARGEST_PAYLOAD, Version};
 use marc_types::{Class, Key, NoMemory};
-use numbered_store::Kept;
+use numbered_store::StoredRecord;
 use outside::{Bytes, Disk, WriteFault};
 use std::alloc::Global;
 use std::mem;
@@ -75,7 +75,13 @@ impl Draft {
 
     /// Puts a kept record behind the others.
     #[tactic(auto, using(crate::proofs::Drafting::added))]
-    fn add(&mut self, alloc: Global, class: Class, key: &Key, kept: &Kept) -> Result<(), NoMemory>
+    fn add(
+        &mut self,
+        alloc: Global,
+        class: Class,
+        key: &Key,
+        kept: &StoredRecord,
+    ) -> Result<(), NoMemory>
         requires { CanBeKept (key.now, kept_record kept.now) }
         ensures { OnOk result ((rows : List ClassRow) → IsDraft rows self.old.whole.items self.old.filling.items
             → IsDraft (rows ++ (class, (key.now, kept_record kept.now)) ∷ []) self.new.whole.items self.new.filling.items) }

@@ -1,9 +1,9 @@
 //! The program `union_cat`: carries out the command of its words over the files of the system.
 #![tactic(auto)]
 
-use command_words::{AloneRequest, Libraries, Outputs, Request, Unasked, Words, request};
+use command_words::{AloneRequest, Libraries, Look, Outputs, Request, Unasked, Words, request};
 use marc_types::Text;
-use outside_real::{FileRoom, FileSink, Intent, ProgressGate, Target};
+use outside_real::{Counts, FileRoom, FileSink, Intent, ProgressGate, Target};
 use program_help::slip_in;
 use std::alloc::Global;
 use std::io::{ErrorKind, IsTerminal};
@@ -11,7 +11,7 @@ use std::process::ExitCode;
 use std::sync::Wait;
 use std::thread::Threads;
 use std::{env, io, process};
-use union_top::{Begun, begin, end, load};
+use union_top::{Begun, begin, end, end_browsing, load, load_browsing};
 
 /// The exit status where there is no memory for the words of the command line.
 const NO_MEMORY: u8 = 8;
@@ -48,11 +48,9 @@ fn words_of(rt: &HostRuntime) -> io::Result<Words> {
     Ok(Words::from_vec(words))
 }
 
-/// What a command is about to do with its files: the outputs that a load is to write, which the room looks at before it lets the journal
-/// be opened, and whether it only reads its journal.
-fn intent_of(alloc: Global, asked: &Result<Request<'_>, Unasked>) -> io::Result<Intent> {
+/// The outputs that a load is to write, which the room looks at before it lets the journal be opened.
+fn outputs_of(alloc: Global, asked: &Result<Request<'_>, Unasked>) -> io::Result<Vec<String>> {
     let mut outputs = Vec::new(alloc);
-    let mut reads = false;
     match asked {
         Ok(Request::Load(wanted)) => {
             if let Some(Outputs { out, report }) = wanted.outputs {
@@ -60,23 +58,78 @@ fn intent_of(alloc: Global, asked: &Result<Request<'_>, Unasked>) -> io::Result<
                 outputs.push(String::from_str(alloc, report)?)?;
             }
         }
-        Ok(
-            Request::Alone(
-                AloneRequest::Export { .. }
-                | AloneRequest::Report { .. }
-                | AloneRequest::Matches { .. }
-                | AloneRequest::Holdings { .. },
-            ),
-        ) => reads = true,
+        Ok(Request::Browse(wanted)) => {
+            for output in [wanted.outputs.out, wanted.outputs.report, wanted.pages] {
+                outputs.push(String::from_str(alloc, output)?)?;
+            }
+        }
         _ => {}
     }
-    Ok(Intent { outputs, reads })
+    Ok(outputs)
+}
+
+/// Whether a command only reads its journal; and whether it looks at it without holding it.
+fn reading_of(asked: &AloneRequest<'_>) -> (bool, bool) {
+    match asked {
+        AloneRequest::Export { .. }
+        | AloneRequest::Report { .. }
+        | AloneRequest::Matches { .. }
+        | AloneRequest::Holdings { .. } => (true, false),
+        AloneRequest::Verify { .. } | AloneRequest::Read { .. } => (false, true),
+        _ => (false, false),
+    }
+}
+
+/// What is told of how much a command wrote.
+fn counts_of(asked: &AloneRequest<'_>) -> Counts {
+    match asked {
+        AloneRequest::Export { code: Some(_), .. }
+        | AloneRequest::Read {
+            look: Look::Export(Some(_)),
+            ..
+        } => Counts::RecordsOfCode,
+        AloneRequest::Export { .. }
+        | AloneRequest::Holdings { .. }
+        | AloneRequest::Quick { .. }
+        | AloneRequest::Read {
+            look: Look::Export(None),
+            ..
+        } => Counts::Records,
+        AloneRequest::Report { .. } | AloneRequest::Matches { .. } | AloneRequest::Read { .. } => {
+            Counts::Lines
+        }
+        _ => Counts::Nothing,
+    }
+}
+
+/// What a command is about to do with its files.
+fn intent_of(
+    alloc: Global,
+    asked: &Result<Request<'_>, Unasked>,
+    is_terminal: bool,
+) -> io::Result<Intent> {
+    let outputs = outputs_of(alloc, asked)?;
+    let (reads, looks, counts) = match asked {
+        Ok(Request::Alone(alone)) => {
+            let (reads, looks) = reading_of(alone);
+            (reads, looks, counts_of(alone))
+        }
+        _ => (false, false, Counts::Nothing),
+    };
+    Ok(Intent {
+        outputs,
+        reads,
+        looks,
+        counts,
+        is_terminal,
+    })
 }
 
 /// Whether a command writes outputs behind what it loads.
 fn is_run(asked: &Result<Request<'_>, Unasked>) -> bool {
     match asked {
         Ok(Request::Load(wanted)) => wanted.outputs.is_some(),
+        Ok(Request::Browse(_)) => true,
         _ => false,
     }
 }
@@ -111,16 +164,24 @@ fn command<H: Threads + Wait + Sync>(rt: &HostRuntime, threads: &H) -> io::Resul
     let mut room = FileRoom::new(files, alloc, process::id(rt.process()));
     let asked = request(alloc, &words);
     let writes_behind = is_run(&asked);
-    room.intend(intent_of(alloc, &asked)?);
+    let is_terminal = rt.stderr().is_terminal();
+    room.intend(intent_of(alloc, &asked, is_terminal)?);
     let mut console = FileSink::direct(alloc, Target::Console(told));
     let status = match begin(alloc, &words, asked, &mut room, &mut console) {
         Begun::Ended(status) => status,
         Begun::Loading(loading) => {
             // Where there is no memory for the names, no progress is told.
             let names = names_of(alloc, loading.libraries()).unwrap_or(Vec::new(alloc));
-            let gate = ProgressGate::new(progress, names, rt.stderr().is_terminal());
+            let gate = ProgressGate::new(progress, names, is_terminal);
             let loaded = load(threads, alloc, loading, &gate);
             end(alloc, loaded, &mut room, &mut console)
+        }
+        Begun::Browsing(browsing) => {
+            let libraries = browsing.loading().libraries();
+            let names = names_of(alloc, libraries).unwrap_or(Vec::new(alloc));
+            let gate = ProgressGate::new(progress, names, rt.stderr().is_terminal());
+            let browsed = load_browsing(threads, alloc, browsing, &gate);
+            end_browsing(alloc, browsed, &mut room, &mut console)
         }
     };
     tell_more(rt, &words, writes_behind, status);

@@ -1,28 +1,36 @@
 -- What a command comes to for whose libraries there is no memory.
 use Rattle.std.proofs.Common.{◌≡◌, ◌≢◌, ℕ, ◌≤◌, List, [], ◌∷◌, length, Option, Some, None, refl, sym, subst, ◌∙◌, arith}
 use Rattle.std.specs.Prelude.{All, IsTrue, IsSomeAnd}
+use Rattle.std.specs.Borrow.{Bor}
 use Rattle.std.proofs.lemmas.List.Elements.{All-head}
 use Rattle.marc_types.specs.Valid.{is_code}
 use Rattle.outside.specs.Room.{SameBut, IsNoneOf}
 use Rattle.outside.proofs.Rooms.{same_but_none}
 use Rattle.command_words.specs.declared.library.Library.{Library}
 use Rattle.command_words.specs.declared.asked.AloneRequest.{AloneRequest}
+use Rattle.command_words.specs.declared.asked.BrowseRequest.{BrowseRequest}
 use Rattle.command_words.specs.declared.asked.LoadRequest.{LoadRequest}
 use Rattle.command_words.specs.declared.asked.Outputs.{Outputs}
 use Rattle.command_words.specs.declared.asked.Request.TheVariants as request
-use Rattle.command_words.specs.Command.{Command, Pass, Run, Load, Export, Report, Make, Verify, Matches, Holdings, Migrate, Checkpoint, Quick, Help, Version, command_of, libraries_of, file_count, names_of, AreNames, IsBounded, ReadsFiles}
-use Rattle.command_words.specs.Asked.{alone_asked, load_asked, loading_of, AsksFor}
+use Rattle.command_words.specs.Command.{Command, Pass, Run, Load, Browse, Export, Report, Make, Verify, Matches, Holdings, Migrate, Checkpoint, Quick, Read, Refused as RefusedOf, Help, Version, command_of, libraries_of, file_count, names_of, AreNames, IsBounded, ReadsFiles}
+use Rattle.command_words.specs.Asked.{alone_asked, browse_asked, load_asked, loading_of, AsksFor}
 use Rattle.console_lines.specs.Ends.{Outcome, IsTold}
 use Rattle.console_lines.specs.declared.end.End.TheVariants.{Told}
 use Rattle.console_lines.specs.declared.fault.Fault.TheVariants as fault
 use Rattle.durable_catalogue.specs.declared.fault.OpenFault.TheVariants as opening
-use Rattle.room_files.proofs.Journals.{unopened_keeps}
+use Rattle.journal_files.proofs.Journals.{unopened_keeps}
 use Rattle.plain_commands.proofs.Passes.{passes_told}
+use Rattle.plain_commands.specs.Passing.{export_due}
+use Rattle.plain_commands.specs.GivingBack.{refused_due}
 use Rattle.loading_commands.specs.Outcomes.{IsLoadingFault, NotBegun, Unopened}
 use Rattle.loading_commands.specs.Inputs.{AreLoadable, IsProper}
+use Rattle.union_top.specs.Begun.{IsAskedToBrowse}
 use Rattle.union_top.specs.Commands.{Ends, CarriesOut}
 use Rattle.loading_commands.specs.Loading.{Loads, Runs, EndsWithOutputs, EndsLoading}
 use Rattle.loading_commands.specs.Runs as runs
+use Rattle.browsing_commands.specs.Browses.{EndsBrowse, Browses}
+use Rattle.browsing_commands.specs.Browsing.{run_of}
+use Rattle.browsing_commands.proofs.Outcomes.{browses_failed}
 use Rattle.holdings_command.proofs.Endings.{attaches_unopened}
 use Rattle.loading_commands.proofs.Ended.{loads_failed, runs_failed, no_memory}
 
@@ -76,6 +84,58 @@ proper words asked asks count codes names files bounded = record {
         let few = bounded _ is in
         loadable (libraries_of words) asked.journal.now (outputs.out.now ∷ outputs.report.now ∷ []) (length asked.libraries) (count _ is) few.0 few.1 codes apart
 
+-- and so can one to browse, whose names are apart
+pub proper_browse : (words : List (List ℕ)) (asked : BrowseRequest) → AsksFor words (request.Browse asked)
+    → ((command : Command) → command_of words ≡ Some command → length (libraries_of words) ≡ file_count command)
+    → All (λ (l : Library). IsTrue (is_code l.code)) (libraries_of words)
+    → ((command : Command) → command_of words ≡ Some command → AreNames (names_of command))
+    → ((command : Command) → command_of words ≡ Some command → All (λ (l : Library). IsNoneOf l.file (names_of command)) (libraries_of words))
+    → ((command : Command) → command_of words ≡ Some command → IsBounded command) → IsProper (run_of asked)
+proper_browse words asked asks count codes names files bounded =
+    let is = asks.command in
+    let few = bounded _ is in
+    let apart = names _ is in record {
+      loadable = subst (AreLoadable asked.journal.now) (sym asks.libraries)
+          (loadable (libraries_of words) asked.journal.now (asked.outputs.out.now ∷ asked.outputs.report.now ∷ asked.pages.now ∷ []) (length asked.libraries) (count _ is) few.0 few.1 codes (files _ is));
+      names = (apart.0, (apart.1.0, (apart.1.1.0, tt)), (apart.2.0, (apart.2.1.0, tt), (apart.2.2.0, tt, tt)));
+    }
+
+-- it is carried out where it ended so
+pub browsing_carried : (words : List (List ℕ)) (asked : BrowseRequest) (o : Outcome) → AsksFor words (request.Browse asked) → ((name : List ℕ) → o.new.open_as name ≡ None)
+    → SameBut o.old o.new (names_of (browse_asked asked))
+    → Browses asked.libraries asked.journal.now asked.outputs.out.now asked.outputs.report.now asked.pages.now o → CarriesOut words (browse_asked asked) o
+browsing_carried words asked o asks closed apart did = record {
+  closed = closed;
+  apart = apart;
+  ends = subst (λ ls. Browses ls asked.journal.now asked.outputs.out.now asked.outputs.report.now asked.pages.now o) asks.libraries did;
+  no_usage = λ usage. subst EndsBrowse usage did.ends;
+}
+
+-- the same of what is known of a loading beside a reader
+module _ (words : List (List ℕ)) (loading : LoadRequest) (outputs : Outputs) (pages : Bor (List ℕ)) (asked : IsAskedToBrowse words loading outputs pages) where
+  pub browsed_as : (o : Outcome) → ((name : List ℕ) → o.new.open_as name ≡ None)
+      → SameBut o.old o.new (loading.journal.now ∷ outputs.out.now ∷ outputs.report.now ∷ pages.now ∷ [])
+      → Browses loading.libraries loading.journal.now outputs.out.now outputs.report.now pages.now o → CarriesOut words (browse_asked asked.asked) o
+  browsed_as o closed apart did =
+      browsing_carried words asked.asked o asked.asks closed
+      (subst (λ (p : Bor (List ℕ)). SameBut o.old o.new (asked.asked.journal.now ∷ asked.asked.outputs.out.now ∷ asked.asked.outputs.report.now ∷ p.now ∷ [])) asked.pages_are
+      (subst (λ (os : Outputs). SameBut o.old o.new (asked.asked.journal.now ∷ os.out.now ∷ os.report.now ∷ pages.now ∷ [])) asked.outputs_are
+      (subst (λ (l : LoadRequest). SameBut o.old o.new (l.journal.now ∷ outputs.out.now ∷ outputs.report.now ∷ pages.now ∷ [])) asked.loading_is apart)))
+      (subst (λ (p : Bor (List ℕ)). Browses asked.asked.libraries asked.asked.journal.now asked.asked.outputs.out.now asked.asked.outputs.report.now p.now o) asked.pages_are
+      (subst (λ (os : Outputs). Browses asked.asked.libraries asked.asked.journal.now os.out.now os.report.now pages.now o) asked.outputs_are
+      (subst (λ (l : LoadRequest). Browses l.libraries l.journal.now outputs.out.now outputs.report.now pages.now o) asked.loading_is did)))
+
+-- once it is loaded the words ask for it still
+pub now_asked : (words : List (List ℕ)) (loading : LoadRequest) (outputs : Outputs) (pages : Bor (List ℕ)) (loaded : LoadRequest) (own : Outputs) (same : Bor (List ℕ))
+    → IsAskedToBrowse words loading outputs pages → loaded ≡ loading → own ≡ outputs → same ≡ pages → IsAskedToBrowse words loaded own same
+now_asked words loading outputs pages loaded own same asked is are as_are = record {
+  asked = asked.asked;
+  asks = asked.asks;
+  loading_is = is ∙ asked.loading_is;
+  outputs_are = are ∙ asked.outputs_are;
+  pages_are = as_are ∙ asked.pages_are;
+}
+
 -- how it ended is how the words' command ends, and not as words end that are no command
 pub loading_ends : (words : List (List ℕ)) (asked : LoadRequest) (o : Outcome) → AsksFor words (request.Load asked) → EndsLoading asked o
     → Ends words (load_asked asked) o × (o.end ≢ Told fault.Usage)
@@ -103,13 +163,15 @@ module _ (o : Outcome) (told : o.end ≡ Told fault.Memory) (tells : IsTold faul
   closed journal = stays.open_names journal tt ∙ free journal
 
   unasked : (words : List (List ℕ)) (command : Command) → ReadsFiles command → Ends words command o
-  unasked words (Pass out) takes = λ library is. passes_told library out o fault.Memory told tells tt stays (λ input. cc) (λ full. cc)
+  unasked words (Pass out) takes = λ library is. passes_told export_due library out o fault.Memory told tells tt stays (λ input. cc) (λ full. cc)
   unasked words (Run journal out report files) takes =
-      runs_failed (libraries_of words) journal o out report fault.Memory told tells (λ other. absurd (other refl)) (same_but_none o.old o.new (journal ∷ out ∷ []) stays)
-      (no_memory o.old o.new journal (libraries_of words) _ (closed journal)
-      (λ room. runs.NotLoaded (unbegun journal (libraries_of words)) (stays.files out tt) (stays.files report tt)))
+      runs_failed (libraries_of words) journal o out report fault.Memory told tells (same_but_none o.old o.new (journal ∷ []) stays)
+      (no_memory o.old o.new journal (libraries_of words) _ (closed journal) (λ room. runs.NotLoaded (unbegun journal (libraries_of words))))
   unasked words (Load journal files) takes =
       loads_failed (libraries_of words) journal o fault.Memory told tells
+      (no_memory o.old o.new journal (libraries_of words) _ (closed journal) (λ room. runs.NotLoaded (unbegun journal (libraries_of words))))
+  unasked words (Browse journal out report pages files) takes =
+      browses_failed (libraries_of words) journal out report pages o fault.Memory told tells (same_but_none o.old o.new (journal ∷ []) stays)
       (no_memory o.old o.new journal (libraries_of words) _ (closed journal) (λ room. runs.NotLoaded (unbegun journal (libraries_of words))))
   unasked words (Export journal out code) takes = absurd takes
   unasked words (Report journal out) takes = absurd takes
@@ -122,6 +184,8 @@ module _ (o : Outcome) (told : o.end ≡ Told fault.Memory) (tells : IsTold faul
   unasked words (Migrate from into) takes = absurd takes
   unasked words (Checkpoint journal point) takes = absurd takes
   unasked words (Quick journal point out) takes = absurd takes
+  unasked words (Read look journal out) takes = absurd takes
+  unasked words (RefusedOf out) takes = λ library is. passes_told refused_due library out o fault.Memory told tells tt stays (λ input. cc) (λ full. cc)
   unasked words (Help topic) takes = absurd takes
   unasked words Version takes = absurd takes
 

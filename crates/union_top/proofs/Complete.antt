@@ -3,18 +3,22 @@ use Rattle.std.proofs.Common.{◌≡◌, ◌⊎◌, inl, inr, ℕ, zero, suc, �
 use Rattle.std.specs.Prelude.{All, slice_get}
 use Rattle.std.proofs.lemmas.List.Elements.{All-head, All-tail}
 use Rattle.command_words.specs.declared.library.Library.{Library}
-use Rattle.command_words.specs.Command.{Command, Pass, Run, Load, Export, Report, Make, Verify, Matches, Holdings, Migrate, Checkpoint, Quick, Help, Version, libraries_of}
+use Rattle.command_words.specs.Command.{Command, Pass, Run, Load, Browse, Export, Report, Make, Verify, Matches, Holdings, Migrate, Checkpoint, Quick, Read, Refused as RefusedOf, Help, Version, libraries_of}
 use Rattle.console_lines.specs.Ends.{Outcome, end_status}
 use Rattle.console_lines.specs.declared.end.End.{End}
 use Rattle.console_lines.specs.declared.end.End.TheVariants.{Done, Refused, Unwritten, Told}
 use Rattle.console_lines.specs.declared.fault.Fault.TheVariants as fault
 use Rattle.archive_commands.specs.Reads as reading
 use Rattle.match_command.specs.Telling.{matches_due}
+use Rattle.plain_commands.specs.Passing.{export_due}
+use Rattle.plain_commands.specs.GivingBack.{refused_due}
+use Rattle.reading_commands.specs.Looking.{look_due}
 use Rattle.loading_commands.specs.Inputs.{IsInputFault}
 use Rattle.program_help.specs.Telling.{help_text, version_text}
 use Rattle.union_top.specs.Commands.{Ends}
 use Rattle.union_top.specs.Complete.{Around, InStayed, InputsStayed, IsUnhindered}
 use Rattle.union_top.proofs.Fitting.{EndsWell, well_status, passes_well, makes_well, reads_well, attaches_well, loads_well, runs_well}
+use Rattle.union_top.proofs.Looking.{looks_well}
 use Rattle.union_top.proofs.Untroubled.{verify_well, tells_well}
 use Rattle.union_top.proofs.Migrated.{migrates_well}
 use Rattle.union_top.proofs.Pointed.{checkpoints_well, quick_well}
@@ -46,10 +50,15 @@ module _ (o : Outcome) where
   ends_well : (words : List (List ℕ)) (command : Command) → Ends words command o → IsUnhindered words command (around_of o) → EndsWell o.end
   ends_well words (Pass out) ends u =
       let p = ends u.fits.library u.fits.named in
-      passes_well o words out ends u.fits (λ is. u.stayed.1 (p.out_cause is)) (λ is. u.stayed.2 (p.console_cause is))
+      passes_well o export_due (libraries_of words) out ends u.fits (λ is. u.stayed.1 (p.out_cause is)) (λ is. u.stayed.2 (p.console_cause is))
       (λ is. one_stayed (around_of o) (libraries_of words) u.stayed.0 u.fits.library u.fits.named (p.input is))
   ends_well words (Run journal out report files) r u =
       let s = u.stayed in
+      runs_well o (libraries_of words) journal out report r u.fits (λ is. s.3 (r.out_cause is)) (λ is. s.4 (r.report_cause is))
+      (λ is. s.2 (r.console_cause is)) (λ is. none_failed (around_of o) (libraries_of words) s.0 (r.input is)) (λ is. s.1 (r.device is))
+  ends_well words (Browse journal out report pages files) b u =
+      let s = u.stayed in
+      let r = b.run (λ is. s.5 (b.pages_cause is)) in
       runs_well o (libraries_of words) journal out report r u.fits (λ is. s.3 (r.out_cause is)) (λ is. s.4 (r.report_cause is))
       (λ is. s.2 (r.console_cause is)) (λ is. none_failed (around_of o) (libraries_of words) s.0 (r.input is)) (λ is. s.1 (r.device is))
   ends_well words (Load journal files) l u =
@@ -78,6 +87,12 @@ module _ (o : Outcome) where
       checkpoints_well o journal point c u.fits u.stayed.0 u.stayed.1 (λ is. u.stayed.2 (c.console is))
   ends_well words (Quick journal point out) q u =
       quick_well o journal point out q u.fits u.stayed.0 u.stayed.1 (λ is. u.stayed.2 (q.out_cause is)) (λ is. u.stayed.3 (q.console is))
+  ends_well words (Read look journal out) l u =
+      looks_well o journal out (look_due look) l u.fits (λ is. u.stayed.1 (l.out_cause is)) (λ is. u.stayed.0 (l.input is))
+  ends_well words (RefusedOf out) ends u =
+      let p = ends u.fits.library u.fits.named in
+      passes_well o refused_due (libraries_of words) out ends u.fits (λ is. u.stayed.1 (p.out_cause is)) (λ is. u.stayed.2 (p.console_cause is))
+      (λ is. one_stayed (around_of o) (libraries_of words) u.stayed.0 u.fits.library u.fits.named (p.input is))
   ends_well words (Help topic) t u = tells_well o (help_text topic) t (λ is. u.stayed (t.cause is))
   ends_well words Version t u = tells_well o version_text t (λ is. u.stayed (t.cause is))
 

@@ -19,7 +19,7 @@ use Rattle.loader_workers.specs.declared.file_end.FileEnd.TheVariants as end
 use Rattle.loader_workers.specs.declared.result.FileResult.{FileResult}
 use Rattle.loader_workers.specs.Turns.{IsFullBehind}
 use Rattle.loader_workers.specs.Files.{IsEndOfFile}
-use Rattle.room_files.specs.Journals.{journal_limits}
+use Rattle.journal_files.specs.Journals.{journal_limits}
 use Rattle.loading_commands.specs.Outcomes.{IsLibraryLoaded, AreLibrariesLoaded, NoLibrary, OneLibrary, ends_so, any_ends}
 use Rattle.loading_commands.specs.Merged.{AreJudged, NoFile, OneFile}
 use Rattle.union_top.proofs.Weights.{IsRunless, total, totals, total_from, total-append, total_runless, total_is_sum, total_is_length, totals_are_sums, from_first, from_next, from_none}

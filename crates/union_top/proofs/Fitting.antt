@@ -8,31 +8,33 @@ use Rattle.marc_types.specs.declared.entry.Entry.{Entry}
 use Rattle.marc_types.specs.Limits.{most_entries, most_bytes}
 use Rattle.marc_stream.specs.Pieces.{Item, items}
 use Rattle.command_words.specs.declared.library.Library.{Library}
-use Rattle.command_words.specs.Command.{Pass, Holdings, libraries_of}
+use Rattle.command_words.specs.Command.{Holdings, libraries_of}
 use Rattle.entry_record.specs.History.{entry_size, entries_size}
 use Rattle.file_entries.specs.Files.{IsJudged, Accepts}
 use Rattle.file_entries.proofs.Every.{every_judged}
 use Rattle.file_entries.specs.declared.refused.RefusedItem.{RefusedItem}
-use Rattle.console_lines.specs.Ends.{Outcome, IsAllDone, end_status, out_unwritten, side_unwritten, console_unwritten}
+use Rattle.console_lines.specs.Ends.{Outcome, IsAllDone, end_status, out_unwritten, side_unwritten, pages_unwritten, console_unwritten}
 use Rattle.console_lines.specs.declared.end.End.{End}
 use Rattle.console_lines.specs.declared.end.End.TheVariants.{Done, Refused, Unwritten, Told}
 use Rattle.console_lines.specs.declared.end.Unwritten.TheVariants as unwritten
 use Rattle.console_lines.specs.declared.fault.Fault.{Fault}
 use Rattle.console_lines.specs.declared.fault.Fault.TheVariants as fault
-use Rattle.room_files.specs.Faults.{fault_of_opening}
-use Rattle.room_files.specs.Journals.{log_bytes}
+use Rattle.journal_files.specs.Faults.{fault_of_opening}
+use Rattle.journal_files.specs.Journals.{log_bytes}
 use Rattle.archive_commands.specs.Reads.{ReadsJournal, EndsReading}
 use Rattle.plain_commands.specs.Loading.{IsFullAt, IsFaultOfLoading}
+use Rattle.plain_commands.specs.Passing.{FileDue, PassesFile}
 use Rattle.plain_commands.specs.Making.{Makes, EndsMaking}
 use Rattle.plain_commands.specs.Totals.{IsWithinLimits}
 use Rattle.holdings_command.specs.Attaching.{EndsAttaching}
 use Rattle.loading_commands.specs.Loading.{Loads, Runs}
+use Rattle.loading_commands.specs.Runs.{EndsLoad, EndsRun}
 use Rattle.union_top.specs.Commands.{Ends}
 use Rattle.union_top.specs.Fits.{FitsPass, FitsLoad, FitsReading, FitsHoldings}
 use Rattle.union_top.proofs.Made.{made, made_first}
 use Rattle.union_top.proofs.Unopened.{may_be, opening_well}
 use Rattle.union_top.proofs.Judgements.{fits_judged}
-use Rattle.union_top.proofs.Remaining.{Remains, of_load, of_run}
+use Rattle.union_top.proofs.Remaining.{Remains, of_load}
 
 -- the ends that are left
 abbrev pub EndsWell : End → Type 0
@@ -46,14 +48,15 @@ well_status (Unwritten which) (inr memory) = cc
 well_status (Told why) (inl all) = absurd all
 well_status (Told why) (inr memory) = inr (ap end_status memory)
 
-by_end : (end : End) → (end ≡ out_unwritten → ⊥) → (end ≡ side_unwritten → ⊥) → (end ≡ console_unwritten → ⊥)
+pub by_end : (end : End) → (end ≡ out_unwritten → ⊥) → (end ≡ side_unwritten → ⊥) × (end ≡ pages_unwritten → ⊥) → (end ≡ console_unwritten → ⊥)
     → ((why : Fault) → end ≡ Told why → why ≡ fault.Memory) → EndsWell end
-by_end Done out report console told = inl tt
-by_end Refused out report console told = inl tt
-by_end (Unwritten unwritten.Out) out report console told = absurd (out refl)
-by_end (Unwritten unwritten.Side) out report console told = absurd (report refl)
-by_end (Unwritten unwritten.Console) out report console told = absurd (console refl)
-by_end (Told why) out report console told = inr (ap Told (told why refl))
+by_end Done out others console told = inl tt
+by_end Refused out others console told = inl tt
+by_end (Unwritten unwritten.Out) out others console told = absurd (out refl)
+by_end (Unwritten unwritten.Side) out others console told = absurd (others.0 refl)
+by_end (Unwritten unwritten.Pages) out others console told = absurd (others.1 refl)
+by_end (Unwritten unwritten.Console) out others console told = absurd (console refl)
+by_end (Told why) out others console told = inr (ap Told (told why refl))
 
 -- a fault of a pass that remains
 pass_why : (why : Fault) → IsFaultOfLoading why → (why ≡ fault.Input → ⊥) → (why ≡ fault.Full → ⊥) → why ≡ fault.Memory
@@ -102,9 +105,10 @@ module _ (o : Outcome) where
   abbrev pub Never : End → Type 0
   Never end = o.end ≡ end → ⊥
 
-  pub passes_well : (words : List (List ℕ)) (out : List ℕ) → Ends words (Pass out) o → FitsPass o.old (libraries_of words)
+  pub passes_well : (due : FileDue) (libraries : List Library) (out : List ℕ) → ((library : Library) → libraries ≡ library ∷ [] → PassesFile due library out o)
+      → FitsPass o.old libraries
       → Never out_unwritten → Never console_unwritten → Never (Told fault.Input) → EndsWell o.end
-  passes_well words out ends f no_out no_console no_input =
+  passes_well due libraries out ends f no_out no_console no_input =
       let p = ends f.library f.named in
       let j = every_judged f.library.code 0 (items f.alone.bytes) in
       by_end o.end no_out p.no_side no_console
@@ -114,12 +118,12 @@ module _ (o : Outcome) where
 
   pub makes_well : (seed count : ℕ) (out : List ℕ) → Makes seed count out o → Never out_unwritten → Never console_unwritten → EndsWell o.end
   makes_well seed count out m no_out no_console =
-      by_end o.end no_out (λ is. subst EndsMaking is m.ends) no_console (λ why is. subst EndsMaking is m.ends)
+      by_end o.end no_out ((λ is. subst EndsMaking is m.ends), (λ is. subst EndsMaking is m.ends)) no_console (λ why is. subst EndsMaking is m.ends)
 
   pub reads_well : (journal out : List ℕ) (due : List Entry → List ℕ) → ReadsJournal journal out due o → FitsReading o.old journal
       → Never out_unwritten → Never (Told fault.Device) → EndsWell o.end
   reads_well journal out due r f no_out no_device =
-      by_end o.end no_out (λ is. subst EndsReading is r.ends) (λ is. subst EndsReading is r.ends)
+      by_end o.end no_out ((λ is. subst EndsReading is r.ends), (λ is. subst EndsReading is r.ends)) (λ is. subst EndsReading is r.ends)
       (λ why is.
       let w = (r.told why is).1 in
       w.is ∙ opening_well (log_bytes o.old journal) w.reason (λ old. subst EndsReading (is ∙ ap Told (w.is ∙ ap fault_of_opening old)) r.ends)
@@ -130,7 +134,7 @@ module _ (o : Outcome) where
       → Never (Told fault.Input) → Never (Told fault.Device) → EndsWell o.end
   attaches_well words journal out rest code ends f no_out no_rest no_console no_input no_device =
       let a = ends f.library f.named in
-      by_end o.end no_out no_rest no_console
+      by_end o.end no_out (no_rest, λ is. subst EndsAttaching is a.ends) no_console
       (λ why is.
       let w = a.because why is (λ same. no_input (is ∙ ap Told same)) in
       w.is ∙ opening_well (log_bytes o.old journal) w.reason (λ old. subst EndsAttaching (is ∙ ap Told (w.is ∙ ap fault_of_opening old)) a.ends)
@@ -140,7 +144,7 @@ module _ (o : Outcome) where
       → Never console_unwritten → Never (Told fault.Input) → Never (Told fault.Device) → EndsWell o.end
   loads_well libraries journal l f no_console no_input no_device =
       let fits = fits_judged o.old journal libraries f.together in
-      by_end o.end l.no_output.0 l.no_output.1 no_console
+      by_end o.end l.no_output.0 (l.no_output.1, λ is. subst EndsLoad is l.ends) no_console
       (λ why is. load_why why (of_load o.old o.new journal libraries f.tells fits why (l.because why is f.tells)) (l.told why is).1
       (λ same. no_input (is ∙ ap Told same)) (λ same. no_device (is ∙ ap Told same)))
 
@@ -148,6 +152,6 @@ module _ (o : Outcome) where
       → Never out_unwritten → Never side_unwritten → Never console_unwritten → Never (Told fault.Input) → Never (Told fault.Device) → EndsWell o.end
   runs_well libraries journal out report r f no_out no_report no_console no_input no_device =
       let fits = fits_judged o.old journal libraries f.together in
-      by_end o.end no_out no_report no_console
-      (λ why is. load_why why (of_run o.old o.new journal libraries f.tells fits out report why (r.because why is f.tells)) (r.told why is).1
+      by_end o.end no_out (no_report, λ is. subst EndsRun is r.ends) no_console
+      (λ why is. load_why why (of_load o.old o.new journal libraries f.tells fits why (r.because why is f.tells)) (r.told why is).1
       (λ same. no_input (is ∙ ap Told same)) (λ same. no_device (is ∙ ap Told same)))

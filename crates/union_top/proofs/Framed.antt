@@ -13,7 +13,7 @@ use Rattle.file_entries.specs.declared.refused.RefusedItem.{RefusedItem}
 use Rattle.durable_catalogue.specs.Durables.{marked}
 use Rattle.durable_catalogue.specs.Images.{framed_length, framed_lengths}
 use Rattle.durable_catalogue.proofs.Framed.{framed_append}
-use Rattle.room_files.specs.Journals.{log_bytes}
+use Rattle.journal_files.specs.Journals.{log_bytes}
 use Rattle.loading_commands.specs.Outcomes.{IsLoadedInPart}
 use Rattle.console_lines.specs.declared.fault.Fault.{Fault}
 use Rattle.loading_commands.specs.Merged.{AreJudged}

@@ -7,7 +7,7 @@ use Rattle.outside.specs.Sink.{WritesFront}
 use Rattle.commit_journal.specs.declared.format.TheConstants.{BLANK_LENGTH}
 use Rattle.command_words.specs.declared.library.Library.{Library}
 use Rattle.output_files.specs.Outputs.{IsOutputLeft}
-use Rattle.room_files.specs.Journals.{log_bytes, KeepsHistory, Unopened, Opened}
+use Rattle.journal_files.specs.Journals.{log_bytes, KeepsHistory, Unopened, Opened}
 use Rattle.union_top.specs.Complete.{Around, Stayed, OutStayed, LogStayed, ConsoleStayed, InputsStayed, InStayed}
 use Rattle.union_top.specs.Sure.{AreReadAlways, HoldsOutput, HoldsLog, HoldsText}
 

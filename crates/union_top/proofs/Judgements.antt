@@ -12,7 +12,7 @@ use Rattle.entry_record.specs.History.{entries_size}
 use Rattle.file_entries.specs.declared.refused.RefusedItem.{RefusedItem}
 use Rattle.file_entries.proofs.Every.{every_judged}
 use Rattle.durable_catalogue.specs.Logs.{HasHistory}
-use Rattle.room_files.specs.Journals.{journal_limits, log_bytes}
+use Rattle.journal_files.specs.Journals.{journal_limits, log_bytes}
 use Rattle.loading_commands.specs.Merged.{AreJudged, NoFile, OneFile}
 use Rattle.union_top.specs.Fits.{FitsTogether}
 

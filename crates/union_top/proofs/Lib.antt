@@ -10,6 +10,7 @@ mod Judgements
 mod Remaining
 mod Untroubled
 mod Fitting
+mod Looking
 mod Complete
 mod Held
 mod Sure
@@ -17,3 +18,4 @@ mod Asked
 mod Misfits
 mod Refusing
 mod Carried
+mod Either

@@ -6,15 +6,16 @@ use Rattle.outside.specs.Room.{SameBut}
 use Rattle.console_lines.specs.Ends.{Outcome, IsAllDone, console_unwritten}
 use Rattle.console_lines.specs.declared.end.End.{End}
 use Rattle.console_lines.specs.declared.end.End.TheVariants.{Done, Refused, Unwritten, Told}
-use Rattle.console_lines.specs.declared.end.Unwritten.TheVariants.{Out, Side, Console}
+use Rattle.console_lines.specs.declared.end.Unwritten.TheVariants.{Out, Side, Pages, Console}
 use Rattle.console_lines.specs.declared.fault.Fault.{Fault}
 use Rattle.console_lines.specs.declared.fault.Fault.TheVariants as fault
 use Rattle.commit_journal.specs.Log.{version_of}
+use Rattle.entry_record.specs.History.{IsWithin}
 use Rattle.durable_catalogue.specs.Logs.{IsLogOf, HasHistory}
-use Rattle.room_files.specs.Journals.{journal_limits, log_bytes}
-use Rattle.room_files.proofs.Histories.{reading_once}
+use Rattle.journal_files.specs.Journals.{journal_limits, log_bytes}
+use Rattle.journal_files.proofs.Histories.{reading_once}
 use Rattle.archive_commands.specs.Archives.{HasFittingHistory}
-use Rattle.migrate_command.specs.Migrations.{Begins, AreWithin, IsFit, IsUnmigrated}
+use Rattle.migrate_command.specs.Migrations.{Begins, IsFit, IsUnmigrated}
 use Rattle.migrate_command.specs.declared.fault.MigrateFault.{MigrateFault}
 use Rattle.migrate_command.specs.declared.fault.MigrateFault.TheVariants as migrating
 use Rattle.migrate_command.specs.Told.{fault_of_migrating}
@@ -29,6 +30,7 @@ migrated_well Done kind console told = inl tt
 migrated_well Refused kind console told = absurd kind
 migrated_well (Unwritten Out) kind console told = absurd kind
 migrated_well (Unwritten Side) kind console told = absurd kind
+migrated_well (Unwritten Pages) kind console told = absurd kind
 migrated_well (Unwritten Console) kind console told = absurd (console refl)
 migrated_well (Told why) kind console told = inr (ap Told (told why refl))
 
@@ -52,7 +54,7 @@ module _ (from into : List ℕ) (history entries : List Entry) (was : HasHistory
   migrating_well migrating.OldVersion others also why device =
       absurd (∥∥₁_elim fits ⊥_prop (λ (fit : IsFit journal_limits history entries into). let both : 1 ≡ 2 = sym why.0 ∙ fit.version in cc))
   migrating_well migrating.Full others also why device =
-      absurd (of_others (AreWithin journal_limits) others why.1.0 also why.1.1 (λ fit. fit.within) why.1.2)
+      absurd (of_others (λ before entries. IsWithin journal_limits entries) others why.1.0 also why.1.1 (λ fit. fit.within.new_within) why.1.2)
   migrating_well migrating.NotPrefix others also why device =
       absurd (of_others Begins others why.1.0 also why.1.1 (λ fit. fit.begins) why.1.3)
   migrating_well migrating.NoMemory others also why device = refl

@@ -1,30 +1,29 @@
 -- A command whose journal can't be used ends with the status that says why, or memory ran out, where no count of faults rose.
-use Rattle.std.proofs.Common.{◌≡◌, ◌≢◌, ◌⊎◌, inl, inr, ℕ, List, [], ◌∷◌, ◌++◌, Bool, true, false, Some, None, refl, sym, ap, subst, ◌∙◌, arith, if◌then◌else◌}
+use Rattle.std.proofs.Common.{◌≡◌, inl, inr, ℕ, List, Bool, true, false, Some, None, refl, sym, ap, subst, ◌∙◌, arith, if◌then◌else◌}
 use Rattle.std.proofs.Math.Logic.{∥∥₁_elim}
 use Rattle.marc_types.specs.declared.entry.Entry.{Entry}
-use Rattle.outside.specs.Room.{RoomView, SameBut}
+use Rattle.outside.specs.Room.{RoomView}
 use Rattle.commit_journal.specs.Log.{version_of}
 use Rattle.command_words.specs.declared.library.Library.{Library}
-use Rattle.command_words.specs.Command.{Command, Pass, Run, Load, Export, Report, Make, Verify, Matches, Holdings, Migrate, Checkpoint, Quick, Help, Version, libraries_of}
-use Rattle.entry_record.specs.History.{IsWithin, IsMerged}
-use Rattle.console_lines.specs.Ends.{Outcome, IsAllDone, end_status, out_unwritten, side_unwritten, console_unwritten}
+use Rattle.entry_record.specs.History.{IsWithin}
+use Rattle.console_lines.specs.Ends.{IsAllDone, end_status, out_unwritten, side_unwritten, pages_unwritten, console_unwritten}
 use Rattle.console_lines.specs.Faults.{fault_status}
 use Rattle.console_lines.specs.declared.end.End.{End}
 use Rattle.console_lines.specs.declared.end.End.TheVariants.{Done, Refused, Unwritten, Told}
 use Rattle.console_lines.specs.declared.end.Unwritten.TheVariants as unwritten
 use Rattle.console_lines.specs.declared.fault.Fault.{Fault}
 use Rattle.console_lines.specs.declared.fault.Fault.TheVariants as fault
-use Rattle.durable_catalogue.specs.Logs.{IsLogOf, HasHistory}
+use Rattle.durable_catalogue.specs.Logs.{HasHistory}
 use Rattle.durable_catalogue.specs.Openings.{IsUnopened}
 use Rattle.durable_catalogue.specs.declared.fault.OpenFault.{OpenFault}
 use Rattle.durable_catalogue.specs.declared.fault.OpenFault.TheVariants as opening
 use Rattle.loader_workers.specs.declared.file_end.FileEnd.TheVariants as end
-use Rattle.room_files.specs.Faults.{fault_of_opening}
-use Rattle.room_files.specs.Journals.{journal_limits, log_bytes}
-use Rattle.room_files.proofs.Histories.{reading_once}
+use Rattle.journal_files.specs.Faults.{fault_of_opening}
+use Rattle.journal_files.specs.Journals.{journal_limits, log_bytes}
+use Rattle.journal_files.proofs.Histories.{reading_once}
 use Rattle.archive_commands.specs.Archives.{HasFittingHistory}
-use Rattle.loading_commands.specs.Outcomes.{IsLoadedInPart, IsUnbegun, Unopened, Unbegun, IsLoadingFault, NotBegun, InPart, any_ends, loading_fault}
-use Rattle.union_top.specs.Misfits.{IsNoHistory, IsOfVersion, IsTooLarge, AreTooLarge, IsStatus}
+use Rattle.loading_commands.specs.Outcomes.{Unopened, Unbegun, IsLoadingFault, NotBegun, InPart, any_ends, loading_fault}
+use Rattle.union_top.specs.Misfits.{IsNoHistory, IsOfVersion, IsTooLarge, IsStatus}
 use Rattle.union_top.proofs.Unopened.{no_journal}
 use mathlib.Core.HLevel.{⊥_prop}
 
@@ -73,14 +72,16 @@ module _ (log : List ℕ) where
 -- ---- an end
 
 -- an end that isn't good is a fault that is told, with its status
-pub by_told : (due : ℕ) (end : End) → (IsAllDone end → ⊥) → (end ≡ out_unwritten → ⊥) → (end ≡ side_unwritten → ⊥) → (end ≡ console_unwritten → ⊥)
+pub by_told : (due : ℕ) (end : End) → (IsAllDone end → ⊥) → (end ≡ out_unwritten → ⊥) → (end ≡ side_unwritten → ⊥) × (end ≡ pages_unwritten → ⊥)
+    → (end ≡ console_unwritten → ⊥)
     → ((why : Fault) → end ≡ Told why → IsStatus due (fault_status why)) → IsStatus due (end_status end)
-by_told due Done good out report console told = absurd (good tt)
-by_told due Refused good out report console told = absurd (good tt)
-by_told due (Unwritten unwritten.Out) good out report console told = absurd (out refl)
-by_told due (Unwritten unwritten.Side) good out report console told = absurd (report refl)
-by_told due (Unwritten unwritten.Console) good out report console told = absurd (console refl)
-by_told due (Told why) good out report console told = told why refl
+by_told due Done good out others console told = absurd (good tt)
+by_told due Refused good out others console told = absurd (good tt)
+by_told due (Unwritten unwritten.Out) good out others console told = absurd (out refl)
+by_told due (Unwritten unwritten.Side) good out others console told = absurd (others.0 refl)
+by_told due (Unwritten unwritten.Pages) good out others console told = absurd (others.1 refl)
+by_told due (Unwritten unwritten.Console) good out others console told = absurd (console refl)
+by_told due (Told why) good out others console told = told why refl
 
 -- ---- a loading
 

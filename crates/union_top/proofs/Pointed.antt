@@ -1,24 +1,24 @@
 -- The commands over a log of checkpoints end well where they fit, or memory ran out, where no count of faults rose.
-use Rattle.std.proofs.Common.{◌≡◌, ◌⊎◌, inl, inr, ℕ, List, [], ◌∷◌, ◌++◌, Option, Ok, Err, refl, sym, ap, subst, ◌∙◌, arith}
+use Rattle.std.proofs.Common.{◌≡◌, ◌⊎◌, inl, inr, ℕ, List, [], ◌∷◌, ◌++◌, Option, Ok, Err, refl, sym, ap, ◌∙◌}
 use Rattle.std.specs.Prelude.{All, map}
 use Rattle.std.proofs.lemmas.List.{map-append}
 use Rattle.std.proofs.lemmas.List.Elements.{All-head, All-tail}
 use Rattle.outside.specs.Fault.{Rose}
-use Rattle.console_lines.specs.Ends.{Outcome, IsAllDone, out_unwritten, console_unwritten}
+use Rattle.console_lines.specs.Ends.{Outcome, out_unwritten, console_unwritten}
 use Rattle.console_lines.specs.declared.end.End.{End}
 use Rattle.console_lines.specs.declared.end.End.TheVariants.{Done, Refused, Unwritten, Told}
-use Rattle.console_lines.specs.declared.end.Unwritten.TheVariants.{Out, Side, Console}
+use Rattle.console_lines.specs.declared.end.Unwritten.TheVariants.{Out, Side, Pages, Console}
 use Rattle.console_lines.specs.declared.fault.Fault.{Fault}
 use Rattle.console_lines.specs.declared.fault.Fault.TheVariants as fault
 use Rattle.commit_journal.specs.declared.frame.Frame.{Frame}
 use Rattle.durable_catalogue.specs.declared.fault.OpenFault.{OpenFault}
 use Rattle.durable_catalogue.specs.declared.fault.OpenFault.TheVariants as opening
-use Rattle.room_files.specs.Faults.{fault_of_opening}
-use Rattle.room_files.specs.Journals.{log_bytes}
-use Rattle.room_files.proofs.Faults.{opening_device}
+use Rattle.journal_files.specs.Faults.{fault_of_opening}
+use Rattle.journal_files.specs.Journals.{log_bytes}
+use Rattle.journal_files.proofs.Faults.{opening_device}
 use Rattle.checkpoint.specs.Format.{part_bytes}
 use Rattle.checkpoint.specs.Parts.{IsPart, IsPartOf}
-use Rattle.checkpoint.specs.Points.{payloads_of, IsBadFrame}
+use Rattle.checkpoint.specs.Points.{payloads_of}
 use Rattle.checkpoint.specs.declared.part.Part.{Part}
 use Rattle.checkpoint.specs.declared.point.Point.{Point}
 use Rattle.restoring.specs.Writing.{HasLast}
@@ -66,6 +66,7 @@ checkpoint_by_end Done kind console told = inl tt
 checkpoint_by_end Refused kind console told = absurd kind
 checkpoint_by_end (Unwritten Out) kind console told = absurd kind
 checkpoint_by_end (Unwritten Side) kind console told = absurd kind
+checkpoint_by_end (Unwritten Pages) kind console told = absurd kind
 checkpoint_by_end (Unwritten Console) kind console told = absurd (console refl)
 checkpoint_by_end (Told why) kind console told = inr (ap Told (told why refl))
 
@@ -75,6 +76,7 @@ quick_by_end Done kind out console told = inl tt
 quick_by_end Refused kind out console told = absurd kind
 quick_by_end (Unwritten Out) kind out console told = absurd (out refl)
 quick_by_end (Unwritten Side) kind out console told = absurd kind
+quick_by_end (Unwritten Pages) kind out console told = absurd kind
 quick_by_end (Unwritten Console) kind out console told = absurd (console refl)
 quick_by_end (Told why) kind out console told = inr (ap Told (told why refl))
 

@@ -1,8 +1,8 @@
 -- The commands over a log of checkpoints whose journal can't be used, or whose log is of version 1, end with the status that says why.
-use Rattle.std.proofs.Common.{◌≡◌, ◌≢◌, ◌⊎◌, inl, inr, ℕ, List, Option, true, refl, sym, ap, subst, ◌∙◌, arith}
+use Rattle.std.proofs.Common.{◌≡◌, ◌⊎◌, inl, inr, ℕ, List, Option, true, refl, sym, ap, subst, ◌∙◌, arith}
 use Rattle.outside.specs.Fault.{Rose}
-use Rattle.command_words.specs.Command.{Command, Checkpoint, Quick}
-use Rattle.console_lines.specs.Ends.{Outcome, IsAllDone, TellsNoFault, end_status, out_unwritten, side_unwritten, console_unwritten}
+use Rattle.command_words.specs.Command.{Checkpoint, Quick}
+use Rattle.console_lines.specs.Ends.{Outcome, IsAllDone, TellsNoFault, end_status}
 use Rattle.console_lines.specs.Faults.{fault_status}
 use Rattle.console_lines.specs.declared.end.End.{End}
 use Rattle.console_lines.specs.declared.end.End.TheVariants.{Done, Refused, Unwritten, Told}
@@ -11,14 +11,13 @@ use Rattle.console_lines.specs.declared.fault.Fault.TheVariants as fault
 use Rattle.commit_journal.specs.Log.{version_of}
 use Rattle.durable_catalogue.specs.declared.fault.OpenFault.{OpenFault}
 use Rattle.durable_catalogue.specs.declared.fault.OpenFault.TheVariants as opening
-use Rattle.room_files.specs.Faults.{fault_of_opening}
-use Rattle.room_files.specs.Journals.{log_bytes}
-use Rattle.room_files.proofs.Faults.{opening_device}
-use Rattle.archive_commands.specs.Archives.{HasFittingHistory}
+use Rattle.journal_files.specs.Faults.{fault_of_opening}
+use Rattle.journal_files.specs.Journals.{log_bytes}
+use Rattle.journal_files.proofs.Faults.{opening_device}
 use Rattle.archive_commands.proofs.Histories.{fitting_history}
 use Rattle.checkpoint.specs.declared.point.Point.{Point}
 use Rattle.restoring.specs.Writing.{HasLast}
-use Rattle.checkpoint_commands.specs.PointLogs.{IsPointLog, IsUntaken}
+use Rattle.checkpoint_commands.specs.PointLogs.{IsUntaken}
 use Rattle.checkpoint_commands.specs.Refusals.{IsJournalRefused, IsRefusedBehind}
 use Rattle.checkpoint_commands.specs.Checkpoints.{EndsCheckpoint, Checkpoints}
 use Rattle.checkpoint_commands.specs.Quick.{EndsQuick, ExportsQuickly}
@@ -85,7 +84,7 @@ module _ (o : Outcome) (tells : o.old.tells ≡ true) (words : List (List ℕ)) 
     checkpoint_status : (due : ℕ) → (IsAllDone o.end → ⊥) → ((why : Fault) → IsJournalRefused journal why o.old o.new ⊎ IsRefusedBehind journal point why o.old o.new → IsStatus due (fault_status why))
         → IsStatus due (end_status o.end)
     checkpoint_status due good told =
-        by_told due o.end good (λ is. subst EndsCheckpoint is c.ends) (λ is. subst EndsCheckpoint is c.ends) (λ is. s.2 (c.console is))
+        by_told due o.end good (λ is. subst EndsCheckpoint is c.ends) ((λ is. subst EndsCheckpoint is c.ends), (λ is. subst EndsCheckpoint is c.ends)) (λ is. s.2 (c.console is))
         (λ why is. told why (c.told why is).1)
 
     pub checkpoint_refuses : RefusesMisfits words (Checkpoint journal point) o.old (end_status o.end)
@@ -108,7 +107,7 @@ module _ (o : Outcome) (tells : o.old.tells ≡ true) (words : List (List ℕ)) 
     quick_status : (due : ℕ) → (IsAllDone o.end → ⊥) → ((why : Fault) → IsJournalRefused journal why o.old o.new ⊎ IsRefusedBehind journal point why o.old o.new → IsStatus due (fault_status why))
         → IsStatus due (end_status o.end)
     quick_status due good told =
-        by_told due o.end good (λ is. s.2 (q.out_cause is)) (λ is. subst EndsQuick is q.ends) (λ is. s.3 (q.console is))
+        by_told due o.end good (λ is. s.2 (q.out_cause is)) ((λ is. subst EndsQuick is q.ends), (λ is. subst EndsQuick is q.ends)) (λ is. s.3 (q.console is))
         (λ why is. told why (q.told why is).1)
 
     pub quick_refuses : RefusesMisfits words (Quick journal point out) o.old (end_status o.end)

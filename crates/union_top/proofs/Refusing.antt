@@ -5,7 +5,7 @@ use Rattle.marc_types.specs.declared.entry.Entry.{Entry}
 use Rattle.outside.specs.Room.{SameBut}
 use Rattle.commit_journal.specs.Log.{version_of}
 use Rattle.command_words.specs.declared.library.Library.{Library}
-use Rattle.command_words.specs.Command.{Command, Pass, Run, Load, Export, Report, Make, Verify, Matches, Holdings, Migrate, Checkpoint, Quick, Help, Version, libraries_of}
+use Rattle.command_words.specs.Command.{Command, Pass, Run, Load, Browse, Export, Report, Make, Verify, Matches, Holdings, Migrate, Checkpoint, Quick, Read, Refused as RefusedOf, Help, Version, libraries_of}
 use Rattle.entry_record.specs.History.{IsMerged, IsWithin}
 use Rattle.console_lines.specs.Ends.{Outcome, IsAllDone, TellsNoFault, end_status, out_unwritten, side_unwritten, console_unwritten}
 use Rattle.console_lines.specs.Faults.{fault_status}
@@ -16,9 +16,9 @@ use Rattle.console_lines.specs.declared.fault.Fault.TheVariants as fault
 use Rattle.durable_catalogue.specs.Openings.{IsUnopened}
 use Rattle.durable_catalogue.specs.declared.fault.OpenFault.{OpenFault}
 use Rattle.durable_catalogue.specs.declared.fault.OpenFault.TheVariants as opening
-use Rattle.room_files.specs.Faults.{fault_of_opening}
-use Rattle.room_files.specs.Journals.{journal_limits, log_bytes}
-use Rattle.room_files.proofs.Histories.{reading_once}
+use Rattle.journal_files.specs.Faults.{fault_of_opening}
+use Rattle.journal_files.specs.Journals.{journal_limits, log_bytes}
+use Rattle.journal_files.proofs.Histories.{reading_once}
 use Rattle.archive_commands.specs.Archives.{HasFittingHistory}
 use Rattle.archive_commands.specs.Reads as reading
 use Rattle.archive_commands.specs.Reads.{ReadsJournal, EndsReading}
@@ -26,14 +26,16 @@ use Rattle.match_command.specs.Telling.{matches_due}
 use Rattle.holdings_command.specs.Attaching.{AttachesHoldings, EndsAttaching}
 use Rattle.migrate_command.specs.Migrates.{Migrates, EndsMigrating, WhyNotFrom, NotOpened, Newest, WhyNotInto}
 use Rattle.loading_commands.specs.Loading.{Loads, Runs}
+use Rattle.browsing_commands.specs.Browses.{Browses}
 use Rattle.loading_commands.specs.Outcomes.{IsLoadingFault}
-use Rattle.loading_commands.specs.Runs.{IsMergedLoad, WhyNotLoad, WhyNotRun}
+use Rattle.loading_commands.specs.Runs.{EndsLoad, EndsRun, IsMergedLoad, WhyNotLoad}
 use Rattle.loading_commands.specs.Runs as runs
 use Rattle.union_top.specs.Commands.{Ends}
 use Rattle.union_top.specs.Complete.{CountsStayed}
 use Rattle.union_top.specs.Misfits.{IsNoHistory, IsOfVersion, IsTooLarge, AreTooLarge, IsStatus, IsOneFile, RefusesMisfits}
 use Rattle.union_top.proofs.Complete.{around_of, one_stayed, none_failed, neither}
 use Rattle.union_top.proofs.Unopened.{may_be}
+use Rattle.union_top.proofs.Looking.{looks_refuses}
 use Rattle.union_top.proofs.Pointing.{checkpoint_refuses, quick_refuses}
 use Rattle.union_top.proofs.Misfits.{by_told, none_opened, large_opened, none_fits, large_fits, none_loaded, old_loaded, large_loaded}
 use mathlib.Core.HLevel.{⊥_prop}
@@ -64,7 +66,8 @@ module _ (o : Outcome) (tells : o.old.tells ≡ true) where
     reads_status : (out : List ℕ) (bytes : List Entry → List ℕ) → ReadsJournal journal out bytes o → Never out_unwritten → Never (Told fault.Device)
         → IsStatus due (end_status o.end)
     reads_status out bytes r no_out no_device =
-        by_told due o.end (λ good. unfit (r.history (no_fault o.end good) tells)) no_out (λ is. subst EndsReading is r.ends) (λ is. subst EndsReading is r.ends)
+        by_told due o.end (λ good. unfit (r.history (no_fault o.end good) tells)) no_out ((λ is. subst EndsReading is r.ends), (λ is. subst EndsReading is r.ends))
+        (λ is. subst EndsReading is r.ends)
         (λ why is.
         let w = (r.told why is).1 in
         subst (λ f. IsStatus due (fault_status f)) (sym w.is) (opens w.reason (w.so tells)
@@ -74,7 +77,7 @@ module _ (o : Outcome) (tells : o.old.tells ≡ true) where
         → Never out_unwritten → Never side_unwritten → Never console_unwritten → Never (Told fault.Input) → Never (Told fault.Device)
         → IsStatus due (end_status o.end)
     attaches_status out rest library code a no_out no_rest no_console no_input no_device =
-        by_told due o.end (λ good. unfit (a.history (inl (no_fault o.end good)) tells)) no_out no_rest no_console
+        by_told due o.end (λ good. unfit (a.history (inl (no_fault o.end good)) tells)) no_out (no_rest, λ is. subst EndsAttaching is a.ends) no_console
         (λ why is.
         let w = a.because why is (λ same. no_input (is ∙ ap Told same)) in
         subst (λ f. IsStatus due (fault_status f)) (sym w.is) (opens w.reason (w.so tells)
@@ -84,27 +87,21 @@ module _ (o : Outcome) (tells : o.old.tells ≡ true) where
   module _ (due : ℕ) (journal : List ℕ) (libraries : List Library) (unmerged : IsMergedLoad o.old o.new journal libraries → ⊥)
       (loaded : (why : Fault) → (why ≡ fault.Device → ⊥) → (why ≡ fault.Input → ⊥) → IsLoadingFault o.old o.new journal libraries why
       → IsStatus due (fault_status why)) where
+    either : (why : Fault) → WhyNotLoad o.old o.new journal libraries why → (why ≡ fault.Device → ⊥) → (why ≡ fault.Input → ⊥)
+        → IsStatus due (fault_status why)
+    either why (runs.NotLoaded is) device input = loaded why device input is
+    either why (runs.NoMemory memory merged) device input = inr (ap fault_status memory)
+
     loads_status : Loads libraries journal o → Never console_unwritten → Never (Told fault.Input) → Never (Told fault.Device) → IsStatus due (end_status o.end)
     loads_status l no_console no_input no_device =
-        by_told due o.end (λ good. unmerged (l.whole good tells).merged) l.no_output.0 l.no_output.1 no_console
+        by_told due o.end (λ good. unmerged (l.whole good tells).merged) l.no_output.0 (l.no_output.1, λ is. subst EndsLoad is l.ends) no_console
         (λ why is. either why (l.because why is tells) (λ same. no_device (is ∙ ap Told same)) (λ same. no_input (is ∙ ap Told same)))
-      where
-        either : (why : Fault) → WhyNotLoad o.old o.new journal libraries why → (why ≡ fault.Device → ⊥) → (why ≡ fault.Input → ⊥)
-            → IsStatus due (fault_status why)
-        either why (runs.NotLoaded is) device input = loaded why device input is
-        either why (runs.NoMemory memory merged) device input = inr (ap fault_status memory)
 
     runs_status : (out report : List ℕ) → Runs libraries journal out report o → Never out_unwritten → Never side_unwritten → Never console_unwritten
         → Never (Told fault.Input) → Never (Told fault.Device) → IsStatus due (end_status o.end)
     runs_status out report r no_out no_report no_console no_input no_device =
-        by_told due o.end (λ good. unmerged (r.whole good tells).merged) no_out no_report no_console
+        by_told due o.end (λ good. unmerged (r.whole good tells).merged) no_out (no_report, λ is. subst EndsRun is r.ends) no_console
         (λ why is. either why (r.because why is tells) (λ same. no_device (is ∙ ap Told same)) (λ same. no_input (is ∙ ap Told same)))
-      where
-        either : (why : Fault) → WhyNotRun o.old o.new journal out report libraries why → (why ≡ fault.Device → ⊥) → (why ≡ fault.Input → ⊥)
-            → IsStatus due (fault_status why)
-        either why (runs.NotLoaded is out_stays report_stays) device input = loaded why device input is
-        either why (runs.NoMemory memory merged out_stays report_stays) device input = inr (ap fault_status memory)
-        either why (runs.NoMemoryForReport memory written) device input = inr (ap fault_status memory)
 
   module _ (journal : List ℕ) (libraries : List Library) (m : IsMergedLoad o.old o.new journal libraries) where
     none_merged : IsNoHistory (log_bytes o.old journal) → ⊥
@@ -128,7 +125,8 @@ module _ (o : Outcome) (tells : o.old.tells ≡ true) where
     migrates_status : (due : ℕ) → (TellsNoFault o.end → ⊥) → ((why : Fault) → o.end ≡ Told why → WhyNotFrom o.old from why → IsStatus due (fault_status why))
         → ((why : Fault) → WhyNotInto o.old from into why → ⊥) → IsStatus due (end_status o.end)
     migrates_status due not_done of_from of_into =
-        by_told due o.end (λ good. not_done (no_fault o.end good)) (λ is. subst EndsMigrating is m.ends) (λ is. subst EndsMigrating is m.ends) no_console
+        by_told due o.end (λ good. not_done (no_fault o.end good)) (λ is. subst EndsMigrating is m.ends)
+        ((λ is. subst EndsMigrating is m.ends), (λ is. subst EndsMigrating is m.ends)) no_console
         (λ why is. either why is (m.told why is).1)
       where
         either : (why : Fault) → o.end ≡ Told why → (WhyNotFrom o.old from why × SameBut o.old o.new (from ∷ [])) ⊎ WhyNotInto o.old from into why
@@ -262,6 +260,17 @@ module _ (o : Outcome) (tells : o.old.tells ≡ true) where
       limits = loading_large journal (libraries_of words) (run_status words journal out report files r s);
     }
 
+    browse_refuses : (journal out report pages : List ℕ) (files : ℕ) → Browses (libraries_of words) journal out report pages o
+        → CountsStayed words (Browse journal out report pages files) (around_of o)
+        → RefusesMisfits words (Browse journal out report pages files) o.old (end_status o.end)
+    browse_refuses journal out report pages files b s =
+        let r = b.run (λ is. s.5 (b.pages_cause is)) in
+        let status = run_status words journal out report files r (s.0, s.1, s.2, s.3, s.4) in record {
+          no_history = loading_none journal (libraries_of words) status;
+          other_version = loading_old journal (libraries_of words) status;
+          limits = loading_large journal (libraries_of words) status;
+        }
+
     load_refuses : (journal : List ℕ) (files : ℕ) → Loads (libraries_of words) journal o
         → CountsStayed words (Load journal files) (around_of o) → RefusesMisfits words (Load journal files) o.old (end_status o.end)
     load_refuses journal files l s = record {
@@ -298,6 +307,7 @@ module _ (o : Outcome) (tells : o.old.tells ≡ true) where
     pub refuses : (command : Command) → Ends words command o → CountsStayed words command (around_of o)
         → RefusesMisfits words command o.old (end_status o.end)
     refuses (Run journal out report files) r s = run_refuses journal out report files r s
+    refuses (Browse journal out report pages files) b s = browse_refuses journal out report pages files b s
     refuses (Load journal files) l s = load_refuses journal files l s
     refuses (Export journal out code) r s = export_refuses journal out code r s
     refuses (Report journal out) r s = report_refuses journal out r s
@@ -309,5 +319,7 @@ module _ (o : Outcome) (tells : o.old.tells ≡ true) where
     refuses (Pass out) p s = record { no_history = λ no. absurd no; other_version = λ no. absurd no; limits = λ no. absurd no }
     refuses (Make seed count out) m s = record { no_history = λ no. absurd no; other_version = λ no. absurd no; limits = λ no. absurd no }
     refuses (Verify journal) v s = record { no_history = λ no. absurd no; other_version = λ no. absurd no; limits = λ no. absurd no }
+    refuses (Read look journal out) l s = looks_refuses o tells words look journal out l (λ is. s.1 (l.out_cause is)) (λ is. s.0 (l.input is))
+    refuses (RefusedOf out) p s = record { no_history = λ no. absurd no; other_version = λ no. absurd no; limits = λ no. absurd no }
     refuses (Help topic) t s = record { no_history = λ no. absurd no; other_version = λ no. absurd no; limits = λ no. absurd no }
     refuses Version t s = record { no_history = λ no. absurd no; other_version = λ no. absurd no; limits = λ no. absurd no }

@@ -15,13 +15,13 @@ use Rattle.durable_catalogue.specs.declared.fault.OpenFault.TheVariants as openi
 use Rattle.durable_catalogue.specs.Durables.{marked}
 use Rattle.loader_workers.specs.declared.file_end.FileEnd.TheVariants as end
 use Rattle.loader_workers.specs.declared.result.FileResult.{FileResult}
-use Rattle.room_files.specs.Journals.{journal_limits, log_bytes}
+use Rattle.journal_files.specs.Journals.{journal_limits, log_bytes}
 use Rattle.archive_commands.specs.Archives.{HasFittingHistory}
 use Rattle.archive_commands.proofs.Histories.{fitting_history}
 use Rattle.loading_commands.specs.Outcomes.{IsLoadedInPart, IsUnbegun, Unopened, Unbegun, IsLoadingFault, NotBegun, InPart, any_ends, loading_fault}
-use Rattle.room_files.specs.Faults.{fault_of_opening}
-use Rattle.room_files.proofs.Histories.{reading_once}
-use Rattle.loading_commands.specs.Runs.{WhyNotLoad, WhyNotRun}
+use Rattle.journal_files.specs.Faults.{fault_of_opening}
+use Rattle.journal_files.proofs.Histories.{reading_once}
+use Rattle.loading_commands.specs.Runs.{WhyNotLoad}
 use Rattle.loading_commands.specs.Runs as runs
 use Rattle.union_top.proofs.Judgements.{FitsJudged}
 use Rattle.union_top.proofs.Crowded.{all_parts, crowded, never_crowded}
@@ -93,8 +93,3 @@ module _ (old new : RoomView) (journal : List ℕ) (libraries : List Library) (t
   pub of_load : (why : Fault) → WhyNotLoad old new journal libraries why → Remains why
   of_load why (runs.NotLoaded is) = of_loading why is
   of_load why (runs.NoMemory memory loaded) = subst Remains (sym memory) tt
-
-  pub of_run : (out report : List ℕ) (why : Fault) → WhyNotRun old new journal out report libraries why → Remains why
-  of_run out report why (runs.NotLoaded is out_stays report_stays) = of_loading why is
-  of_run out report why (runs.NoMemory memory loaded out_stays report_stays) = subst Remains (sym memory) tt
-  of_run out report why (runs.NoMemoryForReport memory written) = subst Remains (sym memory) tt

@@ -1,5 +1,5 @@
 -- A command over objects that keep their promises, and hold what is due, ends well, or memory ran out.
-use Rattle.std.proofs.Common.{◌≡◌, ◌⊎◌, inl, inr, ℕ, ◌+◌, ◌≤◌, max, true, List, ◌++◌, length, Option, Some, None, refl, sym, ap, subst, ◌∙◌, arith}
+use Rattle.std.proofs.Common.{◌≡◌, ◌⊎◌, inl, inr, ℕ, ◌+◌, ◌≤◌, max, true, List, [], ◌∷◌, ◌++◌, length, Option, Some, None, refl, sym, ap, subst, ◌∙◌, arith}
 use Rattle.std.specs.Prelude.{IsSomeAnd}
 use Rattle.std.specs.List.{sum_by}
 use Rattle.std.proofs.Math.Logic.{∥∥₁_elim}
@@ -11,7 +11,7 @@ use Rattle.marc_stream.specs.Pieces.{items}
 use Rattle.workload.specs.Workload.{workload_bytes}
 use Rattle.commit_journal.specs.declared.format.TheConstants.{BLANK_LENGTH}
 use Rattle.command_words.specs.declared.library.Library.{Library}
-use Rattle.command_words.specs.Command.{Command, Pass, Run, Load, Export, Report, Make, Verify, Matches, Holdings, Migrate, Checkpoint, Quick, Help, Version, libraries_of}
+use Rattle.command_words.specs.Command.{Command, Pass, Run, Load, Browse, Export, Report, Make, Verify, Matches, Holdings, Migrate, Checkpoint, Quick, Read, Refused as RefusedOf, Help, Version, libraries_of}
 use Rattle.file_entries.specs.Files.{IsJudged}
 use Rattle.file_entries.specs.declared.refused.RefusedItem.{RefusedItem}
 use Rattle.console_lines.specs.Ends.{Outcome, IsAllDone, TellsNoFault, end_of, end_status, out_unwritten, side_unwritten, console_unwritten}
@@ -25,12 +25,15 @@ use Rattle.durable_catalogue.specs.Logs.{IsLogOf, HasHistory}
 use Rattle.durable_catalogue.proofs.Framed.{framed_append}
 use Rattle.entry_record.specs.History.{IsWithin}
 use Rattle.output_files.specs.Outputs.{IsOutputLeft}
-use Rattle.room_files.specs.Journals.{journal_limits, log_bytes, KeepsHistory}
+use Rattle.journal_files.specs.Journals.{journal_limits, log_bytes, KeepsHistory}
 use Rattle.archive_commands.specs.Reads as reads
 use Rattle.archive_commands.specs.Reads.{ReadsJournal}
 use Rattle.match_command.specs.Telling.{matches_due}
 use Rattle.plain_commands.specs.Making.{Makes, workload_line}
-use Rattle.plain_commands.specs.Passing.{Passes, IsPassedInPart, IsPassedUntold, exported, results}
+use Rattle.plain_commands.specs.Passing.{FileDue, PassesFile, IsPassedInPart, IsPassedUntold, export_due, results}
+use Rattle.plain_commands.specs.GivingBack.{refused_due}
+use Rattle.reading_commands.specs.Looking.{LooksInto, look_due}
+use Rattle.union_top.proofs.Looking.{looks_well}
 use Rattle.journal_verification.specs.Contents.{IsVerified}
 use Rattle.journal_verification.specs.Verifying.{Verifies, IsToldInPart, verified_lines}
 use Rattle.catalogue_rules.specs.Settle.{state_of}
@@ -39,20 +42,23 @@ use Rattle.holdings_command.specs.Attaching as attaching
 use Rattle.holdings_command.specs.Attaching.{AttachesHoldings, IsDelivered, OutFailed, RestFailed, ConsoleFailed, Whole, IsAttached}
 use Rattle.migrate_command.specs.Migrations.{IsFit, IsAmid, Before, Behind}
 use Rattle.migrate_command.specs.Migrates as migrates
-use Rattle.migrate_command.specs.Migrates.{Migrates, BringsInto, IsDeviceOf, migrated_line}
+use Rattle.migrate_command.specs.Migrates.{Migrates, BringsInto, migrated_line}
+use Rattle.journal_files.specs.Faults.{IsDeviceOf}
 use Rattle.console_lines.specs.Lines.{resumed_line}
-use Rattle.checkpoint_commands.specs.Quick.{ExportsQuickly, IsResumedFrom}
+use Rattle.checkpoint_commands.specs.Quick.{ExportsQuickly}
 use Rattle.loading_commands.specs.Inputs.{IsInputFault}
 use Rattle.loading_commands.specs.Outcomes as outcomes
 use Rattle.loading_commands.specs.Outcomes.{IsLoadingFault}
 use Rattle.program_help.specs.Telling.{help_text, version_text, Tells}
 use Rattle.loading_commands.specs.Loading.{Loads, Runs}
 use Rattle.loading_commands.specs.Runs as runs
-use Rattle.loading_commands.specs.Runs.{IsMergedLoad, WhyNotLoad, WhyNotRun}
+use Rattle.browsing_commands.specs.Pages.{pages_text}
+use Rattle.browsing_commands.specs.Browses.{Browses}
+use Rattle.loading_commands.specs.Runs.{IsMergedLoad, WhyNotLoad}
 use Rattle.union_top.specs.Commands.{Ends}
-use Rattle.union_top.specs.Fits.{FitsPass, FitsLoad, FitsReading, FitsHoldings, FitsVerify, FitsMigrate, FitsPoint}
+use Rattle.union_top.specs.Fits.{FitsPass, FitsLoad, FitsReading, FitsHoldings, FitsVerify, FitsLook, FitsMigrate, FitsPoint}
 use Rattle.union_top.specs.Complete.{Around, LogStayed}
-use Rattle.union_top.specs.Sure.{HoldsLog, HoldsText, PassCase, LoadCase, HoldingsCase, holdings_due, IsSurePass, IsSureMake, IsSureReading, IsSureVerify, IsSureHoldings, IsSureMigrate, IsSureQuick, IsSureLoad, IsSureRun, IsSure}
+use Rattle.union_top.specs.Sure.{HoldsLog, HoldsText, PassCase, LoadCase, HoldingsCase, holdings_due, IsSurePass, IsSureMake, IsSureReading, IsSureVerify, IsSureLook, IsSureHoldings, IsSureMigrate, IsSureQuick, IsSureLoad, IsSureRun, IsSureBrowse, IsSure}
 use Rattle.union_top.proofs.Complete.{around_of, one_stayed, none_failed, neither}
 use Rattle.union_top.proofs.Fitting.{EndsWell, well_status, Never, passes_well, makes_well, reads_well, attaches_well, loads_well, runs_well}
 use Rattle.union_top.proofs.Framed.{part_no_longer}
@@ -93,13 +99,13 @@ module _ (o : Outcome) (promises : (n : List ℕ) → o.new.promise n ≡ o.old.
       → (o.end ≡ Told fault.Device → Rose (o.old.log_faults journal) (o.new.log_faults journal)) → Never o (Told fault.Device)
   no_device journal h keeps cause is = kept_stayed a promises kept (o.end ≡ Told fault.Device) journal 0 h keeps (cause is)
 
-  module _ (words : List (List ℕ)) (out : List ℕ) (ends : Ends words (Pass out) o) (f : FitsPass o.old (libraries_of words))
-      (h : IsSurePass (libraries_of words) out a) where
-    p : Passes f.library out o
+  module _ (due : FileDue) (libraries : List Library) (out : List ℕ) (ends : (library : Library) → libraries ≡ library ∷ [] → PassesFile due library out o)
+      (f : FitsPass o.old libraries) (h : IsSurePass due libraries out a) where
+    p : PassesFile due f.library out o
     p = ends f.library f.named
 
     abbrev pass_case : (accepted : List Entry) (refused : List RefusedItem) → IsJudged f.library.code 0 (items f.alone.bytes) accepted refused
-        → PassCase o.old (libraries_of words)
+        → PassCase o.old libraries
     pass_case accepted refused judged = record {
       library = f.library;
       named = f.named;
@@ -110,17 +116,18 @@ module _ (o : Outcome) (promises : (n : List ℕ) → o.new.promise n ≡ o.old.
 
     sure_pass : EndsWell o.end
     sure_pass =
-        passes_well o words out ends f
+        passes_well o due libraries out ends f
         (λ is.
-        let part : IsPassedInPart f.library f.alone.bytes o.old o.new out =
-        subst (λ file. IsSomeAnd file (λ bytes. IsPassedInPart f.library bytes o.old o.new out)) f.alone.there (p.part is f.tells) in
-        out_stayed a promises kept out (exported part.accepted) (h.output (pass_case part.accepted part.refused part.judged)) part.left (p.out_cause is))
+        let part : IsPassedInPart due f.library f.alone.bytes o.old o.new out =
+        subst (λ file. IsSomeAnd file (λ bytes. IsPassedInPart due f.library bytes o.old o.new out)) f.alone.there (p.part is f.tells) in
+        out_stayed a promises kept out (due f.alone.bytes part.accepted part.refused)
+        (h.output (pass_case part.accepted part.refused part.judged) f.alone.bytes f.alone.there) part.left (p.out_cause is))
         (λ is.
-        let part : IsPassedUntold f.library f.alone.bytes (o.new.file out) o.told o.now =
-        subst (λ file. IsSomeAnd file (λ bytes. IsPassedUntold f.library bytes (o.new.file out) o.told o.now)) f.alone.there (p.untold is f.tells) in
+        let part : IsPassedUntold due f.library f.alone.bytes (o.new.file out) o.told o.now =
+        subst (λ file. IsSomeAnd file (λ bytes. IsPassedUntold due f.library bytes (o.new.file out) o.told o.now)) f.alone.there (p.untold is f.tells) in
         text_stayed a (results f.library.file part.accepted part.refused) (h.console (pass_case part.accepted part.refused part.judged)) part.console
         (p.console_cause is))
-        (λ is. one_stayed a (libraries_of words) (inputs_stayed a promises kept (libraries_of words) h.inputs) f.library f.named (p.input is))
+        (λ is. one_stayed a libraries (inputs_stayed a promises kept libraries h.inputs) f.library f.named (p.input is))
 
   sure_make : (seed count : ℕ) (out : List ℕ) → Makes seed count out o → IsSureMake seed count out a → EndsWell o.end
   sure_make seed count out m h =
@@ -151,6 +158,14 @@ module _ (o : Outcome) (promises : (n : List ℕ) → o.new.promise n ≡ o.old.
       let verified = subst (λ file. IsSomeAnd file (λ log. IsVerified log part.verified)) (sym f.there) part.is in
       text_stayed a (verified_lines part.verified) (h.console part.verified verified) part.console (v.console_cause is))
       (λ is. in_stayed a promises kept journal h.input (v.input is))
+
+  sure_look : (due : List Entry → List ℕ) (journal out : List ℕ) → LooksInto journal out due o → FitsLook o.old journal → IsSureLook due journal out a → EndsWell o.end
+  sure_look due journal out l f h =
+      looks_well o journal out due l f
+      (λ is.
+      ∥∥₁_elim f.history ⊥_prop (λ (one : (entries : List Entry) × IsLogOf entries f.bytes × IsWithin journal_limits entries).
+      out_stayed a promises kept out (due one.0) (h.output f.bytes one.0 f.there ∣ one.1 ∣₁) (l.part f.bytes one.0 is f.tells f.there ∣ one.1 ∣₁) (l.out_cause is)))
+      (λ is. in_stayed a promises kept journal h.input (l.input is))
 
   -- what is delivered at an end where something could not be written
   module _ (due : attaching.Due) (out rest : List ℕ) where
@@ -263,11 +278,6 @@ module _ (o : Outcome) (promises : (n : List ℕ) → o.new.promise n ≡ o.old.
     load_stayed (runs.NotLoaded is) = loading_stayed is
     load_stayed (runs.NoMemory memory loaded) = cc
 
-    run_stayed : (out report : List ℕ) → WhyNotRun o.old o.new journal out report libraries fault.Device → LogStayed a journal
-    run_stayed out report (runs.NotLoaded is out_stays report_stays) = loading_stayed is
-    run_stayed out report (runs.NoMemory memory loaded out_stays report_stays) = cc
-    run_stayed out report (runs.NoMemoryForReport memory written) = cc
-
     sure_load : Loads libraries journal o → EndsWell o.end
     sure_load l =
         loads_well o libraries journal l f
@@ -291,7 +301,16 @@ module _ (o : Outcome) (promises : (n : List ℕ) → o.new.promise n ≡ o.old.
       let untold = r.untold is f.tells in
       text_stayed a (runs.told_of untold.merged) (h.load.console (case untold.merged)) untold.console (r.console_cause is))
       (λ is. no_input_fault libraries journal f h.load (r.input is))
-      (λ is. run_stayed libraries journal f h.load out report (r.because fault.Device is f.tells) (r.device is))
+      (λ is. load_stayed libraries journal f h.load (r.because fault.Device is f.tells) (r.device is))
+
+  sure_browse : (libraries : List Library) (journal out report pages : List ℕ) → Browses libraries journal out report pages o → FitsLoad o.old journal libraries
+      → IsSureBrowse libraries journal out report pages a → EndsWell o.end
+  sure_browse libraries journal out report pages b f h =
+      sure_run libraries journal out report
+      (b.run (λ is.
+      let p = b.in_pages is f.tells in
+      out_stayed a promises kept pages (pages_text p.due) (h.pages_output (load_case libraries journal f h.run.load p.merged) p.due p.are) p.left (b.pages_cause is)))
+      f h.run
 
   sure_quick : (journal point out : List ℕ) → ExportsQuickly journal point out o → FitsPoint o.old journal point → IsSureQuick journal point out a
       → EndsWell o.end
@@ -309,8 +328,9 @@ module _ (o : Outcome) (promises : (n : List ℕ) → o.new.promise n ≡ o.old.
   sure_text text t h = tells_well o text t (λ is. text_stayed a text h (t.part is) (t.cause is))
 
   ends_sure : (words : List (List ℕ)) (command : Command) → Ends words command o → IsSure words command a → EndsWell o.end
-  ends_sure words (Pass out) ends u = sure_pass words out ends u.fits u.holds
+  ends_sure words (Pass out) ends u = sure_pass export_due (libraries_of words) out ends u.fits u.holds
   ends_sure words (Run journal out report files) r u = sure_run (libraries_of words) journal out report r u.fits u.holds
+  ends_sure words (Browse journal out report pages files) b u = sure_browse (libraries_of words) journal out report pages b u.fits u.holds
   ends_sure words (Load journal files) l u = sure_load (libraries_of words) journal u.fits u.holds l
   ends_sure words (Export journal out code) r u = sure_read journal out (reads.due_of (reads.Export code)) r u.fits u.holds
   ends_sure words (Report journal out) r u = sure_read journal out (reads.due_of reads.Report) r u.fits u.holds
@@ -321,6 +341,8 @@ module _ (o : Outcome) (promises : (n : List ℕ) → o.new.promise n ≡ o.old.
   ends_sure words (Migrate from into) m u = sure_migrate from into m u.fits u.holds
   ends_sure words (Checkpoint journal point) c u = absurd u.holds
   ends_sure words (Quick journal point out) q u = sure_quick journal point out q u.fits u.holds
+  ends_sure words (Read look journal out) l u = sure_look (look_due look) journal out l u.fits u.holds
+  ends_sure words (RefusedOf out) ends u = sure_pass refused_due (libraries_of words) out ends u.fits u.holds
   ends_sure words (Help topic) t u = sure_text (help_text topic) t u.holds
   ends_sure words Version t u = sure_text version_text t u.holds
 

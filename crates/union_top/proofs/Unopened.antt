@@ -13,9 +13,9 @@ use Rattle.durable_catalogue.specs.declared.fault.OpenFault.TheVariants as openi
 use Rattle.durable_catalogue.specs.Logs.{payloads_of, IsLogOf}
 use Rattle.durable_catalogue.specs.Openings.{IsBadFrame, NoGate, NoPayload, IsUnopened}
 use Rattle.entry_record.specs.History.{IsWithin}
-use Rattle.room_files.specs.Faults.{fault_of_opening}
-use Rattle.room_files.specs.Journals.{journal_limits}
-use Rattle.room_files.proofs.Histories.{reading_once}
+use Rattle.journal_files.specs.Faults.{fault_of_opening}
+use Rattle.journal_files.specs.Journals.{journal_limits}
+use Rattle.journal_files.proofs.Histories.{reading_once}
 use Rattle.archive_commands.specs.Archives.{HasFittingHistory}
 use mathlib.Core.HLevel.{⊥_prop}
 

@@ -5,12 +5,12 @@ use Rattle.std.specs.Prelude.{IsSomeAnd}
 use Rattle.console_lines.specs.Ends.{Outcome, IsAllDone, console_unwritten}
 use Rattle.console_lines.specs.declared.end.End.{End}
 use Rattle.console_lines.specs.declared.end.End.TheVariants.{Done, Refused, Unwritten, Told}
-use Rattle.console_lines.specs.declared.end.Unwritten.TheVariants.{Out, Side, Console}
+use Rattle.console_lines.specs.declared.end.Unwritten.TheVariants.{Out, Side, Pages, Console}
 use Rattle.console_lines.specs.declared.fault.Fault.TheVariants as fault
 use Rattle.durable_catalogue.specs.declared.fault.OpenFault.TheVariants as opening
 use Rattle.durable_catalogue.specs.Openings as openings
 use Rattle.durable_catalogue.specs.Openings.{IsUnopened}
-use Rattle.room_files.specs.Journals.{journal_limits}
+use Rattle.journal_files.specs.Journals.{journal_limits}
 use Rattle.journal_verification.specs.Contents.{IsNoJournal, NoGate, NoPayload}
 use Rattle.journal_verification.specs.Verifying.{EndsVerifying, Verifies}
 use Rattle.program_help.specs.Telling.{EndsTelling, Tells}
@@ -38,6 +38,7 @@ verified_well Done kind console input none = inl tt
 verified_well Refused kind console input none = absurd kind
 verified_well (Unwritten Out) kind console input none = absurd kind
 verified_well (Unwritten Side) kind console input none = absurd kind
+verified_well (Unwritten Pages) kind console input none = absurd kind
 verified_well (Unwritten Console) kind console input none = absurd (console refl)
 verified_well (Told fault.Usage) kind console input none = absurd kind
 verified_well (Told fault.Input) kind console input none = absurd (input refl)
@@ -53,6 +54,7 @@ told_well Done kind console = inl tt
 told_well Refused kind console = absurd kind
 told_well (Unwritten Out) kind console = absurd kind
 told_well (Unwritten Side) kind console = absurd kind
+told_well (Unwritten Pages) kind console = absurd kind
 told_well (Unwritten Console) kind console = absurd (console refl)
 told_well (Told why) kind console = absurd kind
 

@@ -2,7 +2,7 @@
 use Rattle.std.specs.Prelude.{◌≡◌, ◌≢◌, ℕ, List, [], ◌∷◌, None}
 use Rattle.outside.specs.Room.{SameBut}
 use Rattle.command_words.specs.declared.library.Library.{Library}
-use Rattle.command_words.specs.Command.{Command, Pass, Run, Load, Export, Report, Make, Verify, Matches, Holdings, Migrate, Checkpoint, Quick, Help, Version, libraries_of, names_of}
+use Rattle.command_words.specs.Command.{Command, Pass, Run, Load, Browse, Export, Report, Make, Verify, Matches, Holdings, Migrate, Checkpoint, Quick, Read, Refused as RefusedOf, Help, Version, libraries_of, names_of}
 use Rattle.console_lines.specs.Ends.{Outcome, end_status}
 use Rattle.console_lines.specs.declared.end.End.{End}
 use Rattle.console_lines.specs.declared.end.End.TheVariants.{Told}
@@ -11,6 +11,8 @@ use Rattle.archive_commands.specs.Reads as reads
 use Rattle.archive_commands.specs.Reads.{Reads}
 use Rattle.plain_commands.specs.Passing.{Passes}
 use Rattle.plain_commands.specs.Making.{Makes}
+use Rattle.plain_commands.specs.GivingBack.{GivesBack}
+use Rattle.reading_commands.specs.Looking.{LooksInto, look_due}
 use Rattle.journal_verification.specs.Verifying.{Verifies}
 use Rattle.match_command.specs.Telling.{TellsMatches}
 use Rattle.holdings_command.specs.Attaching.{AttachesHoldings}
@@ -19,12 +21,14 @@ use Rattle.checkpoint_commands.specs.Checkpoints.{Checkpoints}
 use Rattle.checkpoint_commands.specs.Quick.{ExportsQuickly}
 use Rattle.program_help.specs.Telling.{help_text, version_text, Tells}
 use Rattle.loading_commands.specs.Loading.{Loads, Runs}
+use Rattle.browsing_commands.specs.Browses.{Browses}
 
 -- how the command of some words ended
 abbrev pub Ends : List (List ℕ) → Command → Outcome → Type 0
 Ends words (Pass out) o = (library : Library) → libraries_of words ≡ library ∷ [] → Passes library out o
 Ends words (Run journal out report files) o = Runs (libraries_of words) journal out report o
 Ends words (Load journal files) o = Loads (libraries_of words) journal o
+Ends words (Browse journal out report pages files) o = Browses (libraries_of words) journal out report pages o
 Ends words (Export journal out code) o = Reads journal out (reads.Export code) o
 Ends words (Report journal out) o = Reads journal out reads.Report o
 Ends words (Make seed count out) o = Makes seed count out o
@@ -34,6 +38,8 @@ Ends words (Holdings journal out rest code) o = (library : Library) → librarie
 Ends words (Migrate from into) o = Migrates from into o
 Ends words (Checkpoint journal point) o = Checkpoints journal point o
 Ends words (Quick journal point out) o = ExportsQuickly journal point out o
+Ends words (Read look journal out) o = LooksInto journal out (look_due look) o
+Ends words (RefusedOf out) o = (library : Library) → libraries_of words ≡ library ∷ [] → GivesBack library out o
 Ends words (Help topic) o = Tells (help_text topic) o
 Ends words Version o = Tells version_text o
 

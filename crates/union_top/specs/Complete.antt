@@ -3,7 +3,7 @@ use Rattle.std.specs.Prelude.{ℕ, List, All, Option}
 use Rattle.outside.specs.Fault.{Rose}
 use Rattle.outside.specs.Room.{RoomView}
 use Rattle.command_words.specs.declared.library.Library.{Library}
-use Rattle.command_words.specs.Command.{Command, Pass, Run, Load, Export, Report, Make, Verify, Matches, Holdings, Migrate, Checkpoint, Quick, Help, Version, libraries_of}
+use Rattle.command_words.specs.Command.{Command, Pass, Run, Load, Browse, Export, Report, Make, Verify, Matches, Holdings, Migrate, Checkpoint, Quick, Read, Refused as RefusedOf, Help, Version, libraries_of}
 use Rattle.union_top.specs.Fits.{Fits}
 
 -- what the room and the console were before and after a command
@@ -15,6 +15,7 @@ pub record Around : Type 1 where
   pub faults : ℕ
   pub faults_now : ℕ
 
+-- a room and a console, before and after
 abbrev pub around : {R K : Type 0} → (R → RoomView) → (K → Option (List ℕ)) → (K → ℕ) → R → R → K → K → Around
 around seen written faults room room_now console console_now = record {
   old = seen room;
@@ -34,15 +35,19 @@ module _ (a : Around) where
   abbrev pub InStayed : List ℕ → Type 0
   InStayed name = Stayed (a.old.in_faults name) (a.new.in_faults name)
 
+  -- no fault of the outputs of a name was counted
   abbrev pub OutStayed : List ℕ → Type 0
   OutStayed name = Stayed (a.old.out_faults name) (a.new.out_faults name)
 
+  -- no fault of the logs of a name was counted
   abbrev pub LogStayed : List ℕ → Type 0
   LogStayed name = Stayed (a.old.log_faults name) (a.new.log_faults name)
 
+  -- no fault of the console was counted
   abbrev pub ConsoleStayed : Type 0
   ConsoleStayed = Stayed a.faults a.faults_now
 
+  -- no fault of the inputs of these libraries' files was counted
   abbrev pub InputsStayed : List Library → Type 0
   InputsStayed libraries = All (λ library. InStayed library.file) libraries
 
@@ -52,6 +57,8 @@ CountsStayed words (Pass out) a = InputsStayed a (libraries_of words) × OutStay
 CountsStayed words (Run journal out report files) a =
     InputsStayed a (libraries_of words) × LogStayed a journal × ConsoleStayed a × OutStayed a out × OutStayed a report
 CountsStayed words (Load journal files) a = InputsStayed a (libraries_of words) × LogStayed a journal × ConsoleStayed a
+CountsStayed words (Browse journal out report pages files) a =
+    InputsStayed a (libraries_of words) × LogStayed a journal × ConsoleStayed a × OutStayed a out × OutStayed a report × OutStayed a pages
 CountsStayed words (Export journal out code) a = LogStayed a journal × OutStayed a out
 CountsStayed words (Report journal out) a = LogStayed a journal × OutStayed a out
 CountsStayed words (Make seed count out) a = OutStayed a out × ConsoleStayed a
@@ -62,6 +69,8 @@ CountsStayed words (Holdings journal out rest code) a =
 CountsStayed words (Migrate from into) a = LogStayed a from × LogStayed a into × ConsoleStayed a
 CountsStayed words (Checkpoint journal point) a = LogStayed a journal × LogStayed a point × ConsoleStayed a
 CountsStayed words (Quick journal point out) a = LogStayed a journal × LogStayed a point × OutStayed a out × ConsoleStayed a
+CountsStayed words (Read look journal out) a = InStayed a journal × OutStayed a out
+CountsStayed words (RefusedOf out) a = InputsStayed a (libraries_of words) × OutStayed a out × ConsoleStayed a
 CountsStayed words (Help topic) a = ConsoleStayed a
 CountsStayed words Version a = ConsoleStayed a
 

@@ -7,12 +7,12 @@ use Rattle.outside.specs.Room.{RoomView}
 use Rattle.marc_stream.specs.Pieces.{items}
 use Rattle.commit_journal.specs.Log.{version_of}
 use Rattle.command_words.specs.declared.library.Library.{Library}
-use Rattle.command_words.specs.Command.{Command, Pass, Run, Load, Export, Report, Make, Verify, Matches, Holdings, Migrate, Checkpoint, Quick, Help, Version, libraries_of}
+use Rattle.command_words.specs.Command.{Command, Pass, Run, Load, Browse, Export, Report, Make, Verify, Matches, Holdings, Migrate, Checkpoint, Quick, Read, Refused as RefusedOf, Help, Version, libraries_of}
 use Rattle.file_entries.specs.Files.{IsJudged}
 use Rattle.file_entries.specs.declared.refused.RefusedItem.{RefusedItem}
 use Rattle.entry_record.specs.History.{entries_size}
 use Rattle.durable_catalogue.specs.Logs.{HasHistory}
-use Rattle.room_files.specs.Journals.{journal_limits, log_bytes}
+use Rattle.journal_files.specs.Journals.{journal_limits, log_bytes}
 use Rattle.archive_commands.specs.Archives.{HasFittingHistory}
 use Rattle.migrate_command.specs.Migrations.{IsFit}
 use Rattle.checkpoint.specs.declared.point.Point.{Point}
@@ -69,6 +69,13 @@ pub record FitsVerify (room : RoomView) (journal : List ℕ) : Type 0 where
   pub there : room.file journal ≡ Some bytes
   pub was : HasHistory entries bytes
 
+-- a look into a journal that isn't held, in a room that tells its files: it is there, with a history within the limits
+pub record FitsLook (room : RoomView) (journal : List ℕ) : Type 0 where
+  pub tells : room.tells ≡ true
+  pub bytes : List ℕ
+  pub there : room.file journal ≡ Some bytes
+  pub history : HasFittingHistory bytes
+
 -- the bringing of a journal's history into another one, in a room that tells its files: the old one is of version 1, and the new one,
 -- which may be blank or none, is fit for its history
 pub record FitsMigrate (room : RoomView) (from into : List ℕ) : Type 0 where
@@ -91,6 +98,7 @@ abbrev pub Fits : List (List ℕ) → Command → RoomView → Type 0
 Fits words (Pass out) room = FitsPass room (libraries_of words)
 Fits words (Run journal out report files) room = FitsLoad room journal (libraries_of words)
 Fits words (Load journal files) room = FitsLoad room journal (libraries_of words)
+Fits words (Browse journal out report pages files) room = FitsLoad room journal (libraries_of words)
 Fits words (Export journal out code) room = FitsReading room journal
 Fits words (Report journal out) room = FitsReading room journal
 Fits words (Make seed count out) room = Unit {0}
@@ -100,5 +108,7 @@ Fits words (Holdings journal out rest code) room = FitsHoldings room journal (li
 Fits words (Migrate from into) room = FitsMigrate room from into
 Fits words (Checkpoint journal point) room = FitsPoint room journal point
 Fits words (Quick journal point out) room = FitsPoint room journal point
+Fits words (Read look journal out) room = FitsLook room journal
+Fits words (RefusedOf out) room = FitsPass room (libraries_of words)
 Fits words (Help topic) room = Unit {0}
 Fits words Version room = Unit {0}

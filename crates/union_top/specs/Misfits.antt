@@ -1,14 +1,14 @@
 -- Which journals a command refuses, and with which status. The rules are this project's own.
-use Rattle.std.specs.Prelude.{◌≡◌, ◌⊎◌, ℕ, List, [], ◌∷◌, ◌++◌, Option}
+use Rattle.std.specs.Prelude.{◌≡◌, ◌⊎◌, ℕ, List, [], ◌∷◌, ◌++◌, Option, IsSomeAnd}
 use Rattle.marc_types.specs.declared.entry.Entry.{Entry}
 use Rattle.outside.specs.Room.{RoomView}
 use Rattle.commit_journal.specs.Log.{version_of}
 use Rattle.command_words.specs.declared.library.Library.{Library}
-use Rattle.command_words.specs.Command.{Command, Pass, Run, Load, Export, Report, Make, Verify, Matches, Holdings, Migrate, Checkpoint, Quick, Help, Version, libraries_of}
+use Rattle.command_words.specs.Command.{Command, Pass, Run, Load, Browse, Export, Report, Make, Verify, Matches, Holdings, Migrate, Checkpoint, Quick, Read, Refused as RefusedOf, Help, Version, libraries_of}
 use Rattle.file_entries.specs.declared.refused.RefusedItem.{RefusedItem}
 use Rattle.entry_record.specs.History.{IsMerged, IsWithin}
 use Rattle.durable_catalogue.specs.Logs.{HasHistory}
-use Rattle.room_files.specs.Journals.{journal_limits, log_bytes}
+use Rattle.journal_files.specs.Journals.{journal_limits, log_bytes}
 use Rattle.archive_commands.specs.Archives.{HasFittingHistory}
 use Rattle.loading_commands.specs.Merged.{AreJudged}
 use Rattle.checkpoint.specs.declared.point.Point.{Point}
@@ -52,6 +52,7 @@ pub record IsOneFile (words : List (List ℕ)) : Type 0 where
 abbrev pub HasNoHistory : List (List ℕ) → Command → RoomView → Type 0
 HasNoHistory words (Run journal out report files) room = IsNoHistory (log_bytes room journal)
 HasNoHistory words (Load journal files) room = IsNoHistory (log_bytes room journal)
+HasNoHistory words (Browse journal out report pages files) room = IsNoHistory (log_bytes room journal)
 HasNoHistory words (Export journal out code) room = IsNoHistory (log_bytes room journal)
 HasNoHistory words (Report journal out) room = IsNoHistory (log_bytes room journal)
 HasNoHistory words (Matches journal out) room = IsNoHistory (log_bytes room journal)
@@ -62,6 +63,8 @@ HasNoHistory words (Quick journal point out) room = IsNoHistory (log_bytes room 
 HasNoHistory words (Pass out) room = ⊥
 HasNoHistory words (Make seed count out) room = ⊥
 HasNoHistory words (Verify journal) room = ⊥
+HasNoHistory words (Read look journal out) room = IsSomeAnd (room.file journal) IsNoHistory
+HasNoHistory words (RefusedOf out) room = ⊥
 HasNoHistory words (Help topic) room = ⊥
 HasNoHistory words Version room = ⊥
 
@@ -69,6 +72,7 @@ HasNoHistory words Version room = ⊥
 abbrev pub IsOfOtherVersion : Command → RoomView → Type 0
 IsOfOtherVersion (Run journal out report files) room = IsOfVersion 1 (log_bytes room journal)
 IsOfOtherVersion (Load journal files) room = IsOfVersion 1 (log_bytes room journal)
+IsOfOtherVersion (Browse journal out report pages files) room = IsOfVersion 1 (log_bytes room journal)
 IsOfOtherVersion (Migrate from into) room = IsOfVersion 2 (log_bytes room from) × HasFittingHistory (log_bytes room from)
 IsOfOtherVersion (Checkpoint journal point) room = IsOldPoint room journal point
 IsOfOtherVersion (Quick journal point out) room = IsOldPoint room journal point
@@ -79,6 +83,8 @@ IsOfOtherVersion (Holdings journal out rest code) room = ⊥
 IsOfOtherVersion (Pass out) room = ⊥
 IsOfOtherVersion (Make seed count out) room = ⊥
 IsOfOtherVersion (Verify journal) room = ⊥
+IsOfOtherVersion (Read look journal out) room = ⊥
+IsOfOtherVersion (RefusedOf out) room = ⊥
 IsOfOtherVersion (Help topic) room = ⊥
 IsOfOtherVersion Version room = ⊥
 
@@ -86,6 +92,7 @@ IsOfOtherVersion Version room = ⊥
 abbrev pub PassesLimits : List (List ℕ) → Command → RoomView → Type 0
 PassesLimits words (Run journal out report files) room = AreTooLarge room journal (libraries_of words)
 PassesLimits words (Load journal files) room = AreTooLarge room journal (libraries_of words)
+PassesLimits words (Browse journal out report pages files) room = AreTooLarge room journal (libraries_of words)
 PassesLimits words (Export journal out code) room = IsTooLarge (log_bytes room journal)
 PassesLimits words (Report journal out) room = IsTooLarge (log_bytes room journal)
 PassesLimits words (Matches journal out) room = IsTooLarge (log_bytes room journal)
@@ -96,6 +103,8 @@ PassesLimits words (Quick journal point out) room = IsTooLarge (log_bytes room j
 PassesLimits words (Pass out) room = ⊥
 PassesLimits words (Make seed count out) room = ⊥
 PassesLimits words (Verify journal) room = ⊥
+PassesLimits words (Read look journal out) room = IsSomeAnd (room.file journal) IsTooLarge
+PassesLimits words (RefusedOf out) room = ⊥
 PassesLimits words (Help topic) room = ⊥
 PassesLimits words Version room = ⊥
 

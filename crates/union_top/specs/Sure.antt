@@ -8,16 +8,18 @@ use Rattle.marc_stream.specs.Pieces.{items}
 use Rattle.workload.specs.Workload.{workload_bytes}
 use Rattle.commit_journal.specs.declared.format.TheConstants.{BLANK_LENGTH}
 use Rattle.command_words.specs.declared.library.Library.{Library}
-use Rattle.command_words.specs.Command.{Command, Pass, Run, Load, Export, Report, Make, Verify, Matches, Holdings, Migrate, Checkpoint, Quick, Help, Version, libraries_of}
+use Rattle.command_words.specs.Command.{Command, Pass, Run, Load, Browse, Export, Report, Make, Verify, Matches, Holdings, Migrate, Checkpoint, Quick, Read, Refused as RefusedOf, Help, Version, libraries_of}
 use Rattle.file_entries.specs.Files.{IsJudged}
 use Rattle.file_entries.specs.declared.refused.RefusedItem.{RefusedItem}
 use Rattle.entry_record.specs.History.{IsMerged}
 use Rattle.durable_catalogue.specs.Images.{framed_lengths}
 use Rattle.durable_catalogue.specs.Logs.{HasHistory}
-use Rattle.room_files.specs.Journals.{log_bytes}
+use Rattle.journal_files.specs.Journals.{log_bytes}
 use Rattle.archive_commands.specs.Reads as reads
 use Rattle.plain_commands.specs.Making.{workload_line}
-use Rattle.plain_commands.specs.Passing.{results, exported}
+use Rattle.plain_commands.specs.Passing.{FileDue, results, export_due}
+use Rattle.plain_commands.specs.GivingBack.{refused_due}
+use Rattle.reading_commands.specs.Looking.{look_due}
 use Rattle.journal_verification.specs.Contents.{IsVerified}
 use Rattle.journal_verification.specs.declared.verified.Verified.{Verified}
 use Rattle.journal_verification.specs.Verifying.{verified_lines}
@@ -33,6 +35,8 @@ use Rattle.checkpoint_commands.specs.Quick.{IsResumedFrom}
 use Rattle.program_help.specs.Telling.{help_text, version_text}
 use Rattle.loading_commands.specs.Console.{console_of}
 use Rattle.loading_commands.specs.Merged.{AreJudged}
+use Rattle.heading_rows.specs.declared.row.BrowsePage.{BrowsePage}
+use Rattle.browsing_commands.specs.Pages.{ArePagesOf, pages_text}
 use Rattle.union_top.specs.Fits.{Fits}
 use Rattle.union_top.specs.Complete.{Around}
 
@@ -96,10 +100,10 @@ abbrev pub holdings_due : {room : RoomView} {journal : List ℕ} {libraries : Li
     → attaching.Due
 holdings_due code c = attaching.due_of c.library.file code (state_of c.entries) c.accepted c.refused
 
--- the file is read, its export is written, and the console is told of it
-pub record IsSurePass (libraries : List Library) (out : List ℕ) (a : Around) : Type 0 where
+-- the file is read, what is due of it is written, and the console is told of it
+pub record IsSurePass (due : FileDue) (libraries : List Library) (out : List ℕ) (a : Around) : Type 0 where
   pub inputs : AreReadAlways a.old libraries
-  pub output : (c : PassCase a.old libraries) → HoldsOutput a.old out (exported c.accepted)
+  pub output : (c : PassCase a.old libraries) (bytes : List ℕ) → a.old.file c.library.file ≡ Some bytes → HoldsOutput a.old out (due bytes c.accepted c.refused)
   pub console : (c : PassCase a.old libraries) → HoldsText a (results c.library.file c.accepted c.refused)
 
 -- the workload is written, in a room that tells its files, and the console is told of it
@@ -112,6 +116,11 @@ pub record IsSureMake (seed count : ℕ) (out : List ℕ) (a : Around) : Type 0 
 pub record IsSureReading (due : List Entry → List ℕ) (journal out : List ℕ) (a : Around) : Type 0 where
   pub log : HoldsLog a.old journal 0
   pub output : (entries : List Entry) → HasHistory entries (log_bytes a.old journal) → HoldsOutput a.old out (due entries)
+
+-- the journal is an input, and what is due of its history is written
+pub record IsSureLook (due : List Entry → List ℕ) (journal out : List ℕ) (a : Around) : Type 0 where
+  pub input : a.old.promise journal ≡ ReadsAlways
+  pub output : (bytes : List ℕ) (entries : List Entry) → a.old.file journal ≡ Some bytes → HasHistory entries bytes → HoldsOutput a.old out (due entries)
 
 -- the journal is an input, and the console is told what it has
 pub record IsSureVerify (journal : List ℕ) (a : Around) : Type 0 where
@@ -154,11 +163,18 @@ pub record IsSureRun (libraries : List Library) (journal out report : List ℕ) 
   pub output : (c : LoadCase a.old journal libraries) → HoldsOutput a.old out (reads.due_of (reads.Export None) (c.before ++ c.added))
   pub report_output : (c : LoadCase a.old journal libraries) → HoldsOutput a.old report (reads.due_of reads.Report (c.before ++ c.added))
 
+-- the same, and any pages of that history are written
+pub record IsSureBrowse (libraries : List Library) (journal out report pages : List ℕ) (a : Around) : Type 0 where
+  pub run : IsSureRun libraries journal out report a
+  pub pages_output : (c : LoadCase a.old journal libraries) (due : List BrowsePage) → ArePagesOf (length c.before) (c.before ++ c.added) due
+      → HoldsOutput a.old pages (pages_text due)
+
 -- what the command of some words uses keeps its promise, and holds what is due; of no room is it said that it holds a checkpoint
 abbrev pub HoldsAll : List (List ℕ) → Command → Around → Type 0
-HoldsAll words (Pass out) a = IsSurePass (libraries_of words) out a
+HoldsAll words (Pass out) a = IsSurePass export_due (libraries_of words) out a
 HoldsAll words (Run journal out report files) a = IsSureRun (libraries_of words) journal out report a
 HoldsAll words (Load journal files) a = IsSureLoad (libraries_of words) journal a
+HoldsAll words (Browse journal out report pages files) a = IsSureBrowse (libraries_of words) journal out report pages a
 HoldsAll words (Export journal out code) a = IsSureReading (reads.due_of (reads.Export code)) journal out a
 HoldsAll words (Report journal out) a = IsSureReading (reads.due_of reads.Report) journal out a
 HoldsAll words (Make seed count out) a = IsSureMake seed count out a
@@ -168,6 +184,8 @@ HoldsAll words (Holdings journal out rest code) a = IsSureHoldings (libraries_of
 HoldsAll words (Migrate from into) a = IsSureMigrate from into a
 HoldsAll words (Checkpoint journal point) a = ⊥
 HoldsAll words (Quick journal point out) a = IsSureQuick journal point out a
+HoldsAll words (Read look journal out) a = IsSureLook (look_due look) journal out a
+HoldsAll words (RefusedOf out) a = IsSurePass refused_due (libraries_of words) out a
 HoldsAll words (Help topic) a = HoldsText a (help_text topic)
 HoldsAll words Version a = HoldsText a version_text
 

@@ -5,7 +5,7 @@ ghost use Rattle.command_words.specs.declared.asked.Request.{Request};
 ghost use Rattle.console_lines.specs.Ends.{outcome};
 ghost use Rattle.union_top.specs.Commands.{CarriesOut};
 
-use archive_commands::{Due, read};
+use archive_commands::{Due, write_from_journal};
 use checkpoint_commands::{export_quickly, put_checkpoint};
 use command_words::laws::{files_are_named, names_are_apart, numbers_are_bounded};
 use command_words::{AloneRequest, Words};
@@ -15,8 +15,9 @@ use journal_verification::verify;
 use match_command::write_matches;
 use migrate_command::migrate_journal;
 use outside::Room;
-use plain_commands::{make, pass};
+use plain_commands::{give_back, make, pass};
 use program_help::{help, version};
+use reading_commands::look_into;
 use std::alloc::Global;
 
 /// Carries out the command that some words ask for, which starts no threads. It waits for no thread and no lock.
@@ -38,10 +39,10 @@ pub fn carry_out<R: Room>(
     match asked {
         AloneRequest::Pass { library, out } => pass(alloc, room, console, &library, out),
         AloneRequest::Export { journal, out, code } => {
-            read(alloc, room, console, journal, out, Due::Export(code))
+            write_from_journal(alloc, room, console, journal, out, Due::Export(code))
         }
         AloneRequest::Report { journal, out } => {
-            read(alloc, room, console, journal, out, Due::Report)
+            write_from_journal(alloc, room, console, journal, out, Due::Report)
         }
         AloneRequest::Make { seed, count, out } => make(alloc, room, console, seed, count, out),
         AloneRequest::Verify { journal } => verify(alloc, room, console, journal),
@@ -62,6 +63,10 @@ pub fn carry_out<R: Room>(
             point,
             out,
         } => export_quickly(alloc, room, console, journal, point, out),
+        AloneRequest::Read { look, journal, out } => {
+            look_into(alloc, room, console, journal, out, look)
+        }
+        AloneRequest::Refused { library, out } => give_back(alloc, room, console, &library, out),
         AloneRequest::Help { topic } => help(console, topic),
         AloneRequest::Version => version(console),
     }

@@ -1,7 +1,7 @@
 //! Some words, carried out in three calls: `begin` and `end` have the room, and `load` between them, which may wait, has none.
-ghost use Rattle.std.specs.Prelude.{◌≡◌, ◌↔◌, ◌⊎◌, ℕ, ◌≤◌, List, Some, None, [], IfOk, IfErr};
+ghost use Rattle.std.specs.Prelude.{◌≡◌, ◌↔◌, ◌⊎◌, ◌∷◌, ℕ, ◌≤◌, List, Some, None, [], IfOk, IfErr};
 ghost use Rattle.outside.specs.Room.{SameBut};
-ghost use Rattle.command_words.specs.Command.{Command, command_of, names_of};
+ghost use Rattle.command_words.specs.Command.{AreNames, Command, command_of, names_of};
 ghost use Rattle.command_words.specs.Asked.{AsksFor, IsUnasked};
 ghost use Rattle.command_words.specs.declared.asked.Request.{Request};
 ghost use Rattle.console_lines.specs.Ends.{outcome};
@@ -12,11 +12,13 @@ ghost use Rattle.union_top.specs.Commands.{CarriesOut, EndsWith};
 ghost use Rattle.union_top.specs.Complete.{around, IsUnhindered};
 ghost use Rattle.union_top.specs.Sure.{IsSure};
 ghost use Rattle.union_top.specs.Carried.{AreCarriedOut, unasked_fault};
-ghost use Rattle.union_top.specs.Begun.{IfEnded, IfLoading};
+ghost use Rattle.browsing_commands.specs.Browsing.{HasPaged};
+ghost use Rattle.union_top.specs.Begun.{IfBrowsing, IfEnded, IfLoading, IsAskedToBrowse};
 
 use crate::asked_alone::carry_out;
+use browsing_commands::{Browsed, Browsing, load as load_browsing};
 use command_words::laws::{files_are_named, names_are_apart, numbers_are_bounded};
-use command_words::{LoadRequest, Request, Unasked, Words, request};
+use command_words::{BrowseRequest, LoadRequest, Request, Unasked, Words, request};
 use console_lines::{Fault, tell};
 use loading_commands::{Loaded, Loading, load};
 use outside::{Gate, Room};
@@ -30,6 +32,8 @@ pub enum Begun<'a, R: Room> {
     Ended(u8),
     /// It loads files: they are open, and so is the journal.
     Loading(Loading<'a, R>),
+    /// It does so while a reader pages through the headings.
+    Browsing(Browsing<'a, R>),
 }
 
 /// The fault that is told where words ask for nothing that can be done.
@@ -56,6 +60,7 @@ fn begin_loading<'a, R: Room>(
     ensures carried { IfEnded result (λ status. AreCarriedOut words.now status
         (around R.seen R.Out.written R.Out.faults room.old room.new console.old console.new)
         (outcome R.seen R.Out.written R.Out.faults room.old room.new console.old console.new)) }
+    ensures browsing { IfBrowsing result (λ _. ⊥) }
     ensures asks { IfLoading result (λ l. AsksFor words.now (Request.Load l.asked)) }
     ensures before { IfLoading result (λ l. l.before.value ≡ room.old) }
     ensures begun { IfLoading result (λ l.
@@ -69,6 +74,38 @@ fn begin_loading<'a, R: Room>(
     match loading_commands::begin(alloc, asked, room, console) {
         Ok(loading) => Begun::Loading(loading),
         Err(end) => Begun::Ended(end.status()),
+    }
+}
+
+/// Begins the loading beside a reader that some words ask for, or ends its command.
+fn begin_browsing<'a, R: Room>(
+    alloc: Global,
+    words: &Words,
+    asked: BrowseRequest<'a>,
+    room: &mut R,
+    console: &mut R::Out,
+) -> Begun<'a, R>
+    requires asks { AsksFor words.now (Request.Browse asked) }
+    requires closed { (name : List ℕ) → (R.seen room.old).open_as name ≡ None }
+    ensures closed { IfEnded result (λ _. (name : List ℕ) → (R.seen room.new).open_as name ≡ None) }
+    ensures carried { IfEnded result (λ status. AreCarriedOut words.now status
+        (around R.seen R.Out.written R.Out.faults room.old room.new console.old console.new)
+        (outcome R.seen R.Out.written R.Out.faults room.old room.new console.old console.new)) }
+    ensures loading { IfLoading result (λ _. ⊥) }
+    ensures asks { IfBrowsing result (λ b. IsAskedToBrowse words.now b.loading.asked b.outputs b.pages) }
+    ensures names { IfBrowsing result (λ b. AreNames (b.loading.asked.journal.now ∷ b.outputs.out.now ∷ b.outputs.report.now ∷ b.pages.now ∷ [])) }
+    ensures before { IfBrowsing result (λ b. b.loading.before.value ≡ room.old) }
+    ensures begun { IfBrowsing result (λ b. HasBegun R.In.left R.In.faults (R.seen b.loading.before.value) b.loading.asked
+        (durable_view b.loading.durable) b.loading.inputs) }
+    ensures waiting { IfBrowsing result (λ b. IsWaiting (R.seen b.loading.before.value) (R.seen room.new) b.loading.asked.journal.now) }
+    ensures silent { IfBrowsing result (λ _. console.new ≡ console.old) }
+{
+    files_are_named(words);
+    names_are_apart(words);
+    numbers_are_bounded(words);
+    match browsing_commands::begin(alloc, asked, room, console) {
+        Ok(browsing) => Begun::Browsing(browsing),
+        Err(ended) => Begun::Ended(ended.status()),
     }
 }
 
@@ -100,12 +137,22 @@ pub fn begin<'a, R: Room>(
         HasBegun R.In.left R.In.faults (R.seen l.before.value) l.asked (durable_view l.durable) l.inputs) }
     ensures waiting { IfLoading result (λ l. IsWaiting (R.seen l.before.value) (R.seen room.new) l.asked.journal.now) }
     ensures silent { IfLoading result (λ _. console.new ≡ console.old) }
+
+    // The same of what is to be loaded beside a reader.
+    ensures asks_to_browse { IfBrowsing result (λ b. IsAskedToBrowse words.now b.loading.asked b.outputs b.pages) }
+    ensures browsing_names { IfBrowsing result (λ b. AreNames (b.loading.asked.journal.now ∷ b.outputs.out.now ∷ b.outputs.report.now ∷ b.pages.now ∷ [])) }
+    ensures browsing_before { IfBrowsing result (λ b. b.loading.before.value ≡ room.old) }
+    ensures browsing_begun { IfBrowsing result (λ b. HasBegun R.In.left R.In.faults (R.seen b.loading.before.value) b.loading.asked
+        (durable_view b.loading.durable) b.loading.inputs) }
+    ensures browsing_waiting { IfBrowsing result (λ b. IsWaiting (R.seen b.loading.before.value) (R.seen room.new) b.loading.asked.journal.now) }
+    ensures browsing_silent { IfBrowsing result (λ _. console.new ≡ console.old) }
 {
     match asked {
         Ok(Request::Alone(asked)) => {
             Begun::Ended(carry_out(alloc, words, asked, room, console).status())
         }
         Ok(Request::Load(asked)) => begin_loading(alloc, words, asked, room, console),
+        Ok(Request::Browse(asked)) => begin_browsing(alloc, words, asked, room, console),
         Err(why) => Begun::Ended(tell(console, fault_of(why)).status()),
     }
 }
@@ -123,6 +170,30 @@ pub fn end<R: Room>(alloc: Global, loaded: Loaded<'_, R>, room: &mut R, console:
         (outcome R.seen R.Out.written R.Out.faults loaded.entry.before.value room.new console.old console.new) }
 {
     loading_commands::end(alloc, loaded, room, console).status()
+}
+
+/// Ends the command of a loading beside a reader, once its files are loaded, and answers its exit status, as `run` does. It waits for no
+/// thread and no lock.
+pub fn end_browsing<R: Room>(
+    alloc: Global,
+    browsed: Browsed<'_, R>,
+    room: &mut R,
+    console: &mut R::Out,
+) -> u8
+    requires read { HasRead R.In.left R.In.faults (R.seen browsed.loaded.before.value) browsed.loaded.asked (durable_view browsed.loaded.durable)
+        browsed.loaded.inputs browsed.loaded.results }
+    requires waiting { IsWaiting (R.seen browsed.loaded.before.value) (R.seen room.old) browsed.loaded.asked.journal.now }
+    requires paged { HasPaged (durable_view browsed.loaded.durable) browsed.got }
+    requires names { AreNames (browsed.loaded.asked.journal.now ∷ browsed.outputs.out.now ∷ browsed.outputs.report.now ∷ browsed.pages.now ∷ []) }
+    ensures closed { (name : List ℕ) → (R.seen room.new).open_as name ≡ None }
+
+    // The words that asked for it are carried out, since the room was as before they were begun.
+    ensures carried { (words : List (List ℕ)) → IsAskedToBrowse words browsed.entry.loaded.asked browsed.entry.outputs browsed.entry.pages →
+        AreCarriedOut words result
+        (around R.seen R.Out.written R.Out.faults browsed.entry.loaded.before.value room.new console.old console.new)
+        (outcome R.seen R.Out.written R.Out.faults browsed.entry.loaded.before.value room.new console.old console.new) }
+{
+    browsing_commands::end(alloc, browsed, room, console).status()
 }
 
 /// Carries out the command of some words: what they ask for is begun, loaded where there are files, and ended.
@@ -145,6 +216,10 @@ fn carry_through<H: Threads + Wait + Sync, R: Room, G: Gate + Sync>(
         Begun::Loading(loading) => {
             let loaded = load(rt, alloc, loading, gate);
             end(alloc, loaded, room, console)
+        }
+        Begun::Browsing(browsing) => {
+            let browsed = load_browsing(rt, alloc, browsing, gate);
+            end_browsing(alloc, browsed, room, console)
         }
     }
 }

@@ -2,7 +2,8 @@
 //! it loads between them it loads without.
 #![tactic(auto)]
 
-pub use command::{Begun, begin, end, run};
+pub use browsing_commands::{Browsed, Browsing, load as load_browsing};
+pub use command::{Begun, begin, end, end_browsing, run};
 pub use loading_commands::{Loaded, Loading, load};
 
 mod asked_alone;

@@ -4,9 +4,9 @@ use Rattle.std.specs.Prelude.{if◌then◌else◌, cond, ◌||◌}
 use Rattle.std.proofs.lemmas.List.Sums.{sum_by-cons}
 use Rattle.numbering.specs.declared.seat.Seat.{Seat}
 use Rattle.numbering.specs.Seats.{same_seat, seat_Decides}
-use Rattle.place_names.specs.Slots.{standing, put}
-use Rattle.place_names.specs.Counts.{brought}
-use Rattle.place_names.proofs.Rows.{itself_one, brought_itself, put_here, put_again, there_and_back, more_than, took_left, came_left, came_sound, went_sound}
+use Rattle.postings.specs.Slots.{standing, put}
+use Rattle.postings.specs.Counts.{brought}
+use Rattle.postings.proofs.Rows.{itself_one, brought_itself, put_here, put_again, there_and_back, more_than, took_left, came_left, came_sound, went_sound}
 use Rattle.wait_table.specs.declared.waiting.Waiting.{Waiting}
 use Rattle.wait_table.specs.declared.waiting.WaitRow.{WaitRow}
 use Rattle.wait_table.specs.Waits.{Waits, forms_of, times_of, has, asks_form, names_key, with_waiting, more_taken, less_taken, with_row_taken, with_row_back, row_of, IsTaken}

@@ -1,7 +1,7 @@
 -- What the three parts of a waiting table keep of each other.
 use Rattle.std.specs.Prelude.{ℕ, ◌≤◌, ◌-◌, Option, None, Some}
 use Rattle.numbering.specs.declared.seat.Seat.{Seat}
-use Rattle.place_names.specs.Slots.{standing}
+use Rattle.postings.specs.Slots.{standing}
 use Rattle.wait_table.specs.declared.waiting.Waiting.{Waiting}
 use Rattle.wait_table.specs.Waits.{Waits, forms_of, times_of}
 
@@ -10,6 +10,7 @@ abbrev pub asking : ℕ → Option Waiting → ℕ
 asking form None = 0
 asking form (Some waiting) = times_of (forms_of waiting.forms) form
 
+-- how often what waits names the key
 abbrev pub naming : ℕ → Option Waiting → ℕ
 naming key None = 0
 naming key (Some waiting) = times_of waiting.keys key

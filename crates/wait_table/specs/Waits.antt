@@ -3,7 +3,7 @@ use Rattle.std.specs.Prelude.{ℕ, ◌+◌, ◌-◌, ◌≤◌, Bool, false, nat
 use Rattle.std.specs.List.{list_any, count_by}
 use Rattle.numbering.specs.declared.seat.Seat.{Seat}
 use Rattle.numbering.specs.Seats.{same_seat}
-use Rattle.place_names.specs.Counts.{brought}
+use Rattle.postings.specs.Counts.{brought}
 use Rattle.wait_table.specs.declared.waiting.Asked.{Asked}
 use Rattle.wait_table.specs.declared.waiting.Asked.TheVariants.{One, Two}
 use Rattle.wait_table.specs.declared.waiting.Waiting.{Waiting}
@@ -18,9 +18,11 @@ forms_of (Two form base) = form ∷ base ∷ []
 abbrev pub has : List ℕ → ℕ → Bool
 has numbers number = list_any (λ n. nat_eq n number) numbers
 
+-- how often a number stands in a list
 abbrev pub times_of : List ℕ → ℕ → ℕ
 times_of numbers number = count_by (λ n. nat_eq n number) numbers
 
+-- what each seat waits for, and how many rows are taken out
 pub record Waits : Type 0 where
   -- what the seat waits for
   pub waiting : Seat → Option Waiting
@@ -51,6 +53,7 @@ more_taken row waits = record {
   taken_keys = λ key seat. waits.taken_keys key seat + brought nat_eq same_seat row.waiting.keys row.seat key seat;
 }
 
+-- one row less is taken
 abbrev pub less_taken : WaitRow → Waits → Waits
 less_taken row waits = record {
   waiting = waits.waiting;
@@ -63,6 +66,7 @@ less_taken row waits = record {
 abbrev pub with_row_taken : WaitRow → Waits → Waits
 with_row_taken row waits = with_waiting row.seat None (more_taken row waits)
 
+-- the row was put back
 abbrev pub with_row_back : WaitRow → Waits → Waits
 with_row_back row waits = with_waiting row.seat (Some row.waiting) (less_taken row waits)
 
@@ -82,6 +86,7 @@ abbrev pub asks_form : ℕ → Option Waiting → Bool
 asks_form form None = false
 asks_form form (Some waiting) = has (forms_of waiting.forms) form
 
+-- what waits names the key
 abbrev pub names_key : ℕ → Option Waiting → Bool
 names_key key None = false
 names_key key (Some waiting) = has waiting.keys key
@@ -90,5 +95,6 @@ names_key key (Some waiting) = has waiting.keys key
 abbrev pub asks : ℕ → Waits → Seat → Bool
 asks form waits seat = asks_form form (waits.waiting seat)
 
+-- the seat waits for the key
 abbrev pub names : ℕ → Waits → Seat → Bool
 names key waits seat = names_key key (waits.waiting seat)

@@ -40,6 +40,7 @@ impl KeyNumbers {
         })
     }
 
+    /// Whether there is no number.
     pub fn is_empty(&self) -> bool
         ensures { IsTrue result ↔ (self.now ≡ []) }
     {
@@ -49,6 +50,7 @@ impl KeyNumbers {
         }
     }
 
+    /// The numbers in their order.
     pub fn as_slice(&self) -> &[u32]
         ensures { result.now ≡ self.now }
     {

@@ -1,15 +1,15 @@
 ghost use Rattle.std.specs.Prelude.{◌≡◌, nat_eq, OnOk, OnErr, IfOk, IfSome, IfNone, None, Some, filter, option_copied};
 ghost use Rattle.numbering.specs.Seats.{same_seat};
-ghost use Rattle.place_names.specs.Slots.{row_at, rooms_at};
-ghost use Rattle.place_names.specs.Counts.{times, brought, TimesSame, TimesMore, TimesLess};
-ghost use Rattle.place_names.specs.Listed.{ListsEach};
+ghost use Rattle.postings.specs.Slots.{row_at, rooms_at};
+ghost use Rattle.postings.specs.Counts.{times, brought, TimesSame, TimesMore, TimesLess};
+ghost use Rattle.postings.specs.Listed.{ListsEach};
 ghost use Rattle.wait_table.specs.Waits.{forms_of};
 ghost use Rattle.wait_table.specs.Sound.{WaitsAgree};
 
 use crate::{Asked, WaitRow, Waiting};
 use marc_types::NoMemory;
 use numbering::{Seat, Seats};
-use place_names::{Counts, Slots};
+use postings::{Counts, Slots};
 use std::alloc::Global;
 
 /// What each seat waits for, and which seats wait for a form or for a key.

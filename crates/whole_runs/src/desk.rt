@@ -4,7 +4,7 @@ ghost use Rattle.outside_mem.specs.Room.{room_view};
 
 use crate::failing::fail_each;
 use crate::room::{empty_room, with_fault, with_file, with_shut};
-use crate::shown::{print_all, print_number, shown};
+use crate::shown::{last_page, print_all, print_number, shown};
 use crate::step::Step;
 use crate::turns::{Doorkeeper, Turns};
 use command_words::{Words, request};
@@ -14,7 +14,7 @@ use std::alloc::{AllocError, Global};
 use std::sync::Wait;
 use std::thread::Threads;
 use std::{fs, io};
-use union_top::{Begun, begin, end, load};
+use union_top::{Begun, begin, end, end_browsing, load, load_browsing};
 
 /// The name of what is exported of an image.
 const EXPORT: &str = "image.out";
@@ -44,6 +44,7 @@ fn gathered(rt: &HostRuntime, names: &str) -> io::Result<Vec<u8>> {
     Ok(bytes)
 }
 
+/// The words of a line.
 pub fn words_of(alloc: Global, line: &str) -> io::Result<Words> {
     let mut words = Vec::new(alloc);
     for word in line.split(' ') {
@@ -106,6 +107,10 @@ pub fn answer<H: Threads + Wait + Sync>(
             let loaded = load(threads, alloc, loading, gate);
             end(alloc, loaded, room, console)
         }
+        Begun::Browsing(browsing) => {
+            let browsed = load_browsing(threads, alloc, browsing, gate);
+            end_browsing(alloc, browsed, room, console)
+        }
     }
 }
 
@@ -156,6 +161,17 @@ fn show(rt: &HostRuntime, room: &MemRoom, name: &str) -> io::Result<()> {
         Some(bytes) => {
             let bytes = shown(rt.alloc(), bytes)?;
             print_all(rt, &[name, ": ", bytes.as_str(), "\n"])
+        }
+        None => print_all(rt, &[name, " isn't there\n"]),
+    }
+}
+
+fn show_last_page(rt: &HostRuntime, room: &MemRoom, name: &str) -> io::Result<()> {
+    match room.file(name) {
+        Some(bytes) => {
+            let pages = shown(rt.alloc(), bytes)?;
+            let page = last_page(rt.alloc(), pages.as_str())?;
+            print_all(rt, &[name, " ends with: ", page.as_str()])
         }
         None => print_all(rt, &[name, " isn't there\n"]),
     }
@@ -234,11 +250,80 @@ fn images<H: Threads + Wait + Sync>(
     Ok(())
 }
 
+/// The words of an export from a checkpoint on.
+fn quick_of(alloc: Global, journal: &str, point: &str) -> io::Result<Words> {
+    let mut line = String::new(alloc);
+    for piece in ["quick ", journal, " ", point, " ", EXPORT] {
+        line.push_str(piece)?;
+    }
+    words_of(alloc, line.as_str())
+}
+
+/// An image of a log of checkpoints, and the journal beside it.
+fn crashed_beside(
+    alloc: Global,
+    room: &MemRoom,
+    journal: &str,
+    point: &str,
+    moment: u64,
+    choice: u8,
+) -> io::Result<MemRoom>
+    ensures { IfOk result (λ room. (name : List ℕ) → (room_view room).open_as name ≡ None) }
+{
+    let Some(bytes) = room.file(journal) else {
+        return Err(failed());
+    };
+    let bytes = Vec::from_slice(alloc, bytes)?;
+    let image = crashed(alloc, room, point, moment, choice)?;
+    with_file(image, journal, bytes).map_err(|_| failed())
+}
+
+/// Carries out an export from a checkpoint on over a room, and prints what comes of it.
+fn resumed<H: Threads + Wait + Sync>(
+    rt: &HostRuntime,
+    threads: &H,
+    room: MemRoom,
+    journal: &str,
+    point: &str,
+) -> io::Result<()>
+    requires { (name : List ℕ) → (room_view room).open_as name ≡ None }
+{
+    let words = quick_of(rt.alloc(), journal, point)?;
+    let mut room = room;
+    let (status, told) = ran(threads, rt.alloc(), &words, &mut room, Turns::Open);
+    let told = shown(rt.alloc(), told.as_slice())?;
+    print_all(rt, &[" ", told.as_str()])?;
+    tell_export(rt, status, room.file(EXPORT))
+}
+
+/// Prints what comes of an export from each image of a closed log of checkpoints on.
+fn point_images<H: Threads + Wait + Sync>(
+    rt: &HostRuntime,
+    threads: &H,
+    room: &MemRoom,
+    journal: &str,
+    point: &str,
+) -> io::Result<()> {
+    let Some(log) = room.log_of(point) else {
+        return Err(failed());
+    };
+    for moment in 0..log.moments() {
+        for choice in 0..CHOICES {
+            let image = crashed_beside(rt.alloc(), room, journal, point, moment, choice)?;
+            print_number(rt, "moment ", moment, ", choice ")?;
+            print_number(rt, "", u64::from(choice), ":")?;
+            resumed(rt, threads, image, journal, point)?;
+        }
+    }
+    Ok(())
+}
+
 /// Prints what a step asks to see.
 fn look(rt: &HostRuntime, room: &MemRoom, step: Step<'_>, line: &str) -> io::Result<()> {
     match step {
         Step::Title => print_all(rt, &[line, "\n"]),
         Step::Show(name) => show(rt, room, name),
+        Step::LastPage(name) => show_last_page(rt, room, name),
         Step::Size(name) => size(rt, room, name),
         Step::Same(one, other) => compare(rt, room, one, other),
         Step::Unknown => print_all(rt, &["NO STEP: ", line, "\n"]),
@@ -274,6 +359,7 @@ fn room_behind<H: Threads + Wait + Sync>(
 }
 
 impl Desk {
+    /// A desk with an empty room, whose loaders take turns as they come.
     pub fn new(alloc: Global) -> Desk {
         Desk {
             room: empty_room(alloc),
@@ -293,6 +379,9 @@ impl Desk {
         look(rt, &room, step, line)?;
         if let Step::Images(journal) = step {
             images(rt, threads, &room, journal)?;
+        }
+        if let Step::Points(journal, point) = step {
+            point_images(rt, threads, &room, journal, point)?;
         }
         if let Step::FailEach(name, words) = step {
             fail_each(rt, threads, &room, name, words)?;

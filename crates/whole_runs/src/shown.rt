@@ -25,6 +25,19 @@ pub fn shown(alloc: Global, bytes: &[u8]) -> Result<String, AllocError> {
     Ok(text)
 }
 
+/// The last of the pages in a text, each of which begins with a line of its number.
+pub fn last_page(alloc: Global, pages: &str) -> Result<String, AllocError> {
+    let mut page = String::new(alloc);
+    for line in pages.lines() {
+        if line.starts_with("AT ") {
+            page = String::new(alloc);
+        }
+        page.push_str(line)?;
+        page.push('\n')?;
+    }
+    Ok(page)
+}
+
 /// Prints texts one after another.
 pub fn print_all(rt: &impl Print, texts: &[&str]) -> io::Result<()> {
     for text in texts {

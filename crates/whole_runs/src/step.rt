@@ -18,6 +18,8 @@ pub enum Step<'a> {
     Run(&'a str),
     /// Prints the bytes of a file.
     Show(&'a str),
+    /// Prints the last page of a file of pages.
+    LastPage(&'a str),
     /// Prints how many bytes a file has.
     Size(&'a str),
     /// Prints whether two files have the same bytes.
@@ -28,6 +30,9 @@ pub enum Step<'a> {
     Crash(&'a str, u64, u8),
     /// Prints what comes of an export of each image of a closed log: of each moment, by each of the three choices.
     Images(&'a str),
+    /// Prints what comes of an export from each image of a closed log of checkpoints on, beside the journal: of each moment, by each of
+    /// the three choices.
+    Points(&'a str, &'a str),
     /// Carries out the command of these words over the room's files again and again, each time with the next call failing on each object
     /// that is opened by the name, until none is left to fail; and prints what comes of each.
     FailEach(&'a str, &'a str),
@@ -62,6 +67,7 @@ fn step_of<'a>(verb: &str, words: &'a str) -> Option<Step<'a>> {
         "turns" => Some(Step::Turns(Turns::named(words)?)),
         "run" => Some(Step::Run(words)),
         "show" => Some(Step::Show(words)),
+        "last_page" => Some(Step::LastPage(words)),
         "size" => Some(Step::Size(words)),
         "same" => {
             let (one, other) = words.split_once(' ')?;
@@ -70,6 +76,10 @@ fn step_of<'a>(verb: &str, words: &'a str) -> Option<Step<'a>> {
         "keep" => Some(Step::Keep(words)),
         "crash" => crash_of(words),
         "images" => Some(Step::Images(words)),
+        "points" => {
+            let (journal, point) = words.split_once(' ')?;
+            Some(Step::Points(journal, point))
+        }
         _ => None,
     }
 }

@@ -13,6 +13,7 @@ pub enum Turns {
 }
 
 impl Turns {
+    /// The order of turns by its name in a script.
     pub fn named(name: &str) -> Option<Turns> {
         match name {
             "open" => Some(Turns::Open),
@@ -41,6 +42,7 @@ const FIRST_AT_3: u32 = 4;
 const YIELDS: u32 = 10_000_000;
 
 impl Doorkeeper {
+    /// A gate of this order, at which no loader has called yet.
     pub fn new(turns: Turns) -> Doorkeeper {
         Doorkeeper {
             turns,

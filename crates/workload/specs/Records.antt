@@ -23,6 +23,7 @@ contents_bytes c = record_bytes c.leader c.fields
 abbrev pub tag : ℕ → ℕ → ℕ → Tag
 tag a b c = record { a = 48 + a; b = 48 + b; c = 48 + c }
 
+-- a blank
 abbrev pub blank : ℕ
 blank = 32
 
@@ -58,12 +59,15 @@ number_field letter number = Control (tag 0 0 1) (letter ++ decimal number)
 abbrev pub organisation_field : Field
 organisation_field = Control (tag 0 0 3) (codes "UCAT")
 
+-- `NameN, VM`
 abbrev pub name_text : ℕ → ℕ → List ℕ
 name_text name variant = codes "Name" ++ decimal name ++ codes ", V" ++ decimal variant
 
+-- `AliasN, X`
 abbrev pub alias_text : ℕ → List ℕ
 alias_text alias = codes "Alias" ++ decimal alias ++ codes ", X"
 
+-- a subfield of a code and a text
 abbrev pub subfield : ℕ → List ℕ → Subfield
 subfield code text = record { code = code; text = text }
 
@@ -90,9 +94,11 @@ authority_fields name variant =
 unfoldable pub linked_authority_fields : ℕ → ℕ → ℕ → List Field
 linked_authority_fields name variant other = authority_fields name variant ++ name_field (tag 5 0 0) (alias_text other) ∷ []
 
+-- 001 and 003 alone
 unfoldable pub deletion_fields : ℕ → List Field
 deletion_fields name = number_field (codes "a") name ∷ organisation_field ∷ []
 
+-- 001, 003 and the author's field
 unfoldable pub bibliographic_fields : ℕ → ℕ → List Field
 bibliographic_fields number author =
     number_field (codes "b") number ∷ organisation_field ∷ author_field author ∷ title_field number ∷ []

@@ -16,9 +16,11 @@ records_from names (suc left) number state =
 unfoldable pub workload : ℕ → ℕ → List Contents
 workload seed count = records_from (1 + count / 16) count 1 seed
 
+-- the written forms of a workload's records, in a row
 unfoldable pub workload_bytes : ℕ → ℕ → List ℕ
 workload_bytes seed count = flat_map contents_bytes (workload seed count)
 
+-- the leader and fields of a record
 abbrev pub contents_of_record : Record → Contents
 contents_of_record rec = record { leader = rec.leader; fields = rec.fields }
 

@@ -132,6 +132,7 @@ pub fn authority_fields(alloc: Global, name: u64, variant: u64) -> Result<Vec<Fi
     Ok(vec![in alloc; number, organisation, heading, tracing]?)
 }
 
+/// The fields of an authority that is linked to another name.
 #[tactic(auto, unfolding(crate::specs::Records::linked_authority_fields))]
 pub fn linked_authority_fields(
     alloc: Global,
@@ -146,6 +147,7 @@ pub fn linked_authority_fields(
     Ok(fields)
 }
 
+/// The fields of a deletion.
 #[tactic(auto, unfolding(crate::specs::Records::deletion_fields))]
 pub fn deletion_fields(alloc: Global, name: u64) -> Result<Vec<Field>, NoMemory>
     ensures { IfOk result (λ fields. fields.items ≡ deletion_fields name) }
@@ -155,6 +157,7 @@ pub fn deletion_fields(alloc: Global, name: u64) -> Result<Vec<Field>, NoMemory>
     Ok(vec![in alloc; number, organisation]?)
 }
 
+/// The fields of a bibliographic record.
 #[tactic(auto, unfolding(crate::specs::Records::bibliographic_fields))]
 pub fn bibliographic_fields(alloc: Global, number: u64, author: u64) -> Result<Vec<Field>, NoMemory>
     ensures { IfOk result (λ fields. fields.items ≡ bibliographic_fields number author) }

@@ -55,6 +55,7 @@ impl WrittenRecord {
         })
     }
 
+    /// The written form itself.
     pub fn as_bytes(&self) -> &[u8]
         ensures { result.now ≡ record_bytes self.now.leader self.now.fields }
     {
@@ -111,6 +112,7 @@ impl WrittenRecord {
         let _bytes = &self.bytes;
     }
 
+    /// The leader, read from the bytes.
     pub fn leader(&self) -> Leader
         ensures { result ≡ self.now.leader }
     {
@@ -118,6 +120,7 @@ impl WrittenRecord {
         leader_of(bytes)
     }
 
+    /// How many fields the record has.
     pub fn field_count(&self) -> u32
         ensures { result ≡ length self.now.fields }
     {

@@ -1,6 +1,6 @@
-use history_logs::HistoryLog;
+use journal_files::{HistoryEntries, JournalScan};
 use marc_types::Limits;
-use migrate_command::{HistoryEntries, MigrateFault, migrate};
+use migrate_command::{MigrateFault, migrate};
 use outside_mem::MemDisk;
 use std::alloc::Global;
 use std::process::Abort;
@@ -25,7 +25,7 @@ fn disk(alloc: Global, bytes: &[u8]) -> Result<MemDisk, MigrateFault> {
 /// The bytes of a log into which the history of another was brought.
 fn migrated(alloc: Global, old: &[u8], new: &[u8]) -> Result<MemDisk, MigrateFault> {
     let mut history = HistoryEntries::new(alloc);
-    if HistoryLog::open(alloc, disk(alloc, old)?, LIMITS, &mut history).is_err() {
+    if JournalScan::open(alloc, disk(alloc, old)?, LIMITS, &mut history).is_err() {
         return Err(MigrateFault::NoMemory);
     }
     match migrate(alloc, history.as_slice(), disk(alloc, new)?, LIMITS) {

@@ -4,7 +4,7 @@ use outside_mem::MemSink;
 use program_help::{help, version};
 use std::alloc::Global;
 
-const TOPICS: [(Topic, &str); 16] = [
+const TOPICS: [(Topic, &str); 19] = [
     (Topic::All, "union_cat, a union catalogue"),
     (Topic::Pass, "union_cat pass OUT CODE=FILE\n"),
     (
@@ -12,6 +12,10 @@ const TOPICS: [(Topic, &str); 16] = [
         "union_cat run JOURNAL OUT REPORT CODE=FILE ..\n",
     ),
     (Topic::Load, "union_cat load JOURNAL CODE=FILE ..\n"),
+    (
+        Topic::Browse,
+        "union_cat browse JOURNAL OUT REPORT PAGES CODE=FILE ..\n",
+    ),
     (Topic::Export, "union_cat export JOURNAL OUT\n"),
     (Topic::Report, "union_cat report JOURNAL OUT\n"),
     (Topic::Make, "union_cat make SEED COUNT OUT\n"),
@@ -24,6 +28,8 @@ const TOPICS: [(Topic, &str); 16] = [
     (Topic::Migrate, "union_cat migrate OLD NEW\n"),
     (Topic::Checkpoint, "union_cat checkpoint JOURNAL POINT\n"),
     (Topic::Quick, "union_cat quick JOURNAL POINT OUT\n"),
+    (Topic::Reading, "union_cat reading export JOURNAL OUT\n"),
+    (Topic::Refused, "union_cat refused OUT CODE=FILE\n"),
     (Topic::Help, "union_cat help\n"),
     (Topic::Version, "union_cat version\n"),
     (Topic::Statuses, "union_cat help statuses\n"),

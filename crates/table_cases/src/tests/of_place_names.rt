@@ -3,7 +3,7 @@ ghost use Rattle.marc_types.specs.declared.key.Class.TheVariants.{Bibliographic 
 
 use marc_types::{Class, NoMemory};
 use numbering::Seat;
-use place_names::{Counts, Slots};
+use postings::{Counts, Slots};
 use std::alloc::Global;
 use std::test::Fail;
 

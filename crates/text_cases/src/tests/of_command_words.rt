@@ -1,6 +1,7 @@
 use super::steps::expect;
 use command_words::{
-    AloneRequest, Libraries, Library, LoadRequest, Request, Topic, Unasked, Words, request,
+    AloneRequest, BrowseRequest, Libraries, Library, LoadRequest, Look, Request, Topic, Unasked,
+    Words, request,
 };
 use marc_types::{NoMemory, Text};
 use std::alloc::Global;
@@ -53,6 +54,17 @@ fn load_text(alloc: Global, asked: &LoadRequest<'_>) -> Result<String, NoMemory>
     Ok(text)
 }
 
+fn browse_text(alloc: Global, asked: &BrowseRequest<'_>) -> Result<String, NoMemory> {
+    let outputs = asked.outputs;
+    let mut text = barred(
+        alloc,
+        &["browse", asked.journal, outputs.out, outputs.report],
+    )?;
+    push_word(&mut text, asked.pages)?;
+    push_libraries(&mut text, &asked.libraries)?;
+    Ok(text)
+}
+
 /// A number that some line names.
 fn number_text(number: u64) -> &'static str {
     match number {
@@ -72,6 +84,14 @@ fn topic_text(topic: Topic) -> &'static str {
         Topic::Load => "load",
         Topic::Statuses => "statuses",
         _ => "another topic",
+    }
+}
+
+fn look_text(look: Look<'_>) -> &'static str {
+    match look {
+        Look::Export(_) => "export",
+        Look::Report => "report",
+        Look::Matches => "matches",
     }
 }
 
@@ -116,6 +136,20 @@ fn alone_text(alloc: Global, asked: &AloneRequest<'_>) -> Result<String, NoMemor
             point,
             out,
         } => barred(alloc, &["quick", journal, point, out]),
+        AloneRequest::Read { look, journal, out } => {
+            let mut text = barred(alloc, &["reading", look_text(*look)])?;
+            push_word(&mut text, journal)?;
+            push_word(&mut text, out)?;
+            if let Look::Export(code) = look {
+                push_word(&mut text, code.unwrap_or("all"))?;
+            }
+            Ok(text)
+        }
+        AloneRequest::Refused { library, out } => {
+            let mut text = barred(alloc, &["refused", out])?;
+            push_library(&mut text, library)?;
+            Ok(text)
+        }
         AloneRequest::Help { topic } => barred(alloc, &["help", topic_text(*topic)]),
         AloneRequest::Version => barred(alloc, &["version"]),
     }
@@ -125,6 +159,7 @@ fn alone_text(alloc: Global, asked: &AloneRequest<'_>) -> Result<String, NoMemor
 fn asked_text(alloc: Global, words: &Words) -> Result<String, NoMemory> {
     match request(alloc, words) {
         Ok(Request::Load(asked)) => load_text(alloc, &asked),
+        Ok(Request::Browse(asked)) => browse_text(alloc, &asked),
         Ok(Request::Alone(asked)) => alone_text(alloc, &asked),
         Err(Unasked::Usage) => Ok(String::from_str(alloc, "usage")?),
         Err(Unasked::NoMemory) => Err(NoMemory),
@@ -152,13 +187,15 @@ fn expect_none(rt: &impl Abort, alloc: Global, lines: &[&str]) -> Result<(), Fai
     Ok(())
 }
 
-const WITH_FILES: [(&str, &str); 6] = [
+const WITH_FILES: [(&str, &str); 8] = [
     ("run j o r ULIB=f0 ULIB=f1", "|run|j|o|r|ULIB|f0|ULIB|f1"),
     ("run j o r A=b=c D=e", "|run|j|o|r|A|b=c|D|e"),
     ("load j A=f B=f", "|load|j|A|f|B|f"),
+    ("browse j o r p A=f B=g", "|browse|j|o|r|p|A|f|B|g"),
     ("pass ./f A=f", "|pass|./f|A|f"),
     ("holdings j o r ULIB=h", "|holdings|j|o|r|ULIB|h|all"),
     ("holdings j o r A=h DLC", "|holdings|j|o|r|A|h|DLC"),
+    ("refused o ULIB=f", "|refused|o|ULIB|f"),
 ];
 
 #[test]
@@ -166,7 +203,7 @@ fn lines_with_files(rt: HostRuntime) -> Result<(), Fail> {
     expect_asked(&rt, rt.alloc(), &WITH_FILES)
 }
 
-const OVER_JOURNALS: [(&str, &str); 8] = [
+const OVER_JOURNALS: [(&str, &str); 12] = [
     ("export j o", "|export|j|o|all"),
     ("export j o DLC", "|export|j|o|DLC"),
     ("report j o", "|report|j|o"),
@@ -175,6 +212,10 @@ const OVER_JOURNALS: [(&str, &str); 8] = [
     ("migrate a b", "|migrate|a|b"),
     ("checkpoint j A=p", "|checkpoint|j|A=p"),
     ("quick j p o", "|quick|j|p|o"),
+    ("reading export j o", "|reading|export|j|o|all"),
+    ("reading export j o D", "|reading|export|j|o|D"),
+    ("reading report j o", "|reading|report|j|o"),
+    ("reading matches j o", "|reading|matches|j|o"),
 ];
 
 #[test]
@@ -209,7 +250,7 @@ fn other_lines(rt: HostRuntime) -> Result<(), Fail> {
     expect_asked(&rt, rt.alloc(), &OTHERS)
 }
 
-const FAULTY_FILES: [&str; 31] = [
+const FAULTY_FILES: [&str; 39] = [
     "",
     "pass",
     "Pass o A=f",
@@ -232,6 +273,11 @@ const FAULTY_FILES: [&str; 31] = [
     "run j o r A=f B=o",
     "load j",
     "load j A=f B=j",
+    "browse j o r A=f",
+    "browse j o r r A=f",
+    "browse j o o p A=f",
+    "browse j o r j A=f",
+    "browse j o r p A=p",
     "holdings j o r",
     "holdings j o r D",
     "holdings j o o A=f",
@@ -241,6 +287,9 @@ const FAULTY_FILES: [&str; 31] = [
     "holdings j o r A=f D(",
     "holdings j o r A=f D D",
     "holdings j o r A=f B=f C=f",
+    "refused o",
+    "refused f A=f",
+    "refused o A=f B=g",
 ];
 
 #[test]
@@ -250,7 +299,7 @@ fn faulty_lines_with_files(rt: HostRuntime) -> Result<(), Fail> {
     expect_none(&rt, rt.alloc(), &FAULTY_FILES)
 }
 
-const FAULTY: [&str; 36] = [
+const FAULTY: [&str; 47] = [
     "export j",
     "export j j",
     "export j o D(",
@@ -280,6 +329,17 @@ const FAULTY: [&str; 36] = [
     "quick j p j",
     "quick j p p",
     "quick j p o r",
+    "reading",
+    "reading export",
+    "reading export j",
+    "reading export j j",
+    "reading export j o D(",
+    "reading export j o D D",
+    "reading report j o D",
+    "reading matches j j",
+    "reading verify j",
+    "reading load j A=f",
+    "reading reading export j o",
     "help all",
     "help Make",
     "help make pass",
@@ -308,7 +368,7 @@ fn loaded_count(alloc: Global, files: u32) -> Result<Option<usize>, NoMemory> {
     let words = load_line(alloc, files)?;
     match request(alloc, &words) {
         Ok(Request::Load(asked)) => Ok(Some(asked.libraries.len())),
-        Ok(Request::Alone(_)) | Err(Unasked::Usage) => Ok(None),
+        Ok(Request::Alone(_) | Request::Browse(_)) | Err(Unasked::Usage) => Ok(None),
         Err(Unasked::NoMemory) => Err(NoMemory),
     }
 }

@@ -1,6 +1,6 @@
 //! How a field stands in a catalogue over a log.
 use catalogue_lock::Object;
-use durable_catalogue::{Ask, Durable, Memory, Seen, Told};
+use durable_catalogue::{Ask, Durable, OnClose, Seen, Told};
 use marc_types::{Class, Key, Limits, Place, Text};
 use outside_mem::MemDisk;
 use std::alloc::Global;
@@ -53,7 +53,7 @@ fn a_field_is_unlinked_in_the_end(rt: HostRuntime) -> Result<(), Fail> {
     };
     let durable = opened(&rt, alloc, LOG)?;
     assert!(rt; is_unlinked(&durable, place));
-    durable.close(Memory::GivenBack);
+    durable.close(OnClose::Free);
     Ok(())
 }
 
@@ -64,6 +64,6 @@ fn entries_before_news_was_asked_for_are_not_told(rt: HostRuntime) -> Result<(),
     assert!(rt; told_since(&durable, 4).is_none());
     durable.keep_news();
     assert!(rt; told_since(&durable, 3).is_none() && told_since(&durable, 4) == Some(0));
-    durable.close(Memory::GivenBack);
+    durable.close(OnClose::Free);
     Ok(())
 }

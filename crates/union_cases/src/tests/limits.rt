@@ -3,7 +3,7 @@ ghost use Rattle.std.specs.Prelude.{IsTrue};
 ghost use Rattle.marc_types.specs.Valid.{is_code};
 
 use super::ZOOLOGY;
-use durable_catalogue::{Durable, Memory, OpenFault};
+use durable_catalogue::{Durable, OnClose, OpenFault};
 use entry_history::Batch;
 use marc_types::{CommitFault, Limits, RecordFault, Text, can_be_code};
 use outside::LARGEST_BATCH;
@@ -67,7 +67,7 @@ fn opened(rt: &impl Abort, alloc: Global, disk: MemDisk) -> Durable<MemDisk> {
 fn refused(rt: &impl Abort, alloc: Global, disk: MemDisk, limits: Limits) -> (MemDisk, OpenFault) {
     match Durable::open(alloc, disk, limits) {
         Ok(durable) => {
-            durable.close(Memory::GivenBack);
+            durable.close(OnClose::Free);
             panic!(rt; "opened")
         }
         Err(refused) => refused,
@@ -85,7 +85,7 @@ fn committed(
     let mut durable = opened(rt, alloc, disk);
     let done = commit_each(rt, alloc, &mut durable, commits);
     assert_eq!(rt; durable.core().history_len(), entries);
-    let disk = durable.close(Memory::GivenBack);
+    let disk = durable.close(OnClose::Free);
     done?;
     Ok(disk)
 }

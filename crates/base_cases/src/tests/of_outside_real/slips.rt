@@ -4,7 +4,7 @@ ghost use Rattle.outside_real.specs.View.{file_room_view};
 
 use super::{has, make, own_number, path_of, remove};
 use crate::tests::steps::{opens_log, opens_output};
-use outside_real::{FileRoom, Intent};
+use outside_real::{Counts, FileRoom, Intent};
 use std::fs;
 use std::test::Fail;
 
@@ -43,6 +43,9 @@ fn opens_with_output(rt: &HostRuntime, log: &str, output: &str) -> Result<bool, 
     room.intend(Intent {
         outputs,
         reads: false,
+        looks: false,
+        counts: Counts::Nothing,
+        is_terminal: false,
     });
     Ok(opens_log(&mut room, log))
 }

@@ -1,6 +1,6 @@
 use Rattle.std.proofs.Common.{◌≡◌, ◌∙◌, [], Err, refl, sym, ap, subst}
 use Rattle.durable_catalogue.specs.declared.fault.OpenFault.TheVariants.{DeviceFault}
-use Rattle.room_files.proofs.Journals.{unopened_keeps, keeps_where}
+use Rattle.journal_files.proofs.Journals.{unopened_keeps, keeps_where}
 use Rattle.checkpoint_commands.proofs.Files.{puts_unopened, refused_unopened, puts_behind, put_behind, point_refused, read_keeps}
 use Rattle.checkpoint_commands.proofs.point_file.add_to_file.Goals as goal
 

@@ -2,7 +2,7 @@ use Rattle.std.proofs.Common.{◌≡◌, ◌∙◌, [], ◌∷◌, Ok, Err, refl
 use Rattle.std.specs.Prelude.{IsErrOf}
 use Rattle.outside.proofs.Rooms.{same_but_first, same_but_none, same_but_then}
 use Rattle.durable_catalogue.specs.declared.fault.OpenFault.TheVariants.{DeviceFault}
-use Rattle.room_files.proofs.Journals.{keeps_where}
+use Rattle.journal_files.proofs.Journals.{keeps_where}
 use Rattle.checkpoint_commands.proofs.Exports.{apart_from, closed_from, keeps_from, kept_from, written_from, unwritten_from, handed_on, memory_refused, ok_not_err}
 use Rattle.checkpoint_commands.proofs.quick.write_from.Goals as goal
 

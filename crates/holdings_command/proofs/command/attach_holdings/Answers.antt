@@ -9,7 +9,7 @@ use Rattle.catalogue_core.specs.Catalogues.{Catalogued}
 use Rattle.catalogue_rules.specs.Settle.{state_of}
 use Rattle.durable_catalogue.specs.Logs.{HasHistory}
 use Rattle.entry_record.specs.History.{IsWithin}
-use Rattle.room_files.specs.Journals.{journal_limits, log_bytes}
+use Rattle.journal_files.specs.Journals.{journal_limits, log_bytes}
 use Rattle.holdings_command.specs.Ready.{IsReady}
 use Rattle.holdings_command.proofs.Rooms.{closed_three, closed_one, opened_alone, all_apart, closed_behind, all_written, all_stopped, read_there}
 use Rattle.holdings_command.proofs.Endings.{attaches_unopened, was_opened, attaches_unread, attaches_ended}

@@ -1,5 +1,5 @@
 use Rattle.linked_store.specs.Contents.{step_of}
-use Rattle.linked_store.proofs.Framed.{gone_linked, gone_stored, gone_waiting}
+use Rattle.linked_store.proofs.Noted.{gone_linked, gone_stored, gone_waiting}
 use Rattle.linked_store.proofs.Indexed.{gone_indexed}
 use Rattle.linked_store.proofs.back.forget.Goals as goal
 

@@ -1,4 +1,4 @@
-use Rattle.linked_store.proofs.Framed.{keeps_none}
+use Rattle.linked_store.proofs.Noted.{keeps_none}
 use Rattle.linked_store.proofs.back.forget_row.Goals as goal
 
 pub returns-in_default-clause-rows : goal.returns-in_default-clause-rows

@@ -8,11 +8,11 @@ pub restore_authority-requires-clause-known : goal.restore_authority-requires-cl
 restore_authority-requires-clause-known c = subst (λ (l : List Key). c.args.number < length l) (sym c.keys-keys.ensures) c.requires.known
 
 pub restore_authority-requires-clause-ordered : goal.restore_authority-requires-clause-ordered
-restore_authority-requires-clause-ordered c = subst (λ (l : List Key). IsInOrder l c.args.frame.now.tables.index) (sym c.keys-keys.ensures) c.requires.ordered
+restore_authority-requires-clause-ordered c = subst (λ (l : List Key). IsInOrder l c.args.transaction.now.tables.index) (sym c.keys-keys.ensures) c.requires.ordered
 
 pub restore_authority-requires-clause-held : goal.restore_authority-requires-clause-held
 restore_authority-requires-clause-held c = c.requires.held
 
 pub returns : goal.returns
 returns c =
-    back_indexed c.args.frame.now _ c.args.number c.args.before c.keys-keys.result.now c.keys-keys.ensures refl refl c.restore_authority.ensures.only c.restore_authority.ensures.back
+    back_indexed c.args.transaction.now _ c.args.number c.args.before c.keys-keys.result.now c.keys-keys.ensures refl refl c.restore_authority.ensures.only c.restore_authority.ensures.back

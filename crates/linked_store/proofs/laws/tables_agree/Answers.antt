@@ -9,5 +9,5 @@ use Rattle.linked_store.proofs.laws.tables_agree.Goals as goal
 pub returns : goal.returns
 returns c =
     subst (λ (x : Linked). TablesAgree c.of.result.value x) c.store.view_is
-    (subst (λ (t : CatalogueTables). TablesAgree t (linked_view c.store.inside.frame c.store.inside.marked)) (sym c.of.ensures)
-    (tables_told c.store.inside.frame c.store.inside.marked c.store.invariant.now))
+    (subst (λ (t : CatalogueTables). TablesAgree t (linked_view c.store.inside.transaction c.store.inside.marked)) (sym c.of.ensures)
+    (tables_told c.store.inside.transaction c.store.inside.marked c.store.invariant.now))

@@ -1,4 +1,4 @@
-use Rattle.linked_store.specs.Frames.{waits_in}
+use Rattle.linked_store.specs.Transactions.{waits_in}
 use Rattle.linked_store.proofs.Outside.{waiting_unmoved}
 use Rattle.linked_store.proofs.rows.drop_waiting.Goals as goal
 

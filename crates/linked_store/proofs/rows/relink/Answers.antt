@@ -1,6 +1,6 @@
 use Rattle.std.proofs.Common.{◌∙◌, ap, None}
 use Rattle.link_table.specs.Links.{Links}
-use Rattle.linked_store.specs.Frames.{links_in}
+use Rattle.linked_store.specs.Transactions.{links_in}
 use Rattle.linked_store.proofs.Outside.{gone_at}
 use Rattle.linked_store.proofs.rows.relink.Goals as goal
 

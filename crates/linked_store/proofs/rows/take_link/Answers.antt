@@ -1,4 +1,4 @@
-use Rattle.linked_store.specs.Frames.{links_in}
+use Rattle.linked_store.specs.Transactions.{links_in}
 use Rattle.linked_store.proofs.Outside.{took_link}
 use Rattle.linked_store.proofs.rows.take_link.Goals as goal
 

@@ -1,4 +1,4 @@
-use Rattle.linked_store.specs.Frames.{waits_in}
+use Rattle.linked_store.specs.Transactions.{waits_in}
 use Rattle.linked_store.proofs.Outside.{took_waiting}
 use Rattle.linked_store.proofs.rows.take_waiting.Goals as goal
 

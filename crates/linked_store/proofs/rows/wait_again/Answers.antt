@@ -1,6 +1,6 @@
 use Rattle.std.proofs.Common.{◌∙◌, ap, None}
 use Rattle.wait_table.specs.Waits.{Waits}
-use Rattle.linked_store.specs.Frames.{waits_in}
+use Rattle.linked_store.specs.Transactions.{waits_in}
 use Rattle.linked_store.proofs.Outside.{gone_at}
 use Rattle.linked_store.proofs.rows.wait_again.Goals as goal
 

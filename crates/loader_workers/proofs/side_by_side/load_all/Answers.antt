@@ -1,17 +1,8 @@
-use Rattle.std.proofs.Common.{rules, sym, subst}
-use Rattle.loader_workers.specs.SideBySide.{HasTask}
-use Rattle.loader_workers.proofs.Tasks.{same_places, done_at, each_all}
+use Rattle.loader_workers.proofs.Tasks.{same_places, each_all}
 use Rattle.loader_workers.proofs.side_by_side.load_all.Goals as goal
 
-pub for_each_mut-requires-clause-accepts : goal.for_each_mut-requires-clause-accepts
-for_each_mut-requires-clause-accepts g c κs within i p lt is =
-    (subst (HasTask _) (sym is) (same_places _ _ _ c.requires.wait c.as_mut_slice.ensures.value i p.now lt), c.requires.catalogue)
+pub load_each-requires-clause-wait : goal.load_each-requires-clause-wait
+load_each-requires-clause-wait g c κs within = same_places _ _ _ c.requires.wait c.as_mut_slice.ensures.value
 
 pub returns : goal.returns
-returns g c = record {
-  each = each_all _ _ _ _ _ c.as_mut_slice.ensures.value (search rules)
-      (λ k d within.
-      let at = (c.for_each_mut.ensures k d within).1 in
-      done_at _ _ _ _ _ at.argument_is at.left at.call)
-      c.args.places.ok.0;
-}
+returns g c = record { each = each_all _ _ _ _ _ c.as_mut_slice.ensures.value c.load_each.ensures c.args.places.ok.0 }

@@ -5,7 +5,7 @@ use Rattle.outside.proofs.Rooms.{same_but_then, same_but_none}
 use Rattle.durable_catalogue.specs.Durables.{mark_of}
 use Rattle.durable_catalogue.specs.Views.{durable_view}
 use Rattle.console_lines.specs.declared.fault.Fault.TheVariants as fault
-use Rattle.room_files.proofs.Faults.{opening_device, opening_input}
+use Rattle.journal_files.proofs.Faults.{opening_device, opening_input}
 use Rattle.loading_commands.specs.Inputs.{IsInputFault, AreInputs, IsFresh, lefts_of_inputs}
 use Rattle.loading_commands.specs.Outcomes.{Unopened}
 use Rattle.loading_commands.proofs.Opened.{inputs_after, take_all, fault_between, unread}

@@ -1,9 +1,13 @@
-use Rattle.std.proofs.Common.{[]}
+use Rattle.std.proofs.Common.{subst}
 use Rattle.outside.proofs.Rooms.{same_but_itself}
+use Rattle.console_lines.specs.Ends.{TellsNoFault}
 use Rattle.loading_commands.specs.Outcomes.{NotBegun}
 use Rattle.loading_commands.proofs.Ended.{closed_load}
 use Rattle.loading_commands.proofs.Requests.{apart_as_asked, loading_failed}
 use Rattle.loading_commands.proofs.loading.begin.Goals as goal
+
+pub returns-in-Err-clause-told : goal.returns-in-Err-clause-told
+returns-in-Err-clause-told g c untold = subst TellsNoFault c.tell.ensures.end untold
 
 pub returns-in-Err-clause-closed : goal.returns-in-Err-clause-closed
 returns-in-Err-clause-closed g c =

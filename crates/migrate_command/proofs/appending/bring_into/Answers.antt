@@ -88,6 +88,7 @@ returns-in-Err-bring_rest-clause-refused g c before limits finds =
           let is = fit limits history c.args.count log.place (number_of log.version) (seen before) (seen log.disk) finds bytes told in
           absurd (none is.0 is.1);
       kept = λ other. absurd (other failed.device);
+      settled = λ other. absurd (other failed.device);
       failed = λ device. subst (λ d. Rose (seen before).faults (seen d).faults) (sym c.close-in-Err-bring_rest.ensures) (rose_since _ _ _ finds.found.later first);
     }
 
@@ -104,5 +105,6 @@ returns-in-Err-clause-refused g c before limits finds =
       so = λ bytes told. tt;
       left_alone = λ bytes told none. left_faulted (seen before) (seen c.in-Err.failed.0) settling bytes told;
       kept = λ other. absurd (other refl);
+      settled = λ other. absurd (other refl);
       failed = λ device. rose_since _ _ _ finds.found.later c.in-Err.ensures.cause;
     }

@@ -2,13 +2,14 @@ use Rattle.std.proofs.Common.{◌≡◌, ◌∙◌, [], ◌∷◌, is_some, refl
 use Rattle.outside.specs.Room.{bytes_or_none}
 use Rattle.outside.proofs.Rooms.{same_but_itself}
 use Rattle.console_lines.specs.declared.fault.Fault.TheVariants.{Device}
-use Rattle.room_files.specs.Journals.{log_bytes}
+use Rattle.journal_files.specs.Journals.{log_bytes}
 use Rattle.migrate_command.specs.declared.fault.MigrateFault.TheVariants as migrating
 use Rattle.migrate_command.specs.Told.{fault_of_migrating}
 use Rattle.migrate_command.specs.Bringing.{Newest, Refused}
-use Rattle.room_files.proofs.Journals.{unopened_keeps, keeps_where}
+use Rattle.migrate_command.specs.Migrates.{Untouched}
+use Rattle.journal_files.proofs.Journals.{unopened_keeps, keeps_where}
 use Rattle.migrate_command.proofs.Endings.{migrating_device}
-use Rattle.migrate_command.proofs.Rooms.{brings_into, all_into, alone_into, images_into, untouched_into, rose_into}
+use Rattle.migrate_command.proofs.Rooms.{brings_into, all_into, alone_into, settled_into, images_into, untouched_of, untouched_into, rose_into}
 use Rattle.migrate_command.proofs.bringing.bring_into.Goals as goal
 
 -- the log is of the newest version
@@ -23,6 +24,11 @@ returns-then-version-ne1-clause-brings g c was tells is_history =
 pub returns-then-version-ne1-clause-fault : goal.returns-then-version-ne1-clause-fault
 returns-then-version-ne1-clause-fault g c =
     Newest refl c.if-version-ne1.true (same_but_itself (g.R.Room.seen c.args.room.now) [])
+
+pub returns-then-version-ne1-clause-settled : goal.returns-then-version-ne1-clause-settled
+returns-then-version-ne1-clause-settled g c other tells =
+    let room = g.R.Room.seen c.args.room.now in
+    Untouched (untouched_of room room c.args.into.now (same_but_itself room []))
 
 -- the new log was not opened
 pub returns-in_default-clause-brings : goal.returns-in_default-clause-brings
@@ -98,11 +104,26 @@ returns-in-Err-clause-fault g c =
     (c.in-Ok.ensures.bytes tells) (closing.bytes open_tells) (c.in-Err.ensures.crash was is_history)
     c.in-Ok.ensures.beginning (record { file = closing.bytes open_tells; is_log = closing.log open_tells; same = closing.moments open_tells })
     (record { after = law.synced_after failed.0; by_now = law.synced_by_now failed.0; undated = law.undated_content failed.0 })
-    failed.1 c.in-Err.ensures.refused.left_alone none))
+    failed.1 c.in-Err.ensures.refused.left_alone c.in-Err.ensures.refused.settled none))
     (λ device.
     rose_into ((room c.args.room.now).log_faults into) ((room c.open_log.new.self).log_faults into) ((room c.close_log-in-Err.new.self).log_faults into)
     (disk c.in-Ok.log).faults (disk failed.0).faults c.in-Ok.ensures.fresh c.in-Ok.ensures.cause.later closing.counted
     (c.in-Err.ensures.refused.failed (migrating_device failed.1 (sym told ∙ device))))
+
+pub returns-in-Err-clause-settled : goal.returns-in-Err-clause-settled
+returns-in-Err-clause-settled g c other tells =
+    let law = g.met.R.Log.Disk g.world.𝓛 g.world.𝓜 g.world.𝓡 ((λ s x. x), (λ x. x), (λ x. x), λ x. x) in
+    let disk = g.R.Log.Disk.seen in
+    let room = g.R.Room.seen in
+    let failed = c.in-Err.failed in
+    let open_tells = c.in-Ok.ensures.apart.tells ∙ tells in
+    let closing = c.close_log-in-Err.ensures in
+    let not_device : failed.1 ≡ migrating.DeviceFault → ⊥ = λ device. other (c.fault_of_migrating.ensures ∙ ap fault_of_migrating device) in
+    settled_into (room c.args.room.now) (room c.close_log-in-Err.new.self) c.args.into.now (disk c.in-Ok.log) (disk failed.0)
+    (c.in-Ok.ensures.bytes tells) (c.in-Err.ensures.refused.kept not_device).content c.in-Ok.ensures.beginning
+    (record { file = closing.bytes open_tells; is_log = closing.log open_tells; same = closing.moments open_tells })
+    (record { after = law.synced_after failed.0; by_now = law.synced_by_now failed.0; undated = law.undated_content failed.0 })
+    failed.1 not_device c.in-Err.ensures.refused.settled
 
 pub returns-in-Err-clause-kept : goal.returns-in-Err-clause-kept
 returns-in-Err-clause-kept g c other tells =

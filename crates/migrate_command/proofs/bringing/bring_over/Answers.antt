@@ -1,9 +1,8 @@
 use Rattle.std.proofs.Common.{◌≡◌, ◌∙◌, [], ◌∷◌, Err, sym, ap}
 use Rattle.outside.proofs.Rooms.{same_but_itself, same_but_first}
 use Rattle.commit_journal.specs.Versions.{number_of}
-use Rattle.archive_commands.proofs.Rooms.{closed_opened}
+use Rattle.archive_commands.proofs.Rooms.{closed_opened, apart_over, closed_over}
 use Rattle.migrate_command.proofs.Over.{over_unopened, over_either}
-use Rattle.migrate_command.proofs.Rooms.{apart_over, closed_over}
 use Rattle.migrate_command.proofs.bringing.bring_over.Goals as goal
 
 -- the old log was not opened
@@ -47,4 +46,4 @@ returns-clause-over g c =
     over_either c.args.from.now c.args.into.now (λ same. c.requires.differ (sym same)) (room c.args.room.now) (room c.open_history.new.room)
     (room c.bring_into-brought.new.room) (room c.close_history.new.room) (g.R.Log.Disk.seen c.in-Ok.log.journal.disk) c.as_slice.result.now taken.entries c.number.result _
     c.open_history.ensures.apart brought.apart closing.apart (c.as_slice.ensures ∙ taken.taken) taken.history taken.within (c.number.ensures.number ∙ ap number_of c.version.ensures) opened.log.version_is
-    opened.log.kept closing.log brought.brings c.bring_into-brought.result brought.counted brought.brought brought.fault brought.kept
+    opened.log.kept closing.log brought.brings c.bring_into-brought.result brought.counted brought.brought brought.fault brought.kept brought.settled

@@ -1,11 +1,14 @@
-use Rattle.std.proofs.Common.{◌∙◌, sym, ap, subst}
+use Rattle.std.proofs.Common.{◌≡◌, ◌∙◌, ◌⊎◌, inl, sym, ap, subst}
+use Rattle.std.specs.Prelude.{◌≢◌}
+use Rattle.outside.specs.Disk.{OnlyContent, SameDisk}
 use Rattle.outside.specs.Fault.{Rose}
 use Rattle.outside.proofs.Counts.{rose_since}
 use Rattle.commit_journal.specs.Versions.{number_of}
 use Rattle.commit_journal.specs.Journal.{Unwritten}
 use Rattle.durable_catalogue.proofs.Refused.{same_leaves}
 use Rattle.migrate_command.specs.Migrations.{IsUnmigrated, IsMigration, LeavesRefused}
-use Rattle.migrate_command.proofs.Opened.{opened_alone, finds_of, no_front_of, unmigrated, unopened, left_found, left_unopened, device_fault}
+use Rattle.migrate_command.proofs.Opened.{opened_alone, finds_of, no_front_of, unmigrated, unopened, left_found, left_unopened, settled_unopened, device_fault}
+use Rattle.migrate_command.specs.declared.fault.MigrateFault.TheVariants.{NoMemory, DeviceFault}
 use Rattle.migrate_command.proofs.migration.migrate.Goals as goal
 
 pub returns-in-Ok-front_of-clause-migrated : goal.returns-in-Ok-front_of-clause-migrated
@@ -59,6 +62,7 @@ returns-in-Err-front_of-clause-refused g c =
           subst (λ d. LeavesRefused fault bytes (seen c.args.new) (seen d)) (sym c.leave.ensures)
           (left_found c.in-Ok.frames log.place (number_of log.version) (seen c.args.new) (seen log.disk) found fault bytes told);
       kept = λ other. subst (λ d. Unwritten (seen c.args.new) (seen d)) (sym c.leave.ensures) found.unwritten;
+      settled = λ other. inl (subst (λ d. OnlyContent (seen d)) (sym c.leave.ensures) found.only);
       failed = λ device. absurd (c.in-Err-front_of.ensures.no_device device);
     }
 
@@ -81,6 +85,12 @@ returns-in-Err-clause-refused g c = record {
       (left_unopened (seen c.args.new) (seen c.in-Err.failed.0) c.in-Err.failed.1 refused.crash
       (same_leaves (seen c.args.new) (seen c.in-Err.failed.0) refused.unwritten.content) refused.fault log told);
   kept = λ other. c.in-Err.ensures.unwritten;
+  settled = λ other.
+      let seen = g.D.Disk.seen in
+      let old = seen c.args.new in
+      let new = seen c.in-Err.failed.0 in
+      subst (λ f. f ≢ DeviceFault → OnlyContent new ⊎ ((f ≡ NoMemory) × SameDisk old new)) (sym c.migrate_fault.ensures)
+      (settled_unopened old new c.in-Err.failed.1 c.in-Err.ensures.fault) other;
   failed = λ device.
       let seen = g.D.Disk.seen in
       device_fault (seen c.args.new) (seen c.in-Err.failed.0) c.in-Err.failed.1 c.in-Err.ensures.fault (sym c.migrate_fault.ensures ∙ device);

@@ -2,22 +2,25 @@ use Rattle.std.proofs.Common.{◌∙◌}
 use Rattle.outside.proofs.Rooms.{same_but_none, same_but_then}
 use Rattle.plain_commands.proofs.Ends.{closed_everywhere}
 use Rattle.plain_commands.proofs.Passes.{passes_told, passes_delivered}
+use Rattle.plain_commands.proofs.There.{there_more}
 use Rattle.plain_commands.proofs.passing.pass.Goals as goal
 
 pub returns-in-Ok-clause-closed : goal.returns-in-Ok-clause-closed
 returns-in-Ok-clause-closed g c =
-    closed_everywhere _ _ _ c.deliver-end.ensures.apart c.deliver-end.ensures.closed
+    closed_everywhere _ _ _ c.deliver_export-end.ensures.apart c.deliver_export-end.ensures.closed
     (λ name. c.prepare.ensures.stays.open_names name tt ∙ c.requires.closed name)
 
 pub returns-in-Ok-clause-apart : goal.returns-in-Ok-clause-apart
-returns-in-Ok-clause-apart g c = same_but_then _ _ _ _ (same_but_none _ _ _ c.prepare.ensures.stays) c.deliver-end.ensures.apart
+returns-in-Ok-clause-apart g c = same_but_then _ _ _ _ (same_but_none _ _ _ c.prepare.ensures.stays) c.deliver_export-end.ensures.apart
 
 pub returns-in-Ok-clause-ends : goal.returns-in-Ok-clause-ends
 returns-in-Ok-clause-ends g c =
     let mid = g.R.Room.seen c.prepare.new.room in
-    let d = c.deliver-end.ensures in
-    passes_delivered _ _ _ mid c.in-Ok.ready c.prepare.ensures.stays d.fault d.unwritten c.in-Ok.ensures.ready d.delivered
+    let d = c.deliver_export-end.ensures in
+    let stays = c.prepare.ensures.stays in
+    passes_delivered _ _ _ _ mid stays d.fault d.unwritten
+    (λ tells. there_more _ (λ bytes ready_is. d.delivered _ bytes (stays.tells ∙ tells) ready_is) (c.in-Ok.ensures.ready tells))
 
 pub returns-in-Err-clause-ends : goal.returns-in-Err-clause-ends
 returns-in-Err-clause-ends g c =
-    passes_told _ _ _ c.in-Err.fault c.tell.ensures.end c.tell.ensures.told c.in-Err.ensures.kind c.prepare.ensures.stays c.in-Err.ensures.cause c.in-Err.ensures.full
+    passes_told _ _ _ _ c.in-Err.fault c.tell.ensures.end c.tell.ensures.told c.in-Err.ensures.kind c.prepare.ensures.stays c.in-Err.ensures.cause c.in-Err.ensures.full

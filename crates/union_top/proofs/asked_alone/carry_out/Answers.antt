@@ -1,4 +1,4 @@
-use Rattle.std.proofs.Common.{[], ◌∷◌, sym, ap, subst, ◌∙◌}
+use Rattle.std.proofs.Common.{[], ◌∷◌, subst}
 use Rattle.std.specs.Prelude.{IsTrue}
 use Rattle.std.specs.Option.{option_copied}
 use Rattle.marc_types.specs.Valid.{is_code}
@@ -10,6 +10,8 @@ use Rattle.console_lines.specs.Ends.{Outcome, outcome}
 use Rattle.console_lines.specs.declared.fault.Fault.TheVariants as fault
 use Rattle.plain_commands.specs.Making.{EndsMaking}
 use Rattle.plain_commands.specs.Passing.{Passes}
+use Rattle.plain_commands.specs.GivingBack.{GivesBack}
+use Rattle.reading_commands.specs.Looking.{EndsLooking}
 use Rattle.archive_commands.specs.Reads.{EndsReading}
 use Rattle.holdings_command.specs.Attaching.{AttachesHoldings, EndsAttaching}
 use Rattle.journal_verification.specs.Verifying.{EndsVerifying}
@@ -25,12 +27,12 @@ pass-requires-clause-proper g c κs within =
     let asks = asked_as c.args.words.now c.args.asked c.requires.asks c.in-Pass.is in
     of_only (λ (l : Library). IsTrue (is_code l.code)) c.in-Pass.library (libraries_of c.args.words.now) asks.libraries c.files_are_named.ensures.codes
 
-pub read-requires-clause-differ : goal.read-requires-clause-differ
-read-requires-clause-differ g c κs within =
+pub write_from_journal-requires-clause-differ : goal.write_from_journal-requires-clause-differ
+write_from_journal-requires-clause-differ g c κs within =
     (c.names_are_apart.ensures.names _ (asked_as c.args.words.now c.args.asked c.requires.asks c.in-Export.is).command).1.0
 
-pub read-requires-in-Report-clause-differ : goal.read-requires-in-Report-clause-differ
-read-requires-in-Report-clause-differ g c κs within =
+pub write_from_journal-requires-in-Report-clause-differ : goal.write_from_journal-requires-in-Report-clause-differ
+write_from_journal-requires-in-Report-clause-differ g c κs within =
     (c.names_are_apart.ensures.names _ (asked_as c.args.words.now c.args.asked c.requires.asks c.in-Report.is).command).1.0
 
 pub make-requires-clause-few : goal.make-requires-clause-few
@@ -67,12 +69,12 @@ returns-in-Pass g c =
 
 pub returns-in-Export : goal.returns-in-Export
 returns-in-Export g c =
-    let did = c.read.ensures in
+    let did = c.write_from_journal.ensures in
     carries c.args.words.now c.args.asked c.in-Export.is did.closed did.apart did.ends (λ usage. subst EndsReading usage did.ends.ends)
 
 pub returns-in-Report : goal.returns-in-Report
 returns-in-Report g c =
-    let did = c.read-in-Report.ensures in
+    let did = c.write_from_journal-in-Report.ensures in
     carries c.args.words.now c.args.asked c.in-Report.is did.closed did.apart did.ends (λ usage. subst EndsReading usage did.ends.ends)
 
 pub returns-in-Make : goal.returns-in-Make
@@ -126,6 +128,25 @@ pub returns-in-Quick : goal.returns-in-Quick
 returns-in-Quick g c =
     let did = c.export_quickly.ensures in
     carries c.args.words.now c.args.asked c.in-Quick.is did.closed did.apart did.ends (λ usage. subst EndsQuick usage did.ends.ends)
+
+pub give_back-requires-clause-proper : goal.give_back-requires-clause-proper
+give_back-requires-clause-proper g c κs within =
+    let asks = asked_as c.args.words.now c.args.asked c.requires.asks c.in-Refused.is in
+    of_only (λ (l : Library). IsTrue (is_code l.code)) c.in-Refused.library (libraries_of c.args.words.now) asks.libraries c.files_are_named.ensures.codes
+
+pub returns-in-Refused : goal.returns-in-Refused
+returns-in-Refused g c =
+    let o : Outcome = outcome g.R.Room.seen g.R.Out.Sink.written g.R.Out.Sink.faults c.args.room.now c.give_back.new.room c.args.console.now c.give_back.new.console c.give_back.result in
+    let did = c.give_back.ensures in
+    let asks = asked_as c.args.words.now c.args.asked c.requires.asks c.in-Refused.is in
+    carries c.args.words.now c.args.asked c.in-Refused.is did.closed did.apart
+    (λ library is. subst (λ (l : Library). GivesBack l c.in-Refused.out.now o) (only library c.in-Refused.library _ asks.libraries is) did.ends)
+    (λ usage. (did.ends.told fault.Usage usage).1)
+
+pub returns-in-Read : goal.returns-in-Read
+returns-in-Read g c =
+    let did = c.look_into.ensures in
+    carries c.args.words.now c.args.asked c.in-Read.is did.closed did.apart did.ends (λ usage. subst EndsLooking usage did.ends.ends)
 
 pub returns-in-Migrate : goal.returns-in-Migrate
 returns-in-Migrate g c =

@@ -2,11 +2,12 @@ use Rattle.std.proofs.Common.{◌≡◌, ◌∙◌, ℕ, List, Result, Ok, Err, 
 use Rattle.command_words.specs.Command.{command_of}
 use Rattle.command_words.specs.Asked.{alone_asked, AsksFor, IsUnasked}
 use Rattle.command_words.specs.declared.asked.Request.{Request}
-use Rattle.command_words.specs.declared.asked.Request.TheVariants.{Alone, Load}
+use Rattle.command_words.specs.declared.asked.Request.TheVariants.{Alone, Load, Browse}
 use Rattle.command_words.specs.declared.asked.Unasked.{Unasked}
 use Rattle.console_lines.specs.Ends.{Outcome, outcome}
 use Rattle.console_lines.specs.declared.end.End.{End}
 use Rattle.union_top.proofs.Carried.{carried_out, unasked_carried}
+use Rattle.union_top.proofs.Either.{no_loading, no_browsing}
 use Rattle.union_top.proofs.command.begin.Goals as goal
 
 -- what is asked for where there is a request, and why there is none
@@ -35,6 +36,10 @@ pub begin_loading-requires-clause-asks : goal.begin_loading-requires-clause-asks
 begin_loading-requires-clause-asks g c κs within =
     asks_for c.args.words.now c.args.asked (Load c.in-Ok-Load.asked) (c.in-Ok-Load.is ∙ ap Ok c.in-Ok-Load.field-0-is) c.requires.asked
 
+pub begin_browsing-requires-clause-asks : goal.begin_browsing-requires-clause-asks
+begin_browsing-requires-clause-asks g c κs within =
+    asks_for c.args.words.now c.args.asked (Browse c.in-Ok-Browse.asked) (c.in-Ok-Browse.is ∙ ap Ok c.in-Ok-Browse.field-0-is) c.requires.asked
+
 pub returns-in-Err-clause-closed : goal.returns-in-Err-clause-closed
 returns-in-Err-clause-closed g c = c.requires.closed
 
@@ -46,3 +51,36 @@ returns-in-Err-clause-carried g c =
     c.args.words.now c.in-Err.why c.fault_of.result c.tell.result _ c.status-in-Err.ensures
     (is_unasked c.args.words.now c.args.asked c.in-Err.why c.in-Err.is c.requires.unasked) c.fault_of.ensures c.tell.ensures.end c.tell.ensures.told
     c.requires.closed (g.met.R.Room.promised c.args.room.now)
+
+pub returns-in-Ok-Load-clause-asks_to_browse : goal.returns-in-Ok-Load-clause-asks_to_browse
+returns-in-Ok-Load-clause-asks_to_browse g c = no_browsing _ _ c.begin_loading.ensures.browsing
+
+pub returns-in-Ok-Load-clause-browsing_before : goal.returns-in-Ok-Load-clause-browsing_before
+returns-in-Ok-Load-clause-browsing_before g c = no_browsing _ _ c.begin_loading.ensures.browsing
+
+pub returns-in-Ok-Load-clause-browsing_begun : goal.returns-in-Ok-Load-clause-browsing_begun
+returns-in-Ok-Load-clause-browsing_begun g c = no_browsing _ _ c.begin_loading.ensures.browsing
+
+pub returns-in-Ok-Load-clause-browsing_waiting : goal.returns-in-Ok-Load-clause-browsing_waiting
+returns-in-Ok-Load-clause-browsing_waiting g c = no_browsing _ _ c.begin_loading.ensures.browsing
+
+pub returns-in-Ok-Load-clause-browsing_silent : goal.returns-in-Ok-Load-clause-browsing_silent
+returns-in-Ok-Load-clause-browsing_silent g c = no_browsing _ _ c.begin_loading.ensures.browsing
+
+pub returns-in-Ok-Browse-clause-asks : goal.returns-in-Ok-Browse-clause-asks
+returns-in-Ok-Browse-clause-asks g c = no_loading _ _ c.begin_browsing.ensures.loading
+
+pub returns-in-Ok-Browse-clause-before : goal.returns-in-Ok-Browse-clause-before
+returns-in-Ok-Browse-clause-before g c = no_loading _ _ c.begin_browsing.ensures.loading
+
+pub returns-in-Ok-Browse-clause-begun : goal.returns-in-Ok-Browse-clause-begun
+returns-in-Ok-Browse-clause-begun g c = no_loading _ _ c.begin_browsing.ensures.loading
+
+pub returns-in-Ok-Browse-clause-waiting : goal.returns-in-Ok-Browse-clause-waiting
+returns-in-Ok-Browse-clause-waiting g c = no_loading _ _ c.begin_browsing.ensures.loading
+
+pub returns-in-Ok-Browse-clause-silent : goal.returns-in-Ok-Browse-clause-silent
+returns-in-Ok-Browse-clause-silent g c = no_loading _ _ c.begin_browsing.ensures.loading
+
+pub returns-in-Ok-Load-clause-browsing_names : goal.returns-in-Ok-Load-clause-browsing_names
+returns-in-Ok-Load-clause-browsing_names g c = no_browsing _ _ c.begin_loading.ensures.browsing

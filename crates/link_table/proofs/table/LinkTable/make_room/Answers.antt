@@ -1,5 +1,5 @@
 use Rattle.numbering.specs.Seats.{seat_Decides}
-use Rattle.place_names.proofs.Rows.{room_more}
+use Rattle.postings.proofs.Rows.{room_more}
 use Rattle.link_table.proofs.table.LinkTable.make_room.Goals as goal
 
 pub let_go-requires : goal.let_go-requires

@@ -1,7 +1,7 @@
 use Rattle.numbering.specs.Seats.{same_seat, seat_Decides}
-use Rattle.place_names.specs.Slots.{row_at}
-use Rattle.place_names.specs.Counts.{times}
-use Rattle.place_names.proofs.Listings.{things_listed}
+use Rattle.postings.specs.Slots.{row_at}
+use Rattle.postings.specs.Counts.{times}
+use Rattle.postings.proofs.Listings.{things_listed}
 use Rattle.link_table.specs.Links.{leads_to}
 use Rattle.link_table.proofs.Steps.{counted_once}
 use Rattle.link_table.specs.Table.{links}

@@ -2,10 +2,10 @@ use Rattle.std.proofs.Common.{◌∙◌, sym, ap, None}
 use Rattle.link_table.specs.declared.link.Link.{Link}
 use Rattle.link_table.specs.Links.{with_row_back}
 use Rattle.numbering.specs.Seats.{seat_Decides}
-use Rattle.place_names.specs.Slots.{row_at}
+use Rattle.postings.specs.Slots.{row_at}
 use Rattle.link_table.specs.Table.{links}
 use Rattle.link_table.proofs.Steps.{took, taken_now, back_taken, seen_as}
-use Rattle.place_names.proofs.Rows.{put_here, put_same}
+use Rattle.postings.proofs.Rows.{put_here, put_same}
 use Rattle.link_table.proofs.table.LinkTable.take.Goals as goal
 
 abbrev row : goal.In-Some → Link

@@ -5,7 +5,7 @@ use Rattle.catalogue_rules.specs.State.{kept_field, linkable_authorities}
 use Rattle.linking_laws.specs.Middle.{AreAuthoritiesInOrder}
 use Rattle.catalogue_tables.specs.Choosing.{chosen_for, heading_choice}
 use Rattle.catalogue_tables.specs.Seam.{HasKey}
-use Rattle.linked_store.specs.Frames.{contents}
+use Rattle.linked_store.specs.Transactions.{contents}
 use Rattle.linked_store.specs.Linked.{Linked, field_of}
 use Rattle.linked_store.proofs.Listing.{chosen_as}
 use Rattle.linked_store.proofs.Rowed.{row_of_seat}
@@ -13,7 +13,7 @@ use Rattle.linked_store.proofs.store.LinkedStore.choose_at.Goals as goal
 
 pub choose_at-requires : goal.choose_at-requires
 choose_at-requires c =
-    row_of_seat c.self.inside.frame.tables (contents c.self.inside.frame) c.self.invariant.distinct c.each_form_has_one_number.ensures c.self.invariant.now c.args.seat
+    row_of_seat c.self.inside.transaction.tables (contents c.self.inside.transaction) c.self.invariant.distinct c.each_form_has_one_number.ensures c.self.invariant.now c.args.seat
     (subst (λ (x : Linked). HasKey x.keys c.args.seat) (sym c.self.view_is) c.requires.known) (kept_field c.args.field.now c.args.tie.now)
     (subst (λ (x : Linked). field_of c.args.seat x ≡ Some (kept_field c.args.field.now c.args.tie.now)) (sym c.self.view_is) c.requires.stands) c.requires.unlinked
 
@@ -22,7 +22,7 @@ returns c =
     IfOk-weaker c.choose_at.result _ _
     (λ chosen told.
     subst (λ (x : Linked). chosen ≡ option_map (chosen_for x.keys.authorities) (heading_choice (linkable_authorities x.state) c.args.seat.class (kept_field c.args.field.now c.args.tie.now))) c.self.view_is
-    (chosen_as c.self.inside.frame.tables (contents c.self.inside.frame) c.args.seat.class (kept_field c.args.field.now c.args.tie.now) c.keys-keys.result.now chosen
+    (chosen_as c.self.inside.transaction.tables (contents c.self.inside.transaction) c.args.seat.class (kept_field c.args.field.now c.args.tie.now) c.keys-keys.result.now chosen
     c.keys-keys.ensures c.self.invariant.distinct c.self.invariant.now
     (subst (λ (x : Linked). AreAuthoritiesInOrder x.state) (sym c.self.view_is) c.requires.ordered) told))
     c.choose_at.ensures

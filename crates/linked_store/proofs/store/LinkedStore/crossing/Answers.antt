@@ -3,7 +3,7 @@ use Rattle.std.proofs.lemmas.Result.{IfOk-weaker}
 use Rattle.catalogue_rules.specs.State.{linkable_authorities}
 use Rattle.catalogue_tables.specs.Sharing.{keys_crossing, shown_keys}
 use Rattle.linking_laws.specs.Middle.{AreAuthoritiesInOrder}
-use Rattle.linked_store.specs.Frames.{contents}
+use Rattle.linked_store.specs.Transactions.{contents}
 use Rattle.linked_store.specs.Linked.{Linked}
 use Rattle.linked_store.specs.Sound.{state_in}
 use Rattle.linked_store.proofs.Telling.{told_now}
@@ -14,7 +14,7 @@ returns c =
     IfOk-weaker c.crossing.result _ _
     (λ found told.
     subst (λ (x : Linked). shown_keys found.items ≡ keys_crossing c.args.key.now (linkable_authorities x.state)) c.self.view_is
-    (told (state_in (contents c.self.inside.frame))
-    (told_now c.self.inside.frame.tables (contents c.self.inside.frame) c.keys-keys.result.now c.keys-keys.ensures c.self.invariant.distinct c.self.invariant.now
+    (told (state_in (contents c.self.inside.transaction))
+    (told_now c.self.inside.transaction.tables (contents c.self.inside.transaction) c.keys-keys.result.now c.keys-keys.ensures c.self.invariant.distinct c.self.invariant.now
     (subst (λ (x : Linked). AreAuthoritiesInOrder x.state) (sym c.self.view_is) c.requires))))
     c.crossing.ensures

@@ -13,4 +13,4 @@ pub returns : goal.returns
 returns c =
     subst (λ (x : Linked). (class : Class) (key : Key) → IsSome (kept_under class key x.state) → is_known same_key (keys_in class x.keys) key ≡ true) c.self.view_is
     (λ class key some.
-    subst (λ keys. is_known same_key keys key ≡ true) (sym (keys_alike class c.self.inside.frame.store)) (c.each_record_has_a_number.ensures class key some))
+    subst (λ keys. is_known same_key keys key ≡ true) (sym (keys_alike class c.self.inside.transaction.store)) (c.each_record_has_a_number.ensures class key some))

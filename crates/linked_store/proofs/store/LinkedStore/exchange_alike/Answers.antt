@@ -7,31 +7,31 @@ use Rattle.linked_store.proofs.store.LinkedStore.exchange_alike.Goals as goal
 
 pub swap-requires-clause-stands : goal.swap-requires-clause-stands
 swap-requires-clause-stands c =
-    stands_number c.args.seat (kept_field c.args.field c.args.tie) c.self.inside.frame c.self.inside.marked
+    stands_number c.args.seat (kept_field c.args.field c.args.tie) c.self.inside.transaction c.self.inside.marked
     (subst (λ (x : Linked). SuitsSeat c.args.seat (kept_field c.args.field c.args.tie) x) (sym c.self.view_is) c.requires.suits)
 
 pub swap-requires-clause-suits : goal.swap-requires-clause-suits
 swap-requires-clause-suits c =
-    suits_number c.args.seat (kept_field c.args.field c.args.tie) c.self.inside.frame c.self.inside.marked
+    suits_number c.args.seat (kept_field c.args.field c.args.tie) c.self.inside.transaction c.self.inside.marked
     (subst (λ (x : Linked). SuitsSeat c.args.seat (kept_field c.args.field c.args.tie) x) (sym c.self.view_is) c.requires.suits)
 
 pub go_back-requires-clause-can : goal.go_back-requires-clause-can
-go_back-requires-clause-can c = can_on c.self.inside.frame c.swap.new.self c.swap.ensures.goes c.self.invariant.can
+go_back-requires-clause-can c = can_on c.self.inside.transaction c.swap.new.self c.swap.ensures.goes c.self.invariant.can
 
 pub invariant_of-self : goal.invariant_of-self
-invariant_of-self c = (left_undone c.self.inside.frame c.self.inside.marked c.args.self.now c.self.view_is c.self.invariant c.swap.new.self c.go_back.new.frame c.len-position.result c.len-position.ensures c.swap.ensures.goes c.go_back.ensures).sound
+invariant_of-self c = (left_undone c.self.inside.transaction c.self.inside.marked c.args.self.now c.self.view_is c.self.invariant c.swap.new.self c.go_back.new.transaction c.len-position.result c.len-position.ensures c.swap.ensures.goes c.go_back.ensures).sound
 
 pub returns-in-Err-clause-ahead : goal.returns-in-Err-clause-ahead
-returns-in-Err-clause-ahead c = (left_undone c.self.inside.frame c.self.inside.marked c.args.self.now c.self.view_is c.self.invariant c.swap.new.self c.go_back.new.frame c.len-position.result c.len-position.ensures c.swap.ensures.goes c.go_back.ensures).ahead
+returns-in-Err-clause-ahead c = (left_undone c.self.inside.transaction c.self.inside.marked c.args.self.now c.self.view_is c.self.invariant c.swap.new.self c.go_back.new.transaction c.len-position.result c.len-position.ensures c.swap.ensures.goes c.go_back.ensures).ahead
 
 pub returns-in-Err-clause-err : goal.returns-in-Err-clause-err
-returns-in-Err-clause-err c = (left_undone c.self.inside.frame c.self.inside.marked c.args.self.now c.self.view_is c.self.invariant c.swap.new.self c.go_back.new.frame c.len-position.result c.len-position.ensures c.swap.ensures.goes c.go_back.ensures).state_is
+returns-in-Err-clause-err c = (left_undone c.self.inside.transaction c.self.inside.marked c.args.self.now c.self.view_is c.self.invariant c.swap.new.self c.go_back.new.transaction c.len-position.result c.len-position.ensures c.swap.ensures.goes c.go_back.ensures).state_is
 
 pub invariant_of-self-in_default : goal.invariant_of-self-in_default
-invariant_of-self-in_default c = (left_alike c.self.inside.frame c.swap.new.self c.self.inside.marked c.args.self.now c.self.view_is c.self.invariant c.args.seat (kept_field c.args.field c.args.tie) c.each_form_has_one_number.ensures c.requires.suits c.requires.alike c.swap.ensures.goes c.in_default.ensures.now).sound
+invariant_of-self-in_default c = (left_alike c.self.inside.transaction c.swap.new.self c.self.inside.marked c.args.self.now c.self.view_is c.self.invariant c.args.seat (kept_field c.args.field c.args.tie) c.each_form_has_one_number.ensures c.requires.suits c.requires.alike c.swap.ensures.goes c.in_default.ensures.now).sound
 
 pub returns-clause-ok : goal.returns-clause-ok
-returns-clause-ok c = (left_alike c.self.inside.frame c.swap.new.self c.self.inside.marked c.args.self.now c.self.view_is c.self.invariant c.args.seat (kept_field c.args.field c.args.tie) c.each_form_has_one_number.ensures c.requires.suits c.requires.alike c.swap.ensures.goes c.in_default.ensures.now).state_is
+returns-clause-ok c = (left_alike c.self.inside.transaction c.swap.new.self c.self.inside.marked c.args.self.now c.self.view_is c.self.invariant c.args.seat (kept_field c.args.field c.args.tie) c.each_form_has_one_number.ensures c.requires.suits c.requires.alike c.swap.ensures.goes c.in_default.ensures.now).state_is
 
 pub returns-clause-ahead : goal.returns-clause-ahead
-returns-clause-ahead c = (left_alike c.self.inside.frame c.swap.new.self c.self.inside.marked c.args.self.now c.self.view_is c.self.invariant c.args.seat (kept_field c.args.field c.args.tie) c.each_form_has_one_number.ensures c.requires.suits c.requires.alike c.swap.ensures.goes c.in_default.ensures.now).ahead
+returns-clause-ahead c = (left_alike c.self.inside.transaction c.swap.new.self c.self.inside.marked c.args.self.now c.self.view_is c.self.invariant c.args.seat (kept_field c.args.field c.args.tie) c.each_form_has_one_number.ensures c.requires.suits c.requires.alike c.swap.ensures.goes c.in_default.ensures.now).ahead

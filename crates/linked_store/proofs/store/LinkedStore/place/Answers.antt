@@ -1,6 +1,6 @@
 use Rattle.std.proofs.Common.{◌∙◌, ap}
 use Rattle.catalogue_rules.specs.State.{State}
-use Rattle.place_names.proofs.Errors.{on_err}
+use Rattle.postings.proofs.Errors.{on_err}
 use Rattle.linking_laws.specs.Commits.{placed_by}
 use Rattle.linked_store.proofs.Brought.{number_kept}
 use Rattle.linked_store.proofs.Fielded.{ahead_then}

@@ -6,5 +6,5 @@ use Rattle.linked_store.proofs.store.LinkedStore.visit.Goals as goal
 pub returns-clause-kept : goal.returns-clause-kept
 returns-clause-kept g c =
     c.visit.ensures.kept
-    ∙ record_there c.args.class c.args.number c.self.inside.frame.store (subst (λ (x : Linked). IsNumber c.args.class c.args.number x.keys) (sym c.self.view_is) c.requires)
+    ∙ record_there c.args.class c.args.number c.self.inside.transaction.store (subst (λ (x : Linked). IsNumber c.args.class c.args.number x.keys) (sym c.self.view_is) c.requires)
     ∙ ap (λ (x : Linked). record_at c.args.class c.args.number x) c.self.view_is

@@ -1,8 +1,8 @@
 use Rattle.numbering.specs.Seats.{same_seat, seat_Decides}
-use Rattle.place_names.specs.Counts.{times}
+use Rattle.postings.specs.Counts.{times}
 use Rattle.wait_table.specs.Waits.{names_key}
-use Rattle.place_names.specs.Slots.{row_at}
-use Rattle.place_names.proofs.Listings.{things_listed}
+use Rattle.postings.specs.Slots.{row_at}
+use Rattle.postings.proofs.Listings.{things_listed}
 use Rattle.wait_table.proofs.Steps.{named_once}
 use Rattle.wait_table.specs.Table.{waits}
 use Rattle.wait_table.proofs.table.WaitTable.by_key.Goals as goal

@@ -1,11 +1,11 @@
 use Rattle.std.proofs.Common.{◌∙◌, sym, ap, None}
 use Rattle.numbering.specs.Seats.{seat_Decides}
-use Rattle.place_names.specs.Slots.{row_at}
+use Rattle.postings.specs.Slots.{row_at}
 use Rattle.wait_table.specs.declared.waiting.WaitRow.{WaitRow}
 use Rattle.wait_table.specs.Waits.{with_row_back}
 use Rattle.wait_table.specs.Table.{waits}
 use Rattle.wait_table.proofs.Steps.{took, taken_now, back_taken, seen_as}
-use Rattle.place_names.proofs.Rows.{put_here, put_same}
+use Rattle.postings.proofs.Rows.{put_here, put_same}
 use Rattle.wait_table.proofs.table.WaitTable.take.Goals as goal
 
 abbrev row : goal.In-Some → WaitRow

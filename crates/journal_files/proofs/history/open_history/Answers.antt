@@ -1,0 +1,25 @@
+use Rattle.std.proofs.Common.{◌≡◌, ℕ, true, List, Some}
+use Rattle.durable_catalogue.specs.Logs.{HasHistory}
+use Rattle.journal_files.specs.Journals.{journal_limits, log_bytes}
+use Rattle.journal_files.proofs.Journals.{open_log}
+use Rattle.journal_files.proofs.Turns.{is_also}
+use Rattle.journal_files.proofs.history.open_history.Goals as goal
+
+pub returns-in-Ok-open-clause-log : goal.returns-in-Ok-open-clause-log
+returns-in-Ok-open-clause-log g c =
+    let was = c.in-Ok.ensures in
+    let is = c.in-Ok-open.ensures in
+    open_log _ _ _ _ _ _ was.opened was.bytes was.beginning is.version is.opened
+
+pub returns-in-Ok-open-clause-taken : goal.returns-in-Ok-open-clause-taken
+returns-in-Ok-open-clause-taken g c =
+    let log = log_bytes (g.R.Room.seen c.args.room.now) c.args.name.now in
+    is_also (g.T.EntryTaker.has c.args.taker.now c.open.new.taker) (λ entries. (bytes : List ℕ) → (g.R.Log.Disk.seen c.in-Ok.log).content ≡ Some bytes → HasHistory entries bytes)
+    (λ entries. (g.R.Room.seen c.args.room.now).tells ≡ true → HasHistory entries log) journal_limits
+    (λ entries has told. has log (c.in-Ok.ensures.bytes told)) c.in-Ok-open.ensures.taken
+
+pub returns-in-Err-clause-refused : goal.returns-in-Err-clause-refused
+returns-in-Err-clause-refused g c =
+    let was = c.in-Ok.ensures in
+    c.close_refused.ensures.keeps c.args.room.now c.in-Ok.log
+    (record { apart = was.apart; bytes = was.bytes; beginning = was.beginning; fresh = was.fresh }) c.in-Err.ensures.refused

@@ -1,0 +1,63 @@
+//! Journals that are appended to.
+ghost use Rattle.std.specs.Prelude.{◌≡◌, true, Some, None, is_some, IfOk, IfErr, OnOk, ◌∷◌, []};
+ghost use Rattle.outside.specs.Fault.{Rose};
+ghost use Rattle.outside.specs.Room.{AsLog, SameBut};
+ghost use Rattle.durable_catalogue.specs.declared.fault.OpenFault.TheVariants.{Full};
+ghost use Rattle.commit_journal.specs.Log.{version_of};
+ghost use Rattle.durable_catalogue.specs.Durables.{mark_of};
+ghost use Rattle.durable_catalogue.specs.Views.{durable_view};
+ghost use Rattle.journal_files.specs.Journals.{log_bytes, IsOpenedAs, IsClosedAs, IsRefusedLog};
+
+use crate::close_refused;
+use durable_catalogue::{Durable, OnClose, OpenFault};
+use marc_types::Limits;
+use outside::Room;
+use std::alloc::Global;
+
+/// The most that a history has: entries, and bytes.
+pub const JOURNAL_LIMITS: Limits = Limits::GREATEST;
+
+/// Opens the file of that name as a catalogue's log. A fault closes it again.
+#[tactic(auto, using(crate::proofs::Journals::unopened_log))]
+pub fn open_journal<R: Room>(
+    alloc: Global,
+    room: &mut R,
+    name: &str,
+) -> Result<Durable<R::Log>, OpenFault>
+    requires { (R.seen room.old).open_as name.now ≡ None }
+    ensures apart { SameBut (R.seen room.old) (R.seen room.new) (name.now ∷ []) }
+    ensures lefts { (R.seen room.new).lefts ≡ (R.seen room.old).lefts }
+    ensures opened { OnOk result ((R.seen room.new).open_as name.now ≡ Some AsLog) }
+    ensures catalogue { IfOk result (λ d. IsOpenedAs (R.seen room.old) name.now (durable_view d)) }
+
+    // A log that is refused keeps its history, and is Full only where it is of version 2.
+    ensures refused { IfErr result (IsRefusedLog (R.seen room.old) (R.seen room.new) name.now) }
+    ensures old_first { IfErr result (λ fault. fault ≡ Full → (R.seen room.old).tells ≡ true →
+        version_of (log_bytes (R.seen room.old) name.now) ≡ 2) }
+{
+    let Ok(log) = room.open_log(name) else {
+        return Err(OpenFault::DeviceFault);
+    };
+    match Durable::open(alloc, log, JOURNAL_LIMITS) {
+        Ok(durable) => Ok(durable),
+        Err(refused) => Err(close_refused(room, name, refused)),
+    }
+}
+
+/// Closes a catalogue's log as the file of that name, with all that was committed.
+pub fn close_journal<R: Room>(room: &mut R, name: &str, durable: Durable<R::Log>)
+    requires { (R.seen room.old).open_as name.now ≡ Some AsLog }
+    ensures apart { SameBut (R.seen room.old) (R.seen room.new) (name.now ∷ []) }
+    ensures lefts { (R.seen room.new).lefts ≡ (R.seen room.old).lefts }
+    ensures closed { (R.seen room.new).open_as name.now ≡ None }
+
+    // The file and the closed log, where the room tells and the log told when it was opened.
+    ensures log { (R.seen room.old).tells ≡ true → is_some (R.Log.seen durable.before.value).content ≡ true →
+        IsClosedAs (R.seen room.new) name.now (durable_view durable) }
+
+    // A mark has its cause in the count of faults.
+    ensures cause { is_some (mark_of durable.mark) ≡ true → (R.Log.seen durable.before.value).faults ≡ 0 →
+        Rose ((R.seen room.old).log_faults name.now) ((R.seen room.new).log_faults name.now) }
+{
+    room.close_log(name, durable.close(OnClose::Leak));
+}

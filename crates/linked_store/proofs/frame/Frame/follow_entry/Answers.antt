@@ -1,6 +1,0 @@
-use Rattle.std.proofs.Common.{refl}
-use Rattle.linked_store.proofs.Framed.{goes_none}
-use Rattle.linked_store.proofs.frame.Frame.follow_entry.Goals as goal
-
-pub returns-in-Bibliographic-clause-goes : goal.returns-in-Bibliographic-clause-goes
-returns-in-Bibliographic-clause-goes c = goes_none c.args.self.now c.args.self.now refl refl refl

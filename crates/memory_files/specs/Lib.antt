@@ -1,0 +1,2 @@
+pub mod ByteDisk
+pub mod Reading
