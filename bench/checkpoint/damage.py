@@ -1,7 +1,8 @@
 #!/usr/bin/env python3
 """damage.py PROGRAM FILE ..: `quick` over a small POINT that is cut at each byte, and over one in which each byte is changed in two ways. The records
 are those of the MARC files. Counts what `quick` refuses, what it resumes from none with the right OUT, what it resumes with the right OUT, and
-what has a wrong OUT with status 0, of which the first are shown. Measures nothing."""
+what has a wrong OUT with status 0, each with the status of `verify` over the same two files; the first of the last kind are shown. Ends with 1 where
+`verify` passes a POINT from which OUT is wrong. Measures nothing."""
 import os
 import subprocess
 import sys
@@ -24,7 +25,7 @@ assert status == 0, told
 run("export", "journal", "due")
 due = open("due", "rb").read()
 point = open("point", "rb").read()
-counts, wrong = {}, []
+counts, wrong, passed = {}, [], []
 
 
 def judge(what, image):
@@ -39,7 +40,11 @@ def judge(what, image):
         wrong.append(f"{what}: {told}")
     else:
         kind = "resumed from none, OUT right" if told.startswith("resumed 0 ") else "resumed, OUT right"
-    counts[what.split()[0], kind] = counts.get((what.split()[0], kind), 0) + 1
+    verified = run("verify", "journal", "damaged")[0]
+    if verified == 0 and kind.startswith("A WRONG"):
+        passed.append(what)
+    row = what.split()[0], kind, verified
+    counts[row] = counts.get(row, 0) + 1
 
 
 for at in range(len(point)):
@@ -48,7 +53,10 @@ for at in range(len(point)):
     for flip in (0x01, 0x80):
         judge(f"changed at {at} by {flip:02x}", point[:at] + bytes([point[at] ^ flip]) + point[at + 1 :])
 print(f"POINT has {len(point)} bytes")
-for (how, kind), count in sorted(counts.items()):
-    print(f"{how}: {count} {kind}")
+for (how, kind, verified), count in sorted(counts.items()):
+    print(f"{how}: {count} {kind}, verify {verified}")
 for it in wrong[:12]:
     print(it)
+for it in passed:
+    print(f"PASSED BY verify: {it}")
+sys.exit(1 if passed else 0)

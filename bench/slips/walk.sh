@@ -35,6 +35,7 @@ slip 4 'u.jnl is a journal; no output is written over it' make 1 10 u.jnl
 slip 4 'copy.jnl is a journal' report u.jnl copy.jnl
 slip 5 'copy.jnl is a journal' run u.jnl copy.jnl r B=made.mrc
 slip 5 'copy.jnl is a journal' run u.jnl o copy.jnl B=made.mrc
+slip 5 'copy.jnl is a journal' holdings u.jnl o copy.jnl B=made.mrc
 
 echo '# a word too few'
 slip 5 'A=made.mrc looks like CODE=FILE' load A=made.mrc B=made.mrc
@@ -43,6 +44,8 @@ slip 5 'A=a looks like CODE=FILE' run u.jnl out.new A=a B=made.mrc
 echo '# a journal that is not there'
 union_cat export typo.jnl typo.out 2>err || { echo 'export of a journal that is not there failed'; wrong=1; }
 grep -qF "typo.jnl wasn't there: an empty catalogue" err || { echo 'no warning of a journal that is not there'; wrong=1; }
+union_cat checkpoint u.jnl u.pnt >/dev/null 2>err; grep -qF "wasn't there" err && { echo 'a new point is told as an empty catalogue'; wrong=1; }
+union_cat checkpoint typo2.jnl typo2.pnt >/dev/null 2>err; grep -qF "typo2.jnl wasn't there: an empty catalogue" err || { echo 'no warning of a journal that is not there (checkpoint)'; wrong=1; }
 
 echo '# names and causes'
 slip 3 'nofile.mrc: no such file' load u.jnl A=nofile.mrc
@@ -57,12 +60,23 @@ slip 4 '/dev/full: no space left' export u.jnl /dev/full
 
 echo '# in use'
 ( exec 9<u.jnl; flock -x 9; union_cat export u.jnl held.out >out 2>err; [ $? -eq 5 ] && grep -qF 'u.jnl: in use by another command' err ) || { echo 'a held journal is not told'; wrong=1; }
+( exec 9<u.jnl; flock -x 9; union_cat checkpoint u.jnl held.pnt >out 2>err; ! grep -qF 'with `reading`' err ) || { echo 'reading is told where it cannot stand'; wrong=1; }
 
 ( exec 9<u.jnl; flock -x 9; union_cat export u.jnl held.out >out 2>err; grep -qF 'with `reading` before export' err ) || { echo 'the word reading is not told'; wrong=1; }
 
 echo '# reading'
 ( exec 9<u.jnl; flock -x 9; union_cat reading export u.jnl read.out >out 2>err ) && cmp -s read.out all.out || { echo 'reading export of a held journal is another'; wrong=1; }
 ( exec 9<u.jnl; flock -x 9; union_cat verify u.jnl >out 2>err ) || { echo 'verify of a held journal failed'; wrong=1; }
+printf '' >none.mrc
+for code in '' A; do
+    union_cat holdings u.jnl plain.out plain.rest A=none.mrc $code >plain.told 2>/dev/null; due=$?
+    ( exec 9<u.jnl; flock -x 9; union_cat reading holdings u.jnl read.out read.rest A=none.mrc $code >read.told 2>/dev/null )
+    [ $? -eq $due ] && cmp -s plain.out read.out && cmp -s plain.rest read.rest && cmp -s plain.told read.told ||
+        { echo "reading holdings ($code) is another"; wrong=1; }
+done
+slip 3 'none.jnl: no such file' reading holdings none.jnl read.out read.rest A=none.mrc
+slip 3 'nofile.mrc: no such file' reading holdings u.jnl read.out read.rest A=nofile.mrc
+slip 6 '' reading holdings all.out read.out read.rest A=none.mrc
 for look in report matches; do
     union_cat $look u.jnl plain.out 2>/dev/null && union_cat reading $look u.jnl read.out 2>/dev/null && cmp -s plain.out read.out ||
         { echo "reading $look is another"; wrong=1; }
@@ -71,7 +85,7 @@ cp u.jnl sealed.jnl && chmod 400 sealed.jnl
 union_cat reading export sealed.jnl read.out 2>/dev/null && cmp -s read.out all.out || { echo 'reading of a file without the right to write failed'; wrong=1; }
 slip 3 'none.jnl: no such file' reading export none.jnl read.out
 slip 6 '' reading export all.out read.out
-slip 2 'reading stands before export, report or matches' reading load u.jnl A=made.mrc
+slip 2 'reading stands before export, report, matches, holdings, headings or worklist' reading load u.jnl A=made.mrc
 slip 2 'a word is missing' reading export u.jnl
 slip 2 'u.jnl is named twice' reading report u.jnl u.jnl
 
@@ -82,6 +96,34 @@ union_cat refused back.mrc A=bad.mrc >out 2>err
 { head -c 500 made.mrc | tr -d '\035'; printf '\035'; printf 'an end'; } | cmp -s - back.mrc || { echo 'what is refused is not as it stands'; wrong=1; }
 cat bad.mrc | union_cat refused back2.mrc A=/dev/stdin >/dev/null 2>err; cmp -s back.mrc back2.mrc || { echo 'refused from a pipe is another'; wrong=1; }
 union_cat pass x.out A=bad.mrc >passed 2>/dev/null; cmp -s passed out || { echo 'refused tells another than pass'; wrong=1; }
+
+echo '# what is known of what is refused'
+{ printf '00030nam a2200025   4500\036\035'; printf '00026n\011m a2200025   4500\036\035'; printf '00026nam a22000x5   4500\036\035'; head -c 40 made.mrc; } >faults.mrc
+union_cat load faults.jnl A=faults.mrc >out 2>err
+[ $? -eq 1 ] || { echo 'a load of what is refused does not end with 1'; wrong=1; }
+for text in 'faults.mrc: piece 1 at byte 0: bad length: 30 bytes are claimed, 26 are there' "faults.mrc: piece 2 at byte 26: bad leader: byte 6 is 09" \
+        "faults.mrc: piece 3 at byte 52: bad leader: byte 15 is 'x' (78)" 'faults.mrc: piece 4 at byte 78: unfinished: '; do
+    grep -qF -- "$text" err || { echo "standard error lacks: $text"; sed 's/^/    /' err; wrong=1; }
+done
+for n in $(seq 120); do printf '00030nam a2200025   4500\036\035'; done >many.mrc
+union_cat load faults.jnl A=many.mrc >/dev/null 2>err
+[ $(grep -c 'many.mrc: piece' err) -eq 100 ] && grep -qF 'many.mrc: 20 more pieces refused' err || { echo 'not the first hundred refused pieces are told'; wrong=1; }
+
+echo '# what records did'
+union_cat load did.jnl A=made.mrc >/dev/null 2>err; grep -q '^union_cat: made.mrc: [1-9][0-9]* new, [0-9]* replaced, [0-9]* deleted, [0-9]* deletions of no record$' err || { echo 'no counts of a load'; sed 's/^/    /' err; wrong=1; }
+union_cat load did.jnl A=made.mrc >/dev/null 2>err; grep -q '^union_cat: made.mrc: [0-9]* new, [1-9][0-9]* replaced, ' err || { echo 'a second load does not replace'; sed 's/^/    /' err; wrong=1; }
+# each record as a deletion (leader 05 d), under its own code and under another
+python3 -c 'import sys; d=open("made.mrc","rb").read(); sys.stdout.buffer.write(b"".join(p[:5]+b"d"+p[6:]+b"\x1d" for p in d.split(b"\x1d") if p))' >gone.mrc
+union_cat load did.jnl A=gone.mrc >/dev/null 2>err; grep -q '^union_cat: gone.mrc: 0 new, 0 replaced, [1-9][0-9]* deleted' err || { echo 'no deletions are told'; sed 's/^/    /' err; wrong=1; }
+union_cat load did.jnl A=gone.mrc >/dev/null 2>err; grep -q '^union_cat: gone.mrc: 0 new, 0 replaced, 0 deleted, [1-9][0-9]* deletions of no record$' err || { echo 'deletions of no record are not told'; sed 's/^/    /' err; wrong=1; }
+
+echo '# progress'
+head -c 210000 /dev/zero | tr '\0' '\035' >long.mrc
+union_cat load long.jnl A=long.mrc >/dev/null 2>err
+[ $(grep -cE '^long.mrc: [0-9]+ pieces, [0-9]+ of [0-9]+ bytes, [0-9]+ pieces a second$' err) -eq 2 ] || { echo 'no two lines of progress'; sed 's/^/    /' err; wrong=1; }
+cat long.mrc | union_cat pass /dev/null A=/dev/stdin >/dev/null 2>err
+grep -qE '^/dev/stdin: [0-9]+ pieces, [0-9]+ bytes, [0-9]+ pieces a second$' err || { echo 'no progress of a pipe'; sed 's/^/    /' err; wrong=1; }
+rm -f long.mrc long.jnl
 
 echo '# no MARC'
 printf '<?xml version="1.0"?><collection/>\n' >x.xml

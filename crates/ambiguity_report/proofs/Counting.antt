@@ -1,15 +1,15 @@
 -- Counting how fields stand, one record after another.
-use Rattle.std.proofs.Common.{◌≡◌, ℕ, ◌+◌, ◌*◌, ◌^◌, ◌<◌, ◌≤◌, Bool, cond, List, [], ◌∷◌, length, map, refl, sym, ap, ◌∙◌, arith}
+use Rattle.std.proofs.Common.{◌≡◌, ℕ, ◌+◌, ◌*◌, ◌^◌, ◌<◌, ◌≤◌, Bool, List, [], ◌∷◌, length, map, ap, ◌∙◌, arith}
 use Rattle.std.specs.List.{sum_by, count_by}
 use Rattle.std.proofs.lemmas.List.Sums.{sum_by-cons, count_by-le-length}
 use Rattle.marc_types.specs.declared.key.Class.{Class}
 use Rattle.marc_types.specs.declared.key.Class.TheVariants.{Authority, Bibliographic}
 use Rattle.marc_types.specs.declared.key.Key.{Key}
 use Rattle.entry_record.specs.Authority.{Linkable}
-use Rattle.catalogue_rules.specs.State.{KeptField, KeptRecord, Row, State, linkable_authorities, rows_of}
+use Rattle.catalogue_rules.specs.State.{KeptRecord, Row, State, linkable_authorities, rows_of}
 use Rattle.catalogue_rules.specs.Output.{total_line}
 use Rattle.catalogue_rules.specs.Receipt as definition
-use Rattle.catalogue_rules.specs.Receipt.{is_linked, is_ambiguous, is_unlinked, standing_of, count_standing}
+use Rattle.catalogue_rules.specs.Receipt.{is_linked, is_ambiguous, is_unlinked, count_standing}
 use Rattle.catalogue_tables.specs.Stands.{stands_as, field_standing}
 use Rattle.catalogue_tables.specs.declared.standing.Standing.{Standing}
 use Rattle.catalogue_core.specs.Standings.{is_linked_here, is_ambiguous_here, is_unlinked_here}

@@ -22,12 +22,11 @@ use Rattle.console_lines.proofs.Ends.{told_once, told_not_unwritten, told_not_do
 use Rattle.journal_files.specs.Journals.{journal_limits, log_bytes, IsClosedDisk, KeepsHistory, KeepsLog, IsDurable}
 use Rattle.output_files.specs.Outputs.{IsOutput, IsOutputLeft}
 use Rattle.journal_files.proofs.Faults.{opening_device}
+use Rattle.output_files.proofs.Logs.{left_opened}
+use Rattle.journal_files.proofs.Histories.{due_of_any, fitting_history}
 use Rattle.journal_files.proofs.Journals.{closed_keeps, closed_durable, keeps_where}
-use Rattle.journal_files.specs.Faults.{fault_of_opening}
-use Rattle.archive_commands.specs.Archives.{WhyUnopened}
+use Rattle.journal_files.specs.Faults.{fault_of_opening, WhyUnopened}
 use Rattle.archive_commands.specs.Reads.{EndsReading, ReadsJournal}
-use Rattle.archive_commands.proofs.Rooms.{left_opened}
-use Rattle.archive_commands.proofs.Histories.{whole_of_any, left_of_any, fitting_history}
 
 -- an opening's fault that is one of reading
 ends_unopened : (reason : OpenFault) → reason ≢ opening.OldVersion → EndsReading (Told (fault_of_opening reason))
@@ -99,7 +98,7 @@ module _ (journal out : List ℕ) (due : List Entry → List ℕ) (o : Outcome) 
     left_is : (entries : List Entry) → o.old.tells ≡ true → HasHistory entries (log_bytes o.old journal)
         → IsOutputLeft o.old o.new out (due entries)
     left_is entries tells has =
-        left_of_any due entries history (log_bytes o.old journal) o.old o.new out has (r.has tells) (r.left tells)
+        due_of_any (IsOutputLeft o.old o.new out) due entries history (log_bytes o.old journal) has (r.has tells) (r.left tells)
 
     pub reads_whole : o.end ≡ Done → IsSilent o
         → (o.old.tells ≡ true → o.new.file out ≡ Some (due history)) → ReadsJournal journal out due o
@@ -115,7 +114,7 @@ module _ (journal out : List ℕ) (due : List Entry → List ℕ) (o : Outcome) 
       durable = λ untold. r.durable;
       history = λ untold tells. fitting_history history (log_bytes o.old journal) (r.has tells) r.within;
       whole = λ entries also tells has.
-          whole_of_any due entries history (log_bytes o.old journal) (o.new.file out) has (r.has tells) (bytes tells);
+          due_of_any (λ whole. o.new.file out ≡ Some whole) due entries history (log_bytes o.old journal) has (r.has tells) (bytes tells);
       part = λ entries also. left_is entries;
     }
 

@@ -1,3 +1,2 @@
-pub mod Rooms
-pub mod Histories
 pub mod Endings
+pub mod Taken

@@ -1,2 +1,2 @@
-pub mod Archives
 pub mod Reads
+pub mod Telling

@@ -15,8 +15,8 @@ use Rattle.console_lines.specs.declared.fault.Fault.TheVariants.{Usage, Input, D
 use Rattle.output_files.specs.Kept.{kept_keys}
 use Rattle.output_files.specs.Outputs.{IsOutputLeft}
 use Rattle.outside.specs.Room.{SameBut}
-use Rattle.journal_files.specs.Journals.{log_bytes, KeepsHistory, IsDurable}
-use Rattle.archive_commands.specs.Archives.{WhyUnopened, HasFittingHistory}
+use Rattle.journal_files.specs.Faults.{WhyUnopened}
+use Rattle.journal_files.specs.Journals.{log_bytes, HasFittingHistory, KeepsHistory, IsDurable}
 use Rattle.archive_commands.specs.declared.due.Due.{Due}
 use Rattle.archive_commands.specs.declared.due.Due.TheVariants as due
 

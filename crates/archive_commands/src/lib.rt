@@ -1,10 +1,16 @@
-//! The commands on a journal that is only read: its export and its report.
+//! The commands on a journal that is only read: its export, its report and its matches.
 #![tactic(auto)]
 
 pub use command::write_from_journal;
 pub use due::Due;
+pub use matches::write_matches;
+pub use table::write_table;
+pub use taking::HistoryMatches;
 pub use writing::write_due;
 
 mod command;
 mod due;
+mod matches;
+mod table;
+mod taking;
 mod writing;

@@ -3,10 +3,8 @@ use Rattle.std.proofs.Common.{◌≡◌, ℕ, List, [], ◌∷◌, ◌++◌, len
 use Rattle.std.specs.Prelude.{fold}
 use Rattle.marc_types.specs.declared.form.Form.{Form}
 use Rattle.marc_types.specs.declared.entry.Entry.{Entry}
-use Rattle.catalogue_rules.specs.Settle.{state_of}
 use Rattle.heading_rows.specs.Rows.{page_of}
 use Rattle.heading_rows.specs.Listing.{empty_table, page_at, table_of, take_entry}
-use Rattle.heading_rows.specs.declared.row.BrowsePage.{BrowsePage}
 use Rattle.heading_rows.proofs.Tables.{rows_are_of_state, upto_is_length}
 use Rattle.browse_readers.specs.Browsing.{page_after}
 

@@ -1,14 +1,12 @@
 -- How the command ends, from what its steps say.
 use Rattle.std.proofs.Common.{◌≡◌, ◌≢◌, ◌∙◌, ℕ, Bool, true, List, [], ◌∷◌, ◌++◌, length, Some, None, Result, Ok, Err, OnOk, IfErr, refl, sym, ap, subst, arith}
 use Rattle.std.specs.Io.KnownBytes.{Appends}
-use Rattle.marc_types.specs.declared.entry.Entry.{Entry}
-use Rattle.outside.specs.Fault.{Rose}
 use Rattle.outside.specs.Room.{RoomView, SameBut}
 use Rattle.outside.specs.Sink.{WritesFront}
 use Rattle.outside.proofs.Rooms.{same_but_first, same_but_more, same_but_then}
 use Rattle.command_words.specs.Command.{AreNames}
 use Rattle.command_words.specs.declared.library.Library.{Library}
-use Rattle.console_lines.specs.Ends.{Outcome, IsTold, IsAllDone, TellsNoFault, IsSilent, IsResultTold, end_of, out_unwritten, side_unwritten, pages_unwritten, console_unwritten}
+use Rattle.console_lines.specs.Ends.{Outcome, IsTold, IsAllDone, TellsNoFault, IsSilent, IsResultTold, end_of, side_unwritten, pages_unwritten, console_unwritten}
 use Rattle.console_lines.specs.declared.end.End.{End}
 use Rattle.console_lines.specs.declared.end.End.TheVariants.{Done, Refused, Unwritten as NotWritten, Told}
 use Rattle.console_lines.specs.declared.end.OutputsFault.{OutputsFault}
@@ -17,16 +15,14 @@ use Rattle.console_lines.specs.declared.end.Unwritten.{Unwritten as Which}
 use Rattle.console_lines.specs.declared.end.Unwritten.TheVariants.{Out, Side, Pages, Console}
 use Rattle.console_lines.specs.declared.fault.Fault.{Fault}
 use Rattle.console_lines.specs.declared.fault.Fault.TheVariants as fault
-use Rattle.console_lines.proofs.Ends.{told_not_unwritten, told_not_all, all_not_unwritten, unwritten_once, out_not_console, out_not_side, side_not_console, pages_not_console, result_done, result_line, result_front, result_no_output, result_no_pages}
+use Rattle.console_lines.proofs.Ends.{all_not_unwritten, unwritten_once, out_not_console, out_not_side, side_not_console, pages_not_console, result_done, result_line, result_front, result_no_output, result_no_pages}
 use Rattle.entry_record.specs.History.{IsWithin}
 use Rattle.durable_catalogue.specs.Views.{DurableView}
 use Rattle.loader_workers.specs.declared.result.FileResult.{FileResult}
 use Rattle.journal_files.specs.Journals.{IsClosedAs}
-use Rattle.output_files.specs.Outputs.{IsOutputLeft}
 use Rattle.output_files.proofs.Parts.{left_since, left_until}
 use Rattle.heading_rows.specs.declared.row.BrowsePage.{BrowsePage}
 use Rattle.loading_commands.specs.Outcomes.{Fails, IsLoadedWhole}
-use Rattle.loading_commands.specs.Outputs.{AreUnwritten}
 use Rattle.loading_commands.specs.Runs.{EndsRun, AreOutputs, WhyNotLoad}
 use Rattle.loading_commands.specs.Runs as runs
 use Rattle.loading_commands.specs.Texts.{files_text, has_refused}
@@ -36,7 +32,7 @@ use Rattle.loading_commands.proofs.Ended.{TellsLines, apart_run, decide_name, no
 use Rattle.loading_commands.proofs.Ran.{ran_ended}
 use Rattle.loading_commands.proofs.Written.{outputs_are}
 use Rattle.browsing_commands.specs.Pages.{ArePagesOf, pages_text}
-use Rattle.browsing_commands.specs.Browses.{EndsBrowse, HoldsPages, AreUnpaged, Browses}
+use Rattle.browsing_commands.specs.Browses.{EndsBrowse, AreUnpaged, Browses}
 
 ends_of_run : (end : End) → EndsRun end → EndsBrowse end
 ends_of_run Done ends = tt

@@ -4,7 +4,7 @@ use Rattle.marc_types.specs.declared.entry.Entry.{Entry}
 use Rattle.outside.specs.Fault.{Rose}
 use Rattle.outside.specs.Room.{RoomView, SameBut}
 use Rattle.command_words.specs.declared.library.Library.{Library}
-use Rattle.console_lines.specs.Ends.{Outcome, IsAllDone, IsSilent, out_unwritten, side_unwritten, pages_unwritten, console_unwritten}
+use Rattle.console_lines.specs.Ends.{Outcome, IsAllDone, IsSilent, side_unwritten, pages_unwritten, console_unwritten}
 use Rattle.console_lines.specs.declared.end.End.{End}
 use Rattle.console_lines.specs.declared.end.End.TheVariants.{Done, Refused, Unwritten, Told}
 use Rattle.console_lines.specs.declared.end.OutputsFault.{OutputsFault}

@@ -27,8 +27,8 @@ use std::marker::Brand;
 use std::sync::Wait;
 use std::thread::Threads;
 
-/// What is loaded into a journal while a reader pages through its headings: the loading, and the names of the outputs, which are apart. `begin` alone makes
-/// one.
+/// What is loaded into a journal while a reader pages through its headings: the loading, and the names of the outputs, which are
+/// apart. `begin` alone makes one.
 pub struct Browsing<'a, R: Room> {
     loading: Loading<'a, R>,
     outputs: Outputs<'a>,
@@ -49,6 +49,15 @@ impl<'a, R: Room> Browsing<'a, R> {
         ensures { result.now ≡ self.now.loading }
     {
         &self.loading
+    }
+}
+
+impl<'a, R: Room> Browsed<'a, R> {
+    /// What was loaded.
+    pub fn loaded(&self) -> &Loaded<'a, R>
+        ensures { result.now ≡ self.now.loaded }
+    {
+        &self.loaded
     }
 }
 

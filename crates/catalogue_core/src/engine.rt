@@ -1,6 +1,8 @@
 //! A catalogue's state, without its history.
 ghost use Rattle.std.specs.Prelude.{◌≡◌, ℕ, ◌+◌, ◌<◌, ◌≤◌, ◌^◌, length, map, IfOk, OnOk, OnErr};
+ghost use Rattle.std.specs.List.{list_any};
 ghost use Rattle.std.specs.Option.{option_map};
+ghost use Rattle.catalogue_rules.specs.Choice.{is_established};
 ghost use Rattle.catalogue_rules.specs.Store.{field_at, field_under};
 ghost use Rattle.catalogue_rules.specs.State.{kept_field, linkable_authorities, rows_of};
 ghost use Rattle.catalogue_tables.specs.Sharing.{keys_crossing, keys_sharing, shown_keys};
@@ -18,7 +20,7 @@ use catalogue_tables::Standing;
 use commit_stages::{CommitCounts, commit_entry};
 use entry_record::Prepared;
 use linked_store::ReadableStore;
-use marc_types::{Class, Field, Key, NoMemory, Place, Tie};
+use marc_types::{Class, Field, Form, Key, NoMemory, Place, Tie};
 use numbered_store::{FoundField, RowMap, StoredRecord};
 use std::alloc::Global;
 use std::marker::Model;
@@ -188,5 +190,12 @@ impl Engine {
         ensures { IfOk result (λ found. shown_keys found.items ≡ keys_crossing key.now (linkable_authorities self.now.state)) }
     {
         self.store.crossing(alloc, key)
+    }
+    /// Whether an authority that fields can be linked to has the form as its heading.
+    #[tactic(auto, using(crate::proofs::Engines::valid_in_order))]
+    pub fn is_established(&self, form: &Form) -> bool
+        ensures { result ≡ list_any (is_established form.now) (linkable_authorities self.now.state) }
+    {
+        self.store.is_established(form)
     }
 }

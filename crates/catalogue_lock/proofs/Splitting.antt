@@ -13,7 +13,7 @@ use Rattle.catalogue_lock.specs.declared.view.View.{View}
 use Rattle.catalogue_lock.specs.declared.view.Terms.{Terms}
 use Rattle.catalogue_lock.specs.History.{longer}
 use Rattle.catalogue_lock.specs.Views.{other_claims, first_claim, without_first, with_first, copy_of, joined, spent}
-use Rattle.catalogue_lock.specs.Rule.{total, Each, one_if, tickets, holds_ticket, turns_of, claimed, Fits, Running, Kept}
+use Rattle.catalogue_lock.specs.Rule.{total, Each, tickets, holds_ticket, turns_of, claimed, Fits, Running, Kept}
 use Rattle.catalogue_lock.proofs.Totals.{total-set, total-snoc}
 use Rattle.catalogue_lock.proofs.Queues.{served_else}
 use Rattle.catalogue_lock.proofs.Fitting.{OwnIn, each_seat, claimed-append}

@@ -1,6 +1,7 @@
 //! A lock that makes the calls of many threads on one object into one history.
 #![tactic(auto)]
 
+mod bells;
 pub mod laws;
 mod lock;
 mod object;

@@ -7,6 +7,7 @@ ghost use Rattle.catalogue_lock.specs.History.{items, longer};
 ghost use Rattle.catalogue_lock.specs.Passes.{IsLockOf, IsPassOf, IsReady, HasSeenItsOwn, Turned, Closed, new_passes, having_seen, having_looked};
 
 use crate::NoMemory;
+use crate::bells::Bells;
 use crate::object::Object;
 use crate::opening::{deal, open};
 use crate::pass::{Pass, Passes};
@@ -22,6 +23,7 @@ use std::sync::Wait;
 #[derive(Drop)]
 pub struct HistoryLock<O: Object> {
     table: LockTable<O>,
+    bells: Bells,
 }
 
 impl<O: Object> Model for HistoryLock<O> {
@@ -82,7 +84,8 @@ impl<O: Object> HistoryLock<O> {
         let mut seat = seat;
         open(&table.shared, &mut seat, object);
         let passes = deal(&table.shared, seat, passes);
-        (HistoryLock { table }, Passes::from_vec(passes))
+        let bells = Bells::new();
+        (HistoryLock { table, bells }, Passes::from_vec(passes))
     }
 
     /// Waits for its turn and makes one call.
@@ -96,10 +99,10 @@ impl<O: Object> HistoryLock<O> {
         ensures { Turned (O.replies (O.origin self.now.opened)) call result pass.old pass.new }
     {
         let steps = &self.table.shared;
-        let mut object = enter(rt, steps, &mut pass.seat);
+        let mut object = enter(rt, steps, &self.bells, &mut pass.seat);
         let before = object.count();
         let reply = object.apply(call);
-        leave(steps, &mut pass.seat, object, before);
+        leave(steps, &self.bells, &mut pass.seat, object, before);
         reply
     }
 
@@ -113,10 +116,10 @@ impl<O: Object> HistoryLock<O> {
         ensures own { HasSeenItsOwn pass.new }
     {
         let steps = &self.table.shared;
-        let object = enter(rt, steps, &mut pass.seat);
+        let object = enter(rt, steps, &self.bells, &mut pass.seat);
         let before = object.count();
         let answer = object.look(question);
-        leave(steps, &mut pass.seat, object, before);
+        leave(steps, &self.bells, &mut pass.seat, object, before);
         answer
     }
 
@@ -143,7 +146,7 @@ impl<O: Object> HistoryLock<O> {
         ensures history { Closed self.callers passes (O.history self.opened) (O.history result) }
         ensures origin { O.origin result ≡ O.origin self.opened }
     {
-        let HistoryLock { table } = self;
+        let HistoryLock { table, bells: _ } = self;
         let seat = gather(&table.shared, passes.into_vec());
         let mut closed = table.close_with(seat);
         let held = closed.take(OBJECT);

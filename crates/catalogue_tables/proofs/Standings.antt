@@ -1,9 +1,9 @@
 -- How a field stands is told by the authorities that its forms may mean.
-use Rattle.std.proofs.Common.{◌≡◌, ◌≢◌, ◌∙◌, sym, ap, refl, subst, arith, ℕ, zero, suc, ◌+◌, ◌<◌, ◌≤◌, Bool, true, false, List, [], ◌∷◌, ◌++◌, length, take, get_or, Option, Some, None, unwrap_or, if◌then◌else◌}
-use Rattle.std.specs.Prelude.{◌==◌, filter, slice_get}
+use Rattle.std.proofs.Common.{◌≡◌, ◌≢◌, ◌∙◌, sym, ap, refl, subst, arith, ℕ, zero, suc, ◌+◌, ◌<◌, ◌≤◌, Bool, true, false, List, [], ◌∷◌, ◌++◌, length, take, get_or, Option, Some, None, unwrap_or, cond, if◌then◌else◌}
+use Rattle.std.specs.Prelude.{◌==◌, ◌||◌, filter, slice_get}
 use Rattle.std.specs.Cmp.{unsigned_Decides}
 use Rattle.std.specs.Option.{option_map, option_map_or, option_or, option_to_list}
-use Rattle.std.specs.List.{cons_option}
+use Rattle.std.specs.List.{cons_option, list_any}
 use Rattle.marc_types.specs.Fields.{tag_of}
 use Rattle.marc_types.specs.declared.entry.Tie.{Tie}
 use Rattle.marc_types.specs.declared.field.Field.{Field}
@@ -14,6 +14,7 @@ use Rattle.marc_types.specs.declared.key.Key.{Key}
 use Rattle.form_index.specs.Index.{Indexed}
 use Rattle.form_index.specs.Order.{key_at}
 use Rattle.form_index.specs.declared.among.Among.{Among}
+use Rattle.form_index.specs.declared.among.Among.TheVariants.{All}
 use Rattle.form_index.specs.declared.candidates.Candidates.{Candidates}
 use Rattle.form_index.specs.declared.candidates.Candidates.TheVariants.{Established, SeeFrom, Nobody}
 use Rattle.heading_fields.specs.Tables.{is_subdividable}
@@ -94,6 +95,39 @@ module _ (keys : List Key) (whole : Bool) where
       nobody_left (filter (is_established form) (authorities_among among all)) (sym (keys_among among (has_established form) all) ∙ told.0) in
       let none : cs ≡ [] = nobody_left cs (sym (keys_among among (has_traced form) all) ∙ told.1) in
       ap (λ l. option_or (choice_among whole l) (choice_among whole cs)) nobody ∙ ap (λ l. choice_among whole l) none
+
+-- one passes exactly where some are left
+none_at : (c : Linkable) (kept : List Linkable) (b rest : Bool) → (kept ≡ [] → false ≡ rest) → cond b (c ∷ kept) kept ≡ [] → false ≡ (b || rest)
+none_at c kept true rest below none = cc
+none_at c kept false rest below none = below none
+
+none_passes : (test : Linkable → Bool) (all : List Linkable) → filter test all ≡ [] → false ≡ list_any test all
+none_passes test [] none = refl
+none_passes test (c ∷ all) none = none_at c (filter test all) (test c) (list_any test all) (none_passes test all) none
+
+some_at : (c : Linkable) (kept : List Linkable) (b rest : Bool) → (kept ≢ [] → true ≡ rest) → cond b (c ∷ kept) kept ≢ [] → true ≡ (b || rest)
+some_at c kept true rest below some = refl
+some_at c kept false rest below some = below some
+
+some_passes : (test : Linkable → Bool) (all : List Linkable) → filter test all ≢ [] → true ≡ list_any test all
+some_passes test [] some = absurd (some refl)
+some_passes test (c ∷ all) some = some_at c (filter test all) (test c) (list_any test all) (some_passes test all) some
+
+-- the form is a heading exactly where the index tells so
+abbrev pub told_heading : Candidates → Bool
+told_heading (Established numbers) = true
+told_heading (SeeFrom numbers) = false
+told_heading Nobody = false
+
+pub established_told : (keys : List Key) (all : List Linkable) (form : Form) (answer : Candidates) → IsTold keys (rows_among All all) form answer
+    → told_heading answer ≡ list_any (is_established form) all
+established_told keys all form (Established numbers) told =
+    let are = told.are ∙ keys_among All (has_established form) all in
+    some_passes (is_established form) all (some_meant keys true numbers.now (filter (is_established form) all) are told.some)
+established_told keys all form (SeeFrom numbers) told =
+    none_passes (is_established form) all (nobody_left (filter (is_established form) all) (sym (keys_among All (has_established form) all) ∙ told.0))
+established_told keys all form Nobody told =
+    none_passes (is_established form) all (nobody_left (filter (is_established form) all) (sym (keys_among All (has_established form) all) ∙ told.0))
 
 -- by the full form, where the field takes subdivisions: one without any has its base form as its full form
 pub full_meant : (keys : List Key) (all : List Linkable) (class : Class) (kind : Kind) (f : Field) (tie : Tie) (form base : Form) (divided : Option Form) (numbers : List ℕ)

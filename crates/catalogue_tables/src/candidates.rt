@@ -1,12 +1,15 @@
 //! Authorities that a form may mean.
 ghost use Rattle.std.specs.Prelude.{◌≡◌, true, List};
-ghost use Rattle.std.specs.List.{IsDistinct};
+ghost use Rattle.std.specs.List.{IsDistinct, list_any};
 ghost use Rattle.marc_types.specs.declared.key.Key.{Key};
 ghost use Rattle.marc_types.specs.Order.{same_form, same_key};
 ghost use Rattle.numbering.specs.Numbers.{is_known, number_of};
 ghost use Rattle.form_index.specs.Candidates.{IsAnswer};
 ghost use Rattle.form_index.specs.Index.{IsInOrder};
+ghost use Rattle.catalogue_rules.specs.Choice.{is_established};
+ghost use Rattle.catalogue_rules.specs.State.{State, linkable_authorities};
 ghost use Rattle.linking_laws.specs.Tables.{IndexRow};
+ghost use Rattle.catalogue_tables.specs.Choosing.{TellsState};
 ghost use Rattle.catalogue_tables.specs.Rows.{IsTold, TellsRows};
 
 use crate::tables::CatalogueTables;
@@ -24,6 +27,17 @@ impl CatalogueTables {
         match self.forms.number_of(form) {
             Some(number) => self.index.candidates(number, among),
             None => Candidates::Nobody,
+        }
+    }
+    /// Whether an authority has the form as its heading.
+    pub fn is_established(&self, form: &Form) -> bool
+        ensures { (keys : List Key) (s : State) → TellsState self.now.forms keys self.now.index s
+            → result ≡ list_any (is_established form.now) (linkable_authorities s) }
+    {
+        match self.candidates(form, Among::All) {
+            Candidates::Established(_numbers) => true,
+            Candidates::SeeFrom(_numbers) => false,
+            Candidates::Nobody => false,
         }
     }
 }

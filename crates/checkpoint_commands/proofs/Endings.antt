@@ -22,13 +22,13 @@ use Rattle.journal_files.specs.Faults.{fault_of_opening, IsDeviceOf}
 use Rattle.journal_files.specs.Journals.{journal_limits, log_bytes, IsRefusedLog, IsClosedDisk, KeepsHistory, Unopened, KeepsLog, IsDurable}
 use Rattle.journal_files.proofs.Faults.{opening_device}
 use Rattle.journal_files.proofs.Journals.{closed_keeps, closed_durable, keeps_where}
-use Rattle.archive_commands.proofs.Histories.{fitting_history}
+use Rattle.journal_files.proofs.Histories.{fitting_history}
 use Rattle.checkpoint.specs.declared.point.Point.{Point}
 use Rattle.checkpoint_commands.specs.PointLogs.{IsPointLog}
 use Rattle.checkpoint_commands.specs.Refusals.{IsJournalRefused, IsPointRefused, IsRefusedBehind}
 use Rattle.checkpoint_commands.specs.Rooms.{PutsBehind, IsPutBehind}
 use Rattle.checkpoint_commands.specs.Checkpoints.{EndsCheckpoint, PutsHistory, Untouched, Behind, Checkpoints}
-use Rattle.checkpoint_commands.proofs.Over.{untouched_but, bytes_first, puts_across, put_across, keeps_across, refused_across}
+use Rattle.checkpoint_commands.proofs.Over.{none_of_one, untouched_but, bytes_first, puts_across, put_across, keeps_across, refused_across}
 
 pub opening_old : (reason : OpenFault) → fault_of_opening reason ≡ OldVersion → reason ≡ opening.OldVersion
 opening_old opening.DeviceFault is = cc
@@ -114,7 +114,7 @@ module _ (journal point : List ℕ) (differ : journal ≢ point) (o : Outcome) (
   durable_journal tells = closed_durable o.old o.new journal disk (log (then ∙ first.tells ∙ tells)) (log_bytes o.old journal) (kept tells)
 
   puts_history : o.old.tells ≡ true → PutsHistory journal point o.old o.new
-  puts_history tells = Behind history (has tells) (puts_across journal point differ o.old opened mid o.new first last history (puts (first.tells ∙ tells)))
+  puts_history tells = Behind history (has tells) (puts_across (journal ∷ []) point (none_of_one differ) o.old opened mid o.new first last history (puts (first.tells ∙ tells)))
 
   pub checkpoints_refused : (reason : OpenFault) → o.end ≡ Told (fault_of_opening reason) → IsTold (fault_of_opening reason) o
       → SameBut o.old o.new (journal ∷ point ∷ []) → IsPointRefused opened mid point reason
@@ -124,9 +124,9 @@ module _ (journal point : List ℕ) (differ : journal ≢ point) (o : Outcome) (
       checkpoints_fault journal point o reason is told (keeps_journal (IsDeviceOf o journal)) puts_history
       (λ tells none.
       keeps_where (reason ≡ opening.DeviceFault) (IsDeviceOf o point) o.old o.new point (λ device. (is ∙ ap (λ r. Told (fault_of_opening r)) device, across.cause device))
-      (keeps_across journal point differ o.old opened mid o.new first last (reason ≡ opening.DeviceFault)
+      (keeps_across (journal ∷ []) point (none_of_one differ) o.old opened mid o.new first last (reason ≡ opening.DeviceFault)
       (alone (first.tells ∙ tells)
-      (λ found has. none found (subst (IsPointLog found) (bytes_first journal point differ o.old opened mid o.new first last) has)))))
+      (λ found has. none found (subst (IsPointLog found) (bytes_first (journal ∷ []) point (none_of_one differ) o.old opened mid o.new first last) has)))))
       (λ other tells. across.alone (λ device. other (ap fault_of_opening device)) tells) (inr (record {
         history = λ tells. fitting_history history (log_bytes o.old journal) (has tells) within;
         reason = reason;
@@ -136,11 +136,11 @@ module _ (journal point : List ℕ) (differ : journal ≢ point) (o : Outcome) (
       }))
     where
       across : IsPointRefused o.old o.new point reason
-      across = refused_across journal point differ o.old opened mid o.new first last reason refused
+      across = refused_across (journal ∷ []) point (none_of_one differ) o.old opened mid o.new first last reason refused
 
   module _ (count : ℕ) (counted : count ≡ length history) (put : opened.tells ≡ true → IsPutBehind history opened mid point) where
     is_there : o.old.tells ≡ true → IsPutBehind history o.old o.new point
-    is_there tells = put_across journal point differ o.old opened mid o.new first last history (put (first.tells ∙ tells))
+    is_there tells = put_across (journal ∷ []) point (none_of_one differ) o.old opened mid o.new first last history (put (first.tells ∙ tells))
 
     pub checkpoints_done : o.end ≡ Done → Appends o.told o.now (checkpoint_line count) → Checkpoints journal point o
     checkpoints_done is line = record {

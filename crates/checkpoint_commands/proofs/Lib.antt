@@ -1,6 +1,7 @@
 pub mod Frames
 pub mod Added
 pub mod Files
+pub mod Written
 pub mod Over
 pub mod Endings
 pub mod Exports

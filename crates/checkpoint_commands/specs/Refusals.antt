@@ -6,9 +6,8 @@ use Rattle.durable_catalogue.specs.declared.fault.OpenFault.{OpenFault}
 use Rattle.durable_catalogue.specs.declared.fault.OpenFault.TheVariants as opening
 use Rattle.console_lines.specs.declared.fault.Fault.{Fault}
 use Rattle.console_lines.specs.declared.fault.Fault.TheVariants.{Device, OldVersion}
-use Rattle.journal_files.specs.Faults.{fault_of_opening}
-use Rattle.journal_files.specs.Journals.{log_bytes, KeepsHistory}
-use Rattle.archive_commands.specs.Archives.{WhyUnopened, HasFittingHistory}
+use Rattle.journal_files.specs.Faults.{fault_of_opening, WhyUnopened}
+use Rattle.journal_files.specs.Journals.{log_bytes, KeepsHistory, HasFittingHistory}
 use Rattle.checkpoint_commands.specs.PointLogs.{IsUntaken}
 
 -- The journal was refused before anything else was opened, and not for its version. Unless a device failed, every byte of it is as it

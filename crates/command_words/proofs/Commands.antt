@@ -16,17 +16,18 @@ use Rattle.command_words.specs.declared.library.Library.{Library}
 use Rattle.command_words.specs.declared.topic.Topic.{Topic}
 use Rattle.command_words.specs.declared.topic.Topic.TheVariants as topic
 use Rattle.command_words.specs.Topics.{topic_of}
-use Rattle.command_words.specs.Look.{Look}
+use Rattle.marc_types.specs.declared.form.Kind.{Kind}
+use Rattle.command_words.specs.Look.{Look, HeadingRange, most_headings, kind_of}
 use Rattle.command_words.specs.Look as look
-use Rattle.command_words.specs.Command.{Command, Pass, Run, Load, Browse, Export, Report, Make, Verify, Migrate, Matches, Holdings, Checkpoint, Quick, Read, Refused, Help, Version, is_name, differ, split_at_equals, library_of, are_libraries, is_free, number_upto, greatest_seed, are_two_names, are_three_names, are_four_names, are_logs_and_output, as_pass, as_run, as_load, as_browse, as_export, as_report, as_make, as_verify, as_migrate, as_matches, as_holdings, as_checkpoint, as_quick, as_look, as_look_of, behind_reading, as_reading, as_refused, as_help, alone, is_version_flag, is_help_flag, only_telling, over_input, over_journal, behind_verb, asks_how, command_of, words_of_files, libraries_of, file_count, names_of, AreNames, IsBounded}
+use Rattle.command_words.specs.Command.{Command, Pass, Run, Load, Browse, Export, Report, Make, Verify, VerifyPoint, Matches, Holdings, Headings, Worklist, Migrate, Checkpoint, Quick, QuickReport, Read, ReadHoldings, ReadWorklist, Refused, Help, Version, is_name, differ, split_at_equals, library_of, are_libraries, is_free, number_upto, greatest_seed, are_two_names, are_three_names, are_four_names, are_three_alone, are_four_alone, as_pass, as_run, as_load, as_browse, as_export, as_report, as_make, as_verify, as_migrate, as_matches, as_holdings, as_headings, as_worklist, as_checkpoint, as_quick, is_looking, looking, unheld, as_reading, as_refused, as_help, alone, is_version_flag, is_help_flag, only_telling, over_input, over_journal, behind_verb, asks_how, command_of, words_of_files, libraries_of, file_count, names_of, AreNames, IsBounded, IsRange}
 
 -- a test and what it lets through
-if_some : {A : Type 0} (good : Bool) (a b : A) → (if good then Some a else None) ≡ Some b → (good ≡ true) × (a ≡ b)
+pub if_some : {A : Type 0} (good : Bool) (a b : A) → (if good then Some a else None) ≡ Some b → (good ≡ true) × (a ≡ b)
 if_some true a b is = (refl, cc)
 if_some false a b is = cc
 
 -- of a chain that gives something, the first step gives something
-and_then_some : {A B : Type 0} (f : A → Option B) (o : Option A) (b : B) → option_and_then f o ≡ Some b → (a : A) × (o ≡ Some a) × (f a ≡ Some b)
+pub and_then_some : {A B : Type 0} (f : A → Option B) (o : Option A) (b : B) → option_and_then f o ≡ Some b → (a : A) × (o ≡ Some a) × (f a ≡ Some b)
 and_then_some f None b is = cc
 and_then_some f (Some a) b is = (a, refl, is)
 
@@ -255,7 +256,10 @@ verify_is verb [] c is = cc
 verify_is verb (journal ∷ []) c is =
     let parts = if_some (is_name journal) (Verify journal) c is in
     subst (IsCommand (verb ∷ journal ∷ [])) parts.1 (without_files (verb ∷ journal ∷ []) _ refl refl tt tt)
-verify_is verb (journal ∷ other ∷ rest) c is = cc
+verify_is verb (journal ∷ point ∷ []) c is =
+    let parts = if_some _ (VerifyPoint journal point) c is in
+    subst (IsCommand (verb ∷ journal ∷ point ∷ [])) parts.1 (without_files (verb ∷ journal ∷ point ∷ []) _ refl refl tt tt)
+verify_is verb (journal ∷ point ∷ other ∷ rest) c is = cc
 
 matches_is : (verb : List ℕ) (words : List (List ℕ)) (c : Command) → as_matches words ≡ Some c → IsCommand (verb ∷ words) c
 matches_is verb [] c is = cc
@@ -307,8 +311,8 @@ checkpoint_is verb (journal ∷ point ∷ []) c is =
     subst (IsCommand (verb ∷ journal ∷ point ∷ [])) parts.1 (without_files (verb ∷ journal ∷ point ∷ []) _ refl refl (two_names journal point parts.0) tt)
 checkpoint_is verb (journal ∷ point ∷ other ∷ rest) c is = cc
 
-logs_and_output : (journal point out : List ℕ) → are_logs_and_output journal point out ≡ true → AreNames (journal ∷ point ∷ out ∷ [])
-logs_and_output journal point out good =
+three_alone : (journal point out : List ℕ) → are_three_alone journal point out ≡ true → AreNames (journal ∷ point ∷ out ∷ [])
+three_alone journal point out good =
     let three = and_parts _ (differ point out) good in
     let two = and_parts _ (differ journal out) three.0 in
     let one = and_parts (are_two_names journal point) (is_name out) two.0 in
@@ -319,40 +323,64 @@ logs_and_output journal point out good =
       (named point each.1, (apart point out three.1, tt), (named out one.1, tt, tt)),
     )
 
+four_alone : (journal point out report : List ℕ) → are_four_alone journal point out report ≡ true → AreNames (journal ∷ point ∷ out ∷ report ∷ [])
+four_alone journal point out report good =
+    let four = and_parts _ (differ out report) good in
+    let three = and_parts _ (differ point report) four.0 in
+    let two = and_parts _ (differ journal report) three.0 in
+    let one = and_parts (are_three_alone journal point out) (is_name report) two.0 in
+    let names = three_alone journal point out one.0 in (
+      names.0,
+      (names.1.0, (names.1.1.0, (apart journal report two.1, tt))),
+      (names.2.0, (names.2.1.0, (apart point report three.1, tt)), (names.2.2.0, (apart out report four.1, tt), (named report one.1, tt, tt))),
+    )
+
 quick_is : (verb : List ℕ) (words : List (List ℕ)) (c : Command) → as_quick words ≡ Some c → IsCommand (verb ∷ words) c
 quick_is verb [] c is = cc
 quick_is verb (journal ∷ []) c is = cc
 quick_is verb (journal ∷ point ∷ []) c is = cc
 quick_is verb (journal ∷ point ∷ out ∷ []) c is =
-    let parts = if_some (are_logs_and_output journal point out) (Quick journal point out) c is in
+    let parts = if_some (are_three_alone journal point out) (Quick journal point out) c is in
     subst (IsCommand (verb ∷ journal ∷ point ∷ out ∷ [])) parts.1
-    (without_files (verb ∷ journal ∷ point ∷ out ∷ []) _ refl refl (logs_and_output journal point out parts.0) tt)
-quick_is verb (journal ∷ point ∷ out ∷ other ∷ rest) c is = cc
+    (without_files (verb ∷ journal ∷ point ∷ out ∷ []) _ refl refl (three_alone journal point out parts.0) tt)
+quick_is verb (journal ∷ point ∷ out ∷ report ∷ []) c is =
+    let parts = if_some (are_four_alone journal point out report) (QuickReport journal point out report) c is in
+    subst (IsCommand (verb ∷ journal ∷ point ∷ out ∷ report ∷ [])) parts.1
+    (without_files (verb ∷ journal ∷ point ∷ out ∷ report ∷ []) _ refl refl (four_alone journal point out report parts.0) tt)
+quick_is verb (journal ∷ point ∷ out ∷ report ∷ other ∷ rest) c is = cc
 
--- an output of its own, for what is looked for
-look_named : (verb journal out : List ℕ) (words : List (List ℕ)) (wanted : Look) → are_two_names journal out ≡ true
-    → IsCommand (verb ∷ words) (Read wanted journal out)
-look_named verb journal out words wanted good = without_files (verb ∷ words) _ refl refl ((two_names journal out good).2.0, tt, tt) tt
+headings_is : (verb : List ℕ) (words : List (List ℕ)) (c : Command) → as_headings words ≡ Some c → IsCommand (verb ∷ words) c
+headings_is verb [] c is = cc
+headings_is verb (journal ∷ []) c is = cc
+headings_is verb (journal ∷ kind ∷ []) c is = cc
+headings_is verb (journal ∷ kind ∷ from ∷ []) c is = cc
+headings_is verb (journal ∷ kind ∷ from ∷ most ∷ []) c is = cc
+headings_is verb (journal ∷ kind ∷ from ∷ most ∷ out ∷ []) c is =
+    let first = and_then_some _ (kind_of kind) c is in
+    let second = and_then_some _ (number_upto most_headings most) c first.2 in
+    let range : HeadingRange = record { kind = first.0; from = from; most = second.0 } in
+    let parts = if_some _ (Headings journal range out) c second.2 in
+    let good = and_parts (nat_le 1 second.0) (are_two_names journal out) parts.0 in
+    let low : nat_le 1 second.0 ≡ true = good.0 in
+    let words = verb ∷ journal ∷ kind ∷ from ∷ most ∷ out ∷ [] in
+    subst (IsCommand words) parts.1
+    (without_files words (Headings journal range out) refl refl (two_names journal out good.1)
+    (grind (arith, nat_tests, low), number_within most_headings most second.0 second.1))
+headings_is verb (journal ∷ kind ∷ from ∷ most ∷ out ∷ other ∷ rest) c is = cc
 
-look_is : (verb : List ℕ) (wanted : Look) (words rest : List (List ℕ)) (c : Command) → as_look wanted rest ≡ Some c → IsCommand (verb ∷ words) c
-look_is verb wanted words [] c is = cc
-look_is verb wanted words (journal ∷ []) c is = cc
-look_is verb wanted words (journal ∷ out ∷ []) c is =
-    let parts = if_some (are_two_names journal out) (Read wanted journal out) c is in
-    subst (IsCommand (verb ∷ words)) parts.1 (look_named verb journal out words wanted parts.0)
-look_is verb wanted words (journal ∷ out ∷ other ∷ rest) c is = cc
-
-look_of_is : (verb : List ℕ) (words rest : List (List ℕ)) (c : Command) → as_look_of rest ≡ Some c → IsCommand (verb ∷ words) c
-look_of_is verb words [] c is = cc
-look_of_is verb words (journal ∷ []) c is = cc
-look_of_is verb words (journal ∷ out ∷ []) c is =
-    let parts = if_some (are_two_names journal out) (Read (look.Export None) journal out) c is in
-    subst (IsCommand (verb ∷ words)) parts.1 (look_named verb journal out words (look.Export None) parts.0)
-look_of_is verb words (journal ∷ out ∷ code ∷ []) c is =
-    let parts = if_some _ (Read (look.Export (Some code)) journal out) c is in
-    subst (IsCommand (verb ∷ words)) parts.1
-    (look_named verb journal out words (look.Export (Some code)) (and_parts (are_two_names journal out) _ parts.0).0)
-look_of_is verb words (journal ∷ out ∷ code ∷ other ∷ rest) c is = cc
+worklist_is : (verb : List ℕ) (words : List (List ℕ)) (c : Command) → as_worklist words ≡ Some c → IsCommand (verb ∷ words) c
+worklist_is verb [] c is = cc
+worklist_is verb (journal ∷ []) c is = cc
+worklist_is verb (journal ∷ list ∷ []) c is = cc
+worklist_is verb (journal ∷ list ∷ page ∷ []) c is =
+    let parts = if_some (are_three_alone journal list page) (Worklist journal list page None) c is in
+    subst (IsCommand (verb ∷ journal ∷ list ∷ page ∷ [])) parts.1
+    (without_files (verb ∷ journal ∷ list ∷ page ∷ []) _ refl refl (three_alone journal list page parts.0) tt)
+worklist_is verb (journal ∷ list ∷ page ∷ code ∷ []) c is =
+    let parts = if_some _ (Worklist journal list page (Some code)) c is in
+    subst (IsCommand (verb ∷ journal ∷ list ∷ page ∷ code ∷ [])) parts.1
+    (without_files (verb ∷ journal ∷ list ∷ page ∷ code ∷ []) _ refl refl (three_alone journal list page (and_parts (are_three_alone journal list page) _ parts.0).0) tt)
+worklist_is verb (journal ∷ list ∷ page ∷ code ∷ other ∷ rest) c is = cc
 
 alone_is : (verb : List ℕ) (words : List (List ℕ)) (one : Command) (c : Command) → IsCommand (verb ∷ words) one → alone one words ≡ Some c
     → IsCommand (verb ∷ words) c
@@ -366,7 +394,7 @@ a_version : (words : List (List ℕ)) → IsCommand words Version
 a_version words = without_files words Version refl refl tt tt
 
 -- one of two
-chosen : {P : Type 0} (test : Bool) (x y : Option Command) (c : Command) → (x ≡ Some c → P) → (y ≡ Some c → P) → (if test then x else y) ≡ Some c → P
+pub chosen : {P : Type 0} (test : Bool) (x y : Option Command) (c : Command) → (x ≡ Some c → P) → (y ≡ Some c → P) → (if test then x else y) ≡ Some c → P
 chosen true x y c f g is = f is
 chosen false x y c f g is = g is
 
@@ -381,13 +409,65 @@ help_is verb (word ∷ []) c is =
     (mapped_help (verb ∷ word ∷ []) (topic_of word) c) is
 help_is verb (word ∷ other ∷ rest) c is = cc
 
+looking_is : (verb word : List ℕ) (words : List (List ℕ)) (c : Command) → looking verb words ≡ Some c → IsCommand (word ∷ words) c
+unfolding looking
+looking_is verb word words c is =
+    chosen (bytes_eq verb (codes "export")) (as_export words) _ c (export_is word words c) (
+    chosen (bytes_eq verb (codes "report")) (as_report words) _ c (report_is word words c) (
+    chosen (bytes_eq verb (codes "matches")) (as_matches words) _ c (matches_is word words c) (
+    chosen (bytes_eq verb (codes "holdings")) (as_holdings words) _ c (holdings_is word words c) (
+    chosen (bytes_eq verb (codes "headings")) (as_headings words) _ c (headings_is word words c) (
+    chosen (bytes_eq verb (codes "worklist")) (as_worklist words) None c (worklist_is word words c) (λ none. cc)))))) is
+
+-- the same without a hold on the journal: one word stands before it, and the journal's name isn't kept apart
+unheld_is : (verb : List ℕ) (words : List (List ℕ)) (c d : Command) → IsCommand words c → unheld c ≡ Some d → IsCommand (verb ∷ words) d
+unheld_is verb words (Export journal out code) d good is =
+    let same : Read (look.Export code) journal out ≡ d = cc in
+    subst (IsCommand (verb ∷ words)) same (without_files (verb ∷ words) _ refl refl (good.names.2.0, tt, tt) tt)
+unheld_is verb words (Report journal out) d good is =
+    let same : Read look.Report journal out ≡ d = cc in
+    subst (IsCommand (verb ∷ words)) same (without_files (verb ∷ words) _ refl refl (good.names.2.0, tt, tt) tt)
+unheld_is verb words (Matches journal out) d good is =
+    let same : Read look.Matches journal out ≡ d = cc in
+    subst (IsCommand (verb ∷ words)) same (without_files (verb ∷ words) _ refl refl (good.names.2.0, tt, tt) tt)
+unheld_is verb words (Headings journal range out) d good is =
+    let same : Read (look.Headings range) journal out ≡ d = cc in
+    subst (IsCommand (verb ∷ words)) same (without_files (verb ∷ words) _ refl refl (good.names.2.0, tt, tt) good.bounded)
+unheld_is verb words (Holdings journal out rest code) d good is =
+    let same : ReadHoldings journal out rest code ≡ d = cc in
+    subst (IsCommand (verb ∷ words)) same (record {
+      count = good.count;
+      codes = good.codes;
+      names = good.names.2;
+      files = λ k x less. (good.files k x less).1;
+      bounded = tt;
+    })
+unheld_is verb words (Worklist journal list page code) d good is =
+    let same : ReadWorklist journal list page code ≡ d = cc in
+    subst (IsCommand (verb ∷ words)) same (without_files (verb ∷ words) _ refl refl good.names.2 tt)
+unheld_is verb words (Pass out) d good is = cc
+unheld_is verb words (Run journal out report files) d good is = cc
+unheld_is verb words (Load journal files) d good is = cc
+unheld_is verb words (Browse journal out report pages files) d good is = cc
+unheld_is verb words (Make seed count out) d good is = cc
+unheld_is verb words (Verify journal) d good is = cc
+unheld_is verb words (VerifyPoint journal point) d good is = cc
+unheld_is verb words (Migrate old new) d good is = cc
+unheld_is verb words (Checkpoint journal point) d good is = cc
+unheld_is verb words (Quick journal point out) d good is = cc
+unheld_is verb words (QuickReport journal point out report) d good is = cc
+unheld_is verb words (Read wanted journal out) d good is = cc
+unheld_is verb words (ReadHoldings journal out rest code) d good is = cc
+unheld_is verb words (ReadWorklist journal list page code) d good is = cc
+unheld_is verb words (Refused out) d good is = cc
+unheld_is verb words (Help topic) d good is = cc
+unheld_is verb words Version d good is = cc
+
 reading_is : (verb : List ℕ) (words : List (List ℕ)) (c : Command) → as_reading words ≡ Some c → IsCommand (verb ∷ words) c
-unfolding behind_reading
 reading_is verb [] c is = cc
 reading_is verb (word ∷ rest) c is =
-    chosen (bytes_eq word (codes "export")) (as_look_of rest) _ c (look_of_is verb (word ∷ rest) rest c) (
-    chosen (bytes_eq word (codes "report")) (as_look look.Report rest) _ c (look_is verb look.Report (word ∷ rest) rest c) (
-    chosen (bytes_eq word (codes "matches")) (as_look look.Matches rest) None c (look_is verb look.Matches (word ∷ rest) rest c) (λ none. cc))) is
+    let found = and_then_some unheld (looking word rest) c is in
+    unheld_is verb (word ∷ rest) found.0 c (looking_is word word rest found.0 found.1) found.2
 
 behind_is : (verb : List ℕ) (words : List (List ℕ)) (c : Command) → behind_verb verb words ≡ Some c → IsCommand (verb ∷ words) c
 unfolding behind_verb over_journal over_input only_telling
@@ -397,11 +477,8 @@ behind_is verb words c is =
     chosen (bytes_eq verb (codes "load")) (as_load words) _ c (load_is verb words c) (
     chosen (bytes_eq verb (codes "browse")) (as_browse words) _ c (browse_is verb words c) (
     chosen (bytes_eq verb (codes "make")) (as_make words) _ c (make_is verb words c) (
-    chosen (bytes_eq verb (codes "export")) (as_export words) _ c (export_is verb words c) (
-    chosen (bytes_eq verb (codes "report")) (as_report words) _ c (report_is verb words c) (
+    chosen (is_looking verb) (looking verb words) _ c (looking_is verb verb words c) (
     chosen (bytes_eq verb (codes "verify")) (as_verify words) _ c (verify_is verb words c) (
-    chosen (bytes_eq verb (codes "matches")) (as_matches words) _ c (matches_is verb words c) (
-    chosen (bytes_eq verb (codes "holdings")) (as_holdings words) _ c (holdings_is verb words c) (
     chosen (bytes_eq verb (codes "migrate")) (as_migrate words) _ c (migrate_is verb words c) (
     chosen (bytes_eq verb (codes "checkpoint")) (as_checkpoint words) _ c (checkpoint_is verb words c) (
     chosen (bytes_eq verb (codes "quick")) (as_quick words) _ c (quick_is verb words c) (
@@ -410,7 +487,7 @@ behind_is verb words c is =
     chosen (bytes_eq verb (codes "help")) (as_help words) _ c (help_is verb words c) (
     chosen (is_help_flag verb) (alone (Help topic.All) words) _ c (alone_is verb words (Help topic.All) c (a_help (verb ∷ words) topic.All)) (
     chosen (bytes_eq verb (codes "version")) (alone Version words) _ c (alone_is verb words Version c (a_version (verb ∷ words))) (
-    chosen (is_version_flag verb) (alone Version words) None c (alone_is verb words Version c (a_version (verb ∷ words))) (λ none. cc))))))))))))))))))) is
+    chosen (is_version_flag verb) (alone Version words) None c (alone_is verb words Version c (a_version (verb ∷ words))) (λ none. cc)))))))))))))))) is
 
 command_is : (words : List (List ℕ)) (c : Command) → command_of words ≡ Some c → IsCommand words c
 unfolding command_of

@@ -1,3 +1,4 @@
 pub mod Commands
 pub mod Digits
+pub mod Readings
 pub mod Requests

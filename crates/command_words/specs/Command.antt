@@ -10,7 +10,7 @@ use Rattle.command_words.specs.declared.library.Library.{Library}
 use Rattle.command_words.specs.declared.topic.Topic.{Topic}
 use Rattle.command_words.specs.declared.topic.Topic.TheVariants.{All}
 use Rattle.command_words.specs.Topics.{topic_of}
-use Rattle.command_words.specs.Look.{Look}
+use Rattle.command_words.specs.Look.{Look, HeadingRange, most_headings, kind_of}
 use Rattle.command_words.specs.Look as look
 
 -- what a command asks for; the names are those of the words
@@ -31,20 +31,32 @@ pub data Command : Type 0 where
   Make : ℕ → ℕ → List ℕ → Command
   -- `verify JOURNAL`: what the journal has
   Verify : List ℕ → Command
+  -- `verify JOURNAL POINT`: whether POINT's last checkpoint is one of this journal
+  VerifyPoint : List ℕ → List ℕ → Command
   -- `matches JOURNAL OUT`: which records share a number, into the file OUT
   Matches : List ℕ → List ℕ → Command
   -- `holdings JOURNAL OUT REST CODE=FILE`, or with a further CODE for the keys with that code: the records with the file's holdings
   -- into OUT, and the holdings that wait for their record into REST
   Holdings : List ℕ → List ℕ → List ℕ → Option (List ℕ) → Command
+  -- `headings JOURNAL KIND FROM MOST OUT`: the headings of one kind from a heading on, at most so many, into the file OUT
+  Headings : List ℕ → HeadingRange → List ℕ → Command
+  -- `worklist JOURNAL LIST PAGE`, or with a code behind it for the records of that library: the headings that aren't linked into the file
+  -- LIST, and what is to be seen of the catalogue into the file PAGE
+  Worklist : List ℕ → List ℕ → List ℕ → Option (List ℕ) → Command
   -- `migrate OLD NEW`: the history of the journal OLD into the journal NEW
   Migrate : List ℕ → List ℕ → Command
   -- `checkpoint JOURNAL POINT`: a checkpoint of the journal's catalogue behind the log POINT
   Checkpoint : List ℕ → List ℕ → Command
   -- `quick JOURNAL POINT OUT`: the export into the file OUT, from POINT's last checkpoint and the entries behind it
   Quick : List ℕ → List ℕ → List ℕ → Command
-  -- `reading export JOURNAL OUT`, or with a code behind it, `reading report JOURNAL OUT` and `reading matches JOURNAL OUT`: the same into the
-  -- file OUT, of a journal that is an input and isn't held
+  -- `quick JOURNAL POINT OUT REPORT`: the same, and the report into the file REPORT
+  QuickReport : List ℕ → List ℕ → List ℕ → List ℕ → Command
+  -- `reading` before `export`, `report`, `matches` or `headings`: the same into the file OUT, of a journal that is an input and isn't held
   Read : Look → List ℕ → List ℕ → Command
+  -- `reading holdings JOURNAL OUT REST CODE=FILE`, or with a further CODE: the same of such a journal
+  ReadHoldings : List ℕ → List ℕ → List ℕ → Option (List ℕ) → Command
+  -- `reading worklist JOURNAL LIST PAGE`, or with a code behind it: the same of such a journal
+  ReadWorklist : List ℕ → List ℕ → List ℕ → Option (List ℕ) → Command
   -- `refused OUT CODE=FILE`: the pieces of one file that a pass refuses, as they stand, into the file OUT
   Refused : List ℕ → Command
   -- `help`, or `help COMMAND`: how the commands are used, or that one
@@ -145,9 +157,10 @@ as_make (seed ∷ count ∷ out ∷ []) = do
   command_if (is_name out) (Make s n out)
 as_make words = None
 
--- `JOURNAL`, whatever the word is
+-- `JOURNAL`, whatever the word is, or with a point behind it, which may have the same name
 abbrev pub as_verify : List (List ℕ) → Option Command
 as_verify (journal ∷ []) = command_if (is_name journal) (Verify journal)
+as_verify (journal ∷ point ∷ []) = command_if (is_name journal && is_name point) (VerifyPoint journal point)
 as_verify words = None
 
 -- `JOURNAL OUT`
@@ -189,38 +202,68 @@ abbrev pub as_checkpoint : List (List ℕ) → Option Command
 as_checkpoint (journal ∷ point ∷ []) = command_if (are_two_names journal point) (Checkpoint journal point)
 as_checkpoint words = None
 
--- the names of two logs and an output that come without files
-abbrev pub are_logs_and_output : List ℕ → List ℕ → List ℕ → Bool
-are_logs_and_output journal point out = are_two_names journal point && is_name out && differ journal out && differ point out
+-- three names that come without files
+abbrev pub are_three_alone : List ℕ → List ℕ → List ℕ → Bool
+are_three_alone journal other out = are_two_names journal other && is_name out && differ journal out && differ other out
 
--- `JOURNAL POINT OUT`
+-- four names that come without files
+abbrev pub are_four_alone : List ℕ → List ℕ → List ℕ → List ℕ → Bool
+are_four_alone journal other out report =
+    are_three_alone journal other out && is_name report && differ journal report && differ other report && differ out report
+
+-- `JOURNAL POINT OUT`, or with a report behind them
 abbrev pub as_quick : List (List ℕ) → Option Command
-as_quick (journal ∷ point ∷ out ∷ []) = command_if (are_logs_and_output journal point out) (Quick journal point out)
+as_quick (journal ∷ point ∷ out ∷ []) = command_if (are_three_alone journal point out) (Quick journal point out)
+as_quick (journal ∷ point ∷ out ∷ report ∷ []) =
+    command_if (are_four_alone journal point out report) (QuickReport journal point out report)
 as_quick words = None
 
--- `JOURNAL OUT`, for what is looked for
-abbrev pub as_look : Look → List (List ℕ) → Option Command
-as_look wanted (journal ∷ out ∷ []) = command_if (are_two_names journal out) (Read wanted journal out)
-as_look wanted words = None
+-- `JOURNAL KIND FROM MOST OUT`
+abbrev pub as_headings : List (List ℕ) → Option Command
+as_headings (journal ∷ kind ∷ from ∷ most ∷ out ∷ []) = do
+  k ← kind_of kind
+  n ← number_upto most_headings most
+  command_if (nat_le 1 n && are_two_names journal out) (Headings journal (record { kind = k; from = from; most = n }) out)
+as_headings words = None
 
--- `JOURNAL OUT`, or with a code behind them
-abbrev pub as_look_of : List (List ℕ) → Option Command
-as_look_of (journal ∷ out ∷ []) = command_if (are_two_names journal out) (Read (look.Export None) journal out)
-as_look_of (journal ∷ out ∷ code ∷ []) = command_if (are_two_names journal out && is_code code) (Read (look.Export (Some code)) journal out)
-as_look_of words = None
+-- `JOURNAL LIST PAGE`, or with a code behind them
+abbrev pub as_worklist : List (List ℕ) → Option Command
+as_worklist (journal ∷ list ∷ page ∷ []) = command_if (are_three_alone journal list page) (Worklist journal list page None)
+as_worklist (journal ∷ list ∷ page ∷ code ∷ []) =
+    command_if (are_three_alone journal list page && is_code code) (Worklist journal list page (Some code))
+as_worklist words = None
 
--- the verb of what is looked for, and the words behind it
-unfoldable pub behind_reading : List ℕ → List (List ℕ) → Option Command
-behind_reading verb words =
-    if bytes_eq verb (codes "export") then as_look_of words
-    else if bytes_eq verb (codes "report") then as_look look.Report words
-    else if bytes_eq verb (codes "matches") then as_look look.Matches words
+-- the verbs of commands that only look into a journal
+unfoldable pub is_looking : List ℕ → Bool
+is_looking verb =
+    bytes_eq verb (codes "export") || bytes_eq verb (codes "report") || bytes_eq verb (codes "matches")
+    || bytes_eq verb (codes "holdings") || bytes_eq verb (codes "headings") || bytes_eq verb (codes "worklist")
+
+-- the commands that only look into a journal
+unfoldable pub looking : List ℕ → List (List ℕ) → Option Command
+looking verb words =
+    if bytes_eq verb (codes "export") then as_export words
+    else if bytes_eq verb (codes "report") then as_report words
+    else if bytes_eq verb (codes "matches") then as_matches words
+    else if bytes_eq verb (codes "holdings") then as_holdings words
+    else if bytes_eq verb (codes "headings") then as_headings words
+    else if bytes_eq verb (codes "worklist") then as_worklist words
     else None
 
--- what is looked for, as the command without `reading` has it
+-- the same command of a journal that isn't held, where it only looks into one
+abbrev pub unheld : Command → Option Command
+unheld (Export journal out code) = Some (Read (look.Export code) journal out)
+unheld (Report journal out) = Some (Read look.Report journal out)
+unheld (Matches journal out) = Some (Read look.Matches journal out)
+unheld (Headings journal range out) = Some (Read (look.Headings range) journal out)
+unheld (Holdings journal out rest code) = Some (ReadHoldings journal out rest code)
+unheld (Worklist journal list page code) = Some (ReadWorklist journal list page code)
+unheld command = None
+
+-- a command that only looks into a journal, without holding it
 abbrev pub as_reading : List (List ℕ) → Option Command
 as_reading [] = None
-as_reading (verb ∷ words) = behind_reading verb words
+as_reading (verb ∷ words) = option_and_then unheld (looking verb words)
 
 -- `OUT CODE=FILE`
 abbrev pub as_refused : List (List ℕ) → Option Command
@@ -266,11 +309,8 @@ over_input verb words =
 -- the commands over a journal that load nothing
 unfoldable pub over_journal : List ℕ → List (List ℕ) → Option Command
 over_journal verb words =
-    if bytes_eq verb (codes "export") then as_export words
-    else if bytes_eq verb (codes "report") then as_report words
+    if is_looking verb then looking verb words
     else if bytes_eq verb (codes "verify") then as_verify words
-    else if bytes_eq verb (codes "matches") then as_matches words
-    else if bytes_eq verb (codes "holdings") then as_holdings words
     else if bytes_eq verb (codes "migrate") then as_migrate words
     else if bytes_eq verb (codes "checkpoint") then as_checkpoint words
     else if bytes_eq verb (codes "quick") then as_quick words
@@ -307,12 +347,18 @@ words_of_files words (Some (Export journal out code)) = []
 words_of_files words (Some (Report journal out)) = []
 words_of_files words (Some (Make seed count out)) = []
 words_of_files words (Some (Verify journal)) = []
+words_of_files words (Some (VerifyPoint journal point)) = []
 words_of_files words (Some (Matches journal out)) = []
 words_of_files words (Some (Holdings journal out rest code)) = take 1 (drop 4 words)
+words_of_files words (Some (Headings journal range out)) = []
+words_of_files words (Some (Worklist journal list page code)) = []
 words_of_files words (Some (Migrate old new)) = []
 words_of_files words (Some (Checkpoint journal point)) = []
 words_of_files words (Some (Quick journal point out)) = []
+words_of_files words (Some (QuickReport journal point out report)) = []
 words_of_files words (Some (Read wanted journal out)) = []
+words_of_files words (Some (ReadHoldings journal out rest code)) = take 1 (drop 5 words)
+words_of_files words (Some (ReadWorklist journal list page code)) = []
 words_of_files words (Some (Refused out)) = drop 2 words
 words_of_files words (Some (Help topic)) = []
 words_of_files words (Some Version) = []
@@ -331,12 +377,18 @@ file_count (Export journal out code) = 0
 file_count (Report journal out) = 0
 file_count (Make seed count out) = 0
 file_count (Verify journal) = 0
+file_count (VerifyPoint journal point) = 0
 file_count (Matches journal out) = 0
 file_count (Holdings journal out rest code) = 1
+file_count (Headings journal range out) = 0
+file_count (Worklist journal list page code) = 0
 file_count (Migrate old new) = 0
 file_count (Checkpoint journal point) = 0
 file_count (Quick journal point out) = 0
+file_count (QuickReport journal point out report) = 0
 file_count (Read wanted journal out) = 0
+file_count (ReadHoldings journal out rest code) = 1
+file_count (ReadWorklist journal list page code) = 0
 file_count (Refused out) = 1
 file_count (Help topic) = 0
 file_count Version = 0
@@ -351,12 +403,18 @@ ReadsFiles (Export journal out code) = ⊥
 ReadsFiles (Report journal out) = ⊥
 ReadsFiles (Make seed count out) = ⊥
 ReadsFiles (Verify journal) = ⊥
+ReadsFiles (VerifyPoint journal point) = ⊥
 ReadsFiles (Matches journal out) = ⊥
 ReadsFiles (Holdings journal out rest code) = Unit {0}
+ReadsFiles (Headings journal range out) = ⊥
+ReadsFiles (Worklist journal list page code) = ⊥
 ReadsFiles (Migrate old new) = ⊥
 ReadsFiles (Checkpoint journal point) = ⊥
 ReadsFiles (Quick journal point out) = ⊥
+ReadsFiles (QuickReport journal point out report) = ⊥
 ReadsFiles (Read wanted journal out) = ⊥
+ReadsFiles (ReadHoldings journal out rest code) = Unit {0}
+ReadsFiles (ReadWorklist journal list page code) = ⊥
 ReadsFiles (Refused out) = Unit {0}
 ReadsFiles (Help topic) = ⊥
 ReadsFiles Version = ⊥
@@ -371,12 +429,18 @@ names_of (Export journal out code) = journal ∷ out ∷ []
 names_of (Report journal out) = journal ∷ out ∷ []
 names_of (Make seed count out) = out ∷ []
 names_of (Verify journal) = []
+names_of (VerifyPoint journal point) = []
 names_of (Matches journal out) = journal ∷ out ∷ []
 names_of (Holdings journal out rest code) = journal ∷ out ∷ rest ∷ []
+names_of (Headings journal range out) = journal ∷ out ∷ []
+names_of (Worklist journal list page code) = journal ∷ list ∷ page ∷ []
 names_of (Migrate old new) = old ∷ new ∷ []
 names_of (Checkpoint journal point) = journal ∷ point ∷ []
 names_of (Quick journal point out) = journal ∷ point ∷ out ∷ []
+names_of (QuickReport journal point out report) = journal ∷ point ∷ out ∷ report ∷ []
 names_of (Read wanted journal out) = out ∷ []
+names_of (ReadHoldings journal out rest code) = out ∷ rest ∷ []
+names_of (ReadWorklist journal list page code) = list ∷ page ∷ []
 names_of (Refused out) = out ∷ []
 names_of (Help topic) = []
 names_of Version = []
@@ -386,7 +450,18 @@ abbrev pub AreNames : List (List ℕ) → Type 0
 AreNames [] = Unit {0}
 AreNames (name ∷ names) = (name ≢ []) × IsNoneOf name names × AreNames names
 
--- the bounds of a command's numbers: 1 to 64 files, and at most so many records of a workload
+-- the bounds of a range's number
+abbrev pub IsRange : HeadingRange → Type 0
+IsRange range = (1 ≤ range.most) × (range.most ≤ most_headings)
+
+-- the bounds of the number of what is looked for
+abbrev pub IsLookBounded : Look → Type 0
+IsLookBounded (look.Export code) = Unit {0}
+IsLookBounded look.Report = Unit {0}
+IsLookBounded look.Matches = Unit {0}
+IsLookBounded (look.Headings range) = IsRange range
+
+-- the bounds of a command's numbers: 1 to 64 files, at most so many records of a workload, and so many headings
 abbrev pub IsBounded : Command → Type 0
 IsBounded (Pass out) = Unit {0}
 IsBounded (Run journal out report files) = (1 ≤ files) × (files ≤ 64)
@@ -396,12 +471,18 @@ IsBounded (Export journal out code) = Unit {0}
 IsBounded (Report journal out) = Unit {0}
 IsBounded (Make seed count out) = count ≤ most_entries
 IsBounded (Verify journal) = Unit {0}
+IsBounded (VerifyPoint journal point) = Unit {0}
 IsBounded (Matches journal out) = Unit {0}
 IsBounded (Holdings journal out rest code) = Unit {0}
+IsBounded (Headings journal range out) = IsRange range
+IsBounded (Worklist journal list page code) = Unit {0}
 IsBounded (Migrate old new) = Unit {0}
 IsBounded (Checkpoint journal point) = Unit {0}
 IsBounded (Quick journal point out) = Unit {0}
-IsBounded (Read wanted journal out) = Unit {0}
+IsBounded (QuickReport journal point out report) = Unit {0}
+IsBounded (Read wanted journal out) = IsLookBounded wanted
+IsBounded (ReadHoldings journal out rest code) = Unit {0}
+IsBounded (ReadWorklist journal list page code) = Unit {0}
 IsBounded (Refused out) = Unit {0}
 IsBounded (Help topic) = Unit {0}
 IsBounded Version = Unit {0}

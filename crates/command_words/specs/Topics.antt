@@ -2,7 +2,7 @@
 use Rattle.std.specs.Prelude.{ℕ, List, Option, Some, None, codes, if◌then◌else◌}
 use Rattle.std.specs.Str.{bytes_eq}
 use Rattle.command_words.specs.declared.topic.Topic.{Topic}
-use Rattle.command_words.specs.declared.topic.Topic.TheVariants.{Pass, Run, Load, Browse, Export, Report, Make, Verify, Migrate, Matches, Holdings, Checkpoint, Quick, Reading, Refused, Help, Version, Statuses}
+use Rattle.command_words.specs.declared.topic.Topic.TheVariants.{Pass, Run, Load, Browse, Export, Report, Make, Verify, Migrate, Matches, Holdings, Headings, Worklist, Checkpoint, Quick, Reading, Refused, Help, Version, Statuses}
 
 -- the command that a word names, or another topic
 unfoldable pub topic_of : List ℕ → Option Topic
@@ -18,6 +18,8 @@ topic_of word =
     else if bytes_eq word (codes "migrate") then Some Migrate
     else if bytes_eq word (codes "matches") then Some Matches
     else if bytes_eq word (codes "holdings") then Some Holdings
+    else if bytes_eq word (codes "headings") then Some Headings
+    else if bytes_eq word (codes "worklist") then Some Worklist
     else if bytes_eq word (codes "checkpoint") then Some Checkpoint
     else if bytes_eq word (codes "quick") then Some Quick
     else if bytes_eq word (codes "reading") then Some Reading

@@ -1,6 +1,6 @@
 use crate::library::{Libraries, Library};
 use crate::topic::Topic;
-use marc_types::NoMemory;
+use marc_types::{Kind, NoMemory};
 
 /// What the words of a command ask for. Names of files are those of the words.
 #[derive(Drop)]
@@ -42,18 +42,30 @@ pub enum AloneRequest<'a> {
     Verify {
         journal: &'a str,
     },
+    /// Tell whether the last checkpoint of the log `point` is one of the journal, and write nothing.
+    VerifyPoint {
+        journal: &'a str,
+        point: &'a str,
+    },
     /// Write which of the journal's records share a number into the file `out`.
     Matches {
         journal: &'a str,
         out: &'a str,
     },
-    /// Write the journal's records with the holdings of a library's file behind them into the file `out`, those under keys with that
-    /// code or all, and the holdings whose record it doesn't have into the file `rest`.
-    Holdings {
+    /// Write the journal's records with the holdings of a file behind them.
+    Holdings(HoldingsRequest<'a>),
+    /// Write the journal's headings of a range into the file `out`.
+    Headings {
         journal: &'a str,
+        range: HeadingRange<'a>,
         out: &'a str,
-        rest: &'a str,
-        library: Library,
+    },
+    /// Write the journal's headings that aren't linked into the file `list`, of all records or of those under keys with that code, and
+    /// what is to be seen of the catalogue into the file `page`.
+    Worklist {
+        journal: &'a str,
+        list: &'a str,
+        page: &'a str,
         code: Option<&'a str>,
     },
     /// Bring the history of the journal `old` into the journal `new`.
@@ -72,11 +84,27 @@ pub enum AloneRequest<'a> {
         point: &'a str,
         out: &'a str,
     },
+    /// The same, and the report on the journal's records into the file `report`.
+    QuickReport {
+        journal: &'a str,
+        point: &'a str,
+        out: &'a str,
+        report: &'a str,
+    },
     /// Write what is looked for in a journal into the file `out`; the journal is an input, and isn't held.
     Read {
         look: Look<'a>,
         journal: &'a str,
         out: &'a str,
+    },
+    /// Write the records of a journal that is an input, and isn't held, with the holdings of a file behind them.
+    ReadHoldings(HoldingsRequest<'a>),
+    /// Write the worklist of a journal that is an input, and isn't held.
+    ReadWorklist {
+        journal: &'a str,
+        list: &'a str,
+        page: &'a str,
+        code: Option<&'a str>,
     },
     /// Write the pieces of a library's file that a pass refuses, as they stand, into the file `out`.
     Refused {
@@ -100,6 +128,27 @@ pub enum Look<'a> {
     Report,
     /// Which of its records share a number.
     Matches,
+    /// Its headings of a range.
+    Headings(HeadingRange<'a>),
+}
+
+/// Which headings are listed: those of a kind, from the place of a heading on that is typed as text, 1 to 100,000 at most.
+#[derive(Clone, Copy, Debug, PartialEq, Eq)]
+pub struct HeadingRange<'a> {
+    pub kind: Kind,
+    pub from: &'a str,
+    pub most: u64,
+}
+
+/// Write the journal's records with the holdings of a library's file behind them into the file `out`, those under keys with that code or
+/// all, and the holdings whose record it doesn't have into the file `rest`.
+#[derive(Drop)]
+pub struct HoldingsRequest<'a> {
+    pub journal: &'a str,
+    pub out: &'a str,
+    pub rest: &'a str,
+    pub library: Library,
+    pub code: Option<&'a str>,
 }
 
 /// Load the files of 1 to 64 libraries into the journal; and then, where there are outputs, write them.

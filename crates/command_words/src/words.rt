@@ -1,11 +1,15 @@
-ghost use Rattle.std.specs.Prelude.{◌≡◌, ◌∷◌, ℕ, true, List, Option, None, Some, map, IfSome, IfOk, IfErr, MatchOption, is_some, option_map};
+ghost use Rattle.std.specs.Prelude.{◌≡◌, ◌∷◌, ℕ, true, List, Option, None, Some, map, IfSome, IfOk, IfErr, MatchOption, is_some, option_map, []};
 ghost use Rattle.std.specs.List.{list_all};
 ghost use Rattle.marc_types.specs.Valid.{is_code, is_digit};
-ghost use Rattle.command_words.specs.Command.{Command, library_of, are_libraries, is_free, differ, split_at_equals, number_upto, as_pass, as_run, as_load, as_browse, as_export, as_report, as_make, as_verify, as_migrate, as_matches, as_holdings, as_checkpoint, as_quick, as_look, as_look_of, behind_reading, as_reading, as_refused, as_help, alone, only_telling, over_input, over_journal, behind_verb, asks_how, is_help_flag, is_version_flag, are_two_names, are_three_names, are_four_names, are_logs_and_output, command_of, Help};
+ghost use Rattle.command_words.specs.Command.{Command, library_of, are_libraries, is_free, differ, split_at_equals, number_upto, as_pass, as_run, as_load, as_browse, as_export, as_report, as_make, as_verify, as_migrate, as_matches, as_holdings, as_headings, as_worklist, as_checkpoint, as_quick, is_looking, looking, unheld, as_reading, as_refused, as_help, alone, only_telling, over_input, over_journal, behind_verb, asks_how, is_help_flag, is_version_flag, are_two_names, are_three_names, are_four_names, are_three_alone, are_four_alone, command_of, Help};
 ghost use Rattle.command_words.specs.Topics.{topic_of};
-ghost use Rattle.command_words.specs.Asked.{alone_asked, look_asked, AsksAlone, AsksFor, IsAskedBy, IsFileless, IsUnasked};
+ghost use Rattle.command_words.specs.Asked.{alone_asked, AsksAlone, AsksFor, IsAloneAskedBy, IsAskedBy, IsFileless, IsUnasked, IsUnheld};
 
-use crate::asked::{AloneRequest, BrowseRequest, LoadRequest, Look, Outputs, Request, Unasked};
+use crate::asked::{
+    AloneRequest, BrowseRequest, HeadingRange, HoldingsRequest, LoadRequest, Look, Outputs,
+    Request, Unasked,
+};
+use crate::kind::named_kind;
 use crate::library::{Libraries, Library};
 use crate::topic::{Topic, named_topic};
 use marc_types::{Limits, NoMemory, Sequence, Text, can_be_code};
@@ -19,6 +23,9 @@ const MOST_FILES: usize = 64;
 
 /// The most records of a workload.
 const MOST_COUNT: u64 = Limits::GREATEST.entries;
+
+/// The most headings of one list.
+const MOST_HEADINGS: u64 = 100_000;
 
 /// The library code and the file of a word `CODE=FILE`.
 #[tactic(auto, unfolding(crate::specs::Command::library_of))]
@@ -279,6 +286,12 @@ fn verify(words: &[Text]) -> Option<AloneRequest<'_>>
         [journal] if !journal.as_str().is_empty() => Some(AloneRequest::Verify {
             journal: journal.as_str(),
         }),
+        [journal, point] if !journal.as_str().is_empty() && !point.as_str().is_empty() => Some(
+            AloneRequest::VerifyPoint {
+                journal: journal.as_str(),
+                point: point.as_str(),
+            },
+        ),
         _ => None,
     }
 }
@@ -297,8 +310,8 @@ fn matches(words: &[Text]) -> Option<AloneRequest<'_>>
     }
 }
 
-fn holdings<'a>(alloc: Global, words: &'a [Text]) -> Result<Request<'a>, Unasked>
-    ensures { IsAskedBy result words.now (as_holdings words.now) }
+fn holdings<'a>(alloc: Global, words: &'a [Text]) -> Result<AloneRequest<'a>, Unasked>
+    ensures { IsAloneAskedBy result words.now (as_holdings words.now) }
 {
     let [journal, out, rest, words @ ..] = words else {
         return Err(Unasked::Usage);
@@ -313,13 +326,52 @@ fn holdings<'a>(alloc: Global, words: &'a [Text]) -> Result<Request<'a>, Unasked
         return Err(Unasked::Usage);
     }
     let library = library_in(alloc, &words[0])?;
-    Ok(Request::Alone(AloneRequest::Holdings {
+    Ok(AloneRequest::Holdings(HoldingsRequest {
         journal,
         out,
         rest,
         library,
         code,
     }))
+}
+
+fn headings(words: &[Text]) -> Option<AloneRequest<'_>>
+    ensures { AsksAlone result (as_headings words.now) }
+{
+    let [journal, kind, from, most, out] = words else {
+        return None;
+    };
+    let kind = named_kind(kind.as_str())?;
+    let most = number_upto(MOST_HEADINGS, most.as_str())?;
+    let (journal, out) = (journal.as_str(), out.as_str());
+    if most == 0 || !are_two_names(journal, out) {
+        return None;
+    }
+    let from = from.as_str();
+    Some(AloneRequest::Headings {
+        journal,
+        range: HeadingRange { kind, from, most },
+        out,
+    })
+}
+
+fn worklist(words: &[Text]) -> Option<AloneRequest<'_>>
+    ensures { AsksAlone result (as_worklist words.now) }
+{
+    let (journal, list, page, code) = match words {
+        [journal, list, page] => (journal, list, page, None),
+        [journal, list, page, code] if can_be_code(code.as_bytes()) => {
+            (journal, list, page, Some(code.as_str()))
+        }
+        _ => return None,
+    };
+    let (journal, list, page) = (journal.as_str(), list.as_str(), page.as_str());
+    are_three_alone(journal, list, page).then_some(AloneRequest::Worklist {
+        journal,
+        list,
+        page,
+        code,
+    })
 }
 
 fn migrate(words: &[Text]) -> Option<AloneRequest<'_>>
@@ -348,75 +400,161 @@ fn checkpoint(words: &[Text]) -> Option<AloneRequest<'_>>
     }
 }
 
-/// Whether two logs and an output may have these names, where the command reads no file.
-fn are_logs_and_output(journal: &str, point: &str, out: &str) -> bool
-    ensures { result ≡ are_logs_and_output journal.now point.now out.now }
+/// Whether three files may have these names, where the command reads no other.
+fn are_three_alone(journal: &str, other: &str, out: &str) -> bool
+    ensures { result ≡ are_three_alone journal.now other.now out.now }
 {
-    are_two_names(journal, point) && !out.is_empty() && journal != out && point != out
+    are_two_names(journal, other) && !out.is_empty() && journal != out && other != out
+}
+
+/// Whether four files may have these names, where the command reads no other.
+fn are_four_alone(journal: &str, other: &str, out: &str, report: &str) -> bool
+    ensures { result ≡ are_four_alone journal.now other.now out.now report.now }
+{
+    are_three_alone(journal, other, out)
+        && !report.is_empty()
+        && journal != report
+        && other != report
+        && out != report
 }
 
 fn quick(words: &[Text]) -> Option<AloneRequest<'_>>
     ensures { AsksAlone result (as_quick words.now) }
 {
-    let [journal, point, out] = words else {
-        return None;
-    };
-    let (journal, point, out) = (journal.as_str(), point.as_str(), out.as_str());
-    are_logs_and_output(journal, point, out).then_some(AloneRequest::Quick {
+    match words {
+        [journal, point, out] => quick_alone(journal.as_str(), point.as_str(), out.as_str()),
+        [journal, point, out, report] => quick_report(
+            journal.as_str(),
+            point.as_str(),
+            out.as_str(),
+            report.as_str(),
+        ),
+        _ => None,
+    }
+}
+
+fn quick_alone<'a>(journal: &'a str, point: &'a str, out: &'a str) -> Option<AloneRequest<'a>>
+    ensures { AsksAlone result (as_quick (journal.now ∷ point.now ∷ out.now ∷ [])) }
+{
+    are_three_alone(journal, point, out).then_some(AloneRequest::Quick {
         journal,
         point,
         out,
     })
 }
 
-fn look<'a>(look: Look<'a>, words: &'a [Text]) -> Option<AloneRequest<'a>>
-    ensures { AsksAlone result (as_look (look_asked look.entry) words.now) }
+fn quick_report<'a>(
+    journal: &'a str,
+    point: &'a str,
+    out: &'a str,
+    report: &'a str,
+) -> Option<AloneRequest<'a>>
+    ensures { AsksAlone result (as_quick (journal.now ∷ point.now ∷ out.now ∷ report.now ∷ [])) }
 {
-    match words {
-        [journal, out] if are_two_names(journal.as_str(), out.as_str()) => {
-            Some(AloneRequest::Read {
-                look,
-                journal: journal.as_str(),
-                out: out.as_str(),
-            })
+    are_four_alone(journal, point, out, report).then_some(AloneRequest::QuickReport {
+        journal,
+        point,
+        out,
+        report,
+    })
+}
+
+/// What is asked for by a request that starts no threads and reads no file but a journal, or by none.
+fn fileless<'a>(asked: Option<AloneRequest<'a>>) -> Result<AloneRequest<'a>, Unasked>
+    ensures { (words : List (List ℕ)) (command : Option Command) → AsksAlone asked.entry command → IsAloneAskedBy result words command }
+{
+    asked.ok_or(Unasked::Usage)
+}
+
+/// Whether a command of that verb only looks into a journal.
+#[tactic(auto, unfolding(crate::specs::Command::is_looking))]
+fn is_looking(verb: &str) -> bool
+    ensures { result ≡ is_looking verb.now }
+{
+    verb == "export"
+        || verb == "report"
+        || verb == "matches"
+        || verb == "holdings"
+        || verb == "headings"
+        || verb == "worklist"
+}
+
+/// What the words of a command ask for that only looks into a journal.
+#[tactic(auto, unfolding(crate::specs::Command::looking))]
+fn looking<'a>(alloc: Global, verb: &str, rest: &'a [Text]) -> Result<AloneRequest<'a>, Unasked>
+    ensures { IsAloneAskedBy result rest.now (looking verb.now rest.now) }
+{
+    match verb {
+        "export" => fileless(export(rest)),
+        "report" => fileless(report(rest)),
+        "matches" => fileless(matches(rest)),
+        "holdings" => holdings(alloc, rest),
+        "headings" => fileless(headings(rest)),
+        "worklist" => fileless(worklist(rest)),
+        _ => Err(Unasked::Usage),
+    }
+}
+
+/// The same of a journal that isn't held, where it only looks into one.
+fn unheld<'a>(asked: AloneRequest<'a>) -> Option<AloneRequest<'a>>
+    ensures { IsUnheld asked.entry result }
+{
+    match asked {
+        AloneRequest::Export { journal, out, code } => {
+            let look = Look::Export(code);
+            Some(AloneRequest::Read { look, journal, out })
         }
+        AloneRequest::Report { journal, out } => {
+            let look = Look::Report;
+            Some(AloneRequest::Read { look, journal, out })
+        }
+        AloneRequest::Matches { journal, out } => {
+            let look = Look::Matches;
+            Some(AloneRequest::Read { look, journal, out })
+        }
+        AloneRequest::Headings {
+            journal,
+            range,
+            out,
+        } => {
+            let look = Look::Headings(range);
+            Some(AloneRequest::Read { look, journal, out })
+        }
+        AloneRequest::Holdings(asked) => Some(AloneRequest::ReadHoldings(asked)),
+        AloneRequest::Worklist {
+            journal,
+            list,
+            page,
+            code,
+        } => Some(AloneRequest::ReadWorklist {
+            journal,
+            list,
+            page,
+            code,
+        }),
         _ => None,
     }
 }
 
-fn look_of(words: &[Text]) -> Option<AloneRequest<'_>>
-    ensures { AsksAlone result (as_look_of words.now) }
+fn reading<'a>(alloc: Global, words: &'a [Text]) -> Result<AloneRequest<'a>, Unasked>
+    ensures { IsAloneAskedBy result words.now (as_reading words.now) }
 {
-    let (journal, out, code) = match words {
-        [journal, out] => (journal, out, None),
-        [journal, out, code] if can_be_code(code.as_bytes()) => (journal, out, Some(code.as_str())),
-        _ => return None,
+    let [verb, rest @ ..] = words else {
+        return Err(Unasked::Usage);
     };
-    let (journal, out) = (journal.as_str(), out.as_str());
-    let look = Look::Export(code);
-    are_two_names(journal, out).then_some(AloneRequest::Read { look, journal, out })
+    behind_reading(alloc, verb.as_str(), rest)
 }
 
 /// What a verb behind `reading` and the words behind it ask for.
-#[tactic(auto, unfolding(crate::specs::Command::behind_reading))]
-fn behind_reading<'a>(verb: &str, rest: &'a [Text]) -> Option<AloneRequest<'a>>
-    ensures { AsksAlone result (behind_reading verb.now rest.now) }
+fn behind_reading<'a>(
+    alloc: Global,
+    verb: &str,
+    rest: &'a [Text],
+) -> Result<AloneRequest<'a>, Unasked>
+    ensures { IsAloneAskedBy result (verb.now ∷ rest.now) (as_reading (verb.now ∷ rest.now)) }
 {
-    match verb {
-        "export" => look_of(rest),
-        "report" => look(Look::Report, rest),
-        "matches" => look(Look::Matches, rest),
-        _ => None,
-    }
-}
-
-fn reading(words: &[Text]) -> Option<AloneRequest<'_>>
-    ensures { AsksAlone result (as_reading words.now) }
-{
-    match words {
-        [verb, rest @ ..] => behind_reading(verb.as_str(), rest),
-        [] => None,
-    }
+    let asked = looking(alloc, verb, rest)?;
+    unheld(asked).ok_or(Unasked::Usage)
 }
 
 fn refused<'a>(alloc: Global, words: &'a [Text]) -> Result<Request<'a>, Unasked>
@@ -501,7 +639,7 @@ fn over_input<'a>(alloc: Global, verb: &str, rest: &'a [Text]) -> Result<Request
     ensures { IsAskedBy result rest.now (over_input verb.now rest.now) }
 {
     match verb {
-        "reading" => alone(reading(rest)),
+        "reading" => Ok(Request::Alone(reading(alloc, rest)?)),
         "refused" => refused(alloc, rest),
         verb => alone(told(verb, rest)),
     }
@@ -512,12 +650,11 @@ fn over_input<'a>(alloc: Global, verb: &str, rest: &'a [Text]) -> Result<Request
 fn over_journal<'a>(alloc: Global, verb: &str, rest: &'a [Text]) -> Result<Request<'a>, Unasked>
     ensures { IsAskedBy result rest.now (over_journal verb.now rest.now) }
 {
+    if is_looking(verb) {
+        return Ok(Request::Alone(looking(alloc, verb, rest)?));
+    }
     match verb {
-        "export" => alone(export(rest)),
-        "report" => alone(report(rest)),
         "verify" => alone(verify(rest)),
-        "matches" => alone(matches(rest)),
-        "holdings" => holdings(alloc, rest),
         "migrate" => alone(migrate(rest)),
         "checkpoint" => alone(checkpoint(rest)),
         "quick" => alone(quick(rest)),

@@ -17,7 +17,6 @@ use Rattle.catalogue_rules.specs.Store.{field_under}
 use Rattle.catalogue_tables.specs.Seam.{AreDistinct, HasKey, KeyLists, place_at, seat_of}
 use Rattle.catalogue_tables.proofs.Seams.{noted_more, seat_alike, seat_back}
 use Rattle.linking_laws.specs.Partway.{IsPartway, IsWhole, is_place_among, same_place}
-use Rattle.field_settling.specs.Held.{held_as}
 use Rattle.field_settling.specs.declared.held.Held.{Held}
 use Rattle.linked_store.specs.Linked.{IsAhead, Linked, ListsSeats, field_of}
 use Rattle.commit_stages.specs.Noted.{AreNoted, NotesChanges, changes_at, is_another, noted_for, noted_with}

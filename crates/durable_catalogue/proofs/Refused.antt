@@ -6,7 +6,6 @@ use Rattle.commit_journal.specs.declared.frame.Frame.{Frame}
 use Rattle.commit_journal.specs.declared.fault.JournalFault.{JournalFault}
 use Rattle.commit_journal.specs.Journal.{IsRecovered, HasOpenCause, LeavesContent, LeavesLog}
 use Rattle.commit_journal.proofs.Logs.{leaves_self}
-use Rattle.durable_catalogue.specs.declared.fault.OpenFault.{OpenFault}
 use Rattle.durable_catalogue.specs.declared.fault.OpenFault.TheVariants.{DeviceFault}
 use Rattle.durable_catalogue.specs.Faults.{open_fault}
 use Rattle.durable_catalogue.specs.Openings.{KeepsContent}

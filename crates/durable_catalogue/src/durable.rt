@@ -21,6 +21,7 @@ ghost use Rattle.durable_catalogue.specs.Lasting.{GoesOn};
 ghost use Rattle.durable_catalogue.specs.News.{IsNewsOf, kept_or_begun, start_of};
 ghost use Rattle.durable_catalogue.specs.Durables.{mark_of, marked, events, is_taken, TookNothing, opening, IsKept, IsLeft, IsLostBy, IsSameOpening};
 
+use crate::effects::{Effects, LoaderEffects};
 use crate::fitting::fitting_part;
 use crate::loading::{Loaded, load};
 use crate::news::{News, add_news, cut_news};
@@ -54,6 +55,8 @@ pub struct Durable<D: Disk> {
     mark: Option<Snapshot<Batch>>,
     // The entries that were committed since news was asked for.
     news: Option<News>,
+    // What the entries of each loader did that were committed since the opening.
+    effects: LoaderEffects,
     // The disk as it was handed over, and as the journal's opening left it.
     before: Snapshot<D>,
     first: Snapshot<Journal<D>>,
@@ -118,6 +121,7 @@ impl<D: Disk> Durable<D> {
                     opened,
                     mark: None,
                     news: None,
+                    effects: LoaderEffects::none(),
                     before,
                     first,
                 })
@@ -149,6 +153,12 @@ impl<D: Disk> Durable<D> {
         ensures unstaged { result.now.staged ≡ [] }
     {
         &self.core
+    }
+
+    /// What the entries of a loader did to the records under their keys that were committed since the opening; nothing of a loader with a
+    /// greater number than 63.
+    pub fn effects(&self, loader: u32) -> Effects {
+        self.effects.of(loader)
     }
 
     /// The history is within the limits. This is a law for proofs; the call only looks at the catalogue.
@@ -214,7 +224,9 @@ impl<D: Disk> Durable<D> {
             return Err(CommitFault::NoMemory);
         };
         let (items, payload) = frame.into_parts();
-        let Ok(receipts) = stage_all::<Brand>(&mut self.core, alloc, items, Blank::new(1)) else {
+        let effects = &mut self.effects;
+        let Ok(receipts) = stage_all::<Brand>(&mut self.core, alloc, items, effects, Blank::new(1))
+        else {
             cut_news(&mut self.news, count);
             return Err(CommitFault::NoMemory);
         };
@@ -222,6 +234,7 @@ impl<D: Disk> Durable<D> {
         match appended {
             Ok(()) => {
                 self.core.keep();
+                self.effects.end_frame();
                 Ok(receipts)
             }
             Err(_) => {

@@ -3,7 +3,9 @@
 
 pub use archive::RecoveredReadOnly;
 pub use durable::Durable;
+pub use effects::Effects;
 pub use fault::{OpenFault, open_fault};
+pub use loading::Building;
 pub use memory::OnClose;
 pub use opening::{find_log, refuse_log, take_log};
 pub use question::{Ask, Told};
@@ -12,6 +14,7 @@ pub use taking::{EntryTaker, Reading, take_frames};
 
 mod archive;
 mod durable;
+mod effects;
 mod fault;
 mod fitting;
 pub mod laws;

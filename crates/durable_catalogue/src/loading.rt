@@ -45,19 +45,20 @@ fn commit_one<L: Ledger>(
     Ok(())
 }
 
-/// A catalogue of the entries so far.
+/// A taker of entries that makes a catalogue of them.
 #[derive(Drop)]
-struct Building<L: Ledger> {
-    // None once they pass the limits: all that come are dropped then.
-    core: Option<Catalogue>,
-    limits: Limits,
+pub struct Building<L: Ledger> {
+    /// The catalogue of the entries that came; none once they pass the limits: all that come are dropped then.
+    pub core: Option<Catalogue>,
+    /// The limits.
+    pub limits: Limits,
     steps: Steps<L>,
     ghost unstaged: { IfSome core (λ core. core.staged ≡ []) } by { Prim.hlevel props },
 }
 
 impl<L: Ledger> Building<L> {
     /// Of no entry.
-    fn new(alloc: Global, limits: Limits, blank: Blank) -> Building<L>
+    pub fn new(alloc: Global, limits: Limits, blank: Blank) -> Building<L>
         requires name { blank.name ≡ L.name }
         requires parts { blank.parts ≡ L.parts }
         requires shared { 0 < blank.parts }

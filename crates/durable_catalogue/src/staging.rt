@@ -4,6 +4,7 @@ ghost use Rattle.entry_record.specs.History.{IsWithin};
 ghost use Rattle.catalogue_rules.specs.Receipts.{receipts_behind};
 ghost use Rattle.durable_catalogue.specs.Staged.{with_all_staged};
 
+use crate::effects::LoaderEffects;
 use catalogue_core::Catalogue;
 use catalogue_rules::Steps;
 use entry_history::Receipts;
@@ -16,6 +17,7 @@ fn stage_each<L: Ledger>(
     core: &mut Catalogue,
     alloc: Global,
     items: Vec<Prepared>,
+    effects: &mut LoaderEffects,
     steps: &mut Steps<L>,
 ) -> Result<Receipts, NoMemory>
     requires within { IsWithin core.old.limits (core.old.history ++ items.items) }
@@ -27,17 +29,19 @@ fn stage_each<L: Ledger>(
 {
     let mut receipts = Vec::with_capacity(alloc, items.len())?;
     for item in items {
+        effects.note(core, &item);
         let receipt = core.stage(alloc, item, steps)?;
         receipts.push(receipt)?;
     }
     Ok(Receipts::from_vec(receipts))
 }
 
-/// Stages all items, which are within the limits behind the history. At want of memory nothing is changed.
+/// Stages all items, which are within the limits behind the history, and counts what they do. At want of memory nothing is changed.
 pub fn stage_all<L: Ledger>(
     core: &mut Catalogue,
     alloc: Global,
     items: Vec<Prepared>,
+    effects: &mut LoaderEffects,
     blank: Blank,
 ) -> Result<Receipts, NoMemory>
     requires name { blank.name ≡ L.name }
@@ -50,7 +54,8 @@ pub fn stage_all<L: Ledger>(
     ensures err { OnErr result (core.new ≡ core.old) }
 {
     let mut steps = Steps::<L>::new(blank);
-    let staged = stage_each(core, alloc, items, &mut steps);
+    effects.begin_frame();
+    let staged = stage_each(core, alloc, items, effects, &mut steps);
     if staged.is_err() {
         core.undo();
     }

@@ -1,5 +1,5 @@
 -- Entries, histories, and what the files of one command add to a history. The rules are this project's own.
-use Rattle.std.specs.Prelude.{◌≡◌, ℕ, ◌+◌, ◌<◌, ◌≤◌, ◌==◌, Bool, ◌||◌, nat_lt, List, ◌++◌, length, map, filter, slice_get, All, true, Some, None}
+use Rattle.std.specs.Prelude.{◌≡◌, ℕ, ◌+◌, ◌<◌, ◌≤◌, ◌==◌, Bool, ◌||◌, nat_lt, List, length, map, filter, slice_get, All, true, Some, None}
 use Rattle.std.specs.List.{sum_by, last_or}
 use Rattle.std.specs.Option.{option_map_or}
 use Rattle.marc_types.specs.Valid.{is_code}

@@ -1,11 +1,9 @@
 -- Every file has a judgement.
 use Rattle.std.proofs.Common.{◌≡◌, ℕ, List, [], ◌∷◌, ◌++◌, Option, None, Some, refl, sym, subst, append_assoc, append-nil}
-use Rattle.marc_types.specs.declared.entry.Entry.{Entry}
 use Rattle.marc_types.specs.declared.refusal.Refusal.{Refusal}
 use Rattle.marc_stream.specs.Pieces.{Item}
-use Rattle.file_entries.specs.Files.{NoPiece, NoEntry, IsJudged, NoItem, Accepts, Refuses, listed}
+use Rattle.file_entries.specs.Files.{NoPiece, NoEntry, NoItem, Accepts, Refuses, listed}
 use Rattle.file_entries.specs.Judgement.{HasJudgement}
-use Rattle.file_entries.specs.declared.refused.RefusedItem.{RefusedItem}
 use Rattle.file_entries.proofs.EveryPiece.{EntryOr, AnEntry, NotMade, entry_or_refusal}
 
 -- one more item has a judgement

@@ -1,5 +1,5 @@
 -- A piece of a file makes an entry, or is refused.
-use Rattle.std.proofs.Common.{◌≡◌, ◌∙◌, ℕ, zero, suc, ◌+◌, ◌*◌, ◌≤◌, ◌<◌, Bool, true, false, List, [], ◌∷◌, ◌++◌, length, take, drop, get_or, Option, Some, None, refl, sym, ap, subst, arith, ◌⊎◌, inl, inr, leb, add-one}
+use Rattle.std.proofs.Common.{◌≡◌, ℕ, zero, suc, ◌+◌, ◌*◌, ◌≤◌, ◌<◌, Bool, true, false, List, [], ◌∷◌, ◌++◌, length, take, drop, get_or, Option, Some, None, refl, sym, subst, arith, ◌⊎◌, inl, inr, leb, add-one}
 use Rattle.std.proofs.lemmas.Bool.Decides.{leb_tells}
 use Rattle.std.specs.Bool.{MatchBool}
 use Rattle.marc_types.specs.Valid.{is_control_tag, field_size}
@@ -13,7 +13,7 @@ use Rattle.marc_types.specs.declared.refusal.RecordFault.TheVariants.{Refused}
 use Rattle.iso2709_record.specs.First.{AllGood, IsFirstBad}
 use Rattle.iso2709_record.specs.Layout.{entry_count, tag_at, data_at, length_at}
 use Rattle.iso2709_record.specs.Raw.{leader_at, coding_at}
-use Rattle.iso2709_record.specs.Faults.{has_bad_length, has_bad_leader, is_ragged, is_good_entry, is_good_field, IsBadDirectory, HasWholeEntries, HasDirectory, IsSound}
+use Rattle.iso2709_record.specs.Faults.{has_bad_length, has_bad_leader, is_ragged, is_good_entry, is_good_field, HasWholeEntries, HasDirectory, IsSound}
 use Rattle.iso2709_record.proofs.Sound.{sound_area, sound_leader, sound_tag, sound_unended, length_data}
 use Rattle.entry_record.specs.Admission.{admission_refusal}
 use Rattle.entry_record.specs.Prepared.{new_entry}

@@ -2,8 +2,7 @@
 use Rattle.std.proofs.Common.{◌≡◌, ◌∙◌, ℕ, true, false, List, [], ◌∷◌, ◌++◌, append_assoc, append-nil, refl, sym, ap, subst, arith}
 use Rattle.marc_types.specs.declared.entry.Entry.{Entry}
 use Rattle.marc_stream.specs.Pieces.{Item}
-use Rattle.marc_stream.specs.Stream.{Answers}
-use Rattle.file_entries.specs.Files.{IsEntryOf, IsRefusedItem, IsJudged, NoItem, Accepts, Refuses, listed}
+use Rattle.file_entries.specs.Files.{IsEntryOf, IsRefusedItem, IsJudged, NoItem, Accepts, Refuses}
 use Rattle.file_entries.specs.Entries.{FileView, IsSameFile, GivesEntry, GivesRefused, IsEnd, IsAnswered}
 use Rattle.file_entries.specs.declared.refused.RefusedItem.{RefusedItem}
 

@@ -24,12 +24,11 @@ use Rattle.console_lines.specs.declared.fault.Fault.{Fault}
 use Rattle.console_lines.specs.declared.fault.Fault.TheVariants.{Usage, Input, Device, NotAJournal, Full, Memory, OldVersion, OtherHistory}
 use Rattle.console_lines.proofs.Ends.{told_once, told_not_unwritten, never_told, unwritten_once, result_untold, result_no_output, result_no_pages, result_cause}
 use Rattle.journal_files.specs.Journals.{journal_limits, log_bytes, IsClosedDisk, KeepsHistory, KeepsLog, IsDurable}
-use Rattle.journal_files.specs.Faults.{fault_of_opening}
+use Rattle.journal_files.specs.Faults.{fault_of_opening, WhyUnopened}
 use Rattle.journal_files.proofs.Faults.{opening_device, opening_input}
 use Rattle.journal_files.proofs.Journals.{closed_keeps, closed_durable, keeps_where}
 use Rattle.output_files.specs.Kept.{kept_keys}
-use Rattle.archive_commands.specs.Archives.{WhyUnopened}
-use Rattle.archive_commands.proofs.Histories.{due_once, fitting_history}
+use Rattle.journal_files.proofs.Histories.{due_once, fitting_history}
 use Rattle.holdings.specs.declared.holding.Holding.{Holding}
 use Rattle.holdings.specs.Shelves.{shelf_of}
 use Rattle.file_holdings.specs.declared.refused.RefusedHolding.{RefusedHolding}
@@ -41,6 +40,7 @@ use Rattle.output_files.specs.Outputs.{AreWritten, AreStopped, AtFirst, AtSecond
 use Rattle.holdings_command.specs.Attaching.{rest_unwritten, EndsAttaching, Due, due_of, IsDelivered, OutFailed, RestFailed, ConsoleFailed, Whole, IsAttached, AttachesHoldings}
 use Rattle.holdings_command.specs.declared.ready.Ready.{Ready}
 use Rattle.holdings_command.proofs.OnShelves.{there_more}
+use Rattle.holdings_command.proofs.Delivering.{Delivers, attached_of_any, delivers_stopped, delivers_told}
 
 -- an opening's fault is one of this command
 ends_unopened : (reason : OpenFault) → reason ≢ opening.OldVersion → EndsAttaching (Told (fault_of_opening reason))
@@ -79,50 +79,6 @@ ends_delivered (NotWritten Side) untold no_pages = tt
 ends_delivered (NotWritten Pages) untold no_pages = absurd (no_pages refl)
 ends_delivered (NotWritten Console) untold no_pages = tt
 ends_delivered (Told why) untold no_pages = absurd untold
-
--- what is due of one history of a log is due of any other
-module _ (library : Library) (code : Option (List ℕ)) (bytes : List ℕ) (out rest : List ℕ) (o : Outcome) (entries others : List Entry) (log : List ℕ)
-    (has : HasHistory entries log) (also : HasHistory others log) where
-  same_due : (accepted : List Holding) (refused : List RefusedHolding)
-      → due_of library.file code (state_of others) accepted refused ≡ due_of library.file code (state_of entries) accepted refused
-  same_due accepted refused =
-      let p = due_once (λ es. holdings_export (kept_keys code) (state_of es) (shelf_of accepted)) others entries log also has in
-      let q = due_once (λ es. holdings_rest (state_of es) (shelf_of accepted)) others entries log also has in
-      let t = due_once (λ es. holdings_results library.file (state_of es) accepted refused) others entries log also has in
-      λ i. record { out = p i; rest = q i; text = t i; refused = nat_lt 0 (length refused) }
-
-  attached_of_any : IsAttached library code bytes (state_of others) out rest o → IsAttached library code bytes (state_of entries) out rest o
-  attached_of_any is = record {
-    accepted = is.accepted;
-    refused = is.refused;
-    judged = is.judged;
-    delivered = subst (λ due. IsDelivered due out rest o) (same_due is.accepted is.refused) is.delivered;
-  }
-
--- what is due of a file that is ready
-module _ (library : Library) (code : Option (List ℕ)) (bytes : List ℕ) (s : State) (ready : Ready) (out rest : List ℕ) (o : Outcome) where
-  abbrev pub ready_due : Due
-  ready_due = record {
-    out = holdings_export (kept_keys code) s ready.shelf;
-    rest = holdings_rest s ready.shelf;
-    text = string_bytes ready.text;
-    refused = ready.refused;
-  }
-
-  attached_ready : IsDelivered ready_due out rest o → IsReady library bytes s ready → IsAttached library code bytes s out rest o
-  attached_ready delivered is =
-      let same : ready_due ≡ due_of library.file code s is.accepted is.refused = λ i. record {
-        out = holdings_export (kept_keys code) s (is.shelf_is i);
-        rest = holdings_rest s (is.shelf_is i);
-        text = is.text_is i;
-        refused = is.refused_is i;
-      } in
-      record {
-        accepted = is.accepted;
-        refused = is.refused;
-        judged = is.judged;
-        delivered = subst (λ due. IsDelivered due out rest o) same delivered;
-      }
 
 module _ (journal out rest : List ℕ) (library : Library) (code : Option (List ℕ)) (o : Outcome) where
   -- the journal was not opened
@@ -205,76 +161,27 @@ module _ (journal out rest : List ℕ) (library : Library) (code : Option (List 
         told_not_stopped (inr also) = told_not_unwritten o.end why Side is also
 
     -- what is due was delivered, as far as it could be
-    pub attaches : TellsNoFault o.end → o.end ≢ pages_unwritten → (o.end ≡ out_unwritten → SameBut o.old o.new (journal ∷ out ∷ [])) → ((o.end ≡ out_unwritten) ⊎ (o.end ≡ rest_unwritten) → IsSilent o)
-        → (o.end ≡ out_unwritten → Rose (o.old.out_faults out) (o.new.out_faults out))
-        → (o.end ≡ rest_unwritten → Rose (o.old.out_faults rest) (o.new.out_faults rest))
-        → (o.end ≡ console_unwritten → Rose o.faults o.faults_now) → (ready : Ready)
-        → (o.old.tells ≡ true → IsSomeAnd (o.old.file library.file) (λ bytes. IsReady library bytes (state_of history) ready))
-        → ((bytes : List ℕ) → o.old.tells ≡ true → IsDelivered (ready_due library code bytes (state_of history) ready out rest o) out rest o)
-        → AttachesHoldings journal out rest library code o
-    attaches untold no_pages no_rest silent out_cause rest_cause console_cause ready is delivered = record {
-      ends = ends_delivered o.end untold no_pages;
+    attaches : Delivers (journal ∷ out ∷ []) out rest library code (state_of history) o → AttachesHoldings journal out rest library code o
+    attaches d = record {
+      ends = ends_delivered o.end d.untold d.no_pages;
       keeps = r.keeps (o.end ≡ Told Device);
-      told = λ why also. absurd (never_told o.end why untold also);
-      because = λ why also. absurd (never_told o.end why untold also);
-      no_rest = no_rest;
-      silent = silent;
-      device = λ also. absurd (never_told o.end Device untold also);
-      input = λ also. absurd (never_told o.end Input untold also);
-      out_cause = out_cause;
-      rest_cause = rest_cause;
-      console_cause = console_cause;
+      told = λ why also. absurd (never_told o.end why d.untold also);
+      because = λ why also. absurd (never_told o.end why d.untold also);
+      no_rest = d.no_rest;
+      silent = d.silent;
+      device = λ also. absurd (never_told o.end Device d.untold also);
+      input = λ also. absurd (never_told o.end Input d.untold also);
+      out_cause = d.out_cause;
+      rest_cause = d.rest_cause;
+      console_cause = d.console_cause;
       history = λ behind tells. fitting_history history (log_bytes o.old journal) (r.has tells) r.within;
       durable = λ behind tells. r.durable tells;
       delivers = λ entries still tells has. there_more (o.old.file library.file)
-          (λ bytes ready_is. attached_of_any library code bytes out rest o entries history (log_bytes o.old journal) has (r.has tells)
-          (attached_ready library code bytes (state_of history) ready out rest o (delivered bytes tells) ready_is)) (is tells);
+          (λ bytes is. attached_of_any library code bytes out rest o entries history (log_bytes o.old journal) has (r.has tells) is) (d.attached tells);
     }
 
     module _ (ready : Ready)
         (is : o.old.tells ≡ true → IsSomeAnd (o.old.file library.file) (λ bytes. IsReady library bytes (state_of history) ready)) where
-      -- an output could not be written
-      attaches_stopped : (which : Unwritten) → journal ≢ rest → out ≢ rest → o.end ≡ NotWritten which → IsSilent o
-          → AreStopped (journal ∷ out ∷ []) out rest (holdings_export (kept_keys code) (state_of history) ready.shelf) (holdings_rest (state_of history) ready.shelf) o.old o.new which
-          → AttachesHoldings journal out rest library code o
-      attaches_stopped which no_journal no_out end silent (AtFirst first up left alone) =
-          let here : o.end ≡ out_unwritten = end ∙ ap NotWritten first in
-          let untouched : o.new.file rest ≡ o.old.file rest = alone.files rest ((λ e. no_journal (sym e)), ((λ e. no_out (sym e)), tt)) in
-          attaches (subst TellsNoFault (sym end) tt) (λ also. let no : Out ≡ Pages = unwritten_once o.end Out Pages here also in cc)
-          (λ also. alone) (λ either. silent) (λ also. up)
-          (λ also. let no : Out ≡ Side = unwritten_once o.end Out Side here also in cc)
-          (λ also. let no : Out ≡ Console = unwritten_once o.end Out Console here also in cc) ready is
-          (λ bytes tells. OutFailed here (left tells) untouched silent)
-      attaches_stopped which no_journal no_out end silent (AtSecond second up whole left) =
-          let here : o.end ≡ rest_unwritten = end ∙ ap NotWritten second in
-          attaches (subst TellsNoFault (sym end) tt) (λ also. let no : Side ≡ Pages = unwritten_once o.end Side Pages here also in cc)
-          (λ also. let no : Side ≡ Out = unwritten_once o.end Side Out here also in cc) (λ either. silent)
-          (λ also. let no : Side ≡ Out = unwritten_once o.end Side Out here also in cc) (λ also. up)
-          (λ also. let no : Side ≡ Console = unwritten_once o.end Side Console here also in cc) ready is
-          (λ bytes tells. RestFailed here (whole tells) (left tells) silent)
-
-      -- both were written, and the console was told the text or a front of it
-      attaches_told : (o.old.tells ≡ true
-          → AreWritten out rest (holdings_export (kept_keys code) (state_of history) ready.shelf) (holdings_rest (state_of history) ready.shelf) o.new)
-          → IsResultTold o.told o.now o.faults o.faults_now (string_bytes ready.text) ready.refused o.end → AttachesHoldings journal out rest library code o
-      attaches_told written told =
-          attaches (result_untold told) (result_no_pages told) (λ also. absurd (no_output.0 also)) (λ either. absurd (no_other either))
-          (λ also. absurd (no_output.0 also)) (λ also. absurd (no_output.1 also)) (result_cause told) ready is (λ bytes tells. delivered bytes (written tells) told)
-        where
-          no_output : (o.end ≢ out_unwritten) × (o.end ≢ rest_unwritten)
-          no_output = result_no_output told
-
-          no_other : (o.end ≡ out_unwritten) ⊎ (o.end ≡ rest_unwritten) → ⊥
-          no_other (inl also) = no_output.0 also
-          no_other (inr also) = no_output.1 also
-
-          delivered : (bytes : List ℕ)
-              → AreWritten out rest (holdings_export (kept_keys code) (state_of history) ready.shelf) (holdings_rest (state_of history) ready.shelf) o.new
-              → IsResultTold o.told o.now o.faults o.faults_now (string_bytes ready.text) ready.refused o.end
-              → IsDelivered (ready_due library code bytes (state_of history) ready out rest o) out rest o
-          delivered bytes are (ResultTold end line) = Whole end are.whole are.side_whole line
-          delivered bytes are (ResultUntold end up front) = ConsoleFailed end are.whole are.side_whole front
-
       -- the outputs were written or not, and the console told
       pub attaches_ended : {T : Type 0} → (written : Result T OutputsFault) → journal ≢ rest → out ≢ rest
           → OnOk written (o.old.tells ≡ true
@@ -285,8 +192,10 @@ module _ (journal out rest : List ℕ) (library : Library) (code : Option (List 
           → OnOk written (IsResultTold o.told o.now o.faults o.faults_now (string_bytes ready.text) ready.refused o.end)
           → ((which : Unwritten) → written ≡ Err (NotBoth which) → o.end ≡ NotWritten which) → ((which : Unwritten) → written ≡ Err (NotBoth which) → IsSilent o)
           → (written ≡ Err RanOut → o.end ≡ Told Memory) → (written ≡ Err RanOut → IsTold Memory o) → AttachesHoldings journal out rest library code o
-      attaches_ended (Ok value) no_journal no_out are stopped unbegun told unwritten silent memory tells = attaches_told are told
+      attaches_ended (Ok value) no_journal no_out are stopped unbegun told unwritten silent memory tells =
+          attaches (delivers_told (journal ∷ out ∷ []) out rest library code (state_of history) o ready is are told)
       attaches_ended (Err (NotBoth which)) no_journal no_out are stopped unbegun told unwritten silent memory tells =
-          attaches_stopped which no_journal no_out (unwritten which refl) (silent which refl) (stopped which refl)
+          attaches (delivers_stopped (journal ∷ out ∷ []) out rest library code (state_of history) o ready is which
+          ((λ e. no_journal (sym e)), ((λ e. no_out (sym e)), tt)) (unwritten which refl) (silent which refl) (stopped which refl))
       attaches_ended (Err RanOut) no_journal no_out are stopped unbegun told unwritten silent memory tells =
           attaches_unread Memory tt (memory refl) (tells refl) (unbegun refl) (λ input. cc)

@@ -1,4 +1,5 @@
 pub mod Rooms
 pub mod OnShelves
 pub mod Counting
+pub mod Delivering
 pub mod Endings

@@ -1,41 +1,12 @@
 -- What the steps of the command leave of the room.
-use Rattle.std.proofs.Common.{◌≡◌, ◌≢◌, ◌∙◌, ◌⊎◌, inl, inr, ℕ, Bool, true, false, true≢false, List, ◌∷◌, [], refl, sym, subst, Some, None, arith}
-use Rattle.std.specs.Str.{bytes_eq}
+use Rattle.std.proofs.Common.{◌≡◌, ◌≢◌, ◌∙◌, ℕ, true, List, ◌∷◌, [], sym, subst, Some, None, arith}
 use Rattle.std.specs.Prelude.{IsSomeAnd}
-use Rattle.marc_types.specs.Order.{text_Decides}
 use Rattle.outside.specs.Fault.{Rose}
 use Rattle.outside.specs.Room.{RoomView, SameBut}
 use Rattle.outside.proofs.Rooms.{same_but_first, same_but_more, same_but_none, same_but_then}
 use Rattle.output_files.specs.Outputs.{IsOutputLeft, AreWritten, AreStopped, AtFirst, AtSecond}
 use Rattle.output_files.proofs.Parts.{left_since, left_until}
 use Rattle.console_lines.specs.declared.end.Unwritten.{Unwritten}
-
-same_or_not : (a b : List ℕ) → (a ≡ b) ⊎ (a ≢ b)
-same_or_not a b = let same = text_Decides a b in decided (bytes_eq a b) same.0 same.1
-  where
-    decided : (is_same : Bool) → (is_same ≡ true → a ≡ b) → (a ≡ b → is_same ≡ true) → (a ≡ b) ⊎ (a ≢ b)
-    decided true is back = inl (is refl)
-    decided false is back = inr (λ e. absurd (true≢false (sym (back e))))
-
--- where no name was open, and three names alone were used and closed again, no name is open
-pub closed_three : (old new : RoomView) (a b c : List ℕ) → SameBut old new (a ∷ b ∷ c ∷ []) → new.open_as a ≡ None → new.open_as b ≡ None
-    → new.open_as c ≡ None → ((name : List ℕ) → old.open_as name ≡ None) → (name : List ℕ) → new.open_as name ≡ None
-closed_three old new a b c apart at_a at_b at_c free name = decided (same_or_not name a) (same_or_not name b) (same_or_not name c)
-  where
-    decided : (name ≡ a) ⊎ (name ≢ a) → (name ≡ b) ⊎ (name ≢ b) → (name ≡ c) ⊎ (name ≢ c) → new.open_as name ≡ None
-    decided (inl is) second third = subst (λ n. new.open_as n ≡ None) (sym is) at_a
-    decided (inr no_a) (inl is) third = subst (λ n. new.open_as n ≡ None) (sym is) at_b
-    decided (inr no_a) (inr no_b) (inl is) = subst (λ n. new.open_as n ≡ None) (sym is) at_c
-    decided (inr no_a) (inr no_b) (inr no_c) = apart.open_names name (no_a, (no_b, (no_c, tt))) ∙ free name
-
--- the same where one alone was
-pub closed_one : (old new : RoomView) (a : List ℕ) → SameBut old new (a ∷ []) → new.open_as a ≡ None
-    → ((name : List ℕ) → old.open_as name ≡ None) → (name : List ℕ) → new.open_as name ≡ None
-closed_one old new a apart at_a free name = decided (same_or_not name a)
-  where
-    decided : (name ≡ a) ⊎ (name ≢ a) → new.open_as name ≡ None
-    decided (inl is) = subst (λ n. new.open_as n ≡ None) (sym is) at_a
-    decided (inr other) = apart.open_names name (other, tt) ∙ free name
 
 -- the journal was opened and closed again, and nothing else changed
 pub opened_alone : (old opened read new : RoomView) (journal : List ℕ) → SameBut old opened (journal ∷ []) → SameBut opened read []

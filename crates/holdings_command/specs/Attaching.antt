@@ -16,10 +16,10 @@ use Rattle.console_lines.specs.declared.end.End.TheVariants.{Done, Refused, Unwr
 use Rattle.console_lines.specs.declared.end.Unwritten.TheVariants.{Out, Side, Pages, Console}
 use Rattle.console_lines.specs.declared.fault.Fault.{Fault}
 use Rattle.console_lines.specs.declared.fault.Fault.TheVariants.{Usage, Input, Device, NotAJournal, Full, Memory, OldVersion, OtherHistory}
-use Rattle.journal_files.specs.Journals.{log_bytes, KeepsHistory, IsDurable}
+use Rattle.journal_files.specs.Journals.{log_bytes, KeepsHistory, IsDurable, HasFittingHistory}
 use Rattle.output_files.specs.Kept.{kept_keys}
 use Rattle.output_files.specs.Outputs.{IsOutputLeft}
-use Rattle.archive_commands.specs.Archives.{WhyUnopened, HasFittingHistory}
+use Rattle.journal_files.specs.Faults.{WhyUnopened}
 use Rattle.holdings.specs.declared.holding.Holding.{Holding}
 use Rattle.holdings.specs.Shelves.{shelf_of}
 use Rattle.file_holdings.specs.Files.{AreHoldings}

@@ -2,6 +2,8 @@
 #![tactic(auto)]
 
 pub use command::attach_holdings;
+pub use ready::{Ready, prepare};
+pub use writing::write_both;
 
 mod command;
 mod lines;

@@ -7,7 +7,7 @@ use Rattle.marc_types.specs.declared.key.Key.{Key}
 use Rattle.numbered_store.specs.declared.kept.StoredRecord.{StoredRecord}
 use Rattle.catalogue_rules.specs.State.{Row, State}
 use Rattle.catalogue_rules.specs.Output.{export_of_rows, written_row}
-use Rattle.holdings.specs.Shelves.{ShelfRow, written_holding, holdings_of}
+use Rattle.holdings.specs.Shelves.{ShelfRow, written_holding}
 use Rattle.holdings_export.specs.Output.{with_holdings, rows_with_holdings, is_attached, is_waiting, attached_holdings, waiting_holdings}
 use Rattle.numbered_store.specs.Kept.{kept_record}
 

@@ -1,5 +1,5 @@
 -- A journal as it is opened and closed again.
-use Rattle.std.proofs.Common.{◌≡◌, ◌⊎◌, inl, inr, ⊎_elim, ◌∙◌, ℕ, ◌<◌, ◌≤◌, max, Bool, true, false, List, length, Option, Some, None, is_some, refl, sym, ap, subst, arith, [], ◌∷◌}
+use Rattle.std.proofs.Common.{◌≡◌, ◌⊎◌, inl, inr, ⊎_elim, ◌∙◌, ℕ, ◌<◌, ◌≤◌, max, Bool, true, false, List, length, Option, Some, None, is_some, refl, sym, ap, subst, arith, []}
 use Rattle.std.proofs.Math.Logic.{∥∥₁_map}
 use Rattle.marc_types.specs.declared.entry.Entry.{Entry}
 use Rattle.outside.specs.Disk.{DiskView, SameDisk, Unchanged, OnlyContent}
@@ -11,7 +11,7 @@ use Rattle.commit_journal.specs.Journal.{IsDurableLog, EndsAt, LeavesLog}
 use Rattle.commit_journal.specs.Log.{version_of}
 use Rattle.durable_catalogue.specs.Logs.{HasHistory}
 use Rattle.durable_catalogue.specs.Opened.{IsOpenedDisk, IsRefusedDisk}
-use Rattle.durable_catalogue.specs.Openings.{IsOpening, IsUnopened, KeepsContent}
+use Rattle.durable_catalogue.specs.Openings.{IsOpening, KeepsContent}
 use Rattle.durable_catalogue.specs.Refused.{LeavesAlone, LeavesDiskAlone, LeavesSettled}
 use Rattle.durable_catalogue.specs.declared.fault.OpenFault.{OpenFault}
 use Rattle.durable_catalogue.specs.declared.fault.OpenFault.TheVariants.{DeviceFault}

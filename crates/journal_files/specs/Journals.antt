@@ -10,7 +10,7 @@ use Rattle.commit_journal.specs.declared.format.TheConstants.{BLANK_LENGTH}
 use Rattle.commit_journal.specs.Log.{walk_of, version_of}
 use Rattle.commit_journal.specs.Journal.{EndsAt, LeavesLog, in_order}
 use Rattle.entry_record.specs.History.{next_run, IsWithin}
-use Rattle.durable_catalogue.specs.Logs.{HasHistory}
+use Rattle.durable_catalogue.specs.Logs.{HasHistory, IsLogOf}
 use Rattle.durable_catalogue.specs.Images.{HoldsEntries, framed_lengths}
 use Rattle.durable_catalogue.specs.declared.fault.OpenFault.{OpenFault}
 use Rattle.durable_catalogue.specs.declared.fault.OpenFault.TheVariants.{DeviceFault}
@@ -26,6 +26,10 @@ journal_limits = greatest_limits
 -- the bytes of the log of that name, none where there is no such file
 abbrev pub log_bytes : RoomView → List ℕ → List ℕ
 log_bytes room name = bytes_or_none (room.file name)
+
+-- the log has a history, and it is within the limits
+abbrev pub HasFittingHistory : List ℕ → Type 0
+HasFittingHistory log = ∥ ((entries : List Entry) × IsLogOf entries log × IsWithin journal_limits entries) ∥₁
 
 -- A catalogue of these entries was opened over the log of that name in a room. Its opening left the log no longer than it was, or than a
 -- blank one; its time begins with the log's; and it synced, where the log tells its moments.

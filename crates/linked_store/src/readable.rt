@@ -1,11 +1,13 @@
 //! A linked store for those who read all of it: their looks count no step, and so no commit gets them.
 ghost use Rattle.std.specs.Prelude.{◌≡◌, ◌<◌, ◌^◌, true, length, map, IfOk, IsSome, Some, None, if◌then◌else◌};
 ghost use Rattle.std.specs.Borrow.{Lends, sem};
+ghost use Rattle.std.specs.List.{list_any};
 ghost use Rattle.std.specs.Option.{option_map};
 ghost use Rattle.marc_types.specs.declared.key.Class.{Class as AnyClass};
 ghost use Rattle.marc_types.specs.declared.key.Key.{Key as AnyKey};
 ghost use Rattle.marc_types.specs.Order.{same_key};
 ghost use Rattle.numbering.specs.Numbers.{is_known, number_of};
+ghost use Rattle.catalogue_rules.specs.Choice.{is_established};
 ghost use Rattle.catalogue_rules.specs.Receipt.{kept_under};
 ghost use Rattle.catalogue_rules.specs.State.{kept_field, linkable_authorities, rows_of};
 ghost use Rattle.catalogue_rules.specs.Store.{field_at};
@@ -20,7 +22,7 @@ ghost use Rattle.linked_store.specs.contracts.store.LinkedStore as changed;
 
 use crate::store::LinkedStore;
 use catalogue_tables::Standing;
-use marc_types::{Class, Field, Key, NoMemory, Tie};
+use marc_types::{Class, Field, Form, Key, NoMemory, Tie};
 use numbered_store::{RowMap, StoredRecord};
 use std::alloc::Global;
 use std::marker::Model;
@@ -164,5 +166,12 @@ impl ReadableStore {
         ensures { IfOk result (λ found. shown_keys found.items ≡ keys_crossing key.now (linkable_authorities self.now.state)) }
     {
         self.linked.crossing(alloc, key)
+    }
+    /// Whether an authority that fields can be linked to has the form as its heading.
+    pub fn is_established(&self, form: &Form) -> bool
+        requires { AreAuthoritiesInOrder self.now.state }
+        ensures { result ≡ list_any (is_established form.now) (linkable_authorities self.now.state) }
+    {
+        self.linked.is_established(form)
     }
 }

@@ -1,5 +1,7 @@
 //! How fields and authorities stand to each other, for those who only read: `ReadableStore` hands it on.
 ghost use Rattle.std.specs.Prelude.{◌≡◌, IfOk, IsSome, option_map};
+ghost use Rattle.std.specs.List.{list_any};
+ghost use Rattle.catalogue_rules.specs.Choice.{is_established};
 ghost use Rattle.catalogue_rules.specs.State.{kept_field, linkable_authorities};
 ghost use Rattle.catalogue_rules.specs.Store.{field_at};
 ghost use Rattle.numbered_store.specs.Kept.{kept_record};
@@ -10,7 +12,7 @@ ghost use Rattle.linking_laws.specs.Middle.{AreAuthoritiesInOrder};
 use crate::held::{RowHeld, row_held_in};
 use crate::store::LinkedStore;
 use catalogue_tables::Standing;
-use marc_types::{Class, Field, Key, NoMemory, Tie};
+use marc_types::{Class, Field, Form, Key, NoMemory, Tie};
 use numbered_store::StoredRecord;
 use std::alloc::Global;
 
@@ -114,5 +116,12 @@ impl LinkedStore {
     {
         let keys = self.transaction.store.keys(Class::Authority);
         self.transaction.tables.crossing(alloc, keys, key)
+    }
+    /// Whether an authority has the form as its heading. It visits no record.
+    pub(crate) fn is_established(&self, form: &Form) -> bool
+        requires { AreAuthoritiesInOrder self.now.state }
+        ensures { result ≡ list_any (is_established form.now) (linkable_authorities self.now.state) }
+    {
+        self.transaction.tables.is_established(form)
     }
 }

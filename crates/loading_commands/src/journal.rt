@@ -13,7 +13,7 @@ use crate::inputs::{close_inputs, open_inputs};
 use catalogue_core::Catalogue;
 use command_words::{Libraries, Library, LoadRequest};
 use console_lines::Fault;
-use durable_catalogue::Durable;
+use durable_catalogue::{Durable, Effects};
 use heading_rows::HeadingTaker;
 use journal_files::{close_journal, fault_of_opening, open_journal};
 use loader_workers::{Followed, InputFiles, Pager, Results, load_files, load_files_followed};
@@ -64,6 +64,27 @@ impl<'a, R: Room> Loading<'a, R> {
         ensures unstaged { result.now.staged ≡ [] }
     {
         self.durable.core()
+    }
+}
+
+impl<'a, R: Room> Loaded<'a, R> {
+    /// The libraries of the files, in their order.
+    pub fn libraries(&self) -> &Libraries
+        ensures { result.now ≡ self.now.asked.libraries }
+    {
+        &self.asked.libraries
+    }
+
+    /// What became of the files, in their order, or that there was no memory to begin them.
+    pub fn results(&self) -> &Result<Results, NoMemory>
+        ensures { result.now ≡ self.now.results }
+    {
+        &self.results
+    }
+
+    /// What the entries of the file at a place, counted from 0, did to the records under their keys.
+    pub fn effects(&self, place: u32) -> Effects {
+        self.durable.effects(place)
     }
 }
 

@@ -1,5 +1,5 @@
 -- What the tests of numbers say of their characters.
-use Rattle.std.proofs.Common.{◌≡◌, ℕ, ◌%◌, ◌==◌, Bool, true, ◌&&◌, List, ◌∷◌, [], length, take, slice_index, ap}
+use Rattle.std.proofs.Common.{◌≡◌, ℕ, ◌%◌, ◌==◌, true, ◌&&◌, List, ◌∷◌, [], length, take, slice_index, ap}
 use Rattle.std.specs.List.{list_all}
 use Rattle.std.proofs.lemmas.Bool.{and_parts}
 use Rattle.std.specs.Cmp.{unsigned_Decides}

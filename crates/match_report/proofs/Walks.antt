@@ -1,6 +1,6 @@
 -- One walk over postings finds the groups of two or more.
-use Rattle.std.proofs.Common.{◌≡◌, ◌∙◌, ℕ, Bool, true, false, cond, List, [], ◌∷◌, ◌++◌, refl, sym, ap, append_assoc, if◌then◌else◌}
-use Rattle.std.specs.Prelude.{filter, bytes_eq, ◌&&◌, ◌==◌}
+use Rattle.std.proofs.Common.{◌≡◌, ◌∙◌, Bool, true, false, cond, List, [], ◌∷◌, ◌++◌, refl, sym, ap, append_assoc, if◌then◌else◌}
+use Rattle.std.specs.Prelude.{filter}
 use Rattle.marc_types.specs.Order.{text_Decides}
 use Rattle.match_report.specs.Postings.{Posting}
 use Rattle.match_report.specs.Groups.{NumberGroup, number_group, same_number, joined, groups_of, is_match}

@@ -1,4 +1,4 @@
-ghost use Rattle.std.specs.Prelude.{◌≡◌, ℕ, ◌+◌, ◌-◌, ◌<◌, ◌≤◌, List, length, take, drop, max, Some, IsOk, IfOk, IfSome, OnOk, OnErr, IsErr, ◌↔◌};
+ghost use Rattle.std.specs.Prelude.{◌≡◌, ℕ, ◌+◌, ◌-◌, ◌<◌, ◌≤◌, List, length, take, drop, max, Some, None, IsOk, IfOk, IfSome, OnOk, OnErr, IsErr, ◌↔◌};
 ghost use Rattle.std.specs.Option.{option_map};
 ghost use Rattle.outside.specs.Disk.{longest_disk, longest_write, patch, Torn, TornCut, Follows, ContentFollows, NoNewImage, Elapses, SameSyncs, SyncsNow, OnlyContent, Unchanged};
 ghost use Rattle.outside.specs.Fault.{HasCause};
@@ -33,6 +33,7 @@ impl ByteDisk {
     pub fn new(alloc: Global, bytes: Vec<u8>) -> Option<Self>
         ensures bytes { IfSome result (λ disk. disk.bytes.items ≡ bytes.items) }
         ensures fresh { IfSome result (λ disk. disk.faults ≡ 0) }
+        ensures none { result ≡ None → longest_disk < length bytes.items }
     {
         if bytes.len() as u64 > LONGEST_DISK {
             return None;

@@ -29,7 +29,7 @@ use Rattle.migrate_command.specs.declared.fault.MigrateFault.TheVariants.{Device
 use Rattle.durable_catalogue.specs.Faults.{open_fault}
 use Rattle.durable_catalogue.specs.declared.fault.OpenFault.TheVariants as opening
 use Rattle.migrate_command.specs.Faults.{migrate_fault}
-use Rattle.migrate_command.specs.Migrations.{IsFit, IsUnfit, LeavesRefused, IsUnmigrated, IsBrought, IsMigration, IsAmid, Before}
+use Rattle.migrate_command.specs.Migrations.{IsFit, LeavesRefused, IsUnmigrated, IsBrought, IsMigration, IsAmid, Before}
 use Rattle.migrate_command.specs.Fronts.{HoldsFront, HoldNoFront, FindsFront, MayGain, Extends, Brings, BringsRest, HasBrought}
 use Rattle.migrate_command.proofs.Amid.{amid_where}
 use Rattle.migrate_command.proofs.Fronts.{front_is, may_gain}

@@ -19,12 +19,10 @@ use Rattle.console_lines.specs.declared.fault.Fault.{Fault}
 use Rattle.console_lines.specs.declared.fault.Fault.TheVariants.{Device, OldVersion}
 use Rattle.journal_files.specs.Faults.{fault_of_opening}
 use Rattle.journal_files.specs.Journals as journals
-use Rattle.journal_files.specs.Journals.{journal_limits, log_bytes, IsClosedDisk, KeepsHistory, KeepsLog}
+use Rattle.journal_files.specs.Journals.{journal_limits, log_bytes, IsClosedDisk, KeepsHistory, KeepsLog, HasFittingHistory}
 use Rattle.journal_files.proofs.Faults.{opening_device}
-use Rattle.journal_files.proofs.Histories.{reading_once}
+use Rattle.journal_files.proofs.Histories.{reading_once, fitting_history}
 use Rattle.journal_files.proofs.Journals.{closed_keeps, keeps_where, unopened_keeps}
-use Rattle.archive_commands.specs.Archives.{HasFittingHistory}
-use Rattle.archive_commands.proofs.Histories.{fitting_history}
 use Rattle.migrate_command.specs.Migrations.{IsFit, IsUnfit, IsUnmigrated, IsBrought}
 use Rattle.migrate_command.specs.Bringing as bringing
 use Rattle.migrate_command.specs.Bringing.{IsBroughtInto, IsUnbrought, Refused, IsDeviceFaultOf, IsBroughtOver}

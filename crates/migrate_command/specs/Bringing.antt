@@ -7,8 +7,7 @@ use Rattle.commit_journal.specs.Log.{version_of}
 use Rattle.durable_catalogue.specs.Logs.{HasHistory}
 use Rattle.console_lines.specs.declared.fault.Fault.{Fault}
 use Rattle.console_lines.specs.declared.fault.Fault.TheVariants.{Device, OldVersion}
-use Rattle.journal_files.specs.Journals.{journal_limits, log_bytes, KeepsHistory}
-use Rattle.archive_commands.specs.Archives.{HasFittingHistory}
+use Rattle.journal_files.specs.Journals.{journal_limits, log_bytes, KeepsHistory, HasFittingHistory}
 use Rattle.migrate_command.specs.declared.fault.MigrateFault.{MigrateFault}
 use Rattle.migrate_command.specs.Migrations.{IsFit, IsUnfit, IsUnmigrated, IsBrought}
 use Rattle.migrate_command.specs.Told.{fault_of_migrating}

@@ -18,8 +18,7 @@ use Rattle.console_lines.specs.declared.end.Unwritten.TheVariants.{Out, Side, Pa
 use Rattle.console_lines.specs.declared.fault.Fault.{Fault}
 use Rattle.console_lines.specs.declared.fault.Fault.TheVariants.{Usage, Input, Device, NotAJournal, Full, Memory, OldVersion, OtherHistory}
 use Rattle.journal_files.specs.Faults.{fault_of_opening, IsDeviceOf}
-use Rattle.journal_files.specs.Journals.{journal_limits, log_bytes, KeepsHistory, HasSynced}
-use Rattle.archive_commands.specs.Archives.{HasFittingHistory}
+use Rattle.journal_files.specs.Journals.{journal_limits, log_bytes, KeepsHistory, HasSynced, HasFittingHistory}
 use Rattle.migrate_command.specs.declared.fault.MigrateFault.{MigrateFault}
 use Rattle.migrate_command.specs.Migrations.{IsFit, IsUnfit, IsUnmigrated, IsBrought, IsAmid}
 use Rattle.migrate_command.specs.Told.{fault_of_migrating}

@@ -5,7 +5,7 @@ pub use both::write_in_turn;
 pub use document::{Document, write_document};
 pub use export::Export;
 pub use kept::is_kept;
-pub use report::report_bytes;
+pub use report::{report_bytes, state_report_bytes};
 
 mod both;
 mod document;

@@ -1,5 +1,5 @@
 -- What several calls on a room leave the same.
-use Rattle.std.proofs.Common.{◌≡◌, ℕ, List, [], ◌∷◌, Option, true, Result, Ok, Err, OnOk, OnErr, refl, ◌∙◌, arith}
+use Rattle.std.proofs.Common.{◌≡◌, ℕ, List, [], ◌∷◌, Option, Result, Ok, Err, OnOk, OnErr, refl, ◌∙◌, arith}
 use Rattle.outside.proofs.Disks.{same_disk, same_disk_then}
 use Rattle.outside.specs.Room.{RoomView, IsNoneOf, SameBut, IsUntouched, IsPut, IsPutOrNot, Untouched, Put}
 

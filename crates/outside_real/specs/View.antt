@@ -20,7 +20,7 @@ untold_disk len faults = record {
 }
 
 -- a disk over a file as any disk is seen
-abbrev pub file_disk_view : FileDisk → DiskView
+abbrev pub file_disk_view : {R : Type 0} → FileDisk R → DiskView
 file_disk_view disk = untold_disk disk.len disk.faults
 
 -- how a name is open that is or isn't among the outputs and among the logs

@@ -4,25 +4,29 @@ ghost use Rattle.outside.specs.Fault.{HasCause, Rose, count_sum, counted};
 
 use crate::cause::Cause;
 use crate::count::raised;
+use crate::watch::Watch;
 use outside::{Disk, Failed, LONGEST_DISK};
 use std::fs::File;
 use std::os::unix::fs::FileExt;
+use std::time::Clock;
 
 /// A file that is read and written at any place. It keeps the length that was found at its opening, and what the calls made
 /// of it.
 #[derive(Drop)]
-pub struct FileDisk {
+pub struct FileDisk<R> {
     file: File,
     len: u64,
     faults: u64,
     cause: Option<Cause>,
+    // who tells how far its reading has come
+    watch: Option<Watch<R>>,
     ghost short: { len ≤ longest_disk },
 }
 
-impl FileDisk {
+impl<R: Eprint + Clock> FileDisk<R> {
     /// Fails where the file's length can't be had, or is greater than [`LONGEST_DISK`].
     pub fn new(file: File) -> Result<Self, Cause>
-        ensures fresh { IfOk result (λ disk. (⟦<FileDisk as Disk>⟧.seen disk).faults ≡ 0) }
+        ensures fresh { IfOk result (λ disk. (⟦<FileDisk<R> as Disk>⟧.seen disk).faults ≡ 0) }
     {
         match file.metadata() {
             Ok(found) if found.len() <= LONGEST_DISK => Ok(FileDisk {
@@ -30,6 +34,7 @@ impl FileDisk {
                 file,
                 faults: 0,
                 cause: None,
+                watch: None,
             }),
             Ok(_) => Err(Cause::TooLong),
             Err(error) => Err(Cause::of(&error)),
@@ -38,7 +43,7 @@ impl FileDisk {
 
     /// How many calls failed.
     pub fn faults(&self) -> u64
-        ensures { result ≡ (⟦<FileDisk as Disk>⟧.seen self.now).faults }
+        ensures { result ≡ (⟦<FileDisk<R> as Disk>⟧.seen self.now).faults }
     {
         self.faults
     }
@@ -61,7 +66,17 @@ impl FileDisk {
     }
 }
 
-impl Disk for FileDisk {
+impl<R: Drop> FileDisk<R> {
+    /// From now on that tells how far the file's reading has come.
+    pub fn watch(&mut self, watch: Option<Watch<R>>)
+        ensures len { self.new.len ≡ self.old.len }
+        ensures faults { self.new.faults ≡ self.old.faults }
+    {
+        self.watch = watch;
+    }
+}
+
+impl<R: Eprint + Clock> Disk for FileDisk<R> {
     ghost use Rattle.outside_real.specs.View.{file_disk_view};
     ghost use Rattle.outside_real.specs.DiskLaws as laws;
     ghost use Rattle.std.proofs.Common.{refl};
@@ -110,7 +125,10 @@ impl Disk for FileDisk {
         }
         let most = (self.len - at).min(buf.len() as u64) as usize;
         match self.file.read_at(&mut buf[..most], at) {
-            Ok(count) if count > 0 => Ok(count),
+            Ok(count) if count > 0 => {
+                reach(&mut self.watch, at.saturating_add(count as u64));
+                Ok(count)
+            }
             Ok(_) => Err(self.fail(Cause::Other)),
             Err(error) => Err(self.fail(Cause::of(&error))),
         }
@@ -170,5 +188,12 @@ impl Disk for FileDisk {
             Ok(()) => Ok(()),
             Err(error) => Err(self.fail(Cause::of(&error))),
         }
+    }
+}
+
+// A file was read up to there.
+fn reach<R: Eprint + Clock>(watch: &mut Option<Watch<R>>, place: u64) {
+    if let Some(watch) = watch {
+        watch.reach(place, 0);
     }
 }

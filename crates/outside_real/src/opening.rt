@@ -6,10 +6,11 @@ ghost use Rattle.outside_real.specs.declared.opening.OpenedAs.TheVariants.{Input
 
 use crate::cause::Cause;
 use crate::slips::{begins_a_journal, is_library_word, sort_of};
+use std::alloc::Global;
 use std::fs;
 use std::fs::{File, OpenOptions, TryLockError};
 use std::io::{ErrorKind, Read};
-use std::os::unix::fs::MetadataExt;
+use std::os::unix::fs::{FileExt, MetadataExt};
 use std::rt::Files;
 
 /// What a file is opened as.
@@ -25,8 +26,8 @@ pub enum OpenedAs {
 /// How many bytes a journal's format line has.
 const LINE: usize = 16;
 
-/// Opens the file of that name and holds it: an input shared, others alone, and one that is only looked at not at all. It has the bytes that it had. A new file isn't made
-/// under a name that has the form of a library's word.
+/// Opens the file of that name and holds it: an input shared, others alone, and one that is only looked at not at all. It has the
+/// bytes that it had. A new file isn't made under a name that has the form of a library's word.
 pub fn opened<R: Files<File = File>>(rt: &R, name: &str, sort: OpenedAs) -> Result<File, Cause> {
     if sort == OpenedAs::Look {
         return opened_with(rt, name, OpenedAs::Input, &options(OpenedAs::Input));
@@ -80,6 +81,26 @@ fn front_of<R: Files<File = File>>(rt: &R, name: &str) -> Result<Option<[u8; LIN
     }
     let mut file = opened_with(rt, name, OpenedAs::Input, &options(OpenedAs::Input))?;
     Ok(Some(first_line(&mut file)?))
+}
+
+/// The bytes of a regular file from a place on, at most so many, by an opening of its own; none where they can't be had.
+pub fn bytes_at<R: Files<File = File>>(
+    alloc: Global,
+    rt: &R,
+    name: &str,
+    place: u64,
+    most: usize,
+) -> Option<Vec<u8>> {
+    match fs::metadata(rt, name) {
+        Ok(found) if found.is_file() => {}
+        _ => return None,
+    }
+    let file = opened_with(rt, name, OpenedAs::Input, &options(OpenedAs::Input)).ok()?;
+    let mut bytes = Vec::new(alloc);
+    bytes.resize(most, 0).ok()?;
+    let count = file.read_at(bytes.as_mut_slice(), place).ok()?;
+    bytes.truncate(count);
+    Some(bytes)
 }
 
 // The first bytes of a file, as many as a format line has.

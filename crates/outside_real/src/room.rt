@@ -11,18 +11,21 @@ use crate::disk::FileDisk;
 use crate::folder::folder_of;
 use crate::held::HeldFiles;
 use crate::names::Names;
-use crate::opening::{OpenedAs, emptied, foreign_sort, is_journal, is_missing};
+use crate::opening::{OpenedAs, bytes_at, emptied, foreign_sort, is_journal, is_missing};
 use crate::sink::FileSink;
 use crate::slips::is_library_word;
 use crate::source::FileSource;
 use crate::straight::Straight;
 use crate::tally::Tally;
 use crate::target::Target;
+use crate::watch::{Line, Sort, Watch};
+use crate::watched::WatchedFile;
 use outside::{Disk, Failed, GivenUp, Room, Sink, Source};
 use std::alloc::Global;
 use std::fs;
 use std::fs::File;
 use std::rt::Files;
+use std::sync::Arc;
 use std::time::Clock;
 
 /// The files of the system, by their names. It keeps one count of faults per sort, which stands for every name.
@@ -32,7 +35,7 @@ use std::time::Clock;
 ///
 /// An output is written to a new file beside its own, which takes its place when it is closed; or over it, where that can't be.
 #[derive(Drop)]
-pub struct FileRoom<R: Files> {
+pub struct FileRoom<R: Files + Eprint + Clock> {
     rt: R,
     alloc: Global,
     process: u32,
@@ -42,8 +45,10 @@ pub struct FileRoom<R: Files> {
     ins: u64,
     outs: u64,
     logs: u64,
-    closed: GivenUp<FileSource<File>>,
+    closed: GivenUp<FileSource<WatchedFile<R>>>,
     intent: Intent,
+    // the line of progress; none where there is no memory for it
+    line: Option<Arc<Line>>,
 }
 
 /// What a command is about to do with its files, so that a slip of the hand is found before anything is loaded.
@@ -51,25 +56,52 @@ pub struct FileRoom<R: Files> {
 pub struct Intent {
     /// The names of the command's outputs.
     pub outputs: Vec<String>,
-    /// Whether the command only reads its journal, so that one that isn't there is told, and one that is held can be read otherwise.
-    pub reads: bool,
+    /// The journal that the command only reads, so that one that isn't there is told.
+    pub reads: Option<String>,
+    /// Whether the command can look at that journal without holding it, so that one that is held can be read otherwise.
+    pub has_reading: bool,
     /// Whether it looks at its inputs without holding them.
     pub looks: bool,
     /// What is told of how much was written.
     pub counts: Counts,
+    /// An output of which that isn't told.
+    pub uncounted: Option<String>,
     /// Whether standard error is a terminal.
     pub is_terminal: bool,
+}
+
+impl Intent {
+    /// Nothing is known of what the command does.
+    pub fn none(alloc: Global) -> Self {
+        Intent {
+            outputs: Vec::new(alloc),
+            reads: None,
+            has_reading: false,
+            looks: false,
+            counts: Counts::Nothing,
+            uncounted: None,
+            is_terminal: false,
+        }
+    }
 }
 
 /// What is told of how much a command wrote into its outputs.
 #[derive(Clone, Copy, Debug, PartialEq, Eq)]
 pub enum Counts {
     Nothing,
-    /// How many records, or lines.
+    /// How many records.
     Records,
     /// How many records of a code; that there are none is most often a slip.
     RecordsOfCode,
     Lines,
+}
+
+// Whether a name is that one.
+fn is_named(wanted: &Option<String>, name: &str) -> bool {
+    match wanted {
+        Some(wanted) => wanted.as_str() == name,
+        None => false,
+    }
 }
 
 impl<R: Files<File = File> + Print + Eprint + Clock + Alloc + Clone + Drop> FileRoom<R> {
@@ -79,6 +111,7 @@ impl<R: Files<File = File> + Print + Eprint + Clock + Alloc + Clone + Drop> File
         ensures counts { HasCounts result 0 0 0 }
         ensures unheld { (n : List ℕ) → has_file result.held n ≡ false }
     {
+        let line = Arc::new(alloc, Line::new(&rt)).ok();
         FileRoom {
             rt,
             alloc,
@@ -90,13 +123,8 @@ impl<R: Files<File = File> + Print + Eprint + Clock + Alloc + Clone + Drop> File
             outs: 0,
             logs: 0,
             closed: GivenUp::none(),
-            intent: Intent {
-                outputs: Vec::new(alloc),
-                reads: false,
-                looks: false,
-                counts: Counts::Nothing,
-                is_terminal: false,
-            },
+            intent: Intent::none(alloc),
+            line,
         }
     }
 
@@ -111,10 +139,12 @@ impl<R: Files<File = File> + Print + Eprint + Clock + Alloc + Clone + Drop> File
     }
 
     // The disk over a log's file.
-    fn disk_of(&self, name: &str, file: File) -> Result<FileDisk, Cause>
-        ensures fresh { IfOk result (λ disk. (⟦<FileDisk as Disk>⟧.seen disk).faults ≡ 0) }
+    fn disk_of(&self, name: &str, file: File) -> Result<FileDisk<R>, Cause>
+        ensures fresh { IfOk result (λ disk. (⟦<FileDisk<R> as Disk>⟧.seen disk).faults ≡ 0) }
     {
-        let disk = FileDisk::new(file)?;
+        let mut disk = FileDisk::new(file)?;
+        let watch = self.watch_of(name, Sort::Journal, Some(disk.len()));
+        disk.watch(watch);
 
         // A new file is empty, and so is one that an opening made which then failed to sync the folder.
         if disk.len() == 0 {
@@ -134,8 +164,42 @@ impl<R: Files<File = File> + Print + Eprint + Clock + Alloc + Clone + Drop> File
         }
     }
 
+    // Who tells how far a file has come, of so many bytes where that is known.
+    fn watch_of(&self, name: &str, sort: Sort, of: Option<u64>) -> Option<Watch<R>> {
+        let line = self.line.as_ref()?;
+        let is_terminal = self.intent.is_terminal;
+        Watch::new(self.alloc, &self.rt, line, is_terminal, name, sort, of)
+    }
+
+    /// The line of progress goes, before others are written to standard error.
+    pub fn end_progress(&self) {
+        if let Some(line) = &self.line {
+            line.clear(&self.rt);
+        }
+    }
+
+    // An input that was opened. A journal that is only looked at is read as one.
+    fn watched(&self, name: &str, file: File) -> WatchedFile<R> {
+        let sort = if self.intent.looks {
+            Sort::Journal
+        } else {
+            Sort::Input
+        };
+        let of = match file.metadata() {
+            Ok(found) if found.is_file() => Some(found.len()),
+            _ => None,
+        };
+        WatchedFile::new(file, self.watch_of(name, sort, of))
+    }
+
+    /// The bytes of a regular file from a place on, at most so many; none where they can't be had. The file is only looked at.
+    pub fn bytes_at(&self, name: &str, place: u64, most: usize) -> Option<Vec<u8>> {
+        bytes_at(self.alloc, &self.rt, name, place, most)
+    }
+
     // Tells of which file a fault is, and why. A line that can't be written is no fault of the command.
     fn tell(&self, name: &str, cause: Cause) {
+        self.end_progress();
         let _told = eprintln!(self.rt; "union_cat: {name}{cause}");
     }
 
@@ -151,6 +215,7 @@ impl<R: Files<File = File> + Print + Eprint + Clock + Alloc + Clone + Drop> File
             return;
         }
         if let Some(sort) = foreign_sort(&self.rt, name) {
+            self.end_progress();
             let _told = eprintln!(self.rt;
                 "union_cat: {name}: this looks like no MARC file ({sort})"
             );
@@ -190,6 +255,7 @@ impl<R: Files<File = File> + Print + Eprint + Clock + Alloc + Clone + Drop> File
     // An output that is written over its file tells so, since a failure then leaves a part of it.
     fn tell_straight(&self, name: &str, why: Straight) {
         if why.is_told() {
+            self.end_progress();
             let _told = eprintln!(self.rt;
                 "union_cat: {name}{why}: a failure leaves a part of what is written there"
             );
@@ -197,11 +263,14 @@ impl<R: Files<File = File> + Print + Eprint + Clock + Alloc + Clone + Drop> File
     }
 
     fn tally_of(&self, name: &str) -> Tally<R> {
-        Tally::new(self.alloc, &self.rt, name, self.intent.is_terminal)
+        Tally::new(self.watch_of(name, Sort::Output, None))
     }
 
     // How much is in an output that was closed.
     fn tell_count(&self, name: &str, tally: &Tally<R>) {
+        if is_named(&self.intent.uncounted, name) {
+            return;
+        }
         let (records, lines) = (tally.records(), tally.lines());
         let _told = match self.intent.counts {
             Counts::Nothing => return,
@@ -225,9 +294,9 @@ impl<R: Files<File = File> + Print + Eprint + Clock + Alloc + Clone + Drop> File
 
     // Another command has the journal, which can be looked at meanwhile.
     fn tell_held(&self, name: &str, cause: Cause) {
-        if cause == Cause::InUse && self.intent.reads {
+        if cause == Cause::InUse && self.intent.has_reading {
             let _told = eprintln!(self.rt;
-                "union_cat: {name} can be read meanwhile: with `reading` before export, report or matches"
+                "union_cat: {name} can be read meanwhile: with `reading` before export, report, matches, holdings, headings or worklist"
             );
         }
     }
@@ -323,14 +392,15 @@ impl<R: Files<File = File> + Print + Eprint + Clock + Alloc + Clone + Drop> File
     }
 }
 
-impl<R: Files<File = File> + Print + Eprint + Clock + Alloc + Clone + Drop> Room for FileRoom<R> {
+impl<R: Files<File = File> + Print + Eprint + Clock + Alloc + Clone + Send + Drop> Room
+    for FileRoom<R> {
     ghost use Rattle.std.proofs.Common.{refl};
 
-    type In = FileSource<File>;
+    type In = FileSource<WatchedFile<R>>;
 
     type Out = FileSink<Target<R>>;
 
-    type Log = FileDisk;
+    type Log = FileDisk<R>;
 
     ghost seen = { file_room_view };
 
@@ -340,11 +410,11 @@ impl<R: Files<File = File> + Print + Eprint + Clock + Alloc + Clone + Drop> Room
 
     ghost promised = { λ room name. tt };
 
-    fn open_in(&mut self, name: &str) -> Result<FileSource<File>, Failed>
+    fn open_in(&mut self, name: &str) -> Result<FileSource<WatchedFile<R>>, Failed>
         requires { (file_room_view self.old).open_as name.now ≡ None }
         ensures stays { SameBut (file_room_view self.old) (file_room_view self.new) [] }
         ensures cause { HasCause self.old.ins self.new.ins result }
-        ensures fresh { IfOk result (λ object. ⟦<FileSource<File> as Source>⟧.faults object ≡ 0) }
+        ensures fresh { IfOk result (λ object. ⟦<FileSource<WatchedFile<R>> as Source>⟧.faults object ≡ 0) }
 
         // A fault counts once, and the other counts stay.
         ensures counts { HasCounts self.new (counted result self.old.ins) self.old.outs self.old.logs }
@@ -359,7 +429,7 @@ impl<R: Files<File = File> + Print + Eprint + Clock + Alloc + Clone + Drop> Room
         match self.held.open(self.alloc, &self.rt, name, sort) {
             Ok(file) => {
                 self.tell_foreign(name);
-                Ok(FileSource::new(file))
+                Ok(FileSource::new(self.watched(name, file)))
             }
             Err(cause) => {
                 self.tell(name, cause);
@@ -394,13 +464,13 @@ impl<R: Files<File = File> + Print + Eprint + Clock + Alloc + Clone + Drop> Room
         }
     }
 
-    fn open_log(&mut self, name: &str) -> Result<FileDisk, Failed>
+    fn open_log(&mut self, name: &str) -> Result<FileDisk<R>, Failed>
         requires { (file_room_view self.old).open_as name.now ≡ None }
         ensures apart { SameBut (file_room_view self.old) (file_room_view self.new) (name.now ∷ []) }
         ensures opened { OnOk result ((file_room_view self.new).open_as name.now ≡ Some AsLog) }
         ensures failed { OnErr result (SameBut (file_room_view self.old) (file_room_view self.new) []) }
         ensures cause { HasCause self.old.logs self.new.logs result }
-        ensures fresh { IfOk result (λ object. (⟦<FileDisk as Disk>⟧.seen object).faults ≡ 0) }
+        ensures fresh { IfOk result (λ object. (⟦<FileDisk<R> as Disk>⟧.seen object).faults ≡ 0) }
 
         // A fault counts once, and the other counts stay.
         ensures counts { HasCounts self.new self.old.ins self.old.outs (counted result self.old.logs) }
@@ -408,7 +478,7 @@ impl<R: Files<File = File> + Print + Eprint + Clock + Alloc + Clone + Drop> Room
         ensures lefts { self.new.closed ≡ self.old.closed }
     {
         if !self.has_slip() && self.open_logs.add(self.alloc, name).is_ok() {
-            let is_new = self.intent.reads && is_missing(&self.rt, name);
+            let is_new = is_named(&self.intent.reads, name) && is_missing(&self.rt, name);
             match self.held.open(self.alloc, &self.rt, name, OpenedAs::Log) {
                 Ok(file) => match self.disk_of(name, file) {
                     Ok(disk) => {
@@ -428,12 +498,13 @@ impl<R: Files<File = File> + Print + Eprint + Clock + Alloc + Clone + Drop> Room
         Err(Failed)
     }
 
-    fn close_in(&mut self, name: &str, object: FileSource<File>)
+    fn close_in(&mut self, name: &str, object: FileSource<WatchedFile<R>>)
         ensures stays { SameBut (file_room_view self.old) (file_room_view self.new) [] }
-        ensures counts { HasCounts self.new (count_sum self.old.ins (⟦<FileSource<File> as Source>⟧.faults object)) self.old.outs self.old.logs }
+        ensures counts { HasCounts self.new (count_sum self.old.ins (⟦<FileSource<WatchedFile<R>> as Source>⟧.faults object)) self.old.outs self.old.logs }
         ensures held { self.new.held ≡ self.old.held }
-        ensures left { self.new.closed ≡ ⟦<FileSource<File> as Source>⟧.left object ∷ self.old.closed }
+        ensures left { self.new.closed ≡ ⟦<FileSource<WatchedFile<R>> as Source>⟧.left object ∷ self.old.closed }
     {
+        self.end_progress();
         self.tell_some(name, object.cause());
         self.ins = added(self.ins, object.faults());
         self.closed.give_up(&object);
@@ -457,6 +528,7 @@ impl<R: Files<File = File> + Print + Eprint + Clock + Alloc + Clone + Drop> Room
         ensures lefts { self.new.closed ≡ self.old.closed }
     {
         let closed = object.close(&self.rt);
+        self.end_progress();
         self.tell_some(name, object.cause());
         self.tell_closed(name, closed.is_ok(), &object);
         self.outs = added(self.outs, object.faults());
@@ -475,20 +547,22 @@ impl<R: Files<File = File> + Print + Eprint + Clock + Alloc + Clone + Drop> Room
         ensures lefts { self.new.closed ≡ self.old.closed }
     {
         let _removed = object.give_up(&self.rt);
+        self.end_progress();
         self.tell_some(name, object.cause());
         self.outs = added(self.outs, object.faults());
         self.forget(name);
     }
 
-    fn close_log(&mut self, name: &str, object: FileDisk)
+    fn close_log(&mut self, name: &str, object: FileDisk<R>)
         requires { (file_room_view self.old).open_as name.now ≡ Some AsLog }
         ensures apart { SameBut (file_room_view self.old) (file_room_view self.new) (name.now ∷ []) }
         ensures closed { (file_room_view self.new).open_as name.now ≡ None }
         ensures counts { HasCounts self.new self.old.ins self.old.outs
-            (count_sum self.old.logs (⟦<FileDisk as Disk>⟧.seen object).faults) }
+            (count_sum self.old.logs (⟦<FileDisk<R> as Disk>⟧.seen object).faults) }
         ensures held { self.new.held ≡ self.old.held }
         ensures lefts { self.new.closed ≡ self.old.closed }
     {
+        self.end_progress();
         self.tell_some(name, object.cause());
         self.logs = added(self.logs, object.faults());
         self.forget(name);

@@ -161,7 +161,6 @@ impl<R: Print + Eprint + Clock + Drop> FileSink<Target<R>> {
         ensures cause { HasCause (⟦<FileSink<Target<R>> as Sink>⟧.faults self.old) (⟦<FileSink<Target<R>> as Sink>⟧.faults self.new) result }
         ensures behind { 0 < self.old.faults → IsErr result }
     {
-        self.to.end();
         let put = self.put(files);
         if put.is_err() {
             let _removed = self.to.give_up(files);

@@ -45,17 +45,6 @@ impl<R> Target<R> {
         }
     }
 
-    /// No more is written to it.
-    pub fn end(&mut self)
-    where
-        R: Eprint + Clock,
-    {
-        match self {
-            Target::Draft(_, tally) | Target::File(_, tally) => tally.end(),
-            Target::Console(_) => {}
-        }
-    }
-
     /// What was counted of it; nothing of the console.
     pub fn tally(&self) -> Option<&Tally<R>> {
         match self {

@@ -1,10 +1,9 @@
 -- The pieces that are given back.
-use Rattle.std.proofs.Common.{◌≡◌, ◌∙◌, ℕ, ◌+◌, List, [], ◌++◌, take, drop, sym, ap, append-nil, Some, None}
+use Rattle.std.proofs.Common.{◌≡◌, ◌∙◌, ℕ, ◌+◌, List, take, drop, sym, ap, append-nil, Some, None}
 use Rattle.std.proofs.lemmas.List.{take-append-drop}
 use Rattle.std.specs.Io.BufRead.{take_through}
 use Rattle.memchr.specs.Find.{IsFirstByte, is_byte}
 use Rattle.marc_stream.specs.Pieces.{record_terminator}
-use Rattle.marc_stream.specs.Window.{IsEnded}
 use Rattle.marc_stream.proofs.Scans.{ended_found, ends_none_found, item_ended, item_cut}
 
 -- a search that finds a terminator

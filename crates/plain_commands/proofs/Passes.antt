@@ -1,5 +1,5 @@
 -- How a pass ended.
-use Rattle.std.proofs.Common.{◌≡◌, ◌≢◌, ◌∙◌, ℕ, Bool, true, List, length, sym, ap, subst, arith, Option, Some, []}
+use Rattle.std.proofs.Common.{◌≡◌, ℕ, Bool, true, List, length, sym, subst, arith, Option, Some, []}
 use Rattle.std.specs.Prelude.{string_bytes, nat_lt, IsSomeAnd}
 use Rattle.std.specs.Io.KnownBytes.{Appends}
 use Rattle.outside.specs.Fault.{Rose}
@@ -8,7 +8,7 @@ use Rattle.outside.specs.Sink.{WritesFront}
 use Rattle.outside.proofs.Rooms.{same_but_then}
 use Rattle.marc_stream.specs.Pieces.{items}
 use Rattle.command_words.specs.declared.library.Library.{Library}
-use Rattle.console_lines.specs.Ends.{Outcome, IsTold, IsAllDone, TellsNoFault, IsResultTold, end_of, out_unwritten, console_unwritten}
+use Rattle.console_lines.specs.Ends.{Outcome, IsTold, TellsNoFault, IsResultTold, end_of, out_unwritten}
 use Rattle.console_lines.specs.declared.end.End.{End}
 use Rattle.console_lines.specs.declared.end.End.TheVariants.{Told}
 use Rattle.console_lines.specs.declared.end.Unwritten.TheVariants.{Out, Side, Pages, Console}

@@ -5,7 +5,7 @@ use Rattle.outside.specs.Fault.{Rose}
 use Rattle.marc_stream.specs.Pieces.{Item}
 use Rattle.marc_stream.specs.Stream.{Stream}
 use Rattle.catalogue_core.specs.Catalogues.{Catalogued, is_full}
-use Rattle.file_entries.specs.Entries.{FileView, IsSameFile, GivesEntry, GivesRefused, IsEnd, IsFault}
+use Rattle.file_entries.specs.Entries.{FileView, GivesEntry, GivesRefused, IsEnd, IsFault}
 use Rattle.file_entries.specs.Files.{IsEntryOf, IsJudged}
 use Rattle.file_entries.specs.declared.refused.RefusedItem.{RefusedItem}
 use Rattle.console_lines.specs.declared.fault.Fault.{Fault}

@@ -3,7 +3,7 @@
 ghost use Rattle.std.specs.Prelude.{◌≤◌};
 
 use crate::telling::text_of;
-use command_words::{Topic, named_topic};
+use command_words::{Topic, named_kind, named_topic};
 use marc_types::{NoMemory, Text, can_be_code};
 use std::alloc::Global;
 use std::fmt;
@@ -61,6 +61,14 @@ pub enum Slip<'a> {
         topic: Topic,
         word: &'a str,
     },
+    /// A word stands where the kind of some headings is wanted.
+    NoKind {
+        word: &'a str,
+    },
+    /// A word stands where it is wanted how many headings are listed.
+    NoCount {
+        word: &'a str,
+    },
 }
 
 /// How the words behind a command's name go: so many names of files, so many words `CODE=FILE`, and maybe a code.
@@ -80,7 +88,7 @@ enum Files {
     Many,
 }
 
-const VERBS: [&str; 17] = [
+const VERBS: [&str; 19] = [
     "pass",
     "run",
     "load",
@@ -92,6 +100,8 @@ const VERBS: [&str; 17] = [
     "migrate",
     "matches",
     "holdings",
+    "headings",
+    "worklist",
     "checkpoint",
     "quick",
     "reading",
@@ -128,7 +138,8 @@ fn nearest(alloc: Global, word: &str) -> Result<Option<&'static str>, NoMemory> 
     Ok(found)
 }
 
-fn form_of(topic: Topic) -> Form {
+/// How the words behind a command's name go, where there are so many.
+fn form_of(topic: Topic, words: usize) -> Form {
     let (names, files, may_have_code) = match topic {
         Topic::Pass | Topic::Refused => (1, Files::One, false),
         Topic::Run => (3, Files::Many, false),
@@ -138,10 +149,12 @@ fn form_of(topic: Topic) -> Form {
         Topic::Report | Topic::Matches | Topic::Migrate | Topic::Checkpoint => {
             (2, Files::None, false)
         }
-        Topic::Make | Topic::Quick => (3, Files::None, false),
-        Topic::Verify => (1, Files::None, false),
+        Topic::Make => (3, Files::None, false),
+        Topic::Quick => (if words > 3 { 4 } else { 3 }, Files::None, false),
+        Topic::Verify => (if words > 1 { 2 } else { 1 }, Files::None, false),
+        Topic::Worklist => (3, Files::None, true),
         Topic::Holdings => (3, Files::One, true),
-        Topic::Reading => (2, Files::None, false),
+        Topic::Headings | Topic::Reading => (2, Files::None, false),
         Topic::Help | Topic::All | Topic::Version | Topic::Statuses => (0, Files::None, false),
     };
     Form {
@@ -157,7 +170,8 @@ fn slip_behind<'a>(alloc: Global, topic: Topic, behind: &'a [Text]) -> Result<Sl
     match topic {
         Topic::Help => slip_of_help(alloc, behind),
         Topic::Reading => Ok(slip_of_reading(behind)),
-        topic => Ok(slip_of_form(&form_of(topic), behind)),
+        Topic::Headings => Ok(slip_of_headings(topic, behind)),
+        topic => Ok(slip_of_form(&form_of(topic, behind.len()), behind)),
     }
 }
 
@@ -176,13 +190,47 @@ fn slip_of_reading(behind: &[Text]) -> Slip<'_> {
     let Some((verb, behind)) = behind.split_first() else {
         return Slip::TooFew { topic };
     };
-    let mut form = form_of(topic);
-    match verb.as_str() {
-        "export" => form.may_have_code = true,
-        "report" | "matches" => {}
+    let meant = match verb.as_str() {
+        "headings" => return slip_of_headings(topic, behind),
+        "export" => Topic::Export,
+        "report" | "matches" => Topic::Report,
+        "holdings" => Topic::Holdings,
+        "worklist" => Topic::Worklist,
         word => return Slip::Unread { word },
-    }
+    };
+    let mut form = form_of(meant, behind.len());
+    form.topic = topic;
     slip_of_form(&form, behind)
+}
+
+/// What is wrong with the words `JOURNAL KIND FROM MOST OUT`.
+fn slip_of_headings(topic: Topic, behind: &[Text]) -> Slip<'_> {
+    let [journal, kind, _, most, out] = behind else {
+        return match behind.get(5) {
+            Some(first) => Slip::TooMany {
+                topic,
+                first: first.as_str(),
+            },
+            None => Slip::TooFew { topic },
+        };
+    };
+    if journal.is_empty() || out.is_empty() {
+        return Slip::Empty { topic };
+    }
+    if named_kind(kind.as_str()).is_none() {
+        return Slip::NoKind {
+            word: kind.as_str(),
+        };
+    }
+    if journal == out {
+        return Slip::Twice {
+            topic,
+            name: out.as_str(),
+        };
+    }
+    Slip::NoCount {
+        word: most.as_str(),
+    }
 }
 
 fn slip_of_help<'a>(alloc: Global, behind: &'a [Text]) -> Result<Slip<'a>, NoMemory> {
@@ -333,6 +381,7 @@ impl Slip<'_> {
             | Slip::BadCode { topic, .. }
             | Slip::Twice { topic, .. }
             | Slip::NoNumber { topic, .. } => Some(topic),
+            Slip::NoKind { .. } | Slip::NoCount { .. } => Some(Topic::Headings),
         }
     }
 
@@ -349,7 +398,7 @@ impl Slip<'_> {
             } => write!(f, "there is no command {word}: did you mean {nearest}?"),
             Slip::Unread { word } => write!(
                 f,
-                "reading stands before export, report or matches, and not before {word}"
+                "reading stands before export, report, matches, holdings, headings or worklist, and not before {word}"
             ),
             Slip::TooFew { .. } => f.write_str("a word is missing"),
             Slip::TooMany { first, .. } => write!(f, "one word too many: {first}"),
@@ -367,6 +416,13 @@ impl Slip<'_> {
                 f,
                 "{word} is no such number: SEED below 2^64, COUNT at most 1048576"
             ),
+            Slip::NoKind { word } => write!(
+                f,
+                "{word} is no kind: personal, corporate, meeting, title, chronological, topical, geographic or genre"
+            ),
+            Slip::NoCount { word } => {
+                write!(f, "{word} is no such number: MOST from 1 to 100000")
+            }
         }
     }
 }

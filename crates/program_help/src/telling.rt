@@ -22,6 +22,8 @@ pub(crate) fn text_of(topic: Topic) -> &'static str
         Topic::Verify => texts::VERIFY,
         Topic::Matches => texts::MATCHES,
         Topic::Holdings => texts::HOLDINGS,
+        Topic::Headings => texts::HEADINGS,
+        Topic::Worklist => texts::WORKLIST,
         Topic::Migrate => texts::MIGRATE,
         Topic::Checkpoint => texts::CHECKPOINT,
         Topic::Quick => texts::QUICK,

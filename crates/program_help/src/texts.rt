@@ -10,14 +10,17 @@ browse JOURNAL OUT REPORT PAGES CODE=FILE ..  as run, and pages of headings
 export JOURNAL OUT [CODE]            write the journal's records into OUT
 report JOURNAL OUT                   write the report on the headings into OUT
 make SEED COUNT OUT                  write made-up records, to try the program
-verify JOURNAL                       tell what the journal has; write nothing
+verify JOURNAL [POINT]               tell what the journal has; write nothing
 matches JOURNAL OUT                  write which records share a number
 holdings JOURNAL OUT REST CODE=FILE  write the records with a file's holdings
+headings JOURNAL KIND FROM MOST OUT  write the headings of one kind from FROM on
+worklist JOURNAL LIST PAGE [CODE]    write the headings to work on, and a page
 migrate OLD NEW                      bring a journal of version 1 into a new one
 checkpoint JOURNAL POINT             keep the journal's catalogue behind POINT
-quick JOURNAL POINT OUT              export from POINT's last checkpoint on
+quick JOURNAL POINT OUT [REPORT]     export from POINT's last checkpoint on
 reading export JOURNAL OUT [CODE]    the same without holding JOURNAL, even while
-                                     a load has it; also report and matches
+                                     a load has it; also report, matches,
+                                     holdings, headings and worklist
 refused OUT CODE=FILE                write the pieces of a file that are refused
 help [COMMAND]                       tell this, or how that command is used
 version                              tell the program's version
@@ -143,13 +146,20 @@ Example: union_cat make 1 1000 tried.mrc
 
 /// The page of `verify`.
 pub const VERIFY: &str = "union_cat verify JOURNAL
+union_cat verify JOURNAL POINT
 
 Reads the journal from its first byte to its last, as an input.
 Writes: no file; on the console a line with its version and how many entries,
 frames and bytes it has, and where bytes stand behind its end, as a crash may
 leave them, a line with the place of the last byte that counts.
-Status: 0 it is a journal; 2 wrong words; 3 it isn't there, or couldn't be read;
-4 the console couldn't be written; 6 it is no journal; 8 memory ran out.
+With POINT it tells whether POINT's last checkpoint is one of this journal: its
+entries are taken anew, and what they make is compared with the checkpoint. The
+console has the line of quick.
+Status: 0 it is a journal, and POINT is its own; 2 wrong words; 3 a file isn't
+there, or couldn't be read; 4 the console couldn't be written; 6 JOURNAL is no
+journal, or POINT has no checkpoints, but something else; 8 memory ran out; with
+POINT also 7 JOURNAL has more than a catalogue takes, 9 POINT is of version 1,
+10 POINT has no whole checkpoint, or one of another history.
 Example: union_cat verify union.jnl
 ";
 
@@ -184,6 +194,44 @@ journal's disk failed; 6 it is no journal; 7 it has more than a catalogue takes;
 Example: union_cat holdings union.jnl all.out late.mrc ALIB=a_holdings.mrc
 ";
 
+/// The page of `headings`.
+pub const HEADINGS: &str = "union_cat headings JOURNAL KIND FROM MOST OUT
+
+Writes the journal's headings of one kind, in the order in which headings are
+compared, from FROM on and MOST at most, 1 to 100000: established headings, and
+the see-from headings that lead to them, each in its own place.
+KIND is personal, corporate, meeting, title, chronological, topical, geographic
+or genre. FROM is a heading as one types it: what has no code is $a, and other
+parts want theirs, as in 'Twain, Mark,$d1835'. Capitals don't count, nor does
+punctuation but # & + @ and the first comma; for a $ within a heading type a
+blank. An empty FROM begins with the first.
+Writes: OUT: a line for each, with a tabulator between its columns: the heading
+as it stands, its key, and how many headings are linked to it; or the see-from
+heading, and an arrow to the key. JOURNAL is only put in order, and made if it
+isn't there.
+Status: 0 all was written; 2 wrong words; 4 OUT couldn't be written; 5 the
+journal's disk failed; 6 it is no journal; 7 it has more than a catalogue takes;
+8 memory ran out.
+Example: union_cat headings union.jnl personal 'twain, mark' 20 near.txt
+";
+
+/// The page of `worklist`.
+pub const WORKLIST: &str = "union_cat worklist JOURNAL LIST PAGE
+union_cat worklist JOURNAL LIST PAGE CODE
+
+Writes what a cataloguer works from. LIST is a table (CSV) with a line for each
+heading that isn't linked, those that stand most often first: the heading, its
+record and title, the authorities that it could be linked to, and why it isn't.
+With CODE it has the headings of that library's records. PAGE is a page for a
+browser, of all records also with CODE: how many headings are linked, by library
+and kind, and which loads brought what.
+Writes: LIST; PAGE. JOURNAL is only put in order, and made if it isn't there.
+Status: 0 all was written; 2 wrong words; 4 LIST or PAGE couldn't be written; 5
+the journal's disk failed; 6 it is no journal; 7 it has more than a catalogue
+takes; 8 memory ran out.
+Example: union_cat worklist union.jnl work.csv work.html ALIB
+";
+
 /// The page of `migrate`.
 pub const MIGRATE: &str = "union_cat migrate OLD NEW
 
@@ -215,15 +263,18 @@ Example: union_cat checkpoint union.jnl union.pnt
 
 /// The page of `quick`.
 pub const QUICK: &str = "union_cat quick JOURNAL POINT OUT
+union_cat quick JOURNAL POINT OUT REPORT
 
 Writes the journal's records in the order of their keys, as export does, but
 begins with POINT's last checkpoint and takes only the entries behind it. With
-none that fits it takes all. POINT must be JOURNAL's own: that isn't checked.
-Writes: OUT; on the console a line with the number of entries that the
+none that fits it takes all. POINT must be JOURNAL's own: verify checks that.
+With REPORT it writes the report too, as report does; that is the name of a
+file, and no CODE.
+Writes: OUT; REPORT; on the console a line with the number of entries that the
 checkpoint spared, and that of all. JOURNAL is only put in order, POINT is only
 read; each is made, empty, if it isn't there.
-Status: 0 all was written; 2 wrong words; 4 OUT or the console couldn't be
-written; 5 the disk of JOURNAL or POINT failed; 6 JOURNAL is no journal, or
+Status: 0 all was written; 2 wrong words; 4 OUT, REPORT or the console couldn't
+be written; 5 the disk of JOURNAL or POINT failed; 6 JOURNAL is no journal, or
 POINT has no checkpoints, but something else; 7 JOURNAL has more than a
 catalogue takes; 8 memory ran out; 9 POINT is of version 1.
 Example: union_cat quick union.jnl union.pnt all.out
@@ -234,16 +285,18 @@ pub const READING: &str = "union_cat reading export JOURNAL OUT
 union_cat reading export JOURNAL OUT CODE
 union_cat reading report JOURNAL OUT
 union_cat reading matches JOURNAL OUT
+union_cat reading holdings JOURNAL OUT REST CODE=FILE [LIB]
+union_cat reading headings JOURNAL KIND FROM MOST OUT
+union_cat reading worklist JOURNAL LIST PAGE [CODE]
 
 Writes what the command behind `reading` writes, but reads JOURNAL as an input:
 it isn't held, made or put in order, so that it can be on a read-only disk, or
 be loaded into meanwhile. OUT is that of the history of the bytes that were
 read. It may have entries that a crash would still take away.
 The journal's bytes are kept in memory too.
-Writes: OUT. JOURNAL is only read.
-Status: 0 all was written; 2 wrong words; 3 JOURNAL isn't there, or couldn't be
-read; 4 OUT couldn't be written; 6 it is no journal, or was read while it was
-cut; 7 it has more than a catalogue takes; 8 memory ran out.
+Writes: the outputs of that command. JOURNAL is only read.
+Status: as that command has it, but 3 where JOURNAL isn't there or couldn't be
+read, and 6 also where it was read while it was cut.
 Example: union_cat reading export union.jnl all.out
 ";
 
@@ -298,7 +351,7 @@ The exit statuses of all commands:
   7  there are more records than a catalogue takes
   8  memory ran out
   9  the journal or POINT is of version 1; in migrate: OLD isn't, or NEW is
-  10 in migrate: NEW has another history
+  10 in migrate: NEW has another history; in verify: POINT isn't JOURNAL's own
 Standard error names the file and the cause.
 ";
 

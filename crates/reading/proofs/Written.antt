@@ -1,22 +1,18 @@
 -- A written record is read as itself.
-use Rattle.std.proofs.Common.{◌≡◌, ◌∙◌, ℕ, suc, ◌<◌, true, false, List, [], ◌∷◌, length, map, get_or, take, drop, refl, sym, ap, subst, arith}
-use Rattle.std.specs.Str.{IsUtf8, IsAscii}
+use Rattle.std.proofs.Common.{◌≡◌, ◌∙◌, ℕ, ◌<◌, true, false, List, [], length, map, get_or, take, drop, refl, sym, ap, subst, arith}
+use Rattle.std.specs.Str.{IsUtf8}
 use Rattle.std.specs.List.{All, flat_map, list_all}
 use Rattle.std.proofs.lemmas.Bool.{and_parts, not-true}
-use Rattle.std.proofs.lemmas.Bool.Decides.{nat_tests}
-use Rattle.std.proofs.lemmas.Grind.{common_steps}
 use Rattle.std.proofs.lemmas.List.{length-map, get_or-map}
 use Rattle.std.proofs.lemmas.List.FromFn.{length-map-range_with_len, get_or-map-range_with_len}
 use Rattle.std.proofs.lemmas.Option.{slice_get_within, get_or_from_slice_get}
-use Rattle.std.proofs.lemmas.Str.{IsUtf8-append, IsUtf8-from_ascii, IsUtf8-nil}
-use Rattle.std.proofs.lemmas.Str.Ascii.{IsAscii-nil, IsAscii-cons}
 use Rattle.marc_types.specs.Valid.{is_subfield, is_field, is_control_tag, is_record}
 use Rattle.marc_types.specs.declared.field.Tag.{Tag}
 use Rattle.marc_types.specs.declared.field.Leader.{Leader}
 use Rattle.marc_types.specs.declared.field.Subfield.{Subfield}
 use Rattle.marc_types.specs.declared.field.Field.{Field}
 use Rattle.marc_types.specs.declared.field.Field.TheVariants.{Control, Variable}
-use Rattle.iso2709_record.specs.Written.{delimiter, subfield_bytes, field_data, record_bytes, fits}
+use Rattle.iso2709_record.specs.Written.{subfield_bytes, field_data, record_bytes, fits}
 use Rattle.iso2709_record.specs.Layout.{entry_count, tag_at, data_at}
 use Rattle.iso2709_record.specs.Raw.{coding_at, raw_of, raw_field, raw_fields, raw_record, raw_of_record}
 use Rattle.iso2709_record.specs.declared.raw.RawField.{RawField}

@@ -21,10 +21,10 @@ use Rattle.console_lines.specs.declared.fault.Fault.TheVariants.{Input, Memory}
 use Rattle.console_lines.proofs.Ends.{told_once, told_not_unwritten, told_not_done, done_not_unwritten, never_told}
 use Rattle.memory_files.specs.declared.reading.ReadFault.{ReadFault}
 use Rattle.memory_files.specs.declared.reading.ReadFault.TheVariants as read
-use Rattle.journal_files.specs.Journals.{journal_limits}
+use Rattle.journal_files.specs.Journals.{journal_limits, HasFittingHistory}
+use Rattle.output_files.specs.Outputs.{IsOutputLeft}
 use Rattle.output_files.proofs.Parts.{left_since}
-use Rattle.archive_commands.specs.Archives.{HasFittingHistory}
-use Rattle.archive_commands.proofs.Histories.{whole_of_any, left_of_any, fitting_history}
+use Rattle.journal_files.proofs.Histories.{due_of_any, fitting_history}
 use Rattle.reading_commands.specs.Looking.{EndsLooking, IsLooked, LooksInto, WhyUntaken, fault_of_look, fault_of_reading}
 
 -- a fault for which bytes aren't taken is one of looking, and none of the input
@@ -35,14 +35,14 @@ ends_untaken opening.OldVersion current = absurd (current refl)
 ends_untaken opening.Full current = tt
 ends_untaken opening.NoMemory current = tt
 
-untaken_not_input : (reason : OpenFault) → fault_of_look reason ≡ Input → ⊥
+pub untaken_not_input : (reason : OpenFault) → fault_of_look reason ≡ Input → ⊥
 untaken_not_input opening.DeviceFault is = cc
 untaken_not_input (opening.NotAJournal place) is = cc
 untaken_not_input opening.OldVersion is = cc
 untaken_not_input opening.Full is = cc
 untaken_not_input opening.NoMemory is = cc
 
-same_bytes : (bytes others : List ℕ) → Some bytes ≡ Some others → bytes ≡ others
+pub same_bytes : (bytes others : List ℕ) → Some bytes ≡ Some others → bytes ≡ others
 same_bytes bytes others is = cc
 
 module _ (journal out : List ℕ) (due : List Entry → List ℕ) (o : Outcome) where
@@ -109,7 +109,7 @@ module _ (journal out : List ℕ) (due : List Entry → List ℕ) (o : Outcome) 
       out_cause = λ also. absurd (done_not_unwritten o.end Out done also);
       history = λ untold tells. fits l.entries l.history l.within tells;
       whole = λ others entries also tells at has.
-          whole_of_any due entries l.entries bytes (o.new.file out) (had others entries tells at has) l.history (l.whole (stays.tells ∙ tells));
+          due_of_any (λ whole. o.new.file out ≡ Some whole) due entries l.entries bytes (had others entries tells at has) l.history (l.whole (stays.tells ∙ tells));
       part = λ others entries also. absurd (done_not_unwritten o.end Out done also);
     }
     looks_output (Err OutputFault) l done failed memory told silent =
@@ -125,7 +125,7 @@ module _ (journal out : List ℕ) (due : List Entry → List ℕ) (o : Outcome) 
           history = λ untold tells. fits l.entries l.history l.within tells;
           whole = λ others entries also. absurd (done_not_unwritten o.end Out also is);
           part = λ others entries also tells at has.
-              left_of_any due entries l.entries bytes o.old o.new out (had others entries tells at has) l.history
+              due_of_any (IsOutputLeft o.old o.new out) due entries l.entries bytes (had others entries tells at has) l.history
               (left_since o.old mid o.new out (due l.entries) [] tt stays (l.output.left (stays.tells ∙ tells)));
         }
     looks_output (Err NoMemory) l done failed memory told silent =

@@ -21,17 +21,18 @@ use Rattle.console_lines.specs.declared.fault.Fault.TheVariants.{Usage, Input, D
 use Rattle.memory_files.specs.declared.reading.ReadFault.{ReadFault}
 use Rattle.memory_files.specs.declared.reading.ReadFault.TheVariants as read
 use Rattle.output_files.specs.Outputs.{IsOutput, IsOutputLeft}
-use Rattle.journal_files.specs.Journals.{journal_limits}
-use Rattle.archive_commands.specs.Archives.{HasFittingHistory}
+use Rattle.journal_files.specs.Journals.{journal_limits, HasFittingHistory}
 use Rattle.archive_commands.specs.Reads.{due_of}
 use Rattle.archive_commands.specs.Reads as reads
-use Rattle.match_command.specs.Telling.{matches_due}
+use Rattle.archive_commands.specs.Telling.{matches_due}
+use Rattle.heading_list.specs.Telling.{headings_due}
 
 -- what is due of a history for what is looked for: the same as of a journal that is held
 abbrev pub look_due : Look → List Entry → List ℕ
 look_due (look.Export code) = due_of (reads.Export code)
 look_due look.Report = due_of reads.Report
 look_due look.Matches = matches_due
+look_due (look.Headings range) = headings_due range
 
 -- why a journal's bytes aren't had, as the console tells it
 abbrev pub fault_of_reading : ReadFault → Fault

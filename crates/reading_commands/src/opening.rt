@@ -8,9 +8,9 @@ ghost use Rattle.journal_files.specs.Taking.{IsHandedOn};
 ghost use Rattle.journal_files.specs.Journals.{journal_limits};
 ghost use Rattle.match_report.specs.Matches.{table_after};
 
+use archive_commands::HistoryMatches;
 use durable_catalogue::{OpenFault, RecoveredReadOnly};
 use journal_files::{JOURNAL_LIMITS, JournalScan};
-use match_command::HistoryMatches;
 use memory_files::ByteDisk;
 use std::alloc::Global;
 

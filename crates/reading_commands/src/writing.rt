@@ -2,18 +2,19 @@
 ghost use Rattle.std.specs.Prelude.{◌≡◌, ◌≢◌, None, [], ◌∷◌, IfOk, IfErr};
 ghost use Rattle.outside.specs.Room.{SameBut};
 ghost use Rattle.archive_commands.specs.Reads.{due_view, due_of};
-ghost use Rattle.command_words.specs.Asked.{look_asked};
+ghost use Rattle.command_words.specs.Asked.{look_asked, range_asked};
 ghost use Rattle.durable_catalogue.specs.declared.fault.OpenFault.TheVariants.{OldVersion};
 ghost use Rattle.durable_catalogue.specs.Openings.{IsUnopened};
+ghost use Rattle.heading_list.specs.Telling.{headings_due};
 ghost use Rattle.journal_files.specs.Journals.{journal_limits};
-ghost use Rattle.match_command.specs.Telling.{matches_due};
+ghost use Rattle.archive_commands.specs.Telling.{matches_due};
 ghost use Rattle.reading_commands.specs.Looking.{IsLooked, look_due};
 
 use crate::opening::{catalogue_of, matches_of};
-use archive_commands::{Due, write_due};
-use command_words::Look;
+use archive_commands::{Due, write_due, write_table};
+use command_words::{HeadingRange, Look};
 use durable_catalogue::{OnClose, OpenFault};
-use match_command::write_table;
+use heading_list::write_headings;
 use outside::{Room, WriteFault};
 use std::alloc::Global;
 
@@ -58,6 +59,28 @@ fn write_matches<R: Room>(
     Ok(write_table(alloc, room, out, &taken.table))
 }
 
+/// Writes the list of the headings of a journal's bytes into the file `out`, or answers why they are no journal that is taken.
+fn write_list<R: Room>(
+    alloc: Global,
+    room: &mut R,
+    out: &str,
+    bytes: Vec<u8>,
+    range: HeadingRange<'_>,
+) -> Result<Result<(), WriteFault>, OpenFault>
+    requires { (R.seen room.old).open_as out.now ≡ None }
+    ensures apart { SameBut (R.seen room.old) (R.seen room.new) (out.now ∷ []) }
+    ensures closed { (R.seen room.new).open_as out.now ≡ None }
+    ensures written { IfOk result (IsLooked bytes.items out.now (headings_due (range_asked range.entry)) (R.seen room.old) (R.seen room.new)) }
+    ensures unbegun { IfErr result (λ _. SameBut (R.seen room.old) (R.seen room.new) []) }
+    ensures unopened { IfErr result (IsUnopened journal_limits bytes.items) }
+    ensures current { IfErr result (λ fault. fault ≢ OldVersion) }
+{
+    let archive = catalogue_of(alloc, bytes)?;
+    let written = write_headings(alloc, room, out, archive.core(), range);
+    let _disk = archive.close(OnClose::Leak);
+    Ok(written)
+}
+
 /// Writes what is looked for in a journal's bytes into the file `out`, or answers why they are no journal that is taken.
 pub fn write_look<R: Room>(
     alloc: Global,
@@ -82,5 +105,6 @@ pub fn write_look<R: Room>(
         Look::Export(code) => write_catalogue(alloc, room, out, bytes, Due::Export(code)),
         Look::Report => write_catalogue(alloc, room, out, bytes, Due::Report),
         Look::Matches => write_matches(alloc, room, out, bytes),
+        Look::Headings(range) => write_list(alloc, room, out, bytes, range),
     }
 }

@@ -1,3 +1,4 @@
+pub mod Alike
 pub mod Appended
 pub mod Authorities
 pub mod Carried

@@ -50,6 +50,11 @@ pub record IsResumed (point : Option Point) (history : List Entry) (restored : R
 abbrev pub IsOfHistory : Option Point → List Entry → Type 0
 IsOfHistory point history = IfSome point (λ p. p.entries ≤ length history → held_state p ≡ state_of (take p.entries history))
 
+-- a checkpoint is of a front of the history: of no more entries, and its state is exactly the one behind so many of them
+pub record IsOfFront (history : List Entry) (point : Point) : Type 0 where
+  pub within : point.entries ≤ length history
+  pub state_is : held_state point ≡ state_of (take point.entries history)
+
 -- how many records the commits of entries touch that follow one another from a state
 abbrev pub touched_through : State → List Entry → ℕ
 touched_through s [] = 0

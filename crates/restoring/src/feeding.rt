@@ -88,7 +88,7 @@ fn put_record(
 }
 
 /// Whether a tie is that of a record that comes in.
-fn is_new(tie: &Tie) -> bool
+pub(crate) fn is_new(tie: &Tie) -> bool
     ensures { IsTrue result ↔ (tie.now ≡ new_tie) }
 {
     tie.key.is_none() && !tie.whole && tie.awaits.is_none()

@@ -1,5 +1,5 @@
 -- What is put into a sure room is no open name.
-use Rattle.std.proofs.Common.{◌≡◌, ◌≢◌, ◌∙◌, ℕ, Bool, true, false, true≢false, List, Option, refl, sym, ap, Some, None}
+use Rattle.std.proofs.Common.{◌≡◌, ◌≢◌, ◌∙◌, ℕ, Bool, true, false, true≢false, List, Option, refl, sym, ap, None}
 use Rattle.marc_types.specs.Order.{text_Decides}
 use Rattle.std.specs.Str.{bytes_eq}
 use Rattle.outside_sure.specs.SureKept.{kept_sort}

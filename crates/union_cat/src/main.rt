@@ -1,9 +1,15 @@
 //! The program `union_cat`: carries out the command of its words over the files of the system.
 #![tactic(auto)]
 
-use command_words::{AloneRequest, Libraries, Look, Outputs, Request, Unasked, Words, request};
+mod details;
+mod intent;
+mod loaded;
+
+use crate::intent::intent_of;
+use crate::loaded::tell_loaded;
+use command_words::{Request, Unasked, Words, request};
 use marc_types::Text;
-use outside_real::{Counts, FileRoom, FileSink, Intent, ProgressGate, Target};
+use outside_real::{FileRoom, FileSink, LineNotes, OpenGate, Target};
 use program_help::slip_in;
 use std::alloc::Global;
 use std::io::{ErrorKind, IsTerminal};
@@ -48,83 +54,6 @@ fn words_of(rt: &HostRuntime) -> io::Result<Words> {
     Ok(Words::from_vec(words))
 }
 
-/// The outputs that a load is to write, which the room looks at before it lets the journal be opened.
-fn outputs_of(alloc: Global, asked: &Result<Request<'_>, Unasked>) -> io::Result<Vec<String>> {
-    let mut outputs = Vec::new(alloc);
-    match asked {
-        Ok(Request::Load(wanted)) => {
-            if let Some(Outputs { out, report }) = wanted.outputs {
-                outputs.push(String::from_str(alloc, out)?)?;
-                outputs.push(String::from_str(alloc, report)?)?;
-            }
-        }
-        Ok(Request::Browse(wanted)) => {
-            for output in [wanted.outputs.out, wanted.outputs.report, wanted.pages] {
-                outputs.push(String::from_str(alloc, output)?)?;
-            }
-        }
-        _ => {}
-    }
-    Ok(outputs)
-}
-
-/// Whether a command only reads its journal; and whether it looks at it without holding it.
-fn reading_of(asked: &AloneRequest<'_>) -> (bool, bool) {
-    match asked {
-        AloneRequest::Export { .. }
-        | AloneRequest::Report { .. }
-        | AloneRequest::Matches { .. }
-        | AloneRequest::Holdings { .. } => (true, false),
-        AloneRequest::Verify { .. } | AloneRequest::Read { .. } => (false, true),
-        _ => (false, false),
-    }
-}
-
-/// What is told of how much a command wrote.
-fn counts_of(asked: &AloneRequest<'_>) -> Counts {
-    match asked {
-        AloneRequest::Export { code: Some(_), .. }
-        | AloneRequest::Read {
-            look: Look::Export(Some(_)),
-            ..
-        } => Counts::RecordsOfCode,
-        AloneRequest::Export { .. }
-        | AloneRequest::Holdings { .. }
-        | AloneRequest::Quick { .. }
-        | AloneRequest::Read {
-            look: Look::Export(None),
-            ..
-        } => Counts::Records,
-        AloneRequest::Report { .. } | AloneRequest::Matches { .. } | AloneRequest::Read { .. } => {
-            Counts::Lines
-        }
-        _ => Counts::Nothing,
-    }
-}
-
-/// What a command is about to do with its files.
-fn intent_of(
-    alloc: Global,
-    asked: &Result<Request<'_>, Unasked>,
-    is_terminal: bool,
-) -> io::Result<Intent> {
-    let outputs = outputs_of(alloc, asked)?;
-    let (reads, looks, counts) = match asked {
-        Ok(Request::Alone(alone)) => {
-            let (reads, looks) = reading_of(alone);
-            (reads, looks, counts_of(alone))
-        }
-        _ => (false, false, Counts::Nothing),
-    };
-    Ok(Intent {
-        outputs,
-        reads,
-        looks,
-        counts,
-        is_terminal,
-    })
-}
-
 /// Whether a command writes outputs behind what it loads.
 fn is_run(asked: &Result<Request<'_>, Unasked>) -> bool {
     match asked {
@@ -147,40 +76,27 @@ fn tell_more(rt: &HostRuntime, words: &Words, writes_behind: bool, status: u8) {
     }
 }
 
-/// The names of the files of a loading, for the lines of progress.
-fn names_of(alloc: Global, libraries: &Libraries) -> io::Result<Vec<String>> {
-    let mut names = Vec::with_capacity(alloc, libraries.len())?;
-    for library in libraries.iter() {
-        names.push(String::from_str(alloc, library.file.as_str())?)?;
-    }
-    Ok(names)
-}
-
 /// Carries out the command of the words. `threads` starts the loaders of a command that has any; no other waits for anybody.
 fn command<H: Threads + Wait + Sync>(rt: &HostRuntime, threads: &H) -> io::Result<u8> {
     let alloc = rt.alloc();
     let words = words_of(rt)?;
-    let (files, told, progress) = (rt.clone()?, rt.clone()?, rt.clone()?);
+    let (files, told, notes) = (rt.clone()?, rt.clone()?, rt.clone()?);
     let mut room = FileRoom::new(files, alloc, process::id(rt.process()));
     let asked = request(alloc, &words);
     let writes_behind = is_run(&asked);
-    let is_terminal = rt.stderr().is_terminal();
-    room.intend(intent_of(alloc, &asked, is_terminal)?);
+    room.intend(intent_of(alloc, &asked, rt.stderr().is_terminal())?);
     let mut console = FileSink::direct(alloc, Target::Console(told));
+    let mut notes = LineNotes::new(notes, alloc);
     let status = match begin(alloc, &words, asked, &mut room, &mut console) {
         Begun::Ended(status) => status,
         Begun::Loading(loading) => {
-            // Where there is no memory for the names, no progress is told.
-            let names = names_of(alloc, loading.libraries()).unwrap_or(Vec::new(alloc));
-            let gate = ProgressGate::new(progress, names, is_terminal);
-            let loaded = load(threads, alloc, loading, &gate);
+            let loaded = load(threads, alloc, loading, &OpenGate);
+            tell_loaded(rt, &loaded, &room, &mut notes);
             end(alloc, loaded, &mut room, &mut console)
         }
         Begun::Browsing(browsing) => {
-            let libraries = browsing.loading().libraries();
-            let names = names_of(alloc, libraries).unwrap_or(Vec::new(alloc));
-            let gate = ProgressGate::new(progress, names, rt.stderr().is_terminal());
-            let browsed = load_browsing(threads, alloc, browsing, &gate);
+            let browsed = load_browsing(threads, alloc, browsing, &OpenGate);
+            tell_loaded(rt, browsed.loaded(), &room, &mut notes);
             end_browsing(alloc, browsed, &mut room, &mut console)
         }
     };

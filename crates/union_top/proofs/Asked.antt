@@ -12,7 +12,7 @@ use Rattle.command_words.specs.declared.asked.BrowseRequest.{BrowseRequest}
 use Rattle.command_words.specs.declared.asked.LoadRequest.{LoadRequest}
 use Rattle.command_words.specs.declared.asked.Outputs.{Outputs}
 use Rattle.command_words.specs.declared.asked.Request.TheVariants as request
-use Rattle.command_words.specs.Command.{Command, Pass, Run, Load, Browse, Export, Report, Make, Verify, Matches, Holdings, Migrate, Checkpoint, Quick, Read, Refused as RefusedOf, Help, Version, command_of, libraries_of, file_count, names_of, AreNames, IsBounded, ReadsFiles}
+use Rattle.command_words.specs.Command.{Command, Pass, Run, Load, Browse, Export, Report, Make, Verify, VerifyPoint, Matches, Holdings, Headings, Worklist, Migrate, Checkpoint, Quick, QuickReport, Read, ReadHoldings, ReadWorklist, Refused as RefusedOf, Help, Version, command_of, libraries_of, file_count, names_of, AreNames, IsBounded, ReadsFiles}
 use Rattle.command_words.specs.Asked.{alone_asked, browse_asked, load_asked, loading_of, AsksFor}
 use Rattle.console_lines.specs.Ends.{Outcome, IsTold}
 use Rattle.console_lines.specs.declared.end.End.TheVariants.{Told}
@@ -31,6 +31,8 @@ use Rattle.loading_commands.specs.Runs as runs
 use Rattle.browsing_commands.specs.Browses.{EndsBrowse, Browses}
 use Rattle.browsing_commands.specs.Browsing.{run_of}
 use Rattle.browsing_commands.proofs.Outcomes.{browses_failed}
+use Rattle.memory_files.specs.declared.reading.ReadFault.TheVariants as read
+use Rattle.reading_commands.proofs.Attached.{unheld_unread}
 use Rattle.holdings_command.proofs.Endings.{attaches_unopened}
 use Rattle.loading_commands.proofs.Ended.{loads_failed, runs_failed, no_memory}
 
@@ -177,14 +179,21 @@ module _ (o : Outcome) (told : o.end ≡ Told fault.Memory) (tells : IsTold faul
   unasked words (Report journal out) takes = absurd takes
   unasked words (Make seed count out) takes = absurd takes
   unasked words (Verify journal) takes = absurd takes
+  unasked words (VerifyPoint journal point) takes = absurd takes
   unasked words (Matches journal out) takes = absurd takes
   unasked words (Holdings journal out rest code) takes = λ library is.
       attaches_unopened journal out rest library code o opening.NoMemory told tells (same_but_none o.old o.new (journal ∷ []) stays) (λ old. cc) (λ room. tt)
       (λ room. unopened_keeps _ o.old o.new journal stays) (λ device. cc)
+  unasked words (Headings journal range out) takes = absurd takes
+  unasked words (Worklist journal list page code) takes = absurd takes
   unasked words (Migrate from into) takes = absurd takes
   unasked words (Checkpoint journal point) takes = absurd takes
   unasked words (Quick journal point out) takes = absurd takes
+  unasked words (QuickReport journal point out report) takes = absurd takes
   unasked words (Read look journal out) takes = absurd takes
+  unasked words (ReadHoldings journal out rest code) takes = λ library is.
+      unheld_unread journal out rest library code o read.NoMemory fault.Memory refl told tells stays (λ same. cc)
+  unasked words (ReadWorklist journal list page code) takes = absurd takes
   unasked words (RefusedOf out) takes = λ library is. passes_told refused_due library out o fault.Memory told tells tt stays (λ input. cc) (λ full. cc)
   unasked words (Help topic) takes = absurd takes
   unasked words Version takes = absurd takes

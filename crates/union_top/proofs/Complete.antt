@@ -1,15 +1,16 @@
 -- A command that nothing hinders ends well, or memory ran out.
-use Rattle.std.proofs.Common.{◌≡◌, ◌⊎◌, inl, inr, ℕ, zero, suc, ◌≤◌, List, [], ◌∷◌, Some, refl, subst}
+use Rattle.std.proofs.Common.{◌≡◌, ◌⊎◌, inl, inr, ℕ, zero, suc, ◌≤◌, List, [], ◌∷◌, Some, None, refl, subst}
 use Rattle.std.specs.Prelude.{All, slice_get}
 use Rattle.std.proofs.lemmas.List.Elements.{All-head, All-tail}
 use Rattle.command_words.specs.declared.library.Library.{Library}
-use Rattle.command_words.specs.Command.{Command, Pass, Run, Load, Browse, Export, Report, Make, Verify, Matches, Holdings, Migrate, Checkpoint, Quick, Read, Refused as RefusedOf, Help, Version, libraries_of}
+use Rattle.command_words.specs.Command.{Command, Pass, Run, Load, Browse, Export, Report, Make, Verify, VerifyPoint, Matches, Holdings, Headings, Worklist, Migrate, Checkpoint, Quick, QuickReport, Read, ReadHoldings, ReadWorklist, Refused as RefusedOf, Help, Version, libraries_of}
 use Rattle.console_lines.specs.Ends.{Outcome, end_status}
 use Rattle.console_lines.specs.declared.end.End.{End}
 use Rattle.console_lines.specs.declared.end.End.TheVariants.{Done, Refused, Unwritten, Told}
 use Rattle.console_lines.specs.declared.fault.Fault.TheVariants as fault
 use Rattle.archive_commands.specs.Reads as reading
-use Rattle.match_command.specs.Telling.{matches_due}
+use Rattle.archive_commands.specs.Telling.{matches_due}
+use Rattle.heading_list.specs.Telling.{headings_due}
 use Rattle.plain_commands.specs.Passing.{export_due}
 use Rattle.plain_commands.specs.GivingBack.{refused_due}
 use Rattle.reading_commands.specs.Looking.{look_due}
@@ -17,11 +18,15 @@ use Rattle.loading_commands.specs.Inputs.{IsInputFault}
 use Rattle.program_help.specs.Telling.{help_text, version_text}
 use Rattle.union_top.specs.Commands.{Ends}
 use Rattle.union_top.specs.Complete.{Around, InStayed, InputsStayed, IsUnhindered}
+use Rattle.union_top.proofs.Listed.{lists_well}
+use Rattle.union_top.proofs.Sought.{seeks_well}
 use Rattle.union_top.proofs.Fitting.{EndsWell, well_status, passes_well, makes_well, reads_well, attaches_well, loads_well, runs_well}
 use Rattle.union_top.proofs.Looking.{looks_well}
+use Rattle.union_top.proofs.Unheld.{unheld_well}
 use Rattle.union_top.proofs.Untroubled.{verify_well, tells_well}
 use Rattle.union_top.proofs.Migrated.{migrates_well}
-use Rattle.union_top.proofs.Pointed.{checkpoints_well, quick_well}
+use Rattle.union_top.proofs.Pointed.{checkpoints_well, quick_well, never_side}
+use Rattle.union_top.proofs.OwnPoint.{owns_well}
 
 -- an element of a list of which all are so
 at_index : {A : Type 0} (P : A → Type 0) (xs : List A) (n : ℕ) (x : A) → All P xs → slice_get xs n ≡ Some x → P x
@@ -73,6 +78,8 @@ module _ (o : Outcome) where
       makes_well o seed count out m (λ is. u.stayed.0 (m.out_cause is)) (λ is. u.stayed.1 (m.console_cause is))
   ends_well words (Verify journal) v u =
       verify_well o journal v u.fits (λ is. u.stayed.1 (v.console_cause is)) (λ is. u.stayed.0 (v.input is))
+  ends_well words (VerifyPoint journal point) v u =
+      owns_well o journal point v (λ is. u.stayed.2 (v.console_cause is)) (λ is. neither u.stayed.0 u.stayed.1 (v.input is)) u.fits
   ends_well words (Matches journal out) r u =
       reads_well o journal out matches_due r u.fits (λ is. u.stayed.1 (r.out_cause is)) (λ is. u.stayed.0 (r.device is))
   ends_well words (Holdings journal out rest code) ends u =
@@ -81,14 +88,29 @@ module _ (o : Outcome) where
       attaches_well o words journal out rest code ends u.fits (λ is. s.3 (a.out_cause is)) (λ is. s.4 (a.rest_cause is))
       (λ is. s.2 (a.console_cause is)) (λ is. one_stayed (around_of o) (libraries_of words) s.0 u.fits.library u.fits.named (a.input is))
       (λ is. s.1 (a.device is))
+  ends_well words (Headings journal range out) r u =
+      reads_well o journal out (headings_due range) r u.fits (λ is. u.stayed.1 (r.out_cause is)) (λ is. u.stayed.0 (r.device is))
+  ends_well words (Worklist journal list page code) m u =
+      lists_well o journal list page code m u.fits (λ is. u.stayed.1 (m.list_cause is)) (λ is. u.stayed.2 (m.page_cause is)) (λ is. u.stayed.0 (m.device is))
   ends_well words (Migrate from into) m u =
       migrates_well o from into m u.fits (λ is. neither u.stayed.0 u.stayed.1 (m.device is)) (λ is. u.stayed.2 (m.console is))
   ends_well words (Checkpoint journal point) c u =
       checkpoints_well o journal point c u.fits u.stayed.0 u.stayed.1 (λ is. u.stayed.2 (c.console is))
   ends_well words (Quick journal point out) q u =
-      quick_well o journal point out q u.fits u.stayed.0 u.stayed.1 (λ is. u.stayed.2 (q.out_cause is)) (λ is. u.stayed.3 (q.console is))
+      quick_well o journal point out None q u.fits u.stayed.0 u.stayed.1 (λ is. u.stayed.2 (q.out_cause is)) (never_side o.end q.ends)
+      (λ is. u.stayed.3 (q.console is))
+  ends_well words (QuickReport journal point out report) q u =
+      quick_well o journal point out (Some report) q u.fits u.stayed.0 u.stayed.1 (λ is. u.stayed.2 (q.out_cause is)) (λ is. u.stayed.4 (q.report_cause is))
+      (λ is. u.stayed.3 (q.console is))
   ends_well words (Read look journal out) l u =
       looks_well o journal out (look_due look) l u.fits (λ is. u.stayed.1 (l.out_cause is)) (λ is. u.stayed.0 (l.input is))
+  ends_well words (ReadHoldings journal out rest code) ends u =
+      let a = ends u.fits.library u.fits.named in
+      let s = u.stayed in
+      unheld_well o journal out rest u.fits.library code a (λ is. s.3 (a.out_cause is)) (λ is. s.4 (a.rest_cause is)) (λ is. s.2 (a.console_cause is))
+      (λ is. neither s.1 (one_stayed (around_of o) (libraries_of words) s.0 u.fits.library u.fits.named) (a.input is)) u.fits.look
+  ends_well words (ReadWorklist journal list page code) l u =
+      seeks_well o journal list page code l u.fits (λ is. u.stayed.1 (l.list_cause is)) (λ is. u.stayed.2 (l.page_cause is)) (λ is. u.stayed.0 (l.input is))
   ends_well words (RefusedOf out) ends u =
       let p = ends u.fits.library u.fits.named in
       passes_well o refused_due (libraries_of words) out ends u.fits (λ is. u.stayed.1 (p.out_cause is)) (λ is. u.stayed.2 (p.console_cause is))

@@ -11,6 +11,9 @@ mod Remaining
 mod Untroubled
 mod Fitting
 mod Looking
+mod Unheld
+mod Listed
+mod Sought
 mod Complete
 mod Held
 mod Sure
@@ -19,3 +22,4 @@ mod Misfits
 mod Refusing
 mod Carried
 mod Either
+mod OwnPoint

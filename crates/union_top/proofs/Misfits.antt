@@ -19,9 +19,8 @@ use Rattle.durable_catalogue.specs.declared.fault.OpenFault.{OpenFault}
 use Rattle.durable_catalogue.specs.declared.fault.OpenFault.TheVariants as opening
 use Rattle.loader_workers.specs.declared.file_end.FileEnd.TheVariants as end
 use Rattle.journal_files.specs.Faults.{fault_of_opening}
-use Rattle.journal_files.specs.Journals.{journal_limits, log_bytes}
+use Rattle.journal_files.specs.Journals.{journal_limits, log_bytes, HasFittingHistory}
 use Rattle.journal_files.proofs.Histories.{reading_once}
-use Rattle.archive_commands.specs.Archives.{HasFittingHistory}
 use Rattle.loading_commands.specs.Outcomes.{Unopened, Unbegun, IsLoadingFault, NotBegun, InPart, any_ends, loading_fault}
 use Rattle.union_top.specs.Misfits.{IsNoHistory, IsOfVersion, IsTooLarge, IsStatus}
 use Rattle.union_top.proofs.Unopened.{no_journal}

@@ -1,15 +1,17 @@
 -- The commands over a log of checkpoints end well where they fit, or memory ran out, where no count of faults rose.
-use Rattle.std.proofs.Common.{◌≡◌, ◌⊎◌, inl, inr, ℕ, List, [], ◌∷◌, ◌++◌, Option, Ok, Err, refl, sym, ap, ◌∙◌}
+use Rattle.std.proofs.Common.{◌≡◌, ◌⊎◌, inl, inr, ℕ, true≢false, List, [], ◌∷◌, ◌++◌, Option, None, Ok, Err, refl, sym, ap, subst, ◌∙◌, arith}
 use Rattle.std.specs.Prelude.{All, map}
 use Rattle.std.proofs.lemmas.List.{map-append}
 use Rattle.std.proofs.lemmas.List.Elements.{All-head, All-tail}
 use Rattle.outside.specs.Fault.{Rose}
-use Rattle.console_lines.specs.Ends.{Outcome, out_unwritten, console_unwritten}
+use Rattle.console_lines.specs.Ends.{Outcome, out_unwritten, side_unwritten, console_unwritten}
+use Rattle.console_lines.specs.Faults.{fault_status}
 use Rattle.console_lines.specs.declared.end.End.{End}
 use Rattle.console_lines.specs.declared.end.End.TheVariants.{Done, Refused, Unwritten, Told}
 use Rattle.console_lines.specs.declared.end.Unwritten.TheVariants.{Out, Side, Pages, Console}
 use Rattle.console_lines.specs.declared.fault.Fault.{Fault}
 use Rattle.console_lines.specs.declared.fault.Fault.TheVariants as fault
+use Rattle.commit_journal.specs.Log.{version_of}
 use Rattle.commit_journal.specs.declared.frame.Frame.{Frame}
 use Rattle.durable_catalogue.specs.declared.fault.OpenFault.{OpenFault}
 use Rattle.durable_catalogue.specs.declared.fault.OpenFault.TheVariants as opening
@@ -27,6 +29,7 @@ use Rattle.checkpoint_commands.specs.Refusals.{IsJournalRefused, IsRefusedBehind
 use Rattle.checkpoint_commands.specs.Checkpoints.{EndsCheckpoint, Checkpoints}
 use Rattle.checkpoint_commands.specs.Quick.{EndsQuick, ExportsQuickly}
 use Rattle.union_top.specs.Fits.{FitsPoint}
+use Rattle.union_top.specs.Misfits.{IsStatus}
 use Rattle.union_top.proofs.Fitting.{EndsWell}
 use Rattle.union_top.proofs.Unopened.{may_be, opening_well}
 
@@ -53,13 +56,26 @@ never_none log last place has (NoPart frames found bad) =
     bad.none one.0 one.1
 
 -- a fault of one that remains
-taken_well : (log : List ℕ) (last : Option Point) (reason : OpenFault) → IsPointLog last log → IsUntaken log reason → (fault_of_opening reason ≡ fault.Device → ⊥)
+pub taken_well : (log : List ℕ) (last : Option Point) (reason : OpenFault) → IsPointLog last log → IsUntaken log reason → (fault_of_opening reason ≡ fault.Device → ⊥)
     → fault_of_opening reason ≡ fault.Memory
 taken_well log last opening.DeviceFault is so device = absurd (device refl)
 taken_well log last (opening.NotAJournal place) is so device = absurd (never_none log last place is.has so)
 taken_well log last opening.OldVersion is so device = let both : 1 ≡ 2 = sym so.0 ∙ is.newest in cc
 taken_well log last opening.Full is so device = absurd so
 taken_well log last opening.NoMemory is so device = refl
+
+-- why an old log of checkpoints isn't taken
+pub old_taken : (log : List ℕ) (last : Option Point) (reason : OpenFault) → HasLast last log → IsUntaken log reason → (fault_of_opening reason ≡ fault.Device → ⊥)
+    → IsStatus 9 (fault_status (fault_of_opening reason))
+old_taken log last opening.DeviceFault has so device = absurd (device refl)
+old_taken log last (opening.NotAJournal place) has so device = absurd (never_none log last place has so)
+old_taken log last opening.OldVersion has so device = inl refl
+old_taken log last opening.Full has so device = absurd so
+old_taken log last opening.NoMemory has so device = inr refl
+
+-- a log isn't of both versions
+pub both_versions : (log : List ℕ) → version_of log ≡ 1 → version_of log ≡ 2 → ⊥
+both_versions log one two = omega (arith, one, two)
 
 checkpoint_by_end : (end : End) → EndsCheckpoint end → (end ≡ console_unwritten → ⊥) → ((why : Fault) → end ≡ Told why → why ≡ fault.Memory) → EndsWell end
 checkpoint_by_end Done kind console told = inl tt
@@ -70,15 +86,19 @@ checkpoint_by_end (Unwritten Pages) kind console told = absurd kind
 checkpoint_by_end (Unwritten Console) kind console told = absurd (console refl)
 checkpoint_by_end (Told why) kind console told = inr (ap Told (told why refl))
 
-quick_by_end : (end : End) → EndsQuick end → (end ≡ out_unwritten → ⊥) → (end ≡ console_unwritten → ⊥) → ((why : Fault) → end ≡ Told why → why ≡ fault.Memory)
-    → EndsWell end
-quick_by_end Done kind out console told = inl tt
-quick_by_end Refused kind out console told = absurd kind
-quick_by_end (Unwritten Out) kind out console told = absurd (out refl)
-quick_by_end (Unwritten Side) kind out console told = absurd kind
-quick_by_end (Unwritten Pages) kind out console told = absurd kind
-quick_by_end (Unwritten Console) kind out console told = absurd (console refl)
-quick_by_end (Told why) kind out console told = inr (ap Told (told why refl))
+quick_by_end : (report : Option (List ℕ)) (end : End) → EndsQuick report end → (end ≡ out_unwritten → ⊥) → (end ≡ side_unwritten → ⊥) → (end ≡ console_unwritten → ⊥)
+    → ((why : Fault) → end ≡ Told why → why ≡ fault.Memory) → EndsWell end
+quick_by_end report Done kind out side console told = inl tt
+quick_by_end report Refused kind out side console told = absurd kind
+quick_by_end report (Unwritten Out) kind out side console told = absurd (out refl)
+quick_by_end report (Unwritten Side) kind out side console told = absurd (side refl)
+quick_by_end report (Unwritten Pages) kind out side console told = absurd kind
+quick_by_end report (Unwritten Console) kind out side console told = absurd (console refl)
+quick_by_end report (Told why) kind out side console told = inr (ap Told (told why refl))
+
+-- no report is missing where none is asked for
+pub never_side : (end : End) → EndsQuick None end → end ≡ side_unwritten → ⊥
+never_side end kind is = true≢false (sym (subst (EndsQuick None) is kind))
 
 module _ (o : Outcome) (journal point : List ℕ) (f : FitsPoint o.old journal point) (no_journal : Rose (o.old.log_faults journal) (o.new.log_faults journal) → ⊥)
     (no_point : Rose (o.old.log_faults point) (o.new.log_faults point) → ⊥) where
@@ -103,7 +123,8 @@ module _ (o : Outcome) (journal point : List ℕ) where
   checkpoints_well c f no_journal no_point no_console =
       checkpoint_by_end o.end c.ends no_console (λ why is. refused_well o journal point f no_journal no_point why (c.told why is).1)
 
-  pub quick_well : (out : List ℕ) → ExportsQuickly journal point out o → FitsPoint o.old journal point → (Rose (o.old.log_faults journal) (o.new.log_faults journal) → ⊥)
-      → (Rose (o.old.log_faults point) (o.new.log_faults point) → ⊥) → (o.end ≡ out_unwritten → ⊥) → (o.end ≡ console_unwritten → ⊥) → EndsWell o.end
-  quick_well out q f no_journal no_point no_out no_console =
-      quick_by_end o.end q.ends no_out no_console (λ why is. refused_well o journal point f no_journal no_point why (q.told why is).1)
+  pub quick_well : (out : List ℕ) (report : Option (List ℕ)) → ExportsQuickly journal point out report o → FitsPoint o.old journal point
+      → (Rose (o.old.log_faults journal) (o.new.log_faults journal) → ⊥) → (Rose (o.old.log_faults point) (o.new.log_faults point) → ⊥)
+      → (o.end ≡ out_unwritten → ⊥) → (o.end ≡ side_unwritten → ⊥) → (o.end ≡ console_unwritten → ⊥) → EndsWell o.end
+  quick_well out report q f no_journal no_point no_out no_side no_console =
+      quick_by_end report o.end q.ends no_out no_side no_console (λ why is. refused_well o journal point f no_journal no_point why (q.told why is).1)

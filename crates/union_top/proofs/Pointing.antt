@@ -1,23 +1,15 @@
 -- The commands over a log of checkpoints whose journal can't be used, or whose log is of version 1, end with the status that says why.
-use Rattle.std.proofs.Common.{◌≡◌, ◌⊎◌, inl, inr, ℕ, List, Option, true, refl, sym, ap, subst, ◌∙◌, arith}
+use Rattle.std.proofs.Common.{◌≡◌, ◌⊎◌, inl, inr, ℕ, List, Option, Some, None, true, sym, ap, subst, ◌∙◌}
 use Rattle.outside.specs.Fault.{Rose}
-use Rattle.command_words.specs.Command.{Checkpoint, Quick}
-use Rattle.console_lines.specs.Ends.{Outcome, IsAllDone, TellsNoFault, end_status}
+use Rattle.command_words.specs.Command.{Checkpoint, Quick, QuickReport}
+use Rattle.console_lines.specs.Ends.{Outcome, IsAllDone, end_status, out_unwritten, side_unwritten, console_unwritten}
 use Rattle.console_lines.specs.Faults.{fault_status}
-use Rattle.console_lines.specs.declared.end.End.{End}
-use Rattle.console_lines.specs.declared.end.End.TheVariants.{Done, Refused, Unwritten, Told}
 use Rattle.console_lines.specs.declared.fault.Fault.{Fault}
-use Rattle.console_lines.specs.declared.fault.Fault.TheVariants as fault
-use Rattle.commit_journal.specs.Log.{version_of}
 use Rattle.durable_catalogue.specs.declared.fault.OpenFault.{OpenFault}
-use Rattle.durable_catalogue.specs.declared.fault.OpenFault.TheVariants as opening
 use Rattle.journal_files.specs.Faults.{fault_of_opening}
 use Rattle.journal_files.specs.Journals.{log_bytes}
 use Rattle.journal_files.proofs.Faults.{opening_device}
-use Rattle.archive_commands.proofs.Histories.{fitting_history}
-use Rattle.checkpoint.specs.declared.point.Point.{Point}
-use Rattle.restoring.specs.Writing.{HasLast}
-use Rattle.checkpoint_commands.specs.PointLogs.{IsUntaken}
+use Rattle.journal_files.proofs.Histories.{fitting_history}
 use Rattle.checkpoint_commands.specs.Refusals.{IsJournalRefused, IsRefusedBehind}
 use Rattle.checkpoint_commands.specs.Checkpoints.{EndsCheckpoint, Checkpoints}
 use Rattle.checkpoint_commands.specs.Quick.{EndsQuick, ExportsQuickly}
@@ -25,23 +17,9 @@ use Rattle.union_top.specs.Complete.{CountsStayed}
 use Rattle.union_top.specs.Misfits.{IsNoHistory, IsTooLarge, IsOldPoint, IsStatus, RefusesMisfits}
 use Rattle.union_top.proofs.Complete.{around_of}
 use Rattle.union_top.proofs.Misfits.{by_told, none_opened, large_opened, none_fits, large_fits}
-use Rattle.union_top.proofs.Pointed.{never_none}
+use Rattle.union_top.proofs.Looking.{all_untold}
+use Rattle.union_top.proofs.Pointed.{never_side, old_taken, both_versions}
 use Rattle.union_top.proofs.Unopened.{may_be, opening_well}
-
-all_untold : (end : End) → IsAllDone end → TellsNoFault end
-all_untold Done all = tt
-all_untold Refused all = tt
-all_untold (Unwritten which) all = absurd all
-all_untold (Told why) all = absurd all
-
--- why an old log of checkpoints isn't taken
-old_taken : (log : List ℕ) (last : Option Point) (reason : OpenFault) → HasLast last log → IsUntaken log reason → (fault_of_opening reason ≡ fault.Device → ⊥)
-    → IsStatus 9 (fault_status (fault_of_opening reason))
-old_taken log last opening.DeviceFault has so device = absurd (device refl)
-old_taken log last (opening.NotAJournal place) has so device = absurd (never_none log last place has so)
-old_taken log last opening.OldVersion has so device = inl refl
-old_taken log last opening.Full has so device = absurd so
-old_taken log last opening.NoMemory has so device = inr refl
 
 module _ (o : Outcome) (tells : o.old.tells ≡ true) (journal point : List ℕ) (no_journal : Rose (o.old.log_faults journal) (o.new.log_faults journal) → ⊥)
     (no_point : Rose (o.old.log_faults point) (o.new.log_faults point) → ⊥) where
@@ -75,10 +53,6 @@ module _ (o : Outcome) (tells : o.old.tells ≡ true) (journal point : List ℕ)
       status_of 9 why r.reason r.is
       (old_taken (log_bytes o.old point) old.last r.reason old.has (r.refused.so tells) (λ device. no_point (r.refused.cause (opening_device r.reason device))))
 
--- a log isn't of both versions
-both_versions : (log : List ℕ) → version_of log ≡ 1 → version_of log ≡ 2 → ⊥
-both_versions log one two = omega (arith, one, two)
-
 module _ (o : Outcome) (tells : o.old.tells ≡ true) (words : List (List ℕ)) (journal point : List ℕ) where
   module _ (c : Checkpoints journal point o) (s : CountsStayed words (Checkpoint journal point) (around_of o)) where
     checkpoint_status : (due : ℕ) → (IsAllDone o.end → ⊥) → ((why : Fault) → IsJournalRefused journal why o.old o.new ⊎ IsRefusedBehind journal point why o.old o.new → IsStatus due (fault_status why))
@@ -103,25 +77,52 @@ module _ (o : Outcome) (tells : o.old.tells ≡ true) (words : List (List ℕ)) 
           (large_told o tells journal point s.0 s.1 large);
     }
 
-  module _ (out : List ℕ) (q : ExportsQuickly journal point out o) (s : CountsStayed words (Quick journal point out) (around_of o)) where
+  module _ (out : List ℕ) (report : Option (List ℕ)) (q : ExportsQuickly journal point out report o) (no_journal : Rose (o.old.log_faults journal) (o.new.log_faults journal) → ⊥)
+      (no_point : Rose (o.old.log_faults point) (o.new.log_faults point) → ⊥) (no_out : o.end ≡ out_unwritten → ⊥) (no_side : o.end ≡ side_unwritten → ⊥)
+      (no_console : o.end ≡ console_unwritten → ⊥) where
     quick_status : (due : ℕ) → (IsAllDone o.end → ⊥) → ((why : Fault) → IsJournalRefused journal why o.old o.new ⊎ IsRefusedBehind journal point why o.old o.new → IsStatus due (fault_status why))
         → IsStatus due (end_status o.end)
     quick_status due good told =
-        by_told due o.end good (λ is. s.2 (q.out_cause is)) ((λ is. subst EndsQuick is q.ends), (λ is. subst EndsQuick is q.ends)) (λ is. s.3 (q.console is))
-        (λ why is. told why (q.told why is).1)
+        by_told due o.end good no_out (no_side, (λ is. subst (EndsQuick report) is q.ends)) no_console (λ why is. told why (q.told why is).1)
 
-    pub quick_refuses : RefusesMisfits words (Quick journal point out) o.old (end_status o.end)
-    quick_refuses = record {
-      no_history = λ none.
-          quick_status 6 (λ all. let r = (q.exported (all_untold o.end all) tells).resumed in none r.history r.has) (none_told o tells journal point s.0 s.1 none);
-      other_version = λ old.
-          quick_status 9
-          (λ all. let r = (q.exported (all_untold o.end all) tells).resumed in both_versions (log_bytes o.old point) old.oldest r.was.newest)
-          (old_told o tells journal point s.0 s.1 old);
-      limits = λ large.
-          quick_status 7
-          (λ all.
-          let r = (q.exported (all_untold o.end all) tells).resumed in
-          large_fits (log_bytes o.old journal) large (fitting_history r.history (log_bytes o.old journal) r.has r.within))
-          (large_told o tells journal point s.0 s.1 large);
-    }
+    quick_none : IsNoHistory (log_bytes o.old journal) → IsStatus 6 (end_status o.end)
+    quick_none none =
+        quick_status 6 (λ all. let r = (q.exported (all_untold o.end all) tells).resumed in none r.history r.has) (none_told o tells journal point no_journal no_point none)
+
+    quick_old : IsOldPoint o.old journal point → IsStatus 9 (end_status o.end)
+    quick_old old =
+        quick_status 9
+        (λ all. let r = (q.exported (all_untold o.end all) tells).resumed in both_versions (log_bytes o.old point) old.oldest r.was.newest)
+        (old_told o tells journal point no_journal no_point old)
+
+    quick_large : IsTooLarge (log_bytes o.old journal) → IsStatus 7 (end_status o.end)
+    quick_large large =
+        quick_status 7
+        (λ all.
+        let r = (q.exported (all_untold o.end all) tells).resumed in
+        large_fits (log_bytes o.old journal) large (fitting_history r.history (log_bytes o.old journal) r.has r.within))
+        (large_told o tells journal point no_journal no_point large)
+
+  pub quick_refuses : (out : List ℕ) → ExportsQuickly journal point out None o → CountsStayed words (Quick journal point out) (around_of o)
+      → RefusesMisfits words (Quick journal point out) o.old (end_status o.end)
+  quick_refuses out q s =
+      let no_out : o.end ≡ out_unwritten → ⊥ = λ is. s.2 (q.out_cause is) in
+      let no_console : o.end ≡ console_unwritten → ⊥ = λ is. s.3 (q.console is) in
+      record {
+        no_history = quick_none out None q s.0 s.1 no_out (never_side o.end q.ends) no_console;
+        other_version = quick_old out None q s.0 s.1 no_out (never_side o.end q.ends) no_console;
+        limits = quick_large out None q s.0 s.1 no_out (never_side o.end q.ends) no_console;
+      }
+
+  pub quick_report_refuses : (out report : List ℕ) → ExportsQuickly journal point out (Some report) o
+      → CountsStayed words (QuickReport journal point out report) (around_of o)
+      → RefusesMisfits words (QuickReport journal point out report) o.old (end_status o.end)
+  quick_report_refuses out report q s =
+      let no_out : o.end ≡ out_unwritten → ⊥ = λ is. s.2 (q.out_cause is) in
+      let no_side : o.end ≡ side_unwritten → ⊥ = λ is. s.4 (q.report_cause is) in
+      let no_console : o.end ≡ console_unwritten → ⊥ = λ is. s.3 (q.console is) in
+      record {
+        no_history = quick_none out (Some report) q s.0 s.1 no_out no_side no_console;
+        other_version = quick_old out (Some report) q s.0 s.1 no_out no_side no_console;
+        limits = quick_large out (Some report) q s.0 s.1 no_out no_side no_console;
+      }

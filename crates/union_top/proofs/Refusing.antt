@@ -1,11 +1,12 @@
 -- Each command whose journal can't be used ends with the status that says why, or memory ran out, where no count of faults rose.
-use Rattle.std.proofs.Common.{◌≡◌, ◌≢◌, ◌⊎◌, inl, inr, ℕ, true, List, [], ◌∷◌, ◌++◌, Option, refl, sym, ap, subst, ◌∙◌, arith}
+use Rattle.std.proofs.Common.{◌≡◌, ◌≢◌, ◌⊎◌, inl, inr, ℕ, true, List, [], ◌∷◌, ◌++◌, Option, Some, refl, sym, ap, subst, ◌∙◌, arith}
 use Rattle.std.proofs.Math.Logic.{∥∥₁_elim}
 use Rattle.marc_types.specs.declared.entry.Entry.{Entry}
 use Rattle.outside.specs.Room.{SameBut}
 use Rattle.commit_journal.specs.Log.{version_of}
 use Rattle.command_words.specs.declared.library.Library.{Library}
-use Rattle.command_words.specs.Command.{Command, Pass, Run, Load, Browse, Export, Report, Make, Verify, Matches, Holdings, Migrate, Checkpoint, Quick, Read, Refused as RefusedOf, Help, Version, libraries_of}
+use Rattle.command_words.specs.Command.{Command, Pass, Run, Load, Browse, Export, Report, Make, Verify, VerifyPoint, Matches, Holdings, Headings, Worklist, Migrate, Checkpoint, Quick, QuickReport, Read, ReadHoldings, ReadWorklist, Refused as RefusedOf, Help, Version, libraries_of}
+use Rattle.command_words.specs.Look.{HeadingRange}
 use Rattle.entry_record.specs.History.{IsMerged, IsWithin}
 use Rattle.console_lines.specs.Ends.{Outcome, IsAllDone, TellsNoFault, end_status, out_unwritten, side_unwritten, console_unwritten}
 use Rattle.console_lines.specs.Faults.{fault_status}
@@ -17,12 +18,12 @@ use Rattle.durable_catalogue.specs.Openings.{IsUnopened}
 use Rattle.durable_catalogue.specs.declared.fault.OpenFault.{OpenFault}
 use Rattle.durable_catalogue.specs.declared.fault.OpenFault.TheVariants as opening
 use Rattle.journal_files.specs.Faults.{fault_of_opening}
-use Rattle.journal_files.specs.Journals.{journal_limits, log_bytes}
+use Rattle.journal_files.specs.Journals.{journal_limits, log_bytes, HasFittingHistory}
 use Rattle.journal_files.proofs.Histories.{reading_once}
-use Rattle.archive_commands.specs.Archives.{HasFittingHistory}
 use Rattle.archive_commands.specs.Reads as reading
 use Rattle.archive_commands.specs.Reads.{ReadsJournal, EndsReading}
-use Rattle.match_command.specs.Telling.{matches_due}
+use Rattle.archive_commands.specs.Telling.{matches_due}
+use Rattle.heading_list.specs.Telling.{headings_due}
 use Rattle.holdings_command.specs.Attaching.{AttachesHoldings, EndsAttaching}
 use Rattle.migrate_command.specs.Migrates.{Migrates, EndsMigrating, WhyNotFrom, NotOpened, Newest, WhyNotInto}
 use Rattle.loading_commands.specs.Loading.{Loads, Runs}
@@ -35,8 +36,12 @@ use Rattle.union_top.specs.Complete.{CountsStayed}
 use Rattle.union_top.specs.Misfits.{IsNoHistory, IsOfVersion, IsTooLarge, AreTooLarge, IsStatus, IsOneFile, RefusesMisfits}
 use Rattle.union_top.proofs.Complete.{around_of, one_stayed, none_failed, neither}
 use Rattle.union_top.proofs.Unopened.{may_be}
-use Rattle.union_top.proofs.Looking.{looks_refuses}
-use Rattle.union_top.proofs.Pointing.{checkpoint_refuses, quick_refuses}
+use Rattle.union_top.proofs.Listed.{lists_refuses}
+use Rattle.union_top.proofs.Sought.{seeks_refuses}
+use Rattle.union_top.proofs.Looking.{looks_refuses, with_bytes}
+use Rattle.union_top.proofs.Unheld.{unheld_status}
+use Rattle.union_top.proofs.Pointing.{checkpoint_refuses, quick_refuses, quick_report_refuses}
+use Rattle.union_top.proofs.OwnPoint.{owns_refuses}
 use Rattle.union_top.proofs.Misfits.{by_told, none_opened, large_opened, none_fits, large_fits, none_loaded, old_loaded, large_loaded}
 use mathlib.Core.HLevel.{⊥_prop}
 
@@ -252,6 +257,14 @@ module _ (o : Outcome) (tells : o.old.tells ≡ true) where
       limits = read_large journal out matches_due r (λ is. s.1 (r.out_cause is)) (λ is. s.0 (r.device is));
     }
 
+    headings_refuses : (journal : List ℕ) (range : HeadingRange) (out : List ℕ) → ReadsJournal journal out (headings_due range) o
+        → CountsStayed words (Headings journal range out) (around_of o) → RefusesMisfits words (Headings journal range out) o.old (end_status o.end)
+    headings_refuses journal range out r s = record {
+      no_history = read_none journal out (headings_due range) r (λ is. s.1 (r.out_cause is)) (λ is. s.0 (r.device is));
+      other_version = λ no. absurd no;
+      limits = read_large journal out (headings_due range) r (λ is. s.1 (r.out_cause is)) (λ is. s.0 (r.device is));
+    }
+
     run_refuses : (journal out report : List ℕ) (files : ℕ) → Runs (libraries_of words) journal out report o
         → CountsStayed words (Run journal out report files) (around_of o) → RefusesMisfits words (Run journal out report files) o.old (end_status o.end)
     run_refuses journal out report files r s = record {
@@ -296,6 +309,23 @@ module _ (o : Outcome) (tells : o.old.tells ≡ true) where
         limits = λ is. holdings_status 7 is.0 (large_fits (log_bytes o.old journal) is.1) (large_opens (log_bytes o.old journal) is.1);
       }
 
+    -- the same where the journal isn't held
+    module _ (journal out rest : List ℕ) (code : Option (List ℕ)) (ends : Ends words (ReadHoldings journal out rest code) o)
+        (s : CountsStayed words (ReadHoldings journal out rest code) (around_of o)) where
+      one_status : (due : ℕ) → IsOneFile words → (bytes : List ℕ) → o.old.file journal ≡ Some bytes → (HasFittingHistory bytes → ⊥) → OpensWith due bytes
+          → IsStatus due (end_status o.end)
+      one_status due one bytes there unfit opens =
+          let a = ends one.library one.named in
+          unheld_status o journal out rest one.library code a (λ is. s.3 (a.out_cause is)) (λ is. s.4 (a.rest_cause is)) (λ is. s.2 (a.console_cause is))
+          (λ is. neither s.1 (one_stayed (around_of o) (libraries_of words) s.0 one.library one.named) (a.input is)) due bytes tells there unfit opens
+
+      unheld_refuses : RefusesMisfits words (ReadHoldings journal out rest code) o.old (end_status o.end)
+      unheld_refuses = record {
+        no_history = λ is. with_bytes (o.old.file journal) is.1 (λ bytes there no. one_status 6 is.0 bytes there (none_fits bytes no) (none_opens bytes no));
+        other_version = λ no. absurd no;
+        limits = λ is. with_bytes (o.old.file journal) is.1 (λ bytes there large. one_status 7 is.0 bytes there (large_fits bytes large) (large_opens bytes large));
+      }
+
     migrate_refuses : (from into : List ℕ) → Migrates from into o → CountsStayed words (Migrate from into) (around_of o)
         → RefusesMisfits words (Migrate from into) o.old (end_status o.end)
     migrate_refuses from into m s = record {
@@ -311,15 +341,24 @@ module _ (o : Outcome) (tells : o.old.tells ≡ true) where
     refuses (Load journal files) l s = load_refuses journal files l s
     refuses (Export journal out code) r s = export_refuses journal out code r s
     refuses (Report journal out) r s = report_refuses journal out r s
+    refuses (VerifyPoint journal point) v s =
+        owns_refuses o tells words journal point v (λ is. s.2 (v.console_cause is)) (λ is. neither s.0 s.1 (v.input is))
     refuses (Matches journal out) r s = matches_refuses journal out r s
     refuses (Holdings journal out rest code) ends s = holdings_refuses journal out rest code ends s
+    refuses (Headings journal range out) r s = headings_refuses journal range out r s
+    refuses (Worklist journal list page code) m s =
+        lists_refuses o journal list page code m words tells (λ is. s.1 (m.list_cause is)) (λ is. s.2 (m.page_cause is)) (λ is. s.0 (m.device is))
     refuses (Migrate from into) m s = migrate_refuses from into m s
     refuses (Checkpoint journal point) c s = checkpoint_refuses o tells words journal point c s
     refuses (Quick journal point out) q s = quick_refuses o tells words journal point out q s
     refuses (Pass out) p s = record { no_history = λ no. absurd no; other_version = λ no. absurd no; limits = λ no. absurd no }
     refuses (Make seed count out) m s = record { no_history = λ no. absurd no; other_version = λ no. absurd no; limits = λ no. absurd no }
     refuses (Verify journal) v s = record { no_history = λ no. absurd no; other_version = λ no. absurd no; limits = λ no. absurd no }
+    refuses (QuickReport journal point out report) q s = quick_report_refuses o tells words journal point out report q s
     refuses (Read look journal out) l s = looks_refuses o tells words look journal out l (λ is. s.1 (l.out_cause is)) (λ is. s.0 (l.input is))
+    refuses (ReadHoldings journal out rest code) ends s = unheld_refuses journal out rest code ends s
+    refuses (ReadWorklist journal list page code) l s =
+        seeks_refuses o journal list page code l words tells (λ is. s.1 (l.list_cause is)) (λ is. s.2 (l.page_cause is)) (λ is. s.0 (l.input is))
     refuses (RefusedOf out) p s = record { no_history = λ no. absurd no; other_version = λ no. absurd no; limits = λ no. absurd no }
     refuses (Help topic) t s = record { no_history = λ no. absurd no; other_version = λ no. absurd no; limits = λ no. absurd no }
     refuses Version t s = record { no_history = λ no. absurd no; other_version = λ no. absurd no; limits = λ no. absurd no }

@@ -15,12 +15,10 @@ use Rattle.durable_catalogue.specs.declared.fault.OpenFault.TheVariants as openi
 use Rattle.durable_catalogue.specs.Durables.{marked}
 use Rattle.loader_workers.specs.declared.file_end.FileEnd.TheVariants as end
 use Rattle.loader_workers.specs.declared.result.FileResult.{FileResult}
-use Rattle.journal_files.specs.Journals.{journal_limits, log_bytes}
-use Rattle.archive_commands.specs.Archives.{HasFittingHistory}
-use Rattle.archive_commands.proofs.Histories.{fitting_history}
+use Rattle.journal_files.specs.Journals.{journal_limits, log_bytes, HasFittingHistory}
+use Rattle.journal_files.proofs.Histories.{fitting_history, reading_once}
 use Rattle.loading_commands.specs.Outcomes.{IsLoadedInPart, IsUnbegun, Unopened, Unbegun, IsLoadingFault, NotBegun, InPart, any_ends, loading_fault}
 use Rattle.journal_files.specs.Faults.{fault_of_opening}
-use Rattle.journal_files.proofs.Histories.{reading_once}
 use Rattle.loading_commands.specs.Runs.{WhyNotLoad}
 use Rattle.loading_commands.specs.Runs as runs
 use Rattle.union_top.proofs.Judgements.{FitsJudged}

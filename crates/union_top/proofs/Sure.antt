@@ -11,7 +11,7 @@ use Rattle.marc_stream.specs.Pieces.{items}
 use Rattle.workload.specs.Workload.{workload_bytes}
 use Rattle.commit_journal.specs.declared.format.TheConstants.{BLANK_LENGTH}
 use Rattle.command_words.specs.declared.library.Library.{Library}
-use Rattle.command_words.specs.Command.{Command, Pass, Run, Load, Browse, Export, Report, Make, Verify, Matches, Holdings, Migrate, Checkpoint, Quick, Read, Refused as RefusedOf, Help, Version, libraries_of}
+use Rattle.command_words.specs.Command.{Command, Pass, Run, Load, Browse, Export, Report, Make, Verify, VerifyPoint, Matches, Holdings, Headings, Worklist, Migrate, Checkpoint, Quick, QuickReport, Read, ReadHoldings, ReadWorklist, Refused as RefusedOf, Help, Version, libraries_of}
 use Rattle.file_entries.specs.Files.{IsJudged}
 use Rattle.file_entries.specs.declared.refused.RefusedItem.{RefusedItem}
 use Rattle.console_lines.specs.Ends.{Outcome, IsAllDone, TellsNoFault, end_of, end_status, out_unwritten, side_unwritten, console_unwritten}
@@ -28,24 +28,28 @@ use Rattle.output_files.specs.Outputs.{IsOutputLeft}
 use Rattle.journal_files.specs.Journals.{journal_limits, log_bytes, KeepsHistory}
 use Rattle.archive_commands.specs.Reads as reads
 use Rattle.archive_commands.specs.Reads.{ReadsJournal}
-use Rattle.match_command.specs.Telling.{matches_due}
+use Rattle.archive_commands.specs.Telling.{matches_due}
+use Rattle.heading_list.specs.Telling.{headings_due}
 use Rattle.plain_commands.specs.Making.{Makes, workload_line}
 use Rattle.plain_commands.specs.Passing.{FileDue, PassesFile, IsPassedInPart, IsPassedUntold, export_due, results}
 use Rattle.plain_commands.specs.GivingBack.{refused_due}
 use Rattle.reading_commands.specs.Looking.{LooksInto, look_due}
 use Rattle.union_top.proofs.Looking.{looks_well}
+use Rattle.union_top.proofs.Unheld.{unheld_well}
 use Rattle.journal_verification.specs.Contents.{IsVerified}
 use Rattle.journal_verification.specs.Verifying.{Verifies, IsToldInPart, verified_lines}
 use Rattle.catalogue_rules.specs.Settle.{state_of}
 use Rattle.file_holdings.specs.Files.{AreHoldings}
 use Rattle.holdings_command.specs.Attaching as attaching
-use Rattle.holdings_command.specs.Attaching.{AttachesHoldings, IsDelivered, OutFailed, RestFailed, ConsoleFailed, Whole, IsAttached}
+use Rattle.holdings_command.specs.Attaching.{IsDelivered, OutFailed, RestFailed, ConsoleFailed, Whole, IsAttached}
 use Rattle.migrate_command.specs.Migrations.{IsFit, IsAmid, Before, Behind}
 use Rattle.migrate_command.specs.Migrates as migrates
 use Rattle.migrate_command.specs.Migrates.{Migrates, BringsInto, migrated_line}
 use Rattle.journal_files.specs.Faults.{IsDeviceOf}
 use Rattle.console_lines.specs.Lines.{resumed_line}
+use Rattle.catalogue_rules.specs.Output.{all_keys, export_of, report_of}
 use Rattle.checkpoint_commands.specs.Quick.{ExportsQuickly}
+use Rattle.point_verification.specs.Verifying.{VerifiesPoint}
 use Rattle.loading_commands.specs.Inputs.{IsInputFault}
 use Rattle.loading_commands.specs.Outcomes as outcomes
 use Rattle.loading_commands.specs.Outcomes.{IsLoadingFault}
@@ -56,16 +60,22 @@ use Rattle.browsing_commands.specs.Pages.{pages_text}
 use Rattle.browsing_commands.specs.Browses.{Browses}
 use Rattle.loading_commands.specs.Runs.{IsMergedLoad, WhyNotLoad}
 use Rattle.union_top.specs.Commands.{Ends}
-use Rattle.union_top.specs.Fits.{FitsPass, FitsLoad, FitsReading, FitsHoldings, FitsVerify, FitsLook, FitsMigrate, FitsPoint}
+use Rattle.union_top.specs.Fits.{FitsPass, FitsLoad, FitsReading, FitsHoldings, FitsVerify, FitsLook, FitsUnheld, FitsMigrate, FitsPoint, FitsVerifyPoint}
 use Rattle.union_top.specs.Complete.{Around, LogStayed}
-use Rattle.union_top.specs.Sure.{HoldsLog, HoldsText, PassCase, LoadCase, HoldingsCase, holdings_due, IsSurePass, IsSureMake, IsSureReading, IsSureVerify, IsSureLook, IsSureHoldings, IsSureMigrate, IsSureQuick, IsSureLoad, IsSureRun, IsSureBrowse, IsSure}
+use Rattle.union_top.specs.Sure.{HoldsLog, HoldsText, PassCase, LoadCase, HoldingsCase, holdings_due, IsSurePass, IsSureMake, IsSureReading, IsSureVerify, IsSureVerifyPoint, IsSureLook, LogHas, FileHas, IsSureAttaching, IsSureHoldings, IsSureUnheld, IsSureMigrate, IsSureQuick, IsSureLoad, IsSureRun, IsSureBrowse, IsSure, IsSureWorklist, IsSureSearch}
 use Rattle.union_top.proofs.Complete.{around_of, one_stayed, none_failed, neither}
 use Rattle.union_top.proofs.Fitting.{EndsWell, well_status, Never, passes_well, makes_well, reads_well, attaches_well, loads_well, runs_well}
 use Rattle.union_top.proofs.Framed.{part_no_longer}
+use Rattle.union_top.proofs.Listed.{lists_well}
+use Rattle.union_top.proofs.Sought.{seeks_well}
+use Rattle.worklist_command.specs.Looking.{LooksForWork}
+use Rattle.worklist_command.specs.Working.{MakesWorklist, list_due}
+use Rattle.worklist_page.specs.Page.{page_of}
 use Rattle.union_top.proofs.Held.{in_stayed, inputs_stayed, out_stayed, log_stayed, same_stayed, kept_stayed, text_stayed}
 use Rattle.union_top.proofs.Judgements.{fits_judged}
 use Rattle.union_top.proofs.Migrated.{migrates_well}
-use Rattle.union_top.proofs.Pointed.{quick_well}
+use Rattle.union_top.proofs.Pointed.{quick_well, never_side}
+use Rattle.union_top.proofs.OwnPoint.{owns_well}
 use Rattle.union_top.proofs.Untroubled.{verify_well, tells_well}
 use mathlib.Core.HLevel.{⊥_prop}
 
@@ -149,6 +159,18 @@ module _ (o : Outcome) (promises : (n : List ℕ) → o.new.promise n ≡ o.old.
   sure_read journal out due r f h =
       reads_well o journal out due r f (no_out due journal out f h r.part r.out_cause) (no_device journal h.log (r.keeps f.tells) r.device)
 
+  sure_worklist : (journal list page : List ℕ) (code : Option (List ℕ)) → MakesWorklist journal list page code o → FitsReading o.old journal
+      → IsSureWorklist journal list page code a → EndsWell o.end
+  sure_worklist journal list page code m f h =
+      lists_well o journal list page code m f
+      (λ is.
+      ∥∥₁_elim f.history ⊥_prop (λ (one : (entries : List Entry) × IsLogOf entries (log_bytes o.old journal) × IsWithin journal_limits entries).
+      out_stayed a promises kept list (list_due code one.0) (h.output one.0 ∣ one.1 ∣₁) (m.list_part one.0 is f.tells ∣ one.1 ∣₁) (m.list_cause is)))
+      (λ is.
+      ∥∥₁_elim f.history ⊥_prop (λ (one : (entries : List Entry) × IsLogOf entries (log_bytes o.old journal) × IsWithin journal_limits entries).
+      out_stayed a promises kept page (page_of one.0) (h.page_output one.0 ∣ one.1 ∣₁) (m.page_part one.0 is f.tells ∣ one.1 ∣₁).1 (m.page_cause is)))
+      (no_device journal h.log (m.keeps f.tells) m.device)
+
   sure_verify : (journal : List ℕ) → Verifies journal o → FitsVerify o.old journal → IsSureVerify journal a → EndsWell o.end
   sure_verify journal v f h =
       verify_well o journal v f
@@ -159,12 +181,33 @@ module _ (o : Outcome) (promises : (n : List ℕ) → o.new.promise n ≡ o.old.
       text_stayed a (verified_lines part.verified) (h.console part.verified verified) part.console (v.console_cause is))
       (λ is. in_stayed a promises kept journal h.input (v.input is))
 
+  sure_own : (journal point : List ℕ) → VerifiesPoint journal point o → FitsVerifyPoint o.old journal point → IsSureVerifyPoint journal point a → EndsWell o.end
+  sure_own journal point v f h =
+      owns_well o journal point v
+      (λ is.
+      let t = v.own (subst TellsNoFault (sym is) tt) f.look.tells in
+      text_stayed a (resumed_line t.held t.count) (h.console t.history_bytes t.point_bytes t.held t.count t.history_file t.point_file t.own) (t.front is)
+      (v.console_cause is))
+      (λ is. neither (in_stayed a promises kept journal h.input) (in_stayed a promises kept point h.point_input) (v.input is)) f
+
   sure_look : (due : List Entry → List ℕ) (journal out : List ℕ) → LooksInto journal out due o → FitsLook o.old journal → IsSureLook due journal out a → EndsWell o.end
   sure_look due journal out l f h =
       looks_well o journal out due l f
       (λ is.
       ∥∥₁_elim f.history ⊥_prop (λ (one : (entries : List Entry) × IsLogOf entries f.bytes × IsWithin journal_limits entries).
       out_stayed a promises kept out (due one.0) (h.output f.bytes one.0 f.there ∣ one.1 ∣₁) (l.part f.bytes one.0 is f.tells f.there ∣ one.1 ∣₁) (l.out_cause is)))
+      (λ is. in_stayed a promises kept journal h.input (l.input is))
+
+  sure_search : (journal list page : List ℕ) (code : Option (List ℕ)) → LooksForWork journal list page code o → FitsLook o.old journal
+      → IsSureSearch journal list page code a → EndsWell o.end
+  sure_search journal list page code l f h =
+      seeks_well o journal list page code l f
+      (λ is.
+      ∥∥₁_elim f.history ⊥_prop (λ (one : (entries : List Entry) × IsLogOf entries f.bytes × IsWithin journal_limits entries).
+      out_stayed a promises kept list (list_due code one.0) (h.output f.bytes one.0 f.there ∣ one.1 ∣₁) (l.list_part f.bytes one.0 is f.tells f.there ∣ one.1 ∣₁) (l.list_cause is)))
+      (λ is.
+      ∥∥₁_elim f.history ⊥_prop (λ (one : (entries : List Entry) × IsLogOf entries f.bytes × IsWithin journal_limits entries).
+      out_stayed a promises kept page (page_of one.0) (h.page_output f.bytes one.0 f.there ∣ one.1 ∣₁) (l.page_part f.bytes one.0 is f.tells f.there ∣ one.1 ∣₁).1 (l.page_cause is)))
       (λ is. in_stayed a promises kept journal h.input (l.input is))
 
   -- what is delivered at an end where something could not be written
@@ -190,42 +233,77 @@ module _ (o : Outcome) (promises : (n : List ℕ) → o.new.promise n ≡ o.old.
     at_console is (ConsoleFailed end whole rest_whole front) = front
     at_console is (Whole end whole rest_whole told) = absurd (all_not_unwritten o.end unwritten.Console (all_done end) is)
 
-  module _ (words : List (List ℕ)) (journal out rest : List ℕ) (code : Option (List ℕ)) (ends : Ends words (Holdings journal out rest code) o)
-      (f : FitsHoldings o.old journal (libraries_of words)) (h : IsSureHoldings (libraries_of words) journal out rest code a) where
-    abbrev Cases : Type 0
-    Cases = HoldingsCase o.old journal (libraries_of words)
+  -- without a fault to tell the journal has such entries, and the holdings of the one file are attached to them
+  abbrev Finds : (List Entry → Type 0) → Library → List ℕ → List ℕ → Option (List ℕ) → Type 0
+  Finds has library out rest code =
+      TellsNoFault o.end
+      → ((entries : List Entry) → has entries → IsSomeAnd (o.old.file library.file) (λ bytes. IsAttached library code bytes (state_of entries) out rest o) → ⊥) → ⊥
 
-    h_command : AttachesHoldings journal out rest f.library code o
-    h_command = ends f.library f.named
+  -- what is due of a journal that has such entries, and of the one file of holdings
+  module _ (has : List Entry → Type 0) (libraries : List Library) (out rest : List ℕ) (code : Option (List ℕ)) (library : Library) (named : libraries ≡ library ∷ [])
+      (h : IsSureAttaching has libraries out rest code a) (found : Finds has library out rest code) where
+    abbrev Cases : Type 0
+    Cases = HoldingsCase o.old has libraries
 
     -- without a fault to tell there is a case whose due was delivered
     delivered : TellsNoFault o.end → ((c : Cases) → IsDelivered (holdings_due code c) out rest o → ⊥) → ⊥
-    delivered untold so =
-        ∥∥₁_elim f.reading.history ⊥_prop (λ (one : (entries : List Entry) × IsLogOf entries (log_bytes o.old journal) × IsWithin journal_limits entries).
-        let found = there (λ bytes. IsAttached f.library code bytes (state_of one.0) out rest o) (o.old.file f.library.file)
-        (h_command.delivers one.0 untold f.reading.tells ∣ one.1 ∣₁) in
-        let attached = found.so in
+    delivered untold so = found untold (λ entries was is.
+        let at = there (λ bytes. IsAttached library code bytes (state_of entries) out rest o) (o.old.file library.file) is in
+        let attached = at.so in
         so (record {
-          library = f.library;
-          named = f.named;
-          entries = one.0;
-          was = ∣ one.1 ∣₁;
+          library = library;
+          named = named;
+          entries = entries;
+          was = was;
           accepted = attached.accepted;
           refused = attached.refused;
-          judged = subst (λ file. IsSomeAnd file (λ bytes. AreHoldings f.library.code (items bytes) attached.accepted attached.refused)) (sym found.is) attached.judged;
+          judged = subst (λ file. IsSomeAnd file (λ bytes. AreHoldings library.code (items bytes) attached.accepted attached.refused)) (sym at.is) attached.judged;
         }) attached.delivered)
 
-    sure_holdings : EndsWell o.end
-    sure_holdings =
-        attaches_well o words journal out rest code ends f
-        (λ is. delivered (subst TellsNoFault (sym is) tt) (λ c d.
-        out_stayed a promises kept out (holdings_due code c).out (h.output c) (at_out (holdings_due code c) out rest is d) (h_command.out_cause is)))
-        (λ is. delivered (subst TellsNoFault (sym is) tt) (λ c d.
-        out_stayed a promises kept rest (holdings_due code c).rest (h.rest_output c) (at_rest (holdings_due code c) out rest is d) (h_command.rest_cause is)))
-        (λ is. delivered (subst TellsNoFault (sym is) tt) (λ c d.
-        text_stayed a (holdings_due code c).text (h.console c) (at_console (holdings_due code c) out rest is d) (h_command.console_cause is)))
-        (λ is. one_stayed a (libraries_of words) (inputs_stayed a promises kept (libraries_of words) h.inputs) f.library f.named (h_command.input is))
-        (no_device journal h.log (h_command.keeps f.reading.tells) h_command.device)
+    -- so nothing is unwritten
+    never_out : (o.end ≡ out_unwritten → Rose (o.old.out_faults out) (o.new.out_faults out)) → Never o out_unwritten
+    never_out cause is = delivered (subst TellsNoFault (sym is) tt) (λ c d.
+        out_stayed a promises kept out (holdings_due code c).out (h.output c) (at_out (holdings_due code c) out rest is d) (cause is))
+
+    never_rest : (o.end ≡ side_unwritten → Rose (o.old.out_faults rest) (o.new.out_faults rest)) → Never o side_unwritten
+    never_rest cause is = delivered (subst TellsNoFault (sym is) tt) (λ c d.
+        out_stayed a promises kept rest (holdings_due code c).rest (h.rest_output c) (at_rest (holdings_due code c) out rest is d) (cause is))
+
+    never_console : (o.end ≡ console_unwritten → Rose o.faults o.faults_now) → Never o console_unwritten
+    never_console cause is = delivered (subst TellsNoFault (sym is) tt) (λ c d.
+        text_stayed a (holdings_due code c).text (h.console c) (at_console (holdings_due code c) out rest is d) (cause is))
+
+    never_read : Rose (o.old.in_faults library.file) (o.new.in_faults library.file) → ⊥
+    never_read = one_stayed a libraries (inputs_stayed a promises kept libraries h.inputs) library named
+
+  sure_holdings : (words : List (List ℕ)) (journal out rest : List ℕ) (code : Option (List ℕ)) → Ends words (Holdings journal out rest code) o
+      → FitsHoldings o.old journal (libraries_of words) → IsSureHoldings (libraries_of words) journal out rest code a → EndsWell o.end
+  sure_holdings words journal out rest code ends f h =
+      let c = ends f.library f.named in
+      let found : Finds (LogHas o.old journal) f.library out rest code = λ untold so.
+      ∥∥₁_elim f.reading.history ⊥_prop (λ (one : (entries : List Entry) × IsLogOf entries (log_bytes o.old journal) × IsWithin journal_limits entries).
+      so one.0 ∣ one.1 ∣₁ (c.delivers one.0 untold f.reading.tells ∣ one.1 ∣₁)) in
+      attaches_well o words journal out rest code ends f
+      (never_out (LogHas o.old journal) (libraries_of words) out rest code f.library f.named h.attaching found c.out_cause)
+      (never_rest (LogHas o.old journal) (libraries_of words) out rest code f.library f.named h.attaching found c.rest_cause)
+      (never_console (LogHas o.old journal) (libraries_of words) out rest code f.library f.named h.attaching found c.console_cause)
+      (λ is. never_read (LogHas o.old journal) (libraries_of words) out rest code f.library f.named h.attaching found (c.input is))
+      (no_device journal h.log (c.keeps f.reading.tells) c.device)
+
+  sure_unheld : (words : List (List ℕ)) (journal out rest : List ℕ) (code : Option (List ℕ)) → Ends words (ReadHoldings journal out rest code) o
+      → FitsUnheld o.old journal (libraries_of words) → IsSureUnheld (libraries_of words) journal out rest code a → EndsWell o.end
+  sure_unheld words journal out rest code ends f h =
+      let c = ends f.library f.named in
+      let found : Finds (FileHas o.old journal) f.library out rest code = λ untold so.
+      ∥∥₁_elim f.look.history ⊥_prop (λ (one : (entries : List Entry) × IsLogOf entries f.look.bytes × IsWithin journal_limits entries).
+      so one.0 (subst (λ file. IsSomeAnd file (HasHistory one.0)) (sym f.look.there) ∣ one.1 ∣₁)
+      (c.delivers f.look.bytes one.0 untold f.look.tells f.look.there ∣ one.1 ∣₁)) in
+      unheld_well o journal out rest f.library code c
+      (never_out (FileHas o.old journal) (libraries_of words) out rest code f.library f.named h.attaching found c.out_cause)
+      (never_rest (FileHas o.old journal) (libraries_of words) out rest code f.library f.named h.attaching found c.rest_cause)
+      (never_console (FileHas o.old journal) (libraries_of words) out rest code f.library f.named h.attaching found c.console_cause)
+      (λ is. neither (in_stayed a promises kept journal h.input)
+      (never_read (FileHas o.old journal) (libraries_of words) out rest code f.library f.named h.attaching found) (c.input is)) f.look
 
   module _ (from into : List ℕ) (m : Migrates from into o) (f : FitsMigrate o.old from into) (h : IsSureMigrate from into a) where
     module _ (fit : IsFit journal_limits f.history f.entries (log_bytes o.old into)) where
@@ -312,14 +390,15 @@ module _ (o : Outcome) (promises : (n : List ℕ) → o.new.promise n ≡ o.old.
       out_stayed a promises kept pages (pages_text p.due) (h.pages_output (load_case libraries journal f h.run.load p.merged) p.due p.are) p.left (b.pages_cause is)))
       f h.run
 
-  sure_quick : (journal point out : List ℕ) → ExportsQuickly journal point out o → FitsPoint o.old journal point → IsSureQuick journal point out a
-      → EndsWell o.end
-  sure_quick journal point out q f h =
-      quick_well o journal point out q f (kept_stayed a promises kept (IsDeviceOf o journal) journal 0 h.log (q.keeps f.reading.tells))
+  sure_quick : (journal point out : List ℕ) (report : Option (List ℕ)) → ExportsQuickly journal point out report o → FitsPoint o.old journal point
+      → IsSureQuick journal point out a → Never o side_unwritten → EndsWell o.end
+  sure_quick journal point out report q f h no_side =
+      quick_well o journal point out report q f (kept_stayed a promises kept (IsDeviceOf o journal) journal 0 h.log (q.keeps f.reading.tells))
       (kept_stayed a promises kept (IsDeviceOf o point) point 0 h.point_log (q.point_keeps f.reading.tells))
       (λ is.
       let e = q.exported (subst TellsNoFault (sym is) tt) f.reading.tells in
-      out_stayed a promises kept out e.resumed.due (h.output e.resumed) (e.part is) (q.out_cause is))
+      out_stayed a promises kept out (export_of all_keys e.resumed.state) (h.output e.resumed) (e.part is) (q.out_cause is))
+      no_side
       (λ is.
       let e = q.exported (subst TellsNoFault (sym is) tt) f.reading.tells in
       text_stayed a (resumed_line e.resumed.taken (length e.resumed.history)) (h.console e.resumed) (e.front is) (q.console is))
@@ -336,12 +415,22 @@ module _ (o : Outcome) (promises : (n : List ℕ) → o.new.promise n ≡ o.old.
   ends_sure words (Report journal out) r u = sure_read journal out (reads.due_of reads.Report) r u.fits u.holds
   ends_sure words (Make seed count out) m u = sure_make seed count out m u.holds
   ends_sure words (Verify journal) v u = sure_verify journal v u.fits u.holds
+  ends_sure words (VerifyPoint journal point) v u = sure_own journal point v u.fits u.holds
   ends_sure words (Matches journal out) r u = sure_read journal out matches_due r u.fits u.holds
   ends_sure words (Holdings journal out rest code) ends u = sure_holdings words journal out rest code ends u.fits u.holds
+  ends_sure words (Headings journal range out) r u = sure_read journal out (headings_due range) r u.fits u.holds
+  ends_sure words (Worklist journal list page code) m u = sure_worklist journal list page code m u.fits u.holds
   ends_sure words (Migrate from into) m u = sure_migrate from into m u.fits u.holds
   ends_sure words (Checkpoint journal point) c u = absurd u.holds
-  ends_sure words (Quick journal point out) q u = sure_quick journal point out q u.fits u.holds
+  ends_sure words (Quick journal point out) q u = sure_quick journal point out None q u.fits u.holds (never_side o.end q.ends)
+  ends_sure words (QuickReport journal point out report) q u =
+      sure_quick journal point out (Some report) q u.fits u.holds.quick
+      (λ is.
+      let e = q.exported (subst TellsNoFault (sym is) tt) u.fits.reading.tells in
+      out_stayed a promises kept report (report_of e.resumed.state) (u.holds.report_output e.resumed) (e.report_part is) (q.report_cause is))
   ends_sure words (Read look journal out) l u = sure_look (look_due look) journal out l u.fits u.holds
+  ends_sure words (ReadHoldings journal out rest code) ends u = sure_unheld words journal out rest code ends u.fits u.holds
+  ends_sure words (ReadWorklist journal list page code) l u = sure_search journal list page code l u.fits u.holds
   ends_sure words (RefusedOf out) ends u = sure_pass refused_due (libraries_of words) out ends u.fits u.holds
   ends_sure words (Help topic) t u = sure_text (help_text topic) t u.holds
   ends_sure words Version t u = sure_text version_text t u.holds

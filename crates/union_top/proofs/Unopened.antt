@@ -14,9 +14,8 @@ use Rattle.durable_catalogue.specs.Logs.{payloads_of, IsLogOf}
 use Rattle.durable_catalogue.specs.Openings.{IsBadFrame, NoGate, NoPayload, IsUnopened}
 use Rattle.entry_record.specs.History.{IsWithin}
 use Rattle.journal_files.specs.Faults.{fault_of_opening}
-use Rattle.journal_files.specs.Journals.{journal_limits}
+use Rattle.journal_files.specs.Journals.{journal_limits, HasFittingHistory}
 use Rattle.journal_files.proofs.Histories.{reading_once}
-use Rattle.archive_commands.specs.Archives.{HasFittingHistory}
 use mathlib.Core.HLevel.{⊥_prop}
 
 -- a frame that isn't valid stands in no history

@@ -1,21 +1,21 @@
 -- What fits a command: what the room has before it, of its files, of its journal's history, and of the limits. The rules are this
 -- project's own.
-use Rattle.std.specs.Prelude.{◌≡◌, ℕ, ◌+◌, ◌≤◌, true, List, [], ◌∷◌, length, All, Option, Some, IsSome}
+use Rattle.std.specs.Prelude.{◌≡◌, ℕ, ◌+◌, ◌≤◌, true, List, [], ◌∷◌, length, All, Option, Some, IsSome, IsSomeAnd}
 use Rattle.std.specs.List.{sum_by}
 use Rattle.marc_types.specs.declared.entry.Entry.{Entry}
 use Rattle.outside.specs.Room.{RoomView}
 use Rattle.marc_stream.specs.Pieces.{items}
 use Rattle.commit_journal.specs.Log.{version_of}
 use Rattle.command_words.specs.declared.library.Library.{Library}
-use Rattle.command_words.specs.Command.{Command, Pass, Run, Load, Browse, Export, Report, Make, Verify, Matches, Holdings, Migrate, Checkpoint, Quick, Read, Refused as RefusedOf, Help, Version, libraries_of}
+use Rattle.command_words.specs.Command.{Command, Pass, Run, Load, Browse, Export, Report, Make, Verify, VerifyPoint, Matches, Holdings, Headings, Worklist, Migrate, Checkpoint, Quick, QuickReport, Read, ReadHoldings, ReadWorklist, Refused as RefusedOf, Help, Version, libraries_of}
 use Rattle.file_entries.specs.Files.{IsJudged}
 use Rattle.file_entries.specs.declared.refused.RefusedItem.{RefusedItem}
 use Rattle.entry_record.specs.History.{entries_size}
 use Rattle.durable_catalogue.specs.Logs.{HasHistory}
-use Rattle.journal_files.specs.Journals.{journal_limits, log_bytes}
-use Rattle.archive_commands.specs.Archives.{HasFittingHistory}
+use Rattle.journal_files.specs.Journals.{journal_limits, log_bytes, HasFittingHistory}
 use Rattle.migrate_command.specs.Migrations.{IsFit}
 use Rattle.checkpoint.specs.declared.point.Point.{Point}
+use Rattle.restoring.specs.Resuming.{IsOfFront}
 use Rattle.checkpoint_commands.specs.PointLogs.{IsPointLog}
 use Rattle.plain_commands.specs.Totals.{IsWithinLimits}
 use Rattle.loading_commands.specs.Merged.{AreJudged}
@@ -50,7 +50,7 @@ pub record FitsLoad (room : RoomView) (journal : List ℕ) (libraries : List Lib
   pub tells : room.tells ≡ true
   pub together : FitsTogether room journal libraries
 
--- an export, a report or a match report, in a room that tells its files
+-- an export, a report, a match report or a worklist, in a room that tells its files
 pub record FitsReading (room : RoomView) (journal : List ℕ) : Type 0 where
   pub tells : room.tells ≡ true
   pub history : HasFittingHistory (log_bytes room journal)
@@ -76,6 +76,12 @@ pub record FitsLook (room : RoomView) (journal : List ℕ) : Type 0 where
   pub there : room.file journal ≡ Some bytes
   pub history : HasFittingHistory bytes
 
+-- the same with the holdings of one file
+pub record FitsUnheld (room : RoomView) (journal : List ℕ) (libraries : List Library) : Type 0 where
+  pub look : FitsLook room journal
+  pub library : Library
+  pub named : libraries ≡ library ∷ []
+
 -- the bringing of a journal's history into another one, in a room that tells its files: the old one is of version 1, and the new one,
 -- which may be blank or none, is fit for its history
 pub record FitsMigrate (room : RoomView) (from into : List ℕ) : Type 0 where
@@ -93,6 +99,17 @@ pub record FitsPoint (room : RoomView) (journal point : List ℕ) : Type 0 where
   pub last : Option Point
   pub is : IsPointLog last (log_bytes room point)
 
+-- a journal and a log of checkpoints that are inputs, in a room that tells its files: both are there, the one with a history within the limits,
+-- and the last whole checkpoint of the other is of a front of it
+pub record FitsVerifyPoint (room : RoomView) (journal point : List ℕ) : Type 0 where
+  pub look : FitsLook room journal
+  pub point_bytes : List ℕ
+  pub point_there : room.file point ≡ Some point_bytes
+  pub last : Option Point
+  pub is : IsPointLog last point_bytes
+  pub own : (history : List Entry) (found : Option Point) → HasHistory history look.bytes → IsPointLog found point_bytes
+      → IsSomeAnd found (IsOfFront history)
+
 -- the command of some words: `make`, `help` and `version` fit any room
 abbrev pub Fits : List (List ℕ) → Command → RoomView → Type 0
 Fits words (Pass out) room = FitsPass room (libraries_of words)
@@ -103,12 +120,18 @@ Fits words (Export journal out code) room = FitsReading room journal
 Fits words (Report journal out) room = FitsReading room journal
 Fits words (Make seed count out) room = Unit {0}
 Fits words (Verify journal) room = FitsVerify room journal
+Fits words (VerifyPoint journal point) room = FitsVerifyPoint room journal point
 Fits words (Matches journal out) room = FitsReading room journal
 Fits words (Holdings journal out rest code) room = FitsHoldings room journal (libraries_of words)
+Fits words (Headings journal range out) room = FitsReading room journal
+Fits words (Worklist journal list page code) room = FitsReading room journal
 Fits words (Migrate from into) room = FitsMigrate room from into
 Fits words (Checkpoint journal point) room = FitsPoint room journal point
 Fits words (Quick journal point out) room = FitsPoint room journal point
+Fits words (QuickReport journal point out report) room = FitsPoint room journal point
 Fits words (Read look journal out) room = FitsLook room journal
+Fits words (ReadHoldings journal out rest code) room = FitsUnheld room journal (libraries_of words)
+Fits words (ReadWorklist journal list page code) room = FitsLook room journal
 Fits words (RefusedOf out) room = FitsPass room (libraries_of words)
 Fits words (Help topic) room = Unit {0}
 Fits words Version room = Unit {0}

@@ -4,12 +4,11 @@ use Rattle.marc_types.specs.declared.entry.Entry.{Entry}
 use Rattle.outside.specs.Room.{RoomView}
 use Rattle.commit_journal.specs.Log.{version_of}
 use Rattle.command_words.specs.declared.library.Library.{Library}
-use Rattle.command_words.specs.Command.{Command, Pass, Run, Load, Browse, Export, Report, Make, Verify, Matches, Holdings, Migrate, Checkpoint, Quick, Read, Refused as RefusedOf, Help, Version, libraries_of}
+use Rattle.command_words.specs.Command.{Command, Pass, Run, Load, Browse, Export, Report, Make, Verify, VerifyPoint, Matches, Holdings, Headings, Worklist, Migrate, Checkpoint, Quick, QuickReport, Read, ReadHoldings, ReadWorklist, Refused as RefusedOf, Help, Version, libraries_of}
 use Rattle.file_entries.specs.declared.refused.RefusedItem.{RefusedItem}
 use Rattle.entry_record.specs.History.{IsMerged, IsWithin}
 use Rattle.durable_catalogue.specs.Logs.{HasHistory}
-use Rattle.journal_files.specs.Journals.{journal_limits, log_bytes}
-use Rattle.archive_commands.specs.Archives.{HasFittingHistory}
+use Rattle.journal_files.specs.Journals.{journal_limits, log_bytes, HasFittingHistory}
 use Rattle.loading_commands.specs.Merged.{AreJudged}
 use Rattle.checkpoint.specs.declared.point.Point.{Point}
 use Rattle.restoring.specs.Writing.{HasLast}
@@ -55,15 +54,21 @@ HasNoHistory words (Load journal files) room = IsNoHistory (log_bytes room journ
 HasNoHistory words (Browse journal out report pages files) room = IsNoHistory (log_bytes room journal)
 HasNoHistory words (Export journal out code) room = IsNoHistory (log_bytes room journal)
 HasNoHistory words (Report journal out) room = IsNoHistory (log_bytes room journal)
+HasNoHistory words (VerifyPoint journal point) room = IsSomeAnd (room.file journal) IsNoHistory
 HasNoHistory words (Matches journal out) room = IsNoHistory (log_bytes room journal)
 HasNoHistory words (Holdings journal out rest code) room = IsOneFile words × IsNoHistory (log_bytes room journal)
+HasNoHistory words (Headings journal range out) room = IsNoHistory (log_bytes room journal)
+HasNoHistory words (Worklist journal list page code) room = IsNoHistory (log_bytes room journal)
 HasNoHistory words (Migrate from into) room = IsNoHistory (log_bytes room from)
 HasNoHistory words (Checkpoint journal point) room = IsNoHistory (log_bytes room journal)
 HasNoHistory words (Quick journal point out) room = IsNoHistory (log_bytes room journal)
 HasNoHistory words (Pass out) room = ⊥
 HasNoHistory words (Make seed count out) room = ⊥
 HasNoHistory words (Verify journal) room = ⊥
+HasNoHistory words (QuickReport journal point out report) room = IsNoHistory (log_bytes room journal)
 HasNoHistory words (Read look journal out) room = IsSomeAnd (room.file journal) IsNoHistory
+HasNoHistory words (ReadHoldings journal out rest code) room = IsOneFile words × IsSomeAnd (room.file journal) IsNoHistory
+HasNoHistory words (ReadWorklist journal list page code) room = IsSomeAnd (room.file journal) IsNoHistory
 HasNoHistory words (RefusedOf out) room = ⊥
 HasNoHistory words (Help topic) room = ⊥
 HasNoHistory words Version room = ⊥
@@ -73,17 +78,23 @@ abbrev pub IsOfOtherVersion : Command → RoomView → Type 0
 IsOfOtherVersion (Run journal out report files) room = IsOfVersion 1 (log_bytes room journal)
 IsOfOtherVersion (Load journal files) room = IsOfVersion 1 (log_bytes room journal)
 IsOfOtherVersion (Browse journal out report pages files) room = IsOfVersion 1 (log_bytes room journal)
+IsOfOtherVersion (Headings journal range out) room = ⊥
+IsOfOtherVersion (Worklist journal list page code) room = ⊥
 IsOfOtherVersion (Migrate from into) room = IsOfVersion 2 (log_bytes room from) × HasFittingHistory (log_bytes room from)
 IsOfOtherVersion (Checkpoint journal point) room = IsOldPoint room journal point
 IsOfOtherVersion (Quick journal point out) room = IsOldPoint room journal point
 IsOfOtherVersion (Export journal out code) room = ⊥
 IsOfOtherVersion (Report journal out) room = ⊥
+IsOfOtherVersion (VerifyPoint journal point) room = IsOldPoint room journal point
 IsOfOtherVersion (Matches journal out) room = ⊥
 IsOfOtherVersion (Holdings journal out rest code) room = ⊥
 IsOfOtherVersion (Pass out) room = ⊥
 IsOfOtherVersion (Make seed count out) room = ⊥
 IsOfOtherVersion (Verify journal) room = ⊥
+IsOfOtherVersion (QuickReport journal point out report) room = IsOldPoint room journal point
 IsOfOtherVersion (Read look journal out) room = ⊥
+IsOfOtherVersion (ReadHoldings journal out rest code) room = ⊥
+IsOfOtherVersion (ReadWorklist journal list page code) room = ⊥
 IsOfOtherVersion (RefusedOf out) room = ⊥
 IsOfOtherVersion (Help topic) room = ⊥
 IsOfOtherVersion Version room = ⊥
@@ -95,15 +106,21 @@ PassesLimits words (Load journal files) room = AreTooLarge room journal (librari
 PassesLimits words (Browse journal out report pages files) room = AreTooLarge room journal (libraries_of words)
 PassesLimits words (Export journal out code) room = IsTooLarge (log_bytes room journal)
 PassesLimits words (Report journal out) room = IsTooLarge (log_bytes room journal)
+PassesLimits words (VerifyPoint journal point) room = IsSomeAnd (room.file journal) IsTooLarge
 PassesLimits words (Matches journal out) room = IsTooLarge (log_bytes room journal)
 PassesLimits words (Holdings journal out rest code) room = IsOneFile words × IsTooLarge (log_bytes room journal)
+PassesLimits words (Headings journal range out) room = IsTooLarge (log_bytes room journal)
+PassesLimits words (Worklist journal list page code) room = IsTooLarge (log_bytes room journal)
 PassesLimits words (Migrate from into) room = IsTooLarge (log_bytes room from)
 PassesLimits words (Checkpoint journal point) room = IsTooLarge (log_bytes room journal)
 PassesLimits words (Quick journal point out) room = IsTooLarge (log_bytes room journal)
 PassesLimits words (Pass out) room = ⊥
 PassesLimits words (Make seed count out) room = ⊥
 PassesLimits words (Verify journal) room = ⊥
+PassesLimits words (QuickReport journal point out report) room = IsTooLarge (log_bytes room journal)
 PassesLimits words (Read look journal out) room = IsSomeAnd (room.file journal) IsTooLarge
+PassesLimits words (ReadHoldings journal out rest code) room = IsOneFile words × IsSomeAnd (room.file journal) IsTooLarge
+PassesLimits words (ReadWorklist journal list page code) room = IsSomeAnd (room.file journal) IsTooLarge
 PassesLimits words (RefusedOf out) room = ⊥
 PassesLimits words (Help topic) room = ⊥
 PassesLimits words Version room = ⊥

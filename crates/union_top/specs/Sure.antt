@@ -8,7 +8,7 @@ use Rattle.marc_stream.specs.Pieces.{items}
 use Rattle.workload.specs.Workload.{workload_bytes}
 use Rattle.commit_journal.specs.declared.format.TheConstants.{BLANK_LENGTH}
 use Rattle.command_words.specs.declared.library.Library.{Library}
-use Rattle.command_words.specs.Command.{Command, Pass, Run, Load, Browse, Export, Report, Make, Verify, Matches, Holdings, Migrate, Checkpoint, Quick, Read, Refused as RefusedOf, Help, Version, libraries_of}
+use Rattle.command_words.specs.Command.{Command, Pass, Run, Load, Browse, Export, Report, Make, Verify, VerifyPoint, Matches, Holdings, Headings, Worklist, Migrate, Checkpoint, Quick, QuickReport, Read, ReadHoldings, ReadWorklist, Refused as RefusedOf, Help, Version, libraries_of}
 use Rattle.file_entries.specs.Files.{IsJudged}
 use Rattle.file_entries.specs.declared.refused.RefusedItem.{RefusedItem}
 use Rattle.entry_record.specs.History.{IsMerged}
@@ -27,11 +27,16 @@ use Rattle.holdings.specs.declared.holding.Holding.{Holding}
 use Rattle.file_holdings.specs.Files.{AreHoldings}
 use Rattle.file_holdings.specs.declared.refused.RefusedHolding.{RefusedHolding}
 use Rattle.catalogue_rules.specs.Settle.{state_of}
+use Rattle.catalogue_rules.specs.Output.{all_keys, export_of, report_of}
 use Rattle.holdings_command.specs.Attaching as attaching
-use Rattle.match_command.specs.Telling.{matches_due}
+use Rattle.archive_commands.specs.Telling.{matches_due}
+use Rattle.heading_list.specs.Telling.{headings_due}
+use Rattle.worklist_command.specs.Working.{list_due}
+use Rattle.worklist_page.specs.Page.{page_of}
 use Rattle.migrate_command.specs.Migrates.{migrated_line}
 use Rattle.console_lines.specs.Lines.{resumed_line}
 use Rattle.checkpoint_commands.specs.Quick.{IsResumedFrom}
+use Rattle.point_verification.specs.Verifying.{AreOwn}
 use Rattle.program_help.specs.Telling.{help_text, version_text}
 use Rattle.loading_commands.specs.Console.{console_of}
 use Rattle.loading_commands.specs.Merged.{AreJudged}
@@ -85,20 +90,28 @@ pub record LoadCase (room : RoomView) (journal : List ℕ) (libraries : List Lib
   pub judged : AreJudged room 0 libraries accepted refused
   pub merged : IsMerged before accepted added
 
--- what may come of a journal and of the one file of holdings
-pub record HoldingsCase (room : RoomView) (journal : List ℕ) (libraries : List Library) : Type 0 where
+-- what may come of a journal that has such entries, and of the one file of holdings
+pub record HoldingsCase (room : RoomView) (has : List Entry → Type 0) (libraries : List Library) : Type 0 where
   pub library : Library
   pub named : libraries ≡ library ∷ []
   pub entries : List Entry
-  pub was : HasHistory entries (log_bytes room journal)
+  pub was : has entries
   pub accepted : List Holding
   pub refused : List RefusedHolding
   pub judged : IsSomeAnd (room.file library.file) (λ bytes. AreHoldings library.code (items bytes) accepted refused)
 
 -- and what is due then
-abbrev pub holdings_due : {room : RoomView} {journal : List ℕ} {libraries : List Library} → Option (List ℕ) → HoldingsCase room journal libraries
+abbrev pub holdings_due : {room : RoomView} {has : List Entry → Type 0} {libraries : List Library} → Option (List ℕ) → HoldingsCase room has libraries
     → attaching.Due
 holdings_due code c = attaching.due_of c.library.file code (state_of c.entries) c.accepted c.refused
+
+-- a log has these entries, or a file that is there has them
+abbrev pub LogHas : RoomView → List ℕ → List Entry → Type 0
+LogHas room journal entries = HasHistory entries (log_bytes room journal)
+
+-- the same of a journal that is an input
+abbrev pub FileHas : RoomView → List ℕ → List Entry → Type 0
+FileHas room journal entries = IsSomeAnd (room.file journal) (HasHistory entries)
 
 -- the file is read, what is due of it is written, and the console is told of it
 pub record IsSurePass (due : FileDue) (libraries : List Library) (out : List ℕ) (a : Around) : Type 0 where
@@ -117,23 +130,51 @@ pub record IsSureReading (due : List Entry → List ℕ) (journal out : List ℕ
   pub log : HoldsLog a.old journal 0
   pub output : (entries : List Entry) → HasHistory entries (log_bytes a.old journal) → HoldsOutput a.old out (due entries)
 
+-- a journal is only read, and the list and the page that are due of its history are written
+pub record IsSureWorklist (journal list page : List ℕ) (code : Option (List ℕ)) (a : Around) : Type 0 where
+  pub log : HoldsLog a.old journal 0
+  pub output : (entries : List Entry) → HasHistory entries (log_bytes a.old journal) → HoldsOutput a.old list (list_due code entries)
+  pub page_output : (entries : List Entry) → HasHistory entries (log_bytes a.old journal) → HoldsOutput a.old page (page_of entries)
+
 -- the journal is an input, and what is due of its history is written
 pub record IsSureLook (due : List Entry → List ℕ) (journal out : List ℕ) (a : Around) : Type 0 where
   pub input : a.old.promise journal ≡ ReadsAlways
   pub output : (bytes : List ℕ) (entries : List Entry) → a.old.file journal ≡ Some bytes → HasHistory entries bytes → HoldsOutput a.old out (due entries)
+
+-- the journal is an input, and the list and the page that are due of its history are written
+pub record IsSureSearch (journal list page : List ℕ) (code : Option (List ℕ)) (a : Around) : Type 0 where
+  pub input : a.old.promise journal ≡ ReadsAlways
+  pub output : (bytes : List ℕ) (entries : List Entry) → a.old.file journal ≡ Some bytes → HasHistory entries bytes → HoldsOutput a.old list (list_due code entries)
+  pub page_output : (bytes : List ℕ) (entries : List Entry) → a.old.file journal ≡ Some bytes → HasHistory entries bytes → HoldsOutput a.old page (page_of entries)
 
 -- the journal is an input, and the console is told what it has
 pub record IsSureVerify (journal : List ℕ) (a : Around) : Type 0 where
   pub input : a.old.promise journal ≡ ReadsAlways
   pub console : (v : Verified) → IsSomeAnd (a.old.file journal) (λ log. IsVerified log v) → HoldsText a (verified_lines v)
 
--- the journal is only read, and the file; both outputs are written, and the console is told of the file
-pub record IsSureHoldings (libraries : List Library) (journal out rest : List ℕ) (code : Option (List ℕ)) (a : Around) : Type 0 where
+-- the journal and the log of checkpoints are inputs, and the console is told how many entries the checkpoint holds that is the journal's own
+pub record IsSureVerifyPoint (journal point : List ℕ) (a : Around) : Type 0 where
+  pub input : a.old.promise journal ≡ ReadsAlways
+  pub point_input : a.old.promise point ≡ ReadsAlways
+  pub console : (bytes point_bytes : List ℕ) (held count : ℕ) → a.old.file journal ≡ Some bytes → a.old.file point ≡ Some point_bytes
+      → AreOwn bytes point_bytes held count → HoldsText a (resumed_line held count)
+
+-- the file is read; both outputs of a journal that has such entries are written, and the console is told of the file
+pub record IsSureAttaching (has : List Entry → Type 0) (libraries : List Library) (out rest : List ℕ) (code : Option (List ℕ)) (a : Around) : Type 0 where
   pub inputs : AreReadAlways a.old libraries
+  pub output : (c : HoldingsCase a.old has libraries) → HoldsOutput a.old out (holdings_due code c).out
+  pub rest_output : (c : HoldingsCase a.old has libraries) → HoldsOutput a.old rest (holdings_due code c).rest
+  pub console : (c : HoldingsCase a.old has libraries) → HoldsText a (holdings_due code c).text
+
+-- the journal is only read
+pub record IsSureHoldings (libraries : List Library) (journal out rest : List ℕ) (code : Option (List ℕ)) (a : Around) : Type 0 where
   pub log : HoldsLog a.old journal 0
-  pub output : (c : HoldingsCase a.old journal libraries) → HoldsOutput a.old out (holdings_due code c).out
-  pub rest_output : (c : HoldingsCase a.old journal libraries) → HoldsOutput a.old rest (holdings_due code c).rest
-  pub console : (c : HoldingsCase a.old journal libraries) → HoldsText a (holdings_due code c).text
+  pub attaching : IsSureAttaching (LogHas a.old journal) libraries out rest code a
+
+-- the journal is an input
+pub record IsSureUnheld (libraries : List Library) (journal out rest : List ℕ) (code : Option (List ℕ)) (a : Around) : Type 0 where
+  pub input : a.old.promise journal ≡ ReadsAlways
+  pub attaching : IsSureAttaching (FileHas a.old journal) libraries out rest code a
 
 -- the old journal is only read, and the new one gains a frame for each entry that the history has behind its own; the console is told
 -- how many there are
@@ -147,8 +188,13 @@ pub record IsSureMigrate (from into : List ℕ) (a : Around) : Type 0 where
 pub record IsSureQuick (journal point out : List ℕ) (a : Around) : Type 0 where
   pub log : HoldsLog a.old journal 0
   pub point_log : HoldsLog a.old point 0
-  pub output : (r : IsResumedFrom journal point a.old) → HoldsOutput a.old out r.due
+  pub output : (r : IsResumedFrom journal point a.old) → HoldsOutput a.old out (export_of all_keys r.state)
   pub console : (r : IsResumedFrom journal point a.old) → HoldsText a (resumed_line r.taken (length r.history))
+
+-- the same, and the report of the same state is written
+pub record IsSureQuickReport (journal point out report : List ℕ) (a : Around) : Type 0 where
+  pub quick : IsSureQuick journal point out a
+  pub report_output : (r : IsResumedFrom journal point a.old) → HoldsOutput a.old report (report_of r.state)
 
 -- the files are read, the journal gains a frame for each accepted entry at most, and the console is told of the files
 pub record IsSureLoad (libraries : List Library) (journal : List ℕ) (a : Around) : Type 0 where
@@ -179,12 +225,18 @@ HoldsAll words (Export journal out code) a = IsSureReading (reads.due_of (reads.
 HoldsAll words (Report journal out) a = IsSureReading (reads.due_of reads.Report) journal out a
 HoldsAll words (Make seed count out) a = IsSureMake seed count out a
 HoldsAll words (Verify journal) a = IsSureVerify journal a
+HoldsAll words (VerifyPoint journal point) a = IsSureVerifyPoint journal point a
 HoldsAll words (Matches journal out) a = IsSureReading matches_due journal out a
 HoldsAll words (Holdings journal out rest code) a = IsSureHoldings (libraries_of words) journal out rest code a
+HoldsAll words (Headings journal range out) a = IsSureReading (headings_due range) journal out a
+HoldsAll words (Worklist journal list page code) a = IsSureWorklist journal list page code a
 HoldsAll words (Migrate from into) a = IsSureMigrate from into a
 HoldsAll words (Checkpoint journal point) a = ⊥
 HoldsAll words (Quick journal point out) a = IsSureQuick journal point out a
+HoldsAll words (QuickReport journal point out report) a = IsSureQuickReport journal point out report a
 HoldsAll words (Read look journal out) a = IsSureLook (look_due look) journal out a
+HoldsAll words (ReadHoldings journal out rest code) a = IsSureUnheld (libraries_of words) journal out rest code a
+HoldsAll words (ReadWorklist journal list page code) a = IsSureSearch journal list page code a
 HoldsAll words (RefusedOf out) a = IsSurePass refused_due (libraries_of words) out a
 HoldsAll words (Help topic) a = HoldsText a (help_text topic)
 HoldsAll words Version a = HoldsText a version_text

@@ -5,20 +5,22 @@ ghost use Rattle.command_words.specs.declared.asked.Request.{Request};
 ghost use Rattle.console_lines.specs.Ends.{outcome};
 ghost use Rattle.union_top.specs.Commands.{CarriesOut};
 
-use archive_commands::{Due, write_from_journal};
+use archive_commands::{Due, write_from_journal, write_matches};
 use checkpoint_commands::{export_quickly, put_checkpoint};
 use command_words::laws::{files_are_named, names_are_apart, numbers_are_bounded};
 use command_words::{AloneRequest, Words};
 use console_lines::End;
+use heading_list::list_headings;
 use holdings_command::attach_holdings;
 use journal_verification::verify;
-use match_command::write_matches;
 use migrate_command::migrate_journal;
 use outside::Room;
 use plain_commands::{give_back, make, pass};
+use point_verification::verify_point;
 use program_help::{help, version};
-use reading_commands::look_into;
+use reading_commands::{attach_unheld, look_into};
 use std::alloc::Global;
+use worklist_command::{look_for_work, make_worklist};
 
 /// Carries out the command that some words ask for, which starts no threads. It waits for no thread and no lock.
 pub fn carry_out<R: Room>(
@@ -46,14 +48,25 @@ pub fn carry_out<R: Room>(
         }
         AloneRequest::Make { seed, count, out } => make(alloc, room, console, seed, count, out),
         AloneRequest::Verify { journal } => verify(alloc, room, console, journal),
+        AloneRequest::VerifyPoint { journal, point } => {
+            verify_point(alloc, room, console, journal, point)
+        }
         AloneRequest::Matches { journal, out } => write_matches(alloc, room, console, journal, out),
-        AloneRequest::Holdings {
+        AloneRequest::Holdings(wanted) => attach_holdings(
+            alloc,
+            room,
+            console,
+            wanted.journal,
+            wanted.out,
+            wanted.rest,
+            &wanted.library,
+            wanted.code,
+        ),
+        AloneRequest::Headings {
             journal,
+            range,
             out,
-            rest,
-            library,
-            code,
-        } => attach_holdings(alloc, room, console, journal, out, rest, &library, code),
+        } => list_headings(alloc, room, console, journal, out, range),
         AloneRequest::Migrate { old, new } => migrate_journal(alloc, room, console, old, new),
         AloneRequest::Checkpoint { journal, point } => {
             put_checkpoint(alloc, room, console, journal, point)
@@ -62,11 +75,39 @@ pub fn carry_out<R: Room>(
             journal,
             point,
             out,
-        } => export_quickly(alloc, room, console, journal, point, out),
+        } => export_quickly(alloc, room, console, journal, point, out, None),
+        AloneRequest::QuickReport {
+            journal,
+            point,
+            out,
+            report,
+        } => export_quickly(alloc, room, console, journal, point, out, Some(report)),
         AloneRequest::Read { look, journal, out } => {
             look_into(alloc, room, console, journal, out, look)
         }
         AloneRequest::Refused { library, out } => give_back(alloc, room, console, &library, out),
+        AloneRequest::Worklist {
+            journal,
+            list,
+            page,
+            code,
+        } => make_worklist(alloc, room, console, journal, list, page, code),
+        AloneRequest::ReadWorklist {
+            journal,
+            list,
+            page,
+            code,
+        } => look_for_work(alloc, room, console, journal, list, page, code),
+        AloneRequest::ReadHoldings(wanted) => attach_unheld(
+            alloc,
+            room,
+            console,
+            wanted.journal,
+            wanted.out,
+            wanted.rest,
+            &wanted.library,
+            wanted.code,
+        ),
         AloneRequest::Help { topic } => help(console, topic),
         AloneRequest::Version => version(console),
     }

@@ -2,6 +2,7 @@
 ghost use Rattle.std.specs.Prelude.{◌≡◌, ℕ, List, None, IfOk};
 ghost use Rattle.outside_mem.specs.Room.{room_view};
 
+use crate::damage::damage;
 use crate::failing::fail_each;
 use crate::room::{empty_room, with_fault, with_file, with_shut};
 use crate::shown::{last_page, print_all, print_number, shown};
@@ -115,7 +116,7 @@ pub fn answer<H: Threads + Wait + Sync>(
 }
 
 /// The status of the command of some words, and what the console is told.
-fn ran<H: Threads + Wait + Sync>(
+pub fn ran<H: Threads + Wait + Sync>(
     threads: &H,
     alloc: Global,
     words: &Words,
@@ -382,6 +383,9 @@ impl Desk {
         }
         if let Step::Points(journal, point) = step {
             point_images(rt, threads, &room, journal, point)?;
+        }
+        if let Step::Damage(journal, point, due) = step {
+            damage(rt, threads, &room, journal, point, due)?;
         }
         if let Step::FailEach(name, words) = step {
             fail_each(rt, threads, &room, name, words)?;

@@ -9,6 +9,7 @@ use std::thread::Threads;
 use std::{fs, io};
 use step::Step;
 
+mod damage;
 mod desk;
 mod failing;
 mod room;

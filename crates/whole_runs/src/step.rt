@@ -33,6 +33,9 @@ pub enum Step<'a> {
     /// Prints what comes of an export from each image of a closed log of checkpoints on, beside the journal: of each moment, by each of
     /// the three choices.
     Points(&'a str, &'a str),
+    /// Prints how often an export from a log of checkpoints on, beside the journal, comes to each end while the log is damaged in one place
+    /// after another; the last name is that of what is due.
+    Damage(&'a str, &'a str, &'a str),
     /// Carries out the command of these words over the room's files again and again, each time with the next call failing on each object
     /// that is opened by the name, until none is left to fail; and prints what comes of each.
     FailEach(&'a str, &'a str),
@@ -49,6 +52,12 @@ fn crash_of(words: &str) -> Option<Step<'_>> {
     let (name, rest) = words.split_once(' ')?;
     let (moment, choice) = rest.split_once(' ')?;
     Some(Step::Crash(name, moment.parse().ok()?, choice.parse().ok()?))
+}
+
+fn damage_of(words: &str) -> Option<Step<'_>> {
+    let (journal, rest) = words.split_once(' ')?;
+    let (point, due) = rest.split_once(' ')?;
+    Some(Step::Damage(journal, point, due))
 }
 
 fn step_of<'a>(verb: &str, words: &'a str) -> Option<Step<'a>> {
@@ -76,6 +85,7 @@ fn step_of<'a>(verb: &str, words: &'a str) -> Option<Step<'a>> {
         "keep" => Some(Step::Keep(words)),
         "crash" => crash_of(words),
         "images" => Some(Step::Images(words)),
+        "damage" => damage_of(words),
         "points" => {
             let (journal, point) = words.split_once(' ')?;
             Some(Step::Points(journal, point))

@@ -1,6 +1,8 @@
 ghost use Rattle.std.specs.Prelude.{◌≡◌, ◌^◌, ◌+◌, ◌<◌, ◌≤◌, All, IfSome, length};
 ghost use Rattle.catalogue_lock.specs.Passes.{IsPassOf, IsReady};
 
+mod numbers;
+
 use catalogue_lock::laws::{Tally, worked_row};
 use catalogue_lock::{HistoryLock, Pass, Passes};
 use std::alloc::Global;

@@ -193,7 +193,7 @@ fn a_sink_fails_where_the_device_is_full(rt: HostRuntime) -> Result<(), Fail> {
 }
 
 // A disk over that file, which is removed.
-fn disk_of(rt: &HostRuntime, path: &str) -> Result<FileDisk, Fail> {
+fn disk_of(rt: &HostRuntime, path: &str) -> Result<FileDisk<HostRuntime>, Fail> {
     let mut how = OpenOptions::new();
     how.read(true).write(true).create(true);
     let disk = FileDisk::new(opened(rt, path, &how)?)?;
@@ -201,11 +201,15 @@ fn disk_of(rt: &HostRuntime, path: &str) -> Result<FileDisk, Fail> {
     Ok(disk)
 }
 
-fn read_at(disk: &mut FileDisk, at: u64, buffer: &mut [u8; 8]) -> Result<usize, Failed> {
+fn read_at(
+    disk: &mut FileDisk<HostRuntime>,
+    at: u64,
+    buffer: &mut [u8; 8],
+) -> Result<usize, Failed> {
     disk.read_at(at, buffer)
 }
 
-fn faults_of_disk(disk: &FileDisk) -> u64 {
+fn faults_of_disk(disk: &FileDisk<HostRuntime>) -> u64 {
     disk.faults()
 }
 

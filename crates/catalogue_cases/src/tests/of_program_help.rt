@@ -4,7 +4,7 @@ use outside_mem::MemSink;
 use program_help::{help, version};
 use std::alloc::Global;
 
-const TOPICS: [(Topic, &str); 19] = [
+const TOPICS: [(Topic, &str); 21] = [
     (Topic::All, "union_cat, a union catalogue"),
     (Topic::Pass, "union_cat pass OUT CODE=FILE\n"),
     (
@@ -25,6 +25,11 @@ const TOPICS: [(Topic, &str); 19] = [
         Topic::Holdings,
         "union_cat holdings JOURNAL OUT REST CODE=FILE\n",
     ),
+    (
+        Topic::Headings,
+        "union_cat headings JOURNAL KIND FROM MOST OUT\n",
+    ),
+    (Topic::Worklist, "union_cat worklist JOURNAL LIST PAGE\n"),
     (Topic::Migrate, "union_cat migrate OLD NEW\n"),
     (Topic::Checkpoint, "union_cat checkpoint JOURNAL POINT\n"),
     (Topic::Quick, "union_cat quick JOURNAL POINT OUT\n"),

@@ -1,9 +1,9 @@
 use super::steps::expect;
 use command_words::{
-    AloneRequest, BrowseRequest, Libraries, Library, LoadRequest, Look, Request, Topic, Unasked,
-    Words, request,
+    AloneRequest, BrowseRequest, HeadingRange, HoldingsRequest, Libraries, Library, LoadRequest,
+    Look, Request, Topic, Unasked, Words, request,
 };
-use marc_types::{NoMemory, Text};
+use marc_types::{Kind, NoMemory, Text};
 use std::alloc::Global;
 use std::process::Abort;
 use std::test::Fail;
@@ -70,6 +70,8 @@ fn number_text(number: u64) -> &'static str {
     match number {
         0 => "0",
         7 => "7",
+        20 => "20",
+        100_000 => "100000",
         1_048_576 => "1048576",
         u64::MAX => "18446744073709551615",
         _ => "another number",
@@ -92,6 +94,120 @@ fn look_text(look: Look<'_>) -> &'static str {
         Look::Export(_) => "export",
         Look::Report => "report",
         Look::Matches => "matches",
+        Look::Headings(_) => "headings",
+    }
+}
+
+/// The kind of a range, by its word.
+fn kind_text(kind: Kind) -> &'static str {
+    match kind {
+        Kind::Personal => "personal",
+        Kind::Corporate => "corporate",
+        Kind::Meeting => "meeting",
+        Kind::Title => "title",
+        Kind::Chronological => "chronological",
+        Kind::Topical => "topical",
+        Kind::Geographic => "geographic",
+        Kind::Genre => "genre",
+    }
+}
+
+fn push_range(text: &mut String, range: HeadingRange<'_>) -> Result<(), NoMemory> {
+    push_word(text, kind_text(range.kind))?;
+    push_word(text, range.from)?;
+    push_word(text, number_text(range.most))
+}
+
+fn holdings_text(
+    alloc: Global,
+    verb: &str,
+    asked: &HoldingsRequest<'_>,
+) -> Result<String, NoMemory> {
+    let mut text = barred(alloc, &[verb, asked.journal, asked.out, asked.rest])?;
+    push_library(&mut text, &asked.library)?;
+    push_word(&mut text, asked.code.unwrap_or("all"))?;
+    Ok(text)
+}
+
+fn worklist_text(
+    alloc: Global,
+    verb: &str,
+    names: &[&str],
+    code: Option<&str>,
+) -> Result<String, NoMemory> {
+    let mut text = barred(alloc, &[verb])?;
+    for name in names {
+        push_word(&mut text, name)?;
+    }
+    push_word(&mut text, code.unwrap_or("all"))?;
+    Ok(text)
+}
+
+fn read_text(alloc: Global, look: Look<'_>, journal: &str, out: &str) -> Result<String, NoMemory> {
+    let mut text = barred(alloc, &["reading", look_text(look)])?;
+    push_word(&mut text, journal)?;
+    push_word(&mut text, out)?;
+    match look {
+        Look::Export(code) => push_word(&mut text, code.unwrap_or("all"))?,
+        Look::Headings(range) => push_range(&mut text, range)?,
+        Look::Report | Look::Matches => {}
+    }
+    Ok(text)
+}
+
+fn headings_text(alloc: Global, asked: &AloneRequest<'_>) -> Result<String, NoMemory> {
+    match asked {
+        AloneRequest::Headings {
+            journal,
+            range,
+            out,
+        } => {
+            let mut text = barred(alloc, &["headings", journal, out])?;
+            push_range(&mut text, *range)?;
+            Ok(text)
+        }
+        AloneRequest::Worklist {
+            journal,
+            list,
+            page,
+            code,
+        } => worklist_text(alloc, "worklist", &[journal, list, page], *code),
+        AloneRequest::ReadWorklist {
+            journal,
+            list,
+            page,
+            code,
+        } => worklist_text(alloc, "reading worklist", &[journal, list, page], *code),
+        AloneRequest::Holdings(asked) => holdings_text(alloc, "holdings", asked),
+        AloneRequest::ReadHoldings(asked) => holdings_text(alloc, "reading holdings", asked),
+        _ => Ok(String::from_str(alloc, "another command")?),
+    }
+}
+
+fn later_text(alloc: Global, asked: &AloneRequest<'_>) -> Result<String, NoMemory> {
+    match asked {
+        AloneRequest::Migrate { old, new } => barred(alloc, &["migrate", old, new]),
+        AloneRequest::Checkpoint { journal, point } => {
+            barred(alloc, &["checkpoint", journal, point])
+        }
+        AloneRequest::Quick {
+            journal,
+            point,
+            out,
+        } => barred(alloc, &["quick", journal, point, out]),
+        AloneRequest::QuickReport {
+            journal,
+            point,
+            out,
+            report,
+        } => barred(alloc, &["quick", journal, point, out, report]),
+        AloneRequest::Read { look, journal, out } => read_text(alloc, *look, journal, out),
+        AloneRequest::Refused { library, out } => {
+            let mut text = barred(alloc, &["refused", out])?;
+            push_library(&mut text, library)?;
+            Ok(text)
+        }
+        asked => headings_text(alloc, asked),
     }
 }
 
@@ -114,44 +230,11 @@ fn alone_text(alloc: Global, asked: &AloneRequest<'_>) -> Result<String, NoMemor
             Ok(text)
         }
         AloneRequest::Verify { journal } => barred(alloc, &["verify", journal]),
+        AloneRequest::VerifyPoint { journal, point } => barred(alloc, &["verify", journal, point]),
         AloneRequest::Matches { journal, out } => barred(alloc, &["matches", journal, out]),
-        AloneRequest::Holdings {
-            journal,
-            out,
-            rest,
-            library,
-            code,
-        } => {
-            let mut text = barred(alloc, &["holdings", journal, out, rest])?;
-            push_library(&mut text, library)?;
-            push_word(&mut text, code.unwrap_or("all"))?;
-            Ok(text)
-        }
-        AloneRequest::Migrate { old, new } => barred(alloc, &["migrate", old, new]),
-        AloneRequest::Checkpoint { journal, point } => {
-            barred(alloc, &["checkpoint", journal, point])
-        }
-        AloneRequest::Quick {
-            journal,
-            point,
-            out,
-        } => barred(alloc, &["quick", journal, point, out]),
-        AloneRequest::Read { look, journal, out } => {
-            let mut text = barred(alloc, &["reading", look_text(*look)])?;
-            push_word(&mut text, journal)?;
-            push_word(&mut text, out)?;
-            if let Look::Export(code) = look {
-                push_word(&mut text, code.unwrap_or("all"))?;
-            }
-            Ok(text)
-        }
-        AloneRequest::Refused { library, out } => {
-            let mut text = barred(alloc, &["refused", out])?;
-            push_library(&mut text, library)?;
-            Ok(text)
-        }
         AloneRequest::Help { topic } => barred(alloc, &["help", topic_text(*topic)]),
         AloneRequest::Version => barred(alloc, &["version"]),
+        later => later_text(alloc, later),
     }
 }
 
@@ -187,7 +270,7 @@ fn expect_none(rt: &impl Abort, alloc: Global, lines: &[&str]) -> Result<(), Fai
     Ok(())
 }
 
-const WITH_FILES: [(&str, &str); 8] = [
+const WITH_FILES: [(&str, &str); 10] = [
     ("run j o r ULIB=f0 ULIB=f1", "|run|j|o|r|ULIB|f0|ULIB|f1"),
     ("run j o r A=b=c D=e", "|run|j|o|r|A|b=c|D|e"),
     ("load j A=f B=f", "|load|j|A|f|B|f"),
@@ -195,6 +278,14 @@ const WITH_FILES: [(&str, &str); 8] = [
     ("pass ./f A=f", "|pass|./f|A|f"),
     ("holdings j o r ULIB=h", "|holdings|j|o|r|ULIB|h|all"),
     ("holdings j o r A=h DLC", "|holdings|j|o|r|A|h|DLC"),
+    (
+        "reading holdings j o r A=h",
+        "|reading holdings|j|o|r|A|h|all",
+    ),
+    (
+        "reading holdings j o r A=h D",
+        "|reading holdings|j|o|r|A|h|D",
+    ),
     ("refused o ULIB=f", "|refused|o|ULIB|f"),
 ];
 
@@ -203,7 +294,7 @@ fn lines_with_files(rt: HostRuntime) -> Result<(), Fail> {
     expect_asked(&rt, rt.alloc(), &WITH_FILES)
 }
 
-const OVER_JOURNALS: [(&str, &str); 12] = [
+const OVER_JOURNALS: [(&str, &str); 20] = [
     ("export j o", "|export|j|o|all"),
     ("export j o DLC", "|export|j|o|DLC"),
     ("report j o", "|report|j|o"),
@@ -216,6 +307,20 @@ const OVER_JOURNALS: [(&str, &str); 12] = [
     ("reading export j o D", "|reading|export|j|o|D"),
     ("reading report j o", "|reading|report|j|o"),
     ("reading matches j o", "|reading|matches|j|o"),
+    ("verify j j", "|verify|j|j"),
+    ("quick j p o r", "|quick|j|p|o|r"),
+    (
+        "headings j title j 100000 o",
+        "|headings|j|o|title|j|100000",
+    ),
+    ("headings j genre  20 o", "|headings|j|o|genre||20"),
+    (
+        "reading headings j topical x 20 o",
+        "|reading|headings|j|o|topical|x|20",
+    ),
+    ("worklist j l p", "|worklist|j|l|p|all"),
+    ("worklist j l p D", "|worklist|j|l|p|D"),
+    ("reading worklist j l p", "|reading worklist|j|l|p|all"),
 ];
 
 #[test]
@@ -299,7 +404,7 @@ fn faulty_lines_with_files(rt: HostRuntime) -> Result<(), Fail> {
     expect_none(&rt, rt.alloc(), &FAULTY_FILES)
 }
 
-const FAULTY: [&str; 47] = [
+const FAULTY: [&str; 60] = [
     "export j",
     "export j j",
     "export j o D(",
@@ -314,7 +419,8 @@ const FAULTY: [&str; 47] = [
     "make 1 1 ",
     "make 1 1",
     "verify",
-    "verify j o",
+    "verify j o x",
+    "verify j ",
     "matches a",
     "matches a a",
     "matches a b c",
@@ -328,7 +434,18 @@ const FAULTY: [&str; 47] = [
     "quick j j o",
     "quick j p j",
     "quick j p p",
-    "quick j p o r",
+    "quick j p o o",
+    "quick j p o p",
+    "quick j p o r s",
+    "headings j title x 20",
+    "headings j titles x 20 o",
+    "headings j title x 0 o",
+    "headings j title x 100001 o",
+    "headings j title x 20 j",
+    "headings j title x 20 o o",
+    "worklist j l",
+    "worklist j l l",
+    "worklist j l p D(",
     "reading",
     "reading export",
     "reading export j",
@@ -338,6 +455,7 @@ const FAULTY: [&str; 47] = [
     "reading report j o D",
     "reading matches j j",
     "reading verify j",
+    "reading holdings j o o A=h",
     "reading load j A=f",
     "reading reading export j o",
     "help all",

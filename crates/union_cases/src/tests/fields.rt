@@ -1,10 +1,14 @@
 //! How a field stands in a catalogue over a log.
-use catalogue_lock::Object;
+ghost use Rattle.std.specs.Prelude.{◌≡◌, ◌≤◌, [], All, length, vec_capacity};
+ghost use Rattle.catalogue_lock.specs.Passes.{IsReady};
+
+use catalogue_lock::{HistoryLock, Object, Pass, Passes};
 use durable_catalogue::{Ask, Durable, OnClose, Seen, Told};
 use marc_types::{Class, Key, Limits, Place, Text};
 use outside_mem::MemDisk;
 use std::alloc::Global;
 use std::process::Abort;
+use std::sync::Wait;
 use std::test::Fail;
 
 /// The entries stand in the order of the turns: a book, the authority, the other book, the deletion.
@@ -24,11 +28,25 @@ fn opened(rt: &impl Abort, alloc: Global, bytes: &[u8]) -> Result<Durable<MemDis
     Ok(durable)
 }
 
-fn is_unlinked(durable: &Durable<MemDisk>, place: Place) -> bool {
-    matches!(
-        durable.look(&Ask::Status(place)),
-        Ok(Told::Status(Seen::Unlinked))
-    )
+/// What the one pass of a lock is answered, and the object again.
+fn asked<R: Wait, O: Object>(
+    rt: &R,
+    lock: HistoryLock<O>,
+    passes: Passes<O>,
+    room: Vec<Pass<O>>,
+    question: &O::Question,
+) -> (O::Answer, O)
+    requires one { (lock.callers ≡ 1) × (length passes ≡ 1) }
+    requires ready { All (IsReady lock) passes }
+    requires room { (room.items ≡ []) × (1 ≤ vec_capacity room) }
+{
+    let (mut dealt, mut all) = (passes.into_vec(), room);
+    let Some(mut pass) = dealt.pop() else {
+        unreachable!()
+    };
+    let answer = lock.look(rt, &mut pass, question);
+    all.push_reserved(pass);
+    (answer, lock.close(Passes::from_vec(all)))
 }
 
 /// How many entries are told from a place on; none where no news of it is kept.
@@ -51,9 +69,19 @@ fn a_field_is_unlinked_in_the_end(rt: HostRuntime) -> Result<(), Fail> {
         },
         field: 1,
     };
+    let room = Vec::with_capacity(alloc, 1)?;
     let durable = opened(&rt, alloc, LOG)?;
-    assert!(rt; is_unlinked(&durable, place));
-    durable.close(OnClose::Free);
+    match HistoryLock::new(alloc, durable, 1) {
+        Ok((lock, passes)) => {
+            let (told, durable) = asked(&rt, lock, passes, room, &Ask::Status(place));
+            durable.close(OnClose::Free);
+            assert!(rt; matches!(told, Ok(Told::Status(Seen::Unlinked))));
+        }
+        Err((durable, _)) => {
+            durable.close(OnClose::Free);
+            panic!(rt; "no memory")
+        }
+    }
     Ok(())
 }
 

@@ -1,6 +1,5 @@
-use Rattle.std.proofs.Common.{◌≡◌, ◌∙◌, ap, arith, map}
+use Rattle.std.proofs.Common.{◌∙◌, ap, arith, map}
 use Rattle.catalogue_rules.specs.State.{linkable_authorities, rows_of}
-use Rattle.catalogue_tables.specs.Stands.{field_standing}
 use Rattle.outside.proofs.Fronts.{writing_more, writing_failed}
 use Rattle.numbered_store.specs.Kept.{kept_record, shown_row}
 use Rattle.ambiguity_report.proofs.Counting.{counting_more}

@@ -4,7 +4,7 @@ ghost use Rattle.outside_real.specs.View.{file_room_view};
 
 use super::{has, make, own_number, path_of, remove};
 use crate::tests::steps::{opens_log, opens_output};
-use outside_real::{Counts, FileRoom, Intent};
+use outside_real::{FileRoom, Intent};
 use std::fs;
 use std::test::Fail;
 
@@ -40,13 +40,9 @@ fn opens_with_output(rt: &HostRuntime, log: &str, output: &str) -> Result<bool, 
     let mut room = room_of(rt)?;
     let mut outputs = Vec::new(rt.alloc());
     outputs.push(String::from_str(rt.alloc(), output)?)?;
-    room.intend(Intent {
-        outputs,
-        reads: false,
-        looks: false,
-        counts: Counts::Nothing,
-        is_terminal: false,
-    });
+    let mut intent = Intent::none(rt.alloc());
+    intent.outputs = outputs;
+    room.intend(intent);
     Ok(opens_log(&mut room, log))
 }
 

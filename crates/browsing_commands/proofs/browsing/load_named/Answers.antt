@@ -11,7 +11,7 @@ use Rattle.atomic_table.proofs.send_lease.SendLease.TheSendSync as lease
 use Rattle.atomic_table.proofs.shared.Seat.TheSendSync as seat
 use Rattle.atomic_table.proofs.shared.Shared.TheSendSync as shared
 use Rattle.browsing_commands.proofs.Crosses.{table_send, table_sync}
-use Rattle.std.proofs.Common.{length, ap, sym, ◌∙◌}
+use Rattle.std.proofs.Common.{length, ap, ◌∙◌}
 use Rattle.durable_catalogue.specs.Views.{durable_view}
 use Rattle.browsing_commands.proofs.Loaded.{taken_more, are_paged, counts_history}
 use Rattle.browsing_commands.proofs.browsing.load_named.Goals as goal

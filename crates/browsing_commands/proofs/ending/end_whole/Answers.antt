@@ -1,6 +1,6 @@
-use Rattle.std.proofs.Common.{◌≡◌, true, List, ℕ, OnOk, IfOk, IfErr, Some, length, refl, sym, ap, subst, ◌∙◌}
+use Rattle.std.proofs.Common.{◌≡◌, true, List, OnOk, IfOk, IfErr, refl, ap, subst, ◌∙◌}
 use Rattle.marc_types.specs.declared.entry.Entry.{Entry}
-use Rattle.outside.proofs.Rooms.{same_but_itself, same_but_first, same_but_then}
+use Rattle.outside.proofs.Rooms.{same_but_itself}
 use Rattle.durable_catalogue.specs.Views.{durable_view}
 use Rattle.loading_commands.specs.Texts.{files_text, has_refused}
 use Rattle.loading_commands.specs.Runs.{AreOutputs}

@@ -1,8 +1,8 @@
-use Rattle.std.proofs.Common.{◌++◌, length, map, sym, ap, subst, ◌∙◌, append-nil}
+use Rattle.std.proofs.Common.{◌++◌, length, map, ap, subst, ◌∙◌, append-nil}
 use Rattle.catalogue_rules.specs.Settle.{state_of}
 use Rattle.catalogue_rules.specs.Valid.{IsValid}
 use Rattle.numbered_store.specs.Kept.{shown_row}
-use Rattle.browsing_commands.proofs.Stands.{listing_begins, listing_goes_on, listing_ends}
+use Rattle.browsing_commands.proofs.Stands.{listing_goes_on, listing_ends}
 use Rattle.browsing_commands.proofs.standing.standing_tables.Goals as goal
 
 pub loop-key-preserved : goal.loop-key-preserved

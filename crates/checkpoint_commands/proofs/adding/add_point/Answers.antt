@@ -1,5 +1,4 @@
-use Rattle.std.proofs.Common.{◌≡◌, ◌∙◌, refl, sym, ap, subst}
-use Rattle.std.specs.Prelude.{IfErr}
+use Rattle.std.proofs.Common.{◌≡◌, ◌∙◌, sym, subst}
 use Rattle.checkpoint_commands.specs.Adding.{IsAdding, IsNotAdded}
 use Rattle.commit_journal.specs.Versions.{number_of}
 use Rattle.durable_catalogue.specs.Faults.{open_fault}

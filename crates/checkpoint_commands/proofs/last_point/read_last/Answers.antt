@@ -1,6 +1,5 @@
-use Rattle.std.proofs.Common.{refl, sym, subst}
+use Rattle.std.proofs.Common.{sym, subst}
 use Rattle.std.specs.Prelude.{IsErrOf}
-use Rattle.outside.specs.Fault.{Rose}
 use Rattle.durable_catalogue.specs.declared.fault.OpenFault.TheVariants.{DeviceFault}
 use Rattle.checkpoint_commands.specs.PointLogs.{IsOnlyRead}
 use Rattle.checkpoint_commands.proofs.Frames.{found_only, last_read, last_unread, untaken_device, unfound, unfound_only, unfound_device}

@@ -1,4 +1,4 @@
-use Rattle.std.proofs.Common.{◌≡◌, ◌∙◌, [], Err, refl, sym, ap, subst}
+use Rattle.std.proofs.Common.{◌≡◌, ◌∙◌, Err, ap}
 use Rattle.durable_catalogue.specs.declared.fault.OpenFault.TheVariants.{DeviceFault}
 use Rattle.journal_files.proofs.Journals.{unopened_keeps, keeps_where}
 use Rattle.checkpoint_commands.proofs.Files.{puts_unopened, refused_unopened, puts_behind, put_behind, point_refused, read_keeps}

@@ -1,9 +1,6 @@
-use Rattle.std.proofs.Common.{◌≡◌, ◌∙◌, [], Ok, Err, refl, sym, ap, subst}
-use Rattle.std.specs.Prelude.{IfErr, IsErrOf}
+use Rattle.std.proofs.Common.{◌∙◌, ap}
 use Rattle.outside.specs.Room.{bytes_or_none}
 use Rattle.outside.proofs.Rooms.{untouched_same}
-use Rattle.durable_catalogue.specs.declared.fault.OpenFault.TheVariants.{DeviceFault}
-use Rattle.journal_files.specs.Journals.{log_bytes}
 use Rattle.journal_files.proofs.Journals.{unopened_keeps}
 use Rattle.checkpoint_commands.proofs.Files.{read_bytes, read_keeps, read_last_point, read_refused, refused_unopened}
 use Rattle.checkpoint_commands.proofs.point_file.last_of_file.Goals as goal

@@ -11,7 +11,8 @@ use Rattle.durable_catalogue.specs.Logs.{HasHistory}
 use Rattle.entry_record.specs.History.{IsWithin}
 use Rattle.journal_files.specs.Journals.{journal_limits, log_bytes}
 use Rattle.holdings_command.specs.Ready.{IsReady}
-use Rattle.holdings_command.proofs.Rooms.{closed_three, closed_one, opened_alone, all_apart, closed_behind, all_written, all_stopped, read_there}
+use Rattle.output_files.proofs.Rooms.{closed_but, closed_one}
+use Rattle.holdings_command.proofs.Rooms.{opened_alone, all_apart, closed_behind, all_written, all_stopped, read_there}
 use Rattle.holdings_command.proofs.Endings.{attaches_unopened, was_opened, attaches_unread, attaches_ended}
 use Rattle.holdings_command.proofs.command.attach_holdings.Goals as goal
 
@@ -76,9 +77,13 @@ returns-clause-closed g c =
     let opened = c.open_archive.ensures.apart in
     let stays = c.prepare.ensures.stays in
     let names = c.requires.names in
-    closed_three _ _ c.args.journal.now c.args.out.now c.args.rest.now (all_apart _ _ _ _ _ _ _ _ opened stays w.apart closing.apart) closing.closed
-    (closed_behind _ _ _ _ _ _ _ _ opened stays w.apart closing.apart c.args.out.now names.1.0 w.closed)
-    (closed_behind _ _ _ _ _ _ _ _ opened stays w.apart closing.apart c.args.rest.now names.1.1.0 w.rest_closed) c.requires.closed
+    closed_but _ _ (c.args.journal.now ∷ c.args.out.now ∷ c.args.rest.now ∷ []) (all_apart _ _ _ _ _ _ _ _ opened stays w.apart closing.apart) (
+      closing.closed,
+      (
+        closed_behind _ _ _ _ _ _ _ _ opened stays w.apart closing.apart c.args.out.now names.1.0 w.closed,
+        (closed_behind _ _ _ _ _ _ _ _ opened stays w.apart closing.apart c.args.rest.now names.1.1.0 w.rest_closed, tt),
+      ),
+    ) c.requires.closed
 
 pub returns-clause-apart : goal.returns-clause-apart
 returns-clause-apart g c =

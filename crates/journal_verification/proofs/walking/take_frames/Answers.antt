@@ -4,7 +4,7 @@ use Rattle.commit_journal.specs.Log.{walk}
 use Rattle.entry_history.specs.Readers.{HoldsNone}
 use Rattle.commit_journal.specs.Versions.{number_of}
 use Rattle.journal_verification.specs.Gates.{GateSays, GateIn}
-use Rattle.journal_verification.specs.Walking.{HasTaken, IsRead, IsLostAt, IsUnread, NoGate}
+use Rattle.journal_verification.specs.Walking.{IsRead, IsLostAt, IsUnread, NoGate}
 use Rattle.journal_verification.proofs.Walks.{taken_none, taken_more, read_all, ends_lost, walks_frame, unread_bad, unread_behind, same_place, same_fault, most_taken}
 use Rattle.journal_verification.proofs.walking.take_frames.Goals as goal
 

@@ -1,4 +1,4 @@
-use Rattle.std.proofs.Common.{◌≡◌, ◌∙◌, arith, ap}
+use Rattle.std.proofs.Common.{◌∙◌, arith, ap}
 use Rattle.heading_fields.specs.Parts.{region}
 use Rattle.marc_types.specs.Valid.{subfields_size}
 use Rattle.catalogue_rules.specs.Valid.{other_subfields}

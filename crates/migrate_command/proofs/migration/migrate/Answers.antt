@@ -1,8 +1,6 @@
-use Rattle.std.proofs.Common.{◌≡◌, ◌∙◌, ◌⊎◌, inl, sym, ap, subst}
+use Rattle.std.proofs.Common.{◌≡◌, ◌∙◌, ◌⊎◌, inl, sym, subst}
 use Rattle.std.specs.Prelude.{◌≢◌}
 use Rattle.outside.specs.Disk.{OnlyContent, SameDisk}
-use Rattle.outside.specs.Fault.{Rose}
-use Rattle.outside.proofs.Counts.{rose_since}
 use Rattle.commit_journal.specs.Versions.{number_of}
 use Rattle.commit_journal.specs.Journal.{Unwritten}
 use Rattle.durable_catalogue.proofs.Refused.{same_leaves}

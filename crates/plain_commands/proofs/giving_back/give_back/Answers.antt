@@ -1,14 +1,14 @@
 use Rattle.std.proofs.Common.{◌≡◌, ◌∙◌, List, ℕ, Some, sym, ap, subst}
 use Rattle.outside.proofs.Rooms.{same_but_none, same_but_then}
 use Rattle.plain_commands.specs.Passing.{IsReady}
-use Rattle.plain_commands.proofs.Ends.{closed_everywhere}
+use Rattle.output_files.proofs.Rooms.{closed_one}
 use Rattle.plain_commands.proofs.Passes.{passes_delivered}
 use Rattle.plain_commands.proofs.There.{there_of}
 use Rattle.plain_commands.proofs.giving_back.give_back.Goals as goal
 
 pub returns-in-Ok-prepare_bytes-clause-closed : goal.returns-in-Ok-prepare_bytes-clause-closed
 returns-in-Ok-prepare_bytes-clause-closed g c =
-    closed_everywhere _ _ _ c.deliver_pieces-end.ensures.apart c.deliver_pieces-end.ensures.closed
+    closed_one _ _ _ c.deliver_pieces-end.ensures.apart c.deliver_pieces-end.ensures.closed
     (λ name. c.read_file.ensures.stays.open_names name tt ∙ c.requires.closed name)
 
 pub returns-in-Ok-prepare_bytes-clause-apart : goal.returns-in-Ok-prepare_bytes-clause-apart

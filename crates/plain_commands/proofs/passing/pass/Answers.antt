@@ -1,13 +1,13 @@
 use Rattle.std.proofs.Common.{◌∙◌}
 use Rattle.outside.proofs.Rooms.{same_but_none, same_but_then}
-use Rattle.plain_commands.proofs.Ends.{closed_everywhere}
+use Rattle.output_files.proofs.Rooms.{closed_one}
 use Rattle.plain_commands.proofs.Passes.{passes_told, passes_delivered}
 use Rattle.plain_commands.proofs.There.{there_more}
 use Rattle.plain_commands.proofs.passing.pass.Goals as goal
 
 pub returns-in-Ok-clause-closed : goal.returns-in-Ok-clause-closed
 returns-in-Ok-clause-closed g c =
-    closed_everywhere _ _ _ c.deliver_export-end.ensures.apart c.deliver_export-end.ensures.closed
+    closed_one _ _ _ c.deliver_export-end.ensures.apart c.deliver_export-end.ensures.closed
     (λ name. c.prepare.ensures.stays.open_names name tt ∙ c.requires.closed name)
 
 pub returns-in-Ok-clause-apart : goal.returns-in-Ok-clause-apart

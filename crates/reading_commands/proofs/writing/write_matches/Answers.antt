@@ -1,6 +1,6 @@
 use Rattle.std.proofs.Common.{◌≡◌, true, Some, OnOk, subst}
-use Rattle.output_files.specs.Outputs.{IsOutput, IsOutputLeft}
-use Rattle.match_command.proofs.Taken.{due_of_table}
+use Rattle.output_files.specs.Outputs.{IsOutput}
+use Rattle.archive_commands.proofs.Taken.{due_of_table}
 use Rattle.reading_commands.proofs.writing.write_matches.Goals as goal
 
 pub returns-clause-written : goal.returns-clause-written

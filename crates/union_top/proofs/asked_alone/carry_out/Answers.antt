@@ -1,4 +1,4 @@
-use Rattle.std.proofs.Common.{[], ◌∷◌, subst}
+use Rattle.std.proofs.Common.{[], ◌∷◌, Some, None, subst}
 use Rattle.std.specs.Prelude.{IsTrue}
 use Rattle.std.specs.Option.{option_copied}
 use Rattle.marc_types.specs.Valid.{is_code}
@@ -12,12 +12,16 @@ use Rattle.plain_commands.specs.Making.{EndsMaking}
 use Rattle.plain_commands.specs.Passing.{Passes}
 use Rattle.plain_commands.specs.GivingBack.{GivesBack}
 use Rattle.reading_commands.specs.Looking.{EndsLooking}
+use Rattle.reading_commands.specs.Unheld.{AttachesUnheld, EndsUnheld}
 use Rattle.archive_commands.specs.Reads.{EndsReading}
+use Rattle.worklist_command.specs.Looking.{EndsLookingForWork}
+use Rattle.worklist_command.specs.Working.{EndsListing}
 use Rattle.holdings_command.specs.Attaching.{AttachesHoldings, EndsAttaching}
 use Rattle.journal_verification.specs.Verifying.{EndsVerifying}
 use Rattle.migrate_command.specs.Migrates.{EndsMigrating}
 use Rattle.checkpoint_commands.specs.Checkpoints.{EndsCheckpoint}
 use Rattle.checkpoint_commands.specs.Quick.{EndsQuick}
+use Rattle.point_verification.specs.Verifying.{EndsVerifyingPoint}
 use Rattle.program_help.specs.Telling.{EndsTelling}
 use Rattle.union_top.proofs.Asked.{asked_as, carries, only, of_only}
 use Rattle.union_top.proofs.asked_alone.carry_out.Goals as goal
@@ -43,6 +47,10 @@ pub write_matches-requires-clause-differ : goal.write_matches-requires-clause-di
 write_matches-requires-clause-differ g c κs within =
     (c.names_are_apart.ensures.names _ (asked_as c.args.words.now c.args.asked c.requires.asks c.in-Matches.is).command).1.0
 
+pub list_headings-requires-clause-differ : goal.list_headings-requires-clause-differ
+list_headings-requires-clause-differ g c κs within =
+    (c.names_are_apart.ensures.names _ (asked_as c.args.words.now c.args.asked c.requires.asks c.in-Headings.is).command).1.0
+
 pub migrate_journal-requires-clause-differ : goal.migrate_journal-requires-clause-differ
 migrate_journal-requires-clause-differ g c κs within =
     (c.names_are_apart.ensures.names _ (asked_as c.args.words.now c.args.asked c.requires.asks c.in-Migrate.is).command).1.0
@@ -54,9 +62,27 @@ attach_holdings-requires-clause-names g c κs within =
 pub attach_holdings-requires-clause-file : goal.attach_holdings-requires-clause-file
 attach_holdings-requires-clause-file g c κs within =
     let asks = asked_as c.args.words.now c.args.asked c.requires.asks c.in-Holdings.is in
-    let names = c.in-Holdings.journal.now ∷ c.in-Holdings.out.now ∷ c.in-Holdings.rest.now ∷ [] in
-    of_only (λ (l : Library). IsNoneOf l.file names) c.in-Holdings.library (libraries_of c.args.words.now) asks.libraries
+    let names = c.in-Holdings.wanted.journal.now ∷ c.in-Holdings.wanted.out.now ∷ c.in-Holdings.wanted.rest.now ∷ [] in
+    of_only (λ (l : Library). IsNoneOf l.file names) c.in-Holdings.wanted.library (libraries_of c.args.words.now) asks.libraries
     (c.names_are_apart.ensures.files _ asks.command)
+
+pub make_worklist-requires-clause-names : goal.make_worklist-requires-clause-names
+make_worklist-requires-clause-names g c κs within =
+    c.names_are_apart.ensures.names _ (asked_as c.args.words.now c.args.asked c.requires.asks c.in-Worklist.is).command
+
+pub returns-in-Worklist : goal.returns-in-Worklist
+returns-in-Worklist g c =
+    let did = c.make_worklist.ensures in
+    carries c.args.words.now c.args.asked c.in-Worklist.is did.closed did.apart did.ends (λ usage. subst EndsListing usage did.ends.ends)
+
+pub look_for_work-requires-clause-differ : goal.look_for_work-requires-clause-differ
+look_for_work-requires-clause-differ g c κs within =
+    (c.names_are_apart.ensures.names _ (asked_as c.args.words.now c.args.asked c.requires.asks c.in-ReadWorklist.is).command).1.0
+
+pub returns-in-ReadWorklist : goal.returns-in-ReadWorklist
+returns-in-ReadWorklist g c =
+    let did = c.look_for_work.ensures in
+    carries c.args.words.now c.args.asked c.in-ReadWorklist.is did.closed did.apart did.ends (λ usage. subst EndsLookingForWork usage did.ends.ends)
 
 pub returns-in-Pass : goal.returns-in-Pass
 returns-in-Pass g c =
@@ -87,10 +113,20 @@ returns-in-Verify g c =
     let did = c.verify.ensures in
     carries c.args.words.now c.args.asked c.in-Verify.is did.closed did.apart did.ends (λ usage. subst EndsVerifying usage did.ends.ends)
 
+pub returns-in-VerifyPoint : goal.returns-in-VerifyPoint
+returns-in-VerifyPoint g c =
+    let did = c.verify_point.ensures in
+    carries c.args.words.now c.args.asked c.in-VerifyPoint.is did.closed did.apart did.ends (λ usage. subst EndsVerifyingPoint usage did.ends.ends)
+
 pub returns-in-Matches : goal.returns-in-Matches
 returns-in-Matches g c =
     let did = c.write_matches.ensures in
     carries c.args.words.now c.args.asked c.in-Matches.is did.closed did.apart did.ends (λ usage. subst EndsReading usage did.ends.ends)
+
+pub returns-in-Headings : goal.returns-in-Headings
+returns-in-Headings g c =
+    let did = c.list_headings.ensures in
+    carries c.args.words.now c.args.asked c.in-Headings.is did.closed did.apart did.ends (λ usage. subst EndsReading usage did.ends.ends)
 
 pub returns-in-Holdings : goal.returns-in-Holdings
 returns-in-Holdings g c =
@@ -99,25 +135,48 @@ returns-in-Holdings g c =
     let asks = asked_as c.args.words.now c.args.asked c.requires.asks c.in-Holdings.is in
     carries c.args.words.now c.args.asked c.in-Holdings.is did.closed did.apart
     (λ library is.
-    subst (λ (l : Library). AttachesHoldings c.in-Holdings.journal.now c.in-Holdings.out.now c.in-Holdings.rest.now l (option_copied c.in-Holdings.code) o)
-    (only library c.in-Holdings.library _ asks.libraries is) did.ends)
+    subst (λ (l : Library). AttachesHoldings c.in-Holdings.wanted.journal.now c.in-Holdings.wanted.out.now c.in-Holdings.wanted.rest.now l (option_copied c.in-Holdings.wanted.code) o)
+    (only library c.in-Holdings.wanted.library _ asks.libraries is) did.ends)
     (λ usage. subst EndsAttaching usage did.ends.ends)
+
+pub attach_unheld-requires-clause-names : goal.attach_unheld-requires-clause-names
+attach_unheld-requires-clause-names g c κs within =
+    c.names_are_apart.ensures.names _ (asked_as c.args.words.now c.args.asked c.requires.asks c.in-ReadHoldings.is).command
+
+pub returns-in-ReadHoldings : goal.returns-in-ReadHoldings
+returns-in-ReadHoldings g c =
+    let o : Outcome = outcome g.R.Room.seen g.R.Out.Sink.written g.R.Out.Sink.faults c.args.room.now c.attach_unheld.new.room c.args.console.now c.attach_unheld.new.console c.attach_unheld.result in
+    let did = c.attach_unheld.ensures in
+    let asks = asked_as c.args.words.now c.args.asked c.requires.asks c.in-ReadHoldings.is in
+    carries c.args.words.now c.args.asked c.in-ReadHoldings.is did.closed did.apart
+    (λ library is.
+    subst (λ (l : Library). AttachesUnheld c.in-ReadHoldings.wanted.journal.now c.in-ReadHoldings.wanted.out.now c.in-ReadHoldings.wanted.rest.now l (option_copied c.in-ReadHoldings.wanted.code) o)
+    (only library c.in-ReadHoldings.wanted.library _ asks.libraries is) did.ends)
+    (λ usage. subst EndsUnheld usage did.ends.ends)
 
 pub put_checkpoint-requires-clause-differ : goal.put_checkpoint-requires-clause-differ
 put_checkpoint-requires-clause-differ g c κs within =
     (c.names_are_apart.ensures.names _ (asked_as c.args.words.now c.args.asked c.requires.asks c.in-Checkpoint.is).command).1.0
 
-pub export_quickly-requires-clause-point_differs : goal.export_quickly-requires-clause-point_differs
-export_quickly-requires-clause-point_differs g c κs within =
-    (c.names_are_apart.ensures.names _ (asked_as c.args.words.now c.args.asked c.requires.asks c.in-Quick.is).command).1.0
-
-pub export_quickly-requires-clause-out_differs : goal.export_quickly-requires-clause-out_differs
-export_quickly-requires-clause-out_differs g c κs within =
-    (c.names_are_apart.ensures.names _ (asked_as c.args.words.now c.args.asked c.requires.asks c.in-Quick.is).command).1.1.0
+pub export_quickly-requires-clause-apart : goal.export_quickly-requires-clause-apart
+export_quickly-requires-clause-apart g c κs within =
+    (c.names_are_apart.ensures.names _ (asked_as c.args.words.now c.args.asked c.requires.asks c.in-Quick.is).command).1
 
 pub export_quickly-requires-clause-differ : goal.export_quickly-requires-clause-differ
 export_quickly-requires-clause-differ g c κs within =
-    (c.names_are_apart.ensures.names _ (asked_as c.args.words.now c.args.asked c.requires.asks c.in-Quick.is).command).2.1.0
+    (c.names_are_apart.ensures.names _ (asked_as c.args.words.now c.args.asked c.requires.asks c.in-Quick.is).command).2.1
+
+pub export_quickly-requires-in-QuickReport-clause-apart : goal.export_quickly-requires-in-QuickReport-clause-apart
+export_quickly-requires-in-QuickReport-clause-apart g c κs within =
+    (c.names_are_apart.ensures.names _ (asked_as c.args.words.now c.args.asked c.requires.asks c.in-QuickReport.is).command).1
+
+pub export_quickly-requires-in-QuickReport-clause-differ : goal.export_quickly-requires-in-QuickReport-clause-differ
+export_quickly-requires-in-QuickReport-clause-differ g c κs within =
+    (c.names_are_apart.ensures.names _ (asked_as c.args.words.now c.args.asked c.requires.asks c.in-QuickReport.is).command).2.1
+
+pub export_quickly-requires-in-QuickReport-clause-outs_differ : goal.export_quickly-requires-in-QuickReport-clause-outs_differ
+export_quickly-requires-in-QuickReport-clause-outs_differ g c κs within =
+    (c.names_are_apart.ensures.names _ (asked_as c.args.words.now c.args.asked c.requires.asks c.in-QuickReport.is).command).2.2.1.0
 
 pub returns-in-Checkpoint : goal.returns-in-Checkpoint
 returns-in-Checkpoint g c =
@@ -127,7 +186,13 @@ returns-in-Checkpoint g c =
 pub returns-in-Quick : goal.returns-in-Quick
 returns-in-Quick g c =
     let did = c.export_quickly.ensures in
-    carries c.args.words.now c.args.asked c.in-Quick.is did.closed did.apart did.ends (λ usage. subst EndsQuick usage did.ends.ends)
+    carries c.args.words.now c.args.asked c.in-Quick.is did.closed did.apart did.ends (λ usage. subst (EndsQuick None) usage did.ends.ends)
+
+pub returns-in-QuickReport : goal.returns-in-QuickReport
+returns-in-QuickReport g c =
+    let did = c.export_quickly-in-QuickReport.ensures in
+    carries c.args.words.now c.args.asked c.in-QuickReport.is did.closed did.apart did.ends
+    (λ usage. subst (EndsQuick (Some c.in-QuickReport.report.now)) usage did.ends.ends)
 
 pub give_back-requires-clause-proper : goal.give_back-requires-clause-proper
 give_back-requires-clause-proper g c κs within =

@@ -2,7 +2,7 @@ use Rattle.std.proofs.Common.{refl}
 use Rattle.command_words.specs.Asked.{browse_asked}
 use Rattle.console_lines.specs.Ends.{Outcome, outcome}
 use Rattle.console_lines.specs.declared.end.End.{End}
-use Rattle.union_top.proofs.Asked.{browsing_carried, browsed_as}
+use Rattle.union_top.proofs.Asked.{browsed_as}
 use Rattle.union_top.proofs.Carried.{carried_out}
 use Rattle.union_top.proofs.command.end_browsing.Goals as goal
 

@@ -1,0 +1,10 @@
+use Rattle.std.proofs.Common.{subst}
+use Rattle.output_files.specs.Outputs.{IsOutputLeft}
+use Rattle.match_report.specs.Groups.{lines_of}
+use Rattle.archive_commands.proofs.table.write_table.Goals as goal
+
+pub returns-in-Ok-clause-left : goal.returns-in-Ok-clause-left
+returns-in-Ok-clause-left g c told =
+    let seen = g.R.Room.seen in
+    subst (λ groups. IsOutputLeft (seen c.args.room.now) (seen c.write_document.new.room) c.args.name.now (lines_of groups)) c.in-Ok.ensures
+    (c.write_document.ensures.left told)

@@ -1,0 +1,88 @@
+-- Headings and links are counted, and headings put in order.
+use Rattle.std.proofs.Common.{◌≡◌, ◌∙◌, ap, refl, ℕ, ◌+◌, arith, Bool, true, false, List, [], ◌∷◌, map, Option, Some, unwrap_or}
+use Rattle.std.specs.Prelude.{cond, fold, if◌then◌else◌}
+use Rattle.std.specs.BTreeSet.{insert_key}
+use Rattle.std.specs.BTreeMap.{BTreeMap, get, Updates}
+use Rattle.std.specs.Ordering.{eq_by_cmp}
+use Rattle.std.specs.Cmp.{eq_by_cmp_equiv}
+use Rattle.std.specs.Map.{lookup}
+use Rattle.std.specs.Borrow.{Bor}
+use Rattle.std.specs.List.{count_by}
+use Rattle.std.specs.declared.cmp.Ordering.{Ordering}
+use Rattle.std.specs.Cmp.{IsTotalOrder}
+use Rattle.std.proofs.lemmas.List.Sums.{sum_by-cons}
+use Rattle.marc_types.specs.declared.entry.Tie.{Tie}
+use Rattle.marc_types.specs.declared.field.Field.{Field}
+use Rattle.marc_types.specs.declared.key.Key.{Key}
+use Rattle.marc_types.specs.Order.{key_cmp, key_cmp_total, same_key}
+use Rattle.catalogue_rules.specs.State.{KeptField, Row, new_field}
+use Rattle.numbered_store.specs.Kept.{kept_record, shown_row}
+use Rattle.numbered_store.specs.declared.kept.StoredRecord.{StoredRecord}
+use Rattle.heading_worklist.specs.Counts.{Asked, Compared, Counted, asked, asked_cmp, asked_cmp_total, counted_among, counted_cmp, in_order, same_asked}
+use Rattle.heading_worklist.specs.Counting.{AreTimes, counted_by, linked_times, times, times_by}
+use Rattle.heading_worklist.specs.Lines.{is_linked_to, is_tied_to, links_in}
+
+more_by : (b : Bool) (n new : ℕ) (here old : Option ℕ) → new ≡ unwrap_or (cond b (Some (n + 1)) old) 0 → (b ≡ true → n ≡ unwrap_or old 0)
+    → new ≡ unwrap_or old 0 + (if b then 1 else 0)
+more_by true n new here old e same = let s = same refl in omega arith
+more_by false n new here old e same = omega arith
+
+module _ {K : Type 0} {cmp : K → K → Ordering} (total : IsTotalOrder cmp) where
+  -- what is the same is counted alike
+  alike : (counts : BTreeMap K ℕ) (x y : K) → eq_by_cmp cmp x y ≡ true → times_by cmp counts x ≡ times_by cmp counts y
+  alike counts x y e = λ i. unwrap_or (lookup (λ k. (eq_by_cmp_equiv total).congr x y k e i) counts.entries) 0
+
+  more_of : (old new : BTreeMap K ℕ) (thing : K) (n : ℕ) → n ≡ times_by cmp old thing → Updates cmp old new thing (Some (n + 1))
+      → (a : K) → times_by cmp new a ≡ times_by cmp old a + (if eq_by_cmp cmp thing a then 1 else 0)
+  more_of old new thing n was now a =
+      more_by (eq_by_cmp cmp thing a) n (times_by cmp new a) (get cmp old thing) (get cmp old a) (ap (λ o. unwrap_or o 0) (now.0 a))
+      (λ same. was ∙ alike old thing a same)
+
+pub one_more : (old new : BTreeMap Asked ℕ) (thing : Asked) (n : ℕ) → n ≡ times old thing → Updates asked_cmp old new thing (Some (n + 1))
+    → (a : Asked) → times new a ≡ times old a + (if same_asked thing a then 1 else 0)
+one_more = more_of asked_cmp_total
+
+-- ---- links
+
+pub one_link : (old new : BTreeMap Key ℕ) (thing : Key) (n : ℕ) → n ≡ linked_times old thing → Updates key_cmp old new thing (Some (n + 1))
+    → (k : Key) → linked_times new k ≡ linked_times old k + (if same_key thing k then 1 else 0)
+one_link = more_of key_cmp_total
+
+-- ties of fields are links as the fields are
+pub ties_of_fields : (k : Key) (hs : List KeptField) → count_by (is_tied_to k) (map (λ h. h.tie) hs) ≡ count_by (is_linked_to k) hs
+ties_of_fields k [] = refl
+ties_of_fields k (h ∷ hs) =
+    let left = sum_by-cons (λ (t : Tie). cond (is_tied_to k t) 1 0) h.tie (map (λ (h : KeptField). h.tie) hs) in
+    let right = sum_by-cons (λ (h : KeptField). cond (is_linked_to k h) 1 0) h hs in
+    omega (arith, left, right, ties_of_fields k hs)
+
+-- new fields aren't linked
+pub none_linked : (k : Key) (fs : List Field) → count_by (is_linked_to k) (map new_field fs) ≡ 0
+none_linked k [] = refl
+none_linked k (f ∷ fs) =
+    let first = sum_by-cons (λ (h : KeptField). cond (is_linked_to k h) 1 0) (new_field f) (map new_field fs) in
+    omega (arith, first, none_linked k fs)
+
+-- one row more
+pub next_links : (k : Key) (rows more : List (Bor Key × Bor StoredRecord)) (key : Bor Key) (kept : Bor StoredRecord) → rows ≡ (key, kept) ∷ more
+    → links_in k (map shown_row rows) ≡ count_by (is_linked_to k) (kept_record kept.now).fields + links_in k (map shown_row more)
+next_links k rows more key kept is =
+    ap (λ (l : List (Bor Key × Bor StoredRecord)). links_in k (map shown_row l)) is
+    ∙ sum_by-cons (λ (row : Row). count_by (is_linked_to k) row.1.fields) (key.now, kept_record kept.now) (map shown_row more)
+
+-- ---- maps that count all headings
+
+counted_so : (all : List Compared) (full base : BTreeMap Asked ℕ) → AreTimes true all full → AreTimes false all base
+    → (x : Compared) → counted_by full base x ≡ counted_among all x
+counted_so all full base f b x = λ i. record { heading = x; count = f (asked true x) i; base_count = b (asked false x) i }
+
+map_so : (all xs : List Compared) (full base : BTreeMap Asked ℕ) → AreTimes true all full → AreTimes false all base
+    → map (counted_by full base) xs ≡ map (counted_among all) xs
+map_so all [] full base f b = refl
+map_so all (x ∷ xs) full base f b = λ i. counted_so all full base f b x i ∷ map_so all xs full base f b i
+
+-- headings in the order in which maps count them are in their order
+pub counted_alike : (all xs : List Compared) (full base : BTreeMap Asked ℕ) (lines : List Counted) → AreTimes true all full → AreTimes false all base
+    → lines ≡ fold (insert_key counted_cmp) [] (map (counted_by full base) xs) → lines ≡ in_order (map (counted_among all) xs)
+unfolding in_order
+counted_alike all xs full base lines f b is = is ∙ ap (λ ys. fold (insert_key counted_cmp) [] ys) (map_so all xs full base f b)

@@ -1,0 +1,6 @@
+use Rattle.std.proofs.Common.{◌≡◌, map, take}
+use Rattle.heading_worklist.specs.Texts.{texts_of}
+use Rattle.heading_worklist.proofs.texts.all_texts.Given as goal
+
+abbrev pub invariant-loop-subfield : goal.invariant-loop-subfield
+invariant-loop-subfield l = map (λ text. text.now) l.texts.items ≡ texts_of (take l.subfield-index l.subfields)

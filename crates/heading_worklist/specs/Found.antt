@@ -1,0 +1,35 @@
+-- The open heading that a field is, as it is found. The rules are this project's own.
+use Rattle.std.specs.Prelude.{ℕ, Bool, false, List, [], Option, Some, None, option_and_then}
+use Rattle.marc_types.specs.declared.field.Field.{Field}
+use Rattle.marc_types.specs.declared.key.Class.{Class}
+use Rattle.marc_types.specs.declared.key.Key.{Key}
+use Rattle.marc_types.specs.declared.form.Kind.{Kind}
+use Rattle.entry_record.specs.Authority.{Linkable, base_form, full_form}
+use Rattle.catalogue_rules.specs.State.{Row}
+use Rattle.catalogue_rules.specs.Store.{field_at}
+use Rattle.catalogue_tables.specs.declared.standing.Standing.{Standing}
+use Rattle.catalogue_tables.specs.declared.standing.Standing.TheVariants.{Linked, Ambiguous, Unlinked, NoHeading}
+use Rattle.heading_worklist.specs.Headings.{OpenHeading, has_candidate, open_heading}
+use Rattle.heading_worklist.specs.declared.forms.HeadingForms.{HeadingForms}
+
+-- whether a field that stands so is ambiguous, where it is an open heading
+abbrev pub open_state : Standing → Option Bool
+open_state Linked = None
+open_state (Ambiguous keys) = Some (has_candidate keys)
+open_state Unlinked = Some false
+open_state NoHeading = None
+
+-- the candidates of a field that stands so, where it is an open heading
+abbrev pub candidates_shown : Standing → Option (List Key)
+candidates_shown Linked = None
+candidates_shown (Ambiguous keys) = Some keys
+candidates_shown Unlinked = Some []
+candidates_shown NoHeading = None
+
+-- the kind of a field as a heading, and its forms
+abbrev pub forms_as : Class → Field → Kind → HeadingForms
+forms_as class f kind = record { kind = kind; full = full_form kind class f; base = base_form kind f }
+
+-- the open heading that the field at a place is, if it is one
+abbrev pub open_at_field : List Linkable → Class → Row → ℕ → Option OpenHeading
+open_at_field all class row place = option_and_then (λ h. open_heading all class row (place, h)) (field_at place row.1)

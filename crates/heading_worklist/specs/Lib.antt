@@ -1,0 +1,12 @@
+pub mod Authorities
+pub mod Counting
+pub mod Counts
+pub mod Csv
+pub mod Found
+pub mod Headings
+pub mod Identifying
+pub mod Lines
+pub mod Reasons
+pub mod Texts
+pub mod Wanted
+pub mod Worklist

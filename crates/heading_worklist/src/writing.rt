@@ -1,0 +1,300 @@
+//! The lines of a worklist, written one by one.
+ghost use Rattle.std.specs.Prelude.{◌≡◌, map, option_to_list, IfOk, OnOk};
+ghost use Rattle.std.specs.List.{filter_map, flat_map};
+ghost use Rattle.std.specs.Option.{option_copied, option_map};
+ghost use Rattle.std.specs.Io.KnownBytes.{Appends};
+ghost use Rattle.outside.specs.Fault.{HasWriteCause};
+ghost use Rattle.outside.specs.Sink.{WritesFront};
+ghost use Rattle.catalogue_tables.specs.Sharing.{shown_keys};
+ghost use Rattle.numbered_store.specs.Kept.{shown_row};
+ghost use Rattle.heading_worklist.specs.Csv.{line_bytes, list_bytes};
+ghost use Rattle.heading_worklist.specs.Counting.{AreLinks, kept_in};
+ghost use Rattle.heading_worklist.specs.Lines.{authority_line, crossing_among, crossing_lines, group_lines, line_of_cells, member_line, shared_lines};
+ghost use Rattle.heading_worklist.specs.Worklist.{counted_line, counted_lines, lines_behind};
+
+use crate::authorities::heading_under;
+use crate::authority_lines::{any_kept, authority_cells, is_kept_among, other_keys};
+use crate::cells::{Cells, column_names};
+use crate::counted::Counted;
+use crate::heading_lines::counted_cells;
+use crate::links::{LinkCounts, links_of};
+use crate::quoting::MARK;
+use catalogue_core::Engine;
+use marc_types::{Class, Key, NoMemory};
+use numbered_store::RowMap;
+use outside::{Sink, WriteFault};
+use std::alloc::Global;
+use std::collections::BTreeSet;
+
+/// The lines of a catalogue: how many fields are linked to each authority, and the code whose records are kept.
+#[derive(Drop)]
+pub(crate) struct Lister<'a> {
+    alloc: Global,
+    engine: &'a Engine,
+    links: LinkCounts<'a>,
+    code: Option<&'a str>,
+    ghost linked: { AreLinks engine.now.state links },
+}
+
+/// Writes the line of cells that may be there.
+#[tactic(auto, using(outside::proofs::Fronts::front_none))]
+fn write_found<K: Sink>(
+    found: Option<Cells>,
+    text: &mut Vec<u8>,
+    out: &mut K,
+) -> Result<(), WriteFault>
+    ensures bytes { OnOk result
+        (Appends (K.written out.old) (K.written out.new) (flat_map line_bytes (option_to_list (option_map line_of_cells found)))) }
+    ensures front { WritesFront (K.written out.old) (K.written out.new) (flat_map line_bytes (option_to_list (option_map line_of_cells found))) }
+    ensures cause { HasWriteCause (K.faults out.old) (K.faults out.new) result }
+{
+    let Some(cells) = found else {
+        return Ok(());
+    };
+    cells.make_line(text)?;
+    out.write_all(text)?;
+    Ok(())
+}
+
+impl<'a> Lister<'a> {
+    fn new(alloc: Global, engine: &'a Engine, code: Option<&'a str>) -> Result<Lister<'a>, NoMemory>
+        ensures engine { IfOk result (λ lister. lister.engine.now.state ≡ engine.now.state) }
+        ensures code { IfOk result (λ lister. lister.code ≡ code.entry) }
+    {
+        let links = links_of(alloc, engine)?;
+        Ok(Lister {
+            alloc,
+            engine,
+            links,
+            code,
+        })
+    }
+
+    /// Writes the lines of open headings that were counted.
+    #[tactic(auto, using(outside::proofs::Fronts::writing_begun, outside::proofs::Fronts::writing_stopped, outside::proofs::Fronts::writing_done))]
+    fn write_counted<K: Sink>(
+        &self,
+        lines: &BTreeSet<Counted<'_>>,
+        text: &mut Vec<u8>,
+        out: &mut K,
+    ) -> Result<(), WriteFault>
+        ensures bytes { OnOk result
+            (Appends (K.written out.old) (K.written out.new) (flat_map line_bytes (counted_lines self.now.engine.now.state lines.now.keys))) }
+        ensures front { WritesFront (K.written out.old) (K.written out.new)
+            (flat_map line_bytes (counted_lines self.now.engine.now.state lines.now.keys)) }
+        ensures cause { HasWriteCause (K.faults out.old) (K.faults out.new) result }
+    {
+        for counted in lines.iter() {
+            let Ok(cells) = counted_cells(self.alloc, self.engine, counted) else {
+                return Err(WriteFault::NoMemory);
+            };
+            write_found(cells, text, out)?;
+        }
+        Ok(())
+    }
+
+    /// The cells of the authority under a key, which stands so to others.
+    fn authority(
+        &self,
+        state: &[u8],
+        others: &[&Key],
+        key: &'a Key,
+    ) -> Result<Option<Cells>, NoMemory>
+        ensures { IfOk result (λ cells. option_map line_of_cells cells
+            ≡ authority_line self.now.engine.now.state state.now (shown_keys others.now) key.now) }
+    {
+        match heading_under(self.alloc, self.engine, key)? {
+            Some(heading) => {
+                let cells = authority_cells(
+                    self.alloc,
+                    self.engine,
+                    &self.links,
+                    state,
+                    others,
+                    key,
+                    &heading,
+                )?;
+                Ok(Some(cells))
+            }
+            None => Ok(None),
+        }
+    }
+
+    /// The cells of one of those that share a heading.
+    fn member(&self, group: &[&'a Key], key: &'a Key) -> Result<Option<Cells>, NoMemory>
+        ensures { IfOk result (λ cells. option_map line_of_cells cells
+            ≡ member_line self.now.engine.now.state (shown_keys group.now) key.now) }
+    {
+        let others = other_keys(self.alloc, key, group)?;
+        self.authority(b"shared", &others, key)
+    }
+
+    #[tactic(auto, using(outside::proofs::Fronts::writing_begun, outside::proofs::Fronts::writing_stopped, outside::proofs::Fronts::writing_done))]
+    fn write_members<K: Sink>(
+        &self,
+        group: &[&'a Key],
+        text: &mut Vec<u8>,
+        out: &mut K,
+    ) -> Result<(), WriteFault>
+        ensures bytes { OnOk result (Appends (K.written out.old) (K.written out.new)
+            (flat_map line_bytes (filter_map (member_line self.now.engine.now.state (shown_keys group.now)) (shown_keys group.now)))) }
+        ensures front { WritesFront (K.written out.old) (K.written out.new)
+            (flat_map line_bytes (filter_map (member_line self.now.engine.now.state (shown_keys group.now)) (shown_keys group.now))) }
+        ensures cause { HasWriteCause (K.faults out.old) (K.faults out.new) result }
+    {
+        for key in group {
+            let Ok(cells) = self.member(group, *key) else {
+                return Err(WriteFault::NoMemory);
+            };
+            write_found(cells, text, out)?;
+        }
+        Ok(())
+    }
+
+    /// Writes the lines of a group of two or more, where this is its least key and one of them is kept.
+    #[tactic(auto, using(outside::proofs::Fronts::front_none))]
+    fn write_group<K: Sink>(
+        &self,
+        own: &Key,
+        group: &[&'a Key],
+        text: &mut Vec<u8>,
+        out: &mut K,
+    ) -> Result<(), WriteFault>
+        ensures bytes { OnOk result (Appends (K.written out.old) (K.written out.new)
+            (flat_map line_bytes (group_lines (kept_in (option_copied self.now.code)) self.now.engine.now.state own.now (shown_keys group.now)))) }
+        ensures front { WritesFront (K.written out.old) (K.written out.new)
+            (flat_map line_bytes (group_lines (kept_in (option_copied self.now.code)) self.now.engine.now.state own.now (shown_keys group.now))) }
+        ensures cause { HasWriteCause (K.faults out.old) (K.faults out.new) result }
+    {
+        let [least, _other, ..] = group else {
+            return Ok(());
+        };
+        let least: &Key = least;
+        if own == least && any_kept(group, self.code) {
+            self.write_members(group, text, out)?;
+        }
+        Ok(())
+    }
+
+    /// Writes the line of an authority that is found under the headings of others, where it or one of them is kept.
+    #[tactic(auto, using(outside::proofs::Fronts::front_none))]
+    fn write_crossing<K: Sink>(
+        &self,
+        own: &'a Key,
+        others: &[&Key],
+        text: &mut Vec<u8>,
+        out: &mut K,
+    ) -> Result<(), WriteFault>
+        ensures bytes { OnOk result (Appends (K.written out.old) (K.written out.new)
+            (flat_map line_bytes (crossing_among (kept_in (option_copied self.now.code)) self.now.engine.now.state own.now (shown_keys others.now)))) }
+        ensures front { WritesFront (K.written out.old) (K.written out.new)
+            (flat_map line_bytes (crossing_among (kept_in (option_copied self.now.code)) self.now.engine.now.state own.now (shown_keys others.now))) }
+        ensures cause { HasWriteCause (K.faults out.old) (K.faults out.new) result }
+    {
+        let [_first, ..] = others else {
+            return Ok(());
+        };
+        if !is_kept_among(own, others, self.code) {
+            return Ok(());
+        }
+        let Ok(cells) = self.authority(b"crossing", others, own) else {
+            return Err(WriteFault::NoMemory);
+        };
+        write_found(cells, text, out)
+    }
+
+    /// Writes the lines of authorities that share a heading.
+    #[tactic(auto, using(outside::proofs::Fronts::writing_begun, outside::proofs::Fronts::writing_stopped, outside::proofs::Fronts::writing_done))]
+    fn write_shared_lines<K: Sink>(
+        &self,
+        authorities: &RowMap<'a>,
+        text: &mut Vec<u8>,
+        out: &mut K,
+    ) -> Result<(), WriteFault>
+        requires { map shown_row authorities.now.entries ≡ self.now.engine.now.state.authorities }
+        ensures bytes { OnOk result (Appends (K.written out.old) (K.written out.new)
+            (flat_map line_bytes (shared_lines (kept_in (option_copied self.now.code)) self.now.engine.now.state))) }
+        ensures front { WritesFront (K.written out.old) (K.written out.new)
+            (flat_map line_bytes (shared_lines (kept_in (option_copied self.now.code)) self.now.engine.now.state)) }
+        ensures cause { HasWriteCause (K.faults out.old) (K.faults out.new) result }
+    {
+        for (key, _kept) in authorities {
+            let Ok(group) = self.engine.sharing(self.alloc, key) else {
+                return Err(WriteFault::NoMemory);
+            };
+            self.write_group(*key, &group, text, out)?;
+        }
+        Ok(())
+    }
+
+    /// Writes the lines of authorities that are found under another's heading.
+    #[tactic(auto, using(outside::proofs::Fronts::writing_begun, outside::proofs::Fronts::writing_stopped, outside::proofs::Fronts::writing_done))]
+    fn write_crossing_lines<K: Sink>(
+        &self,
+        authorities: &RowMap<'a>,
+        text: &mut Vec<u8>,
+        out: &mut K,
+    ) -> Result<(), WriteFault>
+        requires { map shown_row authorities.now.entries ≡ self.now.engine.now.state.authorities }
+        ensures bytes { OnOk result (Appends (K.written out.old) (K.written out.new)
+            (flat_map line_bytes (crossing_lines (kept_in (option_copied self.now.code)) self.now.engine.now.state))) }
+        ensures front { WritesFront (K.written out.old) (K.written out.new)
+            (flat_map line_bytes (crossing_lines (kept_in (option_copied self.now.code)) self.now.engine.now.state)) }
+        ensures cause { HasWriteCause (K.faults out.old) (K.faults out.new) result }
+    {
+        for (key, _kept) in authorities {
+            let Ok(others) = self.engine.crossing(self.alloc, key) else {
+                return Err(WriteFault::NoMemory);
+            };
+            self.write_crossing(*key, &others, text, out)?;
+        }
+        Ok(())
+    }
+
+    /// Writes the mark, the columns' names and the lines of open headings that were counted, and then those of authorities.
+    fn write_lines<K: Sink>(
+        &self,
+        lines: &BTreeSet<Counted<'_>>,
+        authorities: &RowMap<'a>,
+        out: &mut K,
+    ) -> Result<(), WriteFault>
+        requires { map shown_row authorities.now.entries ≡ self.now.engine.now.state.authorities }
+        ensures bytes { OnOk result (Appends (K.written out.old) (K.written out.new)
+            (list_bytes (lines_behind (kept_in (option_copied self.now.code)) self.now.engine.now.state lines.now.keys))) }
+        ensures front { WritesFront (K.written out.old) (K.written out.new)
+            (list_bytes (lines_behind (kept_in (option_copied self.now.code)) self.now.engine.now.state lines.now.keys)) }
+        ensures cause { HasWriteCause (K.faults out.old) (K.faults out.new) result }
+    {
+        let mut text = Vec::new(self.alloc);
+        out.write_all(&MARK)?;
+        out.write_all(column_names())?;
+        self.write_counted(lines, &mut text, out)?;
+        self.write_shared_lines(authorities, &mut text, out)?;
+        self.write_crossing_lines(authorities, &mut text, out)
+    }
+}
+
+/// Writes the worklist of a catalogue whose open headings were counted, as `counted_in_order` gives them for the same code: all lines, or
+/// those of the records with that code. After a fault some front of it was written, maybe none or all; `OutputFault` is the sink's.
+#[tactic(auto, using(outside::proofs::Fronts::front_none))]
+pub fn write_worklist<'a, K: Sink>(
+    alloc: Global,
+    engine: &'a Engine,
+    lines: &BTreeSet<Counted<'_>>,
+    code: Option<&'a str>,
+    out: &mut K,
+) -> Result<(), WriteFault>
+    ensures bytes { OnOk result (Appends (K.written out.old) (K.written out.new)
+        (list_bytes (lines_behind (kept_in (option_copied code.entry)) engine.now.state lines.now.keys))) }
+    ensures front { WritesFront (K.written out.old) (K.written out.new)
+        (list_bytes (lines_behind (kept_in (option_copied code.entry)) engine.now.state lines.now.keys)) }
+    ensures cause { HasWriteCause (K.faults out.old) (K.faults out.new) result }
+{
+    let Ok(lister) = Lister::new(alloc, engine, code) else {
+        return Err(WriteFault::NoMemory);
+    };
+    let Ok(authorities) = engine.rows(alloc, Class::Authority) else {
+        return Err(WriteFault::NoMemory);
+    };
+    lister.write_lines(lines, &authorities, out)
+}

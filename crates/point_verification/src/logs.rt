@@ -1,0 +1,44 @@
+//! What the bytes of a journal and of a log of checkpoints hold.
+ghost use Rattle.std.specs.Prelude.{◌≡◌, ◌≢◌, IfOk, IfErr};
+ghost use Rattle.durable_catalogue.specs.declared.fault.OpenFault.TheVariants.{OldVersion};
+ghost use Rattle.durable_catalogue.specs.Logs.{HasHistory};
+ghost use Rattle.durable_catalogue.specs.Openings.{IsUnopened};
+ghost use Rattle.entry_record.specs.History.{IsWithin};
+ghost use Rattle.journal_files.specs.Journals.{journal_limits};
+ghost use Rattle.checkpoint_commands.specs.PointLogs.{IsPointLog, IsUntaken};
+
+use checkpoint::Point;
+use checkpoint_commands::read_last;
+use durable_catalogue::OpenFault;
+use journal_files::{HistoryEntries, JOURNAL_LIMITS, JournalScan};
+use memory_files::ByteDisk;
+use std::alloc::Global;
+
+/// The history of a journal's bytes, of either version.
+pub(crate) fn history_of(alloc: Global, bytes: Vec<u8>) -> Result<HistoryEntries, OpenFault>
+    ensures history { IfOk result (λ entries. HasHistory entries bytes.items) }
+    ensures within { IfOk result (λ entries. IsWithin journal_limits entries) }
+    ensures unopened { IfErr result (IsUnopened journal_limits bytes.items) }
+    ensures current { IfErr result (λ fault. fault ≢ OldVersion) }
+{
+    let Some(disk) = ByteDisk::new(alloc, bytes) else {
+        return Err(OpenFault::NoMemory);
+    };
+    let mut entries = HistoryEntries::new(alloc);
+    match JournalScan::open(alloc, disk, JOURNAL_LIMITS, &mut entries) {
+        Ok(_scan) => Ok(entries),
+        Err((_disk, fault)) => Err(fault),
+    }
+}
+
+/// The last whole checkpoint of a log's bytes, which hold checkpoints and nothing else.
+pub(crate) fn last_of(alloc: Global, bytes: Vec<u8>) -> Result<Option<Point>, OpenFault>
+    ensures last { IfOk result (λ last. IsPointLog last bytes.items) }
+    ensures untaken { IfErr result (IsUntaken bytes.items) }
+{
+    let Some(disk) = ByteDisk::new(alloc, bytes) else {
+        return Err(OpenFault::NoMemory);
+    };
+    let (_disk, last) = read_last(alloc, disk);
+    last
+}

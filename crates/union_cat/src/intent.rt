@@ -1,0 +1,146 @@
+//! What a command is about to do with its files, as the room is told before anything is opened.
+use command_words::{AloneRequest, Look, Outputs, Request, Unasked};
+use outside_real::{Counts, Intent};
+use std::alloc::Global;
+use std::io;
+
+/// What the command that is asked for is about to do.
+pub fn intent_of(
+    alloc: Global,
+    asked: &Result<Request<'_>, Unasked>,
+    is_terminal: bool,
+) -> io::Result<Intent> {
+    let mut intent = Intent::none(alloc);
+    intent.is_terminal = is_terminal;
+    if let Ok(asked) = asked {
+        for output in outputs_of(asked) {
+            if let Some(output) = output {
+                intent.outputs.push(String::from_str(alloc, output)?)?;
+            }
+        }
+        if let Request::Alone(alone) = asked {
+            tell_of(alloc, alone, &mut intent)?;
+        }
+    }
+    Ok(intent)
+}
+
+// What a command does that loads nothing into a journal.
+fn tell_of(alloc: Global, asked: &AloneRequest<'_>, intent: &mut Intent) -> io::Result<()> {
+    if let Some(journal) = journal_of(asked) {
+        intent.reads = Some(String::from_str(alloc, journal)?);
+    }
+    if let Some(output) = uncounted_of(asked) {
+        intent.uncounted = Some(String::from_str(alloc, output)?);
+    }
+    intent.has_reading = has_reading(asked);
+    intent.looks = looks(asked);
+    intent.counts = counts_of(asked);
+    Ok(())
+}
+
+/// The outputs of a command that has several, at which the room looks before it lets a journal be opened.
+fn outputs_of<'a>(asked: &Request<'a>) -> [Option<&'a str>; 3] {
+    match asked {
+        Request::Load(wanted) => match wanted.outputs {
+            Some(Outputs { out, report }) => [Some(out), Some(report), None],
+            None => [None, None, None],
+        },
+        Request::Browse(wanted) => {
+            let Outputs { out, report } = wanted.outputs;
+            [Some(out), Some(report), Some(wanted.pages)]
+        }
+        Request::Alone(alone) => two_outputs_of(alone),
+    }
+}
+
+fn two_outputs_of<'a>(asked: &AloneRequest<'a>) -> [Option<&'a str>; 3] {
+    match asked {
+        AloneRequest::Holdings(wanted) | AloneRequest::ReadHoldings(wanted) => {
+            [Some(wanted.out), Some(wanted.rest), None]
+        }
+        AloneRequest::Worklist { list, page, .. } | AloneRequest::ReadWorklist { list, page, .. } =>
+            [Some(*list), Some(*page), None],
+        AloneRequest::QuickReport { out, report, .. } => [Some(*out), Some(*report), None],
+        _ => [None, None, None],
+    }
+}
+
+/// The journal that a command only reads, where it opens one as such.
+fn journal_of<'a>(asked: &AloneRequest<'a>) -> Option<&'a str> {
+    match asked {
+        AloneRequest::Export { journal, .. }
+        | AloneRequest::Report { journal, .. }
+        | AloneRequest::Matches { journal, .. }
+        | AloneRequest::Headings { journal, .. }
+        | AloneRequest::Worklist { journal, .. }
+        | AloneRequest::Checkpoint { journal, .. }
+        | AloneRequest::Quick { journal, .. }
+        | AloneRequest::QuickReport { journal, .. } => Some(*journal),
+        AloneRequest::Holdings(wanted) => Some(wanted.journal),
+        _ => None,
+    }
+}
+
+/// Whether `reading` can stand before a command.
+fn has_reading(asked: &AloneRequest<'_>) -> bool {
+    matches!(
+        asked,
+        AloneRequest::Export { .. }
+            | AloneRequest::Report { .. }
+            | AloneRequest::Matches { .. }
+            | AloneRequest::Holdings(_)
+            | AloneRequest::Headings { .. }
+            | AloneRequest::Worklist { .. }
+    )
+}
+
+/// Whether a command looks at its inputs without holding them.
+fn looks(asked: &AloneRequest<'_>) -> bool {
+    matches!(
+        asked,
+        AloneRequest::Verify { .. }
+            | AloneRequest::VerifyPoint { .. }
+            | AloneRequest::Read { .. }
+            | AloneRequest::ReadHoldings(_)
+            | AloneRequest::ReadWorklist { .. }
+    )
+}
+
+/// What is told of how much a command wrote.
+fn counts_of(asked: &AloneRequest<'_>) -> Counts {
+    match asked {
+        AloneRequest::Export { code: Some(_), .. }
+        | AloneRequest::Read {
+            look: Look::Export(Some(_)),
+            ..
+        } => Counts::RecordsOfCode,
+        AloneRequest::Export { .. }
+        | AloneRequest::Holdings(_)
+        | AloneRequest::ReadHoldings(_)
+        | AloneRequest::Quick { .. }
+        | AloneRequest::QuickReport { .. }
+        | AloneRequest::Read {
+            look: Look::Export(None),
+            ..
+        } => Counts::Records,
+        AloneRequest::Report { .. }
+        | AloneRequest::Matches { .. }
+        | AloneRequest::Headings { .. }
+        | AloneRequest::Worklist { .. }
+        | AloneRequest::ReadWorklist { .. }
+        | AloneRequest::Read { .. } => Counts::Lines,
+        _ => Counts::Nothing,
+    }
+}
+
+/// The output of which nothing is told, since it is of another sort than the other.
+fn uncounted_of<'a>(asked: &AloneRequest<'a>) -> Option<&'a str> {
+    match asked {
+        AloneRequest::QuickReport { report, .. } => Some(*report),
+        AloneRequest::Worklist { page, .. } | AloneRequest::ReadWorklist { page, .. } => Some(
+            *page,
+        ),
+        _ => None,
+    }
+}

@@ -1,0 +1,124 @@
+//! The list and the page, as documents.
+ghost use Rattle.std.specs.Prelude.{◌≡◌, ◌≢◌, ◌∷◌, [], true, None, IsErrOf, OnOk};
+ghost use Rattle.std.specs.Option.{option_copied};
+ghost use Rattle.outside.specs.Room.{IsUntouched, SameBut};
+ghost use Rattle.catalogue_rules.specs.Settle.{state_of};
+ghost use Rattle.output_files.specs.Outputs.{AreWritten, AreStopped};
+ghost use Rattle.console_lines.specs.declared.end.Unwritten.{Unwritten as AnyUnwritten};
+ghost use Rattle.heading_worklist.specs.Counting.{kept_in};
+ghost use Rattle.heading_worklist.specs.Worklist.{worklist_of};
+ghost use Rattle.worklist_page.specs.Page.{state_page};
+
+use catalogue_core::{Catalogue, Engine};
+use console_lines::{OutputsFault, Unwritten};
+use heading_worklist::{Counted, counted_in_order, open_headings, write_worklist};
+use output_files::{Document, write_document};
+use outside::{Room, Sink, WriteFault};
+use std::alloc::Global;
+use std::collections::BTreeSet;
+use worklist_page::{Brought, page_bytes};
+
+/// The lines of open headings that were counted, and of authorities, as a document: each line is made when it is written.
+#[derive(Drop)]
+struct ListLines<'a> {
+    alloc: Global,
+    engine: &'a Engine,
+    lines: BTreeSet<Counted<'a>>,
+    code: Option<&'a str>,
+}
+
+impl<'a> Document for ListLines<'a> {
+    ghost use Rattle.std.specs.Option.{option_copied};
+    ghost use Rattle.heading_worklist.specs.Csv.{list_bytes};
+    ghost use Rattle.heading_worklist.specs.Counting.{kept_in};
+    ghost use Rattle.heading_worklist.specs.Worklist.{lines_behind};
+
+    ghost due = { λ d. list_bytes (lines_behind (kept_in (option_copied d.code)) d.engine.now.state d.lines.keys) };
+
+    ghost takes_memory = { λ _. Unit {0} };
+
+    fn write_to<K: Sink>(self, out: &mut K) -> Result<(), WriteFault> {
+        write_worklist(self.alloc, self.engine, &self.lines, self.code, out)
+    }
+}
+
+/// Writes two documents into the files of these names, the second only once the first is whole. The second takes no memory then.
+#[tactic(auto, using(output_files::proofs::Pairs::both_apart, output_files::proofs::Pairs::first_apart))]
+fn write_two<R: Room, A: Document, B: Document>(
+    room: &mut R,
+    list: &str,
+    first: A,
+    page: &str,
+    second: B,
+) -> Result<(), OutputsFault>
+    requires free { (R.seen room.old).open_as list.now ≡ None }
+    requires page_free { (R.seen room.old).open_as page.now ≡ None }
+    requires differ { list.now ≢ page.now }
+    requires ready { B.takes_memory second → ⊥ }
+    ensures apart { SameBut (R.seen room.old) (R.seen room.new) (list.now ∷ page.now ∷ []) }
+    ensures closed { (R.seen room.new).open_as list.now ≡ None }
+    ensures page_closed { (R.seen room.new).open_as page.now ≡ None }
+    ensures written { OnOk result ((R.seen room.old).tells ≡ true →
+        AreWritten list.now page.now (A.due first) (B.due second) (R.seen room.new)) }
+    ensures memory { IsErrOf result OutputsFault.NoMemory →
+        SameBut (R.seen room.old) (R.seen room.new) (list.now ∷ []) × IsUntouched (R.seen room.old) (R.seen room.new) list.now }
+    ensures stopped { (which : AnyUnwritten) → IsErrOf result (OutputsFault.Unwritten which) →
+        AreStopped (list.now ∷ []) list.now page.now (A.due first) (B.due second) (R.seen room.old) (R.seen room.new) which }
+{
+    match write_document(room, list, first) {
+        Ok(()) => {}
+        Err(WriteFault::NoMemory) => return Err(OutputsFault::NoMemory),
+        Err(WriteFault::OutputFault) => return Err(OutputsFault::Unwritten(Unwritten::Out)),
+    }
+    match write_document(room, page, second) {
+        Ok(()) => Ok(()),
+        Err(_) => Err(OutputsFault::Unwritten(Unwritten::Side)),
+    }
+}
+
+/// Writes the worklist of a catalogue into the file `list`, all lines or those of the records with a code, and then its page into the file
+/// `page`. The page and the order of the lines are made before either is begun; a line takes memory when it is written.
+#[tactic(auto, using(outside::proofs::Rooms::same_but_itself, outside::proofs::Rooms::untouched_itself))]
+pub(crate) fn write_both<R: Room>(
+    alloc: Global,
+    room: &mut R,
+    list: &str,
+    page: &str,
+    core: &Catalogue,
+    brought: &Brought,
+    code: Option<&str>,
+) -> Result<(), OutputsFault>
+    requires free { (R.seen room.old).open_as list.now ≡ None }
+    requires page_free { (R.seen room.old).open_as page.now ≡ None }
+    requires differ { list.now ≢ page.now }
+    requires staged { core.now.staged ≡ [] }
+    ensures apart { SameBut (R.seen room.old) (R.seen room.new) (list.now ∷ page.now ∷ []) }
+    ensures closed { (R.seen room.new).open_as list.now ≡ None }
+    ensures page_closed { (R.seen room.new).open_as page.now ≡ None }
+    ensures written { OnOk result ((R.seen room.old).tells ≡ true → AreWritten list.now page.now
+        (worklist_of (kept_in (option_copied code.entry)) (state_of core.now.history))
+        (state_page (state_of core.now.history) brought.now) (R.seen room.new)) }
+    ensures memory { IsErrOf result OutputsFault.NoMemory →
+        SameBut (R.seen room.old) (R.seen room.new) (list.now ∷ []) × IsUntouched (R.seen room.old) (R.seen room.new) list.now }
+    ensures stopped { (which : AnyUnwritten) → IsErrOf result (OutputsFault.Unwritten which) → AreStopped (list.now ∷ []) list.now page.now
+        (worklist_of (kept_in (option_copied code.entry)) (state_of core.now.history))
+        (state_page (state_of core.now.history) brought.now) (R.seen room.old) (R.seen room.new) which }
+{
+    let Ok(shown) = page_bytes(alloc, core, brought) else {
+        return Err(OutputsFault::NoMemory);
+    };
+    let engine = core.engine();
+    let Ok(found) = open_headings(alloc, engine) else {
+        return Err(OutputsFault::NoMemory);
+    };
+    let Ok(lines) = counted_in_order(alloc, &found, code) else {
+        return Err(OutputsFault::NoMemory);
+    };
+    let listed = ListLines {
+        alloc,
+        engine,
+        lines,
+        code,
+    };
+    write_two(room, list, listed, page, shown)
+}

@@ -1,0 +1,5 @@
+use Rattle.worklist_page.proofs.Adding.{then}
+use Rattle.worklist_page.proofs.sections.add_totals_columns.Goals as goal
+
+pub returns : goal.returns
+returns c = then _ _ _ _ _ c.in_ok-add_column.ensures c.in_ok-add_column-2.ensures

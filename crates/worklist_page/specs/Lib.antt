@@ -1,0 +1,12 @@
+pub mod Bars
+pub mod Brought
+pub mod Figures
+pub mod Headings
+pub mod Names
+pub mod Page
+pub mod Pieces
+pub mod Ranking
+pub mod Reading
+pub mod Shares
+pub mod Tables
+pub mod Texts
