@@ -2,8 +2,10 @@
 //! the time of a page of 20 rows. `rustc -O --edition 2024 plain.rs && ./plain COUNT`
 use std::collections::{BTreeMap, BTreeSet};
 use std::sync::Arc;
-use std::time::Instant;
 use std::{env, fs};
+
+const ROUNDS: usize = 21;
+const PASSES: u64 = 10;
 
 // Texts of up to 30 bytes lie in the value, as those of `marc_types` do.
 #[derive(PartialEq, Eq, PartialOrd, Ord, Clone)]
@@ -62,6 +64,11 @@ fn resident() -> u64 {
     pages.split(' ').nth(1).unwrap().parse::<u64>().unwrap() * 4096
 }
 
+/// The nanoseconds for which this thread had a processor.
+fn processor_time() -> u64 {
+    fs::read_to_string("/proc/self/schedstat").unwrap().split(' ').next().unwrap().parse().unwrap()
+}
+
 fn mixed(state: u64) -> u64 {
     let first = (state ^ (state >> 30)).wrapping_mul(0xBF58_476D_1CE4_E5B9);
     let second = (first ^ (first >> 27)).wrapping_mul(0x94D0_49BB_1331_11EB);
@@ -98,6 +105,16 @@ fn page(table: &Table, from: &Form) -> Vec<(Form, Key)> {
     table.rows.range(first..).take(20).map(|row| (row.form.clone(), row.key.clone())).collect()
 }
 
+/// The nanoseconds that a page from one of these forms on takes.
+fn round(table: &Table, forms: &[Form]) -> u64 {
+    let begun = processor_time();
+    for _ in 0..PASSES {
+        let found: usize = forms.iter().map(|form| page(table, form).len()).sum();
+        assert!(found > 0);
+    }
+    (processor_time() - begun) / forms.len() as u64 / PASSES
+}
+
 fn main() {
     let count = env::args().nth(1).map_or(1_000_000, |word| word.parse().unwrap());
     let before = resident();
@@ -110,7 +127,7 @@ fn main() {
     let rows = copies[0].rows.len() as u64;
     println!("{rows} rows, {} bytes a heading and copy", (resident() - before) / 2 / rows);
     let forms: Vec<Form> = copies[0].rows.iter().step_by(997).map(|row| row.form.clone()).collect();
-    let start = Instant::now();
-    let found: usize = forms.iter().map(|form| page(&copies[0], form).len()).sum();
-    println!("{} ns a page ({found} rows)", start.elapsed().as_nanos() / forms.len() as u128);
+    let mut took: Vec<u64> = (0..ROUNDS).map(|_| round(&copies[0], &forms)).collect();
+    took.sort_unstable();
+    println!("{}, {} and {} ns of processor a page: least, median and most", took[0], took[ROUNDS / 2], took[ROUNDS - 1]);
 }

@@ -64,6 +64,15 @@ echo '# in use'
 
 ( exec 9<u.jnl; flock -x 9; union_cat export u.jnl held.out >out 2>err; grep -qF 'with `reading` before export' err ) || { echo 'the word reading is not told'; wrong=1; }
 
+# A sync that fails: what to do is told, and nothing of it where another call failed.
+if strace -o /dev/null -e inject=fdatasync:error=EIO true 2>/dev/null; then
+    strace -f -o /dev/null -e inject=fdatasync:error=EIO:when=1 "$program" load unsynced.jnl A=made.mrc >out 2>err
+    [ $? -eq 5 ] && grep -qF 'unsynced.jnl: mount its disk anew, or restart, before the next command' err ||
+        { echo 'a failed sync does not tell what to do'; sed 's/^/    /' err; wrong=1; }
+    strace -f -o /dev/null -e inject=pwrite64:error=EIO:when=1 "$program" load unwritten.jnl A=made.mrc >out 2>err
+    [ $? -eq 5 ] && ! grep -qF 'mount its disk anew' err || { echo 'a failed write tells of a sync'; sed 's/^/    /' err; wrong=1; }
+fi
+
 echo '# reading'
 ( exec 9<u.jnl; flock -x 9; union_cat reading export u.jnl read.out >out 2>err ) && cmp -s read.out all.out || { echo 'reading export of a held journal is another'; wrong=1; }
 ( exec 9<u.jnl; flock -x 9; union_cat verify u.jnl >out 2>err ) || { echo 'verify of a held journal failed'; wrong=1; }
@@ -109,6 +118,25 @@ for n in $(seq 120); do printf '00030nam a2200025   4500\036\035'; done >many.mr
 union_cat load faults.jnl A=many.mrc >/dev/null 2>err
 [ $(grep -c 'many.mrc: piece' err) -eq 100 ] && grep -qF 'many.mrc: 20 more pieces refused' err || { echo 'not the first hundred refused pieces are told'; wrong=1; }
 
+# The commands that end with their file tell the same of it, behind the console's lines; from a pipe too, without its bytes.
+union_cat load same.jnl A=faults.mrc >/dev/null 2>err; grep -F 'faults.mrc: piece' err >loaded.err
+for words in 'pass x.out A=faults.mrc' 'refused x.out A=faults.mrc' 'holdings same.jnl x.out x.rest A=faults.mrc' \
+        'reading holdings same.jnl x.out x.rest A=faults.mrc'; do
+    union_cat $words >out 2>err
+    [ $? -eq 1 ] && grep -F 'faults.mrc: piece' err | cmp -s - loaded.err || { echo "$words: another is told of refused pieces"; sed 's/^/    /' err; wrong=1; }
+done
+for words in 'pass x.out A=many.mrc' 'refused x.out A=many.mrc' 'holdings same.jnl x.out x.rest A=many.mrc'; do
+    union_cat $words >out 2>err
+    [ $(grep -c 'many.mrc: piece' err) -eq 100 ] && grep -qF 'many.mrc: 20 more pieces refused' err ||
+        { echo "$words: not the first hundred refused pieces are told"; sed 's/^/    /' err; wrong=1; }
+done
+cat faults.mrc | union_cat pass x.out A=/dev/stdin >/dev/null 2>err
+[ $(grep -c '/dev/stdin: piece' err) -eq 4 ] && grep -qF '/dev/stdin: piece 2 at byte 26: bad leader' err ||
+    { echo 'nothing is told of pieces from a pipe'; sed 's/^/    /' err; wrong=1; }
+printf '00054cx  a2200037   45000010000500000\036h1   \036\035' >target.mrc
+union_cat holdings same.jnl x.out x.rest A=target.mrc >out 2>err
+grep -qF 'target.mrc: piece 1 at byte 0: ' err || { echo 'no word of a holding that is refused'; sed 's/^/    /' err; wrong=1; }
+
 echo '# what records did'
 union_cat load did.jnl A=made.mrc >/dev/null 2>err; grep -q '^union_cat: made.mrc: [1-9][0-9]* new, [0-9]* replaced, [0-9]* deleted, [0-9]* deletions of no record$' err || { echo 'no counts of a load'; sed 's/^/    /' err; wrong=1; }
 union_cat load did.jnl A=made.mrc >/dev/null 2>err; grep -q '^union_cat: made.mrc: [0-9]* new, [1-9][0-9]* replaced, ' err || { echo 'a second load does not replace'; sed 's/^/    /' err; wrong=1; }
@@ -133,9 +161,39 @@ slip 1 'x.json: this looks like no MARC file (JSON)' pass /dev/null A=x.json
 { printf '\357\273\277'; cat made.mrc; } >bom.mrc
 slip 1 'bom.mrc: this looks like no MARC file (a byte order mark)' pass /dev/null A=bom.mrc
 
+slip 1 'x.xml: this looks like no MARC file (MARCXML)' refused /dev/null A=x.xml
+for words in 'holdings u.jnl' 'reading holdings u.jnl'; do
+    union_cat $words x.out x.rest A=x.xml >out 2>err
+    [ $? -eq 1 ] && grep -qF 'x.xml: this looks like no MARC file (MARCXML)' err || { echo "$words: XML is not told"; sed 's/^/    /' err; wrong=1; }
+done
+printf '\377\376a\000b\000c\000d\000e\000f\000g\000h\000' >x.utf16
+slip 1 'x.utf16: this looks like no MARC file (UTF-16)' pass /dev/null A=x.utf16
+printf '\377\330\377\340 and what else is in one' >x.jpg
+slip 1 'x.jpg: this looks like no MARC file (JPEG)' pass /dev/null A=x.jpg
+head -c 1200 /dev/zero | tr '\0' '\035' >row.mrc
+{ head -c 999 row.mrc; cat made.mrc; head -c 1 row.mrc; } >short_row.mrc
+{ printf '\357\273\277'; cat row.mrc; } >bom_row.mrc
+for words in 'load row.jnl A=' 'pass /dev/null A=' 'refused /dev/null A=' 'holdings u.jnl /dev/null x.rest A='; do
+    union_cat ${words}row.mrc >out 2>err
+    [ $? -eq 1 ] && grep -qF 'row.mrc: this looks like no MARC file (its first 1000 pieces are refused)' err &&
+        grep -qF 'row.mrc: 1100 more pieces refused' err || { echo "$words: a row of refused pieces is not told"; wrong=1; }
+    union_cat ${words}short_row.mrc >out 2>err
+    # records are no holdings, so all its pieces are refused there
+    case $words in holdings*) ;; *)
+        ! grep -qF 'looks like no MARC' err || { echo "$words: a file with a record among its first pieces is told as none"; wrong=1; } ;; esac
+    union_cat ${words}bom_row.mrc >out 2>err
+    [ $(grep -c 'looks like no MARC' err) -eq 1 ] || { echo "$words: not one line of a file that looks like no MARC"; wrong=1; }
+done
+
 echo '# counts'
 union_cat export u.jnl x.out 2>err; grep -q 'x.out: [0-9]* records' err || { echo 'no count of records'; wrong=1; }
 union_cat export u.jnl x.out NONE 2>err; grep -qF 'x.out: no records' err || { echo 'no warning of a code without records'; wrong=1; }
+
+echo '# one file under two names'
+cp u.jnl before.jnl; ln u.jnl linked.jnl
+slip 5 'under another name' salvage u.jnl linked.jnl
+cmp -s u.jnl before.jnl || { echo 'salvage changed its journal'; wrong=1; }
+rm -f linked.jnl before.jnl
 
 echo '# words'
 slip 2 'did you mean load?' laod u.jnl A=made.mrc
@@ -148,6 +206,8 @@ slip 2 'u.jnl is named twice' export u.jnl u.jnl
 slip 2 'made.mrc is named twice' load made.mrc A=made.mrc
 slip 2 '2000000 is no such number' make 1 2000000 x
 slip 2 '99999999999999999999 is no such number' make 99999999999999999999 5 x
+slip 2 'two is no such number: N below 2^64' verify u.jnl two ffff
+slip 2 'ffff is no SHA-256: 64 hexadecimal digits' verify u.jnl 2 ffff
 slip 0 '' load --help
 slip 0 '' help --version
 slip 0 '' -V

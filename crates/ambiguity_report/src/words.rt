@@ -6,6 +6,7 @@ ghost use Rattle.catalogue_rules.specs.Lines.{then_word, then_words};
 ghost use Rattle.catalogue_rules.specs.Output.{class_letter, tag_text};
 ghost use Rattle.ambiguity_report.specs.Beside.{place_text};
 
+use heading_fields::add_key;
 use itoa::Buffer;
 use marc_types::{Class, Key, Tag};
 use std::alloc::AllocError;
@@ -13,18 +14,6 @@ use std::alloc::AllocError;
 const BLANK: u8 = b' ';
 
 pub(crate) const LINE_FEED: u8 = b'\n';
-
-/// The text of a key: the code in parentheses, and the number.
-#[tactic(auto, unfolding(heading_fields::specs::Numbers::key_text))]
-fn add_key(text: &mut Vec<u8>, key: &Key) -> Result<(), AllocError>
-    ensures { OnOk result (text.new.items ≡ text.old.items ++ key_text key.now) }
-{
-    text.push(b'(')?;
-    text.extend_from_slice(key.code.as_bytes())?;
-    text.push(b')')?;
-    text.extend_from_slice(key.number.as_bytes())?;
-    Ok(())
-}
 
 /// A key behind a blank.
 pub(crate) fn add_key_word(text: &mut Vec<u8>, key: &Key) -> Result<(), AllocError>

@@ -1,9 +1,11 @@
--- How the command ends that tells which records of a journal share a number.
+-- How the commands end that tell which records of a journal share a number, and which headings it has. The rules of headings are this project's own.
 use Rattle.std.specs.Prelude.{ℕ, List}
 use Rattle.marc_types.specs.declared.entry.Entry.{Entry}
+use Rattle.command_words.specs.Look.{HeadingRange}
 use Rattle.catalogue_rules.specs.Settle.{state_of}
 use Rattle.console_lines.specs.Ends.{Outcome}
 use Rattle.archive_commands.specs.Reads.{ReadsJournal}
+use Rattle.heading_list.specs.Telling.{headings_due}
 use Rattle.match_report.specs.Matches.{match_report_of}
 
 -- what is due of a history: the match report of the state behind it
@@ -13,3 +15,7 @@ matches_due entries = match_report_of (state_of entries)
 -- The command `matches`: which records of a journal share a number is written into the file OUT, and the journal keeps its history.
 abbrev pub TellsMatches : List ℕ → List ℕ → Outcome → Type 0
 TellsMatches journal out o = ReadsJournal journal out matches_due o
+
+-- The command `headings`: the list of a journal's headings of a kind is written into the file OUT, and the journal keeps its history.
+abbrev pub TellsHeadings : List ℕ → List ℕ → HeadingRange → Outcome → Type 0
+TellsHeadings journal out range o = ReadsJournal journal out (headings_due range) o

@@ -40,6 +40,14 @@ impl<W: Window> BrowseReader<W> {
         BrowseReader { window }
     }
 
+    /// The window that it looks through.
+    pub fn into_window(self) -> W
+        ensures { result ≡ self }
+    {
+        let BrowseReader { window } = self;
+        window
+    }
+
     /// A page of a list that begins with all that this reader saw before: the first rows whose form isn't before a form, so many of
     /// them. `Gone` where the window was away; nothing else changes then.
     #[tactic(auto, using(crate::proofs::Taken::page_is))]

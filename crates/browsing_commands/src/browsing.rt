@@ -24,6 +24,7 @@ use marc_types::NoMemory;
 use outside::{Gate, Room};
 use std::alloc::Global;
 use std::marker::Brand;
+use std::mem;
 use std::sync::Wait;
 use std::thread::Threads;
 
@@ -125,7 +126,10 @@ fn gathered<J: Naming, R: Wait + Drop>(
     told?;
     let kept = keeper.into_pages()?;
     let mut writer = writer;
-    pages_of(alloc, &mut writer, kept, least)
+    let pages = pages_of(alloc, &mut writer, kept, least);
+    // The tables stay taken until the process ends, as the catalogue does: to give each row back takes long.
+    mem::forget(writer);
+    pages
 }
 
 /// Loads the files, under a list of that name, with a reader of these tables beside.

@@ -2,30 +2,18 @@
 ghost use Rattle.std.specs.Prelude.{◌≡◌, ◌++◌, map, codes, IfOk, OnOk};
 ghost use Rattle.std.specs.Fmt.{decimal};
 ghost use Rattle.std.specs.List.{flat_map};
-ghost use Rattle.heading_fields.specs.Numbers.{key_text};
 ghost use Rattle.catalogue_rules.specs.Lines.{line, then_words};
 ghost use Rattle.browsing_commands.specs.Pages.{page_lines, pages_text, row_line};
 
+use heading_fields::add_key;
 use heading_rows::{BrowsePage, BrowseRow};
 use itoa::Buffer;
-use marc_types::{Item, Key, NoMemory};
+use marc_types::{Item, NoMemory};
 use std::alloc::Global;
 
 const BLANK: u8 = b' ';
 
 const LINE_FEED: u8 = b'\n';
-
-/// The text of a key: the code in parentheses, and the number.
-#[tactic(auto, unfolding(heading_fields::specs::Numbers::key_text))]
-fn add_key(text: &mut Vec<u8>, key: &Key) -> Result<(), NoMemory>
-    ensures { OnOk result (text.new.items ≡ text.old.items ++ key_text key.now) }
-{
-    text.push(b'(')?;
-    text.extend_from_slice(key.code.as_bytes())?;
-    text.push(b')')?;
-    text.extend_from_slice(key.number.as_bytes())?;
-    Ok(())
-}
 
 /// Each text behind a blank.
 fn add_texts(text: &mut Vec<u8>, items: &[Item]) -> Result<(), NoMemory>

@@ -1,5 +1,5 @@
 -- The choice of a heading in numbers: how it stands to the choice of the rules.
-use Rattle.std.specs.Prelude.{ℕ, Bool, ◌&&◌, ◌||◌, ◌==◌, not, List, [], ◌∷◌, filter, slice_get, if◌then◌else◌}
+use Rattle.std.specs.Prelude.{◌≡◌, ℕ, Bool, ◌&&◌, ◌||◌, ◌==◌, not, List, [], ◌∷◌, filter, slice_get, if◌then◌else◌}
 use Rattle.std.specs.Prelude.{Option, Some, None, option_and_then, unwrap_or}
 use Rattle.std.specs.List.{IsDistinct}
 use Rattle.std.specs.Option.{option_map, option_or}
@@ -33,6 +33,14 @@ pub record TellsState (names : List Form) (keys : List Key) (x : Indexed) (s : S
   pub distinct : IsDistinct same_key keys
   pub in_order : AreAuthoritiesInOrder s
   pub tells : TellsAuthorities names keys x (linkable_authorities s)
+
+-- of each state that the index tells, under these keys, the answer is what a rule makes of its authorities
+abbrev pub AnswersAs : {T : Type 0} → List Form → List Key → Indexed → (List Linkable → T) → T → Type 0
+AnswersAs names keys x rule answer = (s : State) → TellsState names keys x s → answer ≡ rule (linkable_authorities s)
+
+-- the same under any keys, which the rule is given
+abbrev pub AnswersUnderAny : {T : Type 0} → List Form → Indexed → (List Key → List Linkable → T) → T → Type 0
+AnswersUnderAny names x rule answer = (keys : List Key) → AnswersAs names keys x (rule keys) answer
 
 -- a choice, with the number of its authority's key
 abbrev pub chosen_for : List Key → Choice → Chosen

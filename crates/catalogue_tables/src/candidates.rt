@@ -7,9 +7,8 @@ ghost use Rattle.numbering.specs.Numbers.{is_known, number_of};
 ghost use Rattle.form_index.specs.Candidates.{IsAnswer};
 ghost use Rattle.form_index.specs.Index.{IsInOrder};
 ghost use Rattle.catalogue_rules.specs.Choice.{is_established};
-ghost use Rattle.catalogue_rules.specs.State.{State, linkable_authorities};
 ghost use Rattle.linking_laws.specs.Tables.{IndexRow};
-ghost use Rattle.catalogue_tables.specs.Choosing.{TellsState};
+ghost use Rattle.catalogue_tables.specs.Choosing.{AnswersUnderAny};
 ghost use Rattle.catalogue_tables.specs.Rows.{IsTold, TellsRows};
 
 use crate::tables::CatalogueTables;
@@ -31,8 +30,7 @@ impl CatalogueTables {
     }
     /// Whether an authority has the form as its heading.
     pub fn is_established(&self, form: &Form) -> bool
-        ensures { (keys : List Key) (s : State) → TellsState self.now.forms keys self.now.index s
-            → result ≡ list_any (is_established form.now) (linkable_authorities s) }
+        ensures { AnswersUnderAny self.now.forms self.now.index (λ keys all. list_any (is_established form.now) all) result }
     {
         match self.candidates(form, Among::All) {
             Candidates::Established(_numbers) => true,

@@ -7,7 +7,7 @@ ghost use Rattle.entry_record.specs.Headings.{divided_form};
 ghost use Rattle.entry_record.specs.Prepared.{heading_base_form};
 ghost use Rattle.catalogue_rules.specs.Choice.{asks_base, by_base_form, by_form, by_full_form, choice};
 ghost use Rattle.catalogue_rules.specs.State.{State, kept_field, linkable_authorities, new_field};
-ghost use Rattle.catalogue_tables.specs.Choosing.{TellsState, authorities_among, chosen_among, chosen_for, chosen_of, form_choice, heading_choice, unlinked};
+ghost use Rattle.catalogue_tables.specs.Choosing.{AnswersAs, AnswersUnderAny, TellsState, authorities_among, chosen_among, chosen_for, chosen_of, form_choice, heading_choice, unlinked};
 ghost use Rattle.catalogue_tables.specs.Choosing.{first_taker, link_by_taker, named_taker, taker_by_number, taker_of_row, taker_under};
 
 use crate::naming::named_key;
@@ -134,8 +134,8 @@ impl CatalogueTables {
         base: Option<&Form>,
     ) -> Result<Option<Chosen>, NoMemory>
         requires { option_copied base ≡ heading_base_form class field.now }
-        ensures { IfOk result (λ chosen. (s : State) → TellsState self.now.forms keys.now self.now.index s
-            → chosen ≡ option_map (chosen_for keys.now) (heading_choice (linkable_authorities s) class (kept_field field.now tie.now))) }
+        ensures { IfOk result (AnswersAs self.now.forms keys.now self.now.index
+            (λ all. option_map (chosen_for keys.now) (heading_choice all class (kept_field field.now tie.now)))) }
     {
         let Some(form) = base else {
             return Ok(None);
@@ -156,8 +156,8 @@ impl CatalogueTables {
         base: &Form,
     ) -> Result<Chosen, NoMemory>
         requires { base.now ≡ base_form base.now.kind field.now }
-        ensures { IfOk result (λ chosen. (s : State) → TellsState self.now.forms keys.now self.now.index s
-            → chosen ≡ chosen_for keys.now (choice (linkable_authorities s) class base.now.kind (kept_field field.now tie.now))) }
+        ensures { IfOk result (AnswersAs self.now.forms keys.now self.now.index
+            (λ all. chosen_for keys.now (choice all class base.now.kind (kept_field field.now tie.now)))) }
     {
         match self.taker_by_number(alloc, keys, class, base.kind, field, tie)? {
             Some(taker) => Ok(link(taker, class, field, tie)),
@@ -178,8 +178,8 @@ impl CatalogueTables {
         base: &Form,
     ) -> Result<Chosen, NoMemory>
         requires { base.now ≡ base_form base.now.kind field.now }
-        ensures { IfOk result (λ chosen. (keys : List Key) (s : State) → TellsState self.now.forms keys self.now.index s
-            → chosen ≡ chosen_for keys (form_choice (linkable_authorities s) class base.now.kind (kept_field field.now tie.now))) }
+        ensures { IfOk result (AnswersUnderAny self.now.forms self.now.index
+            (λ keys all. chosen_for keys (form_choice all class base.now.kind (kept_field field.now tie.now)))) }
     {
         let divided = divided_form(alloc, class, field, base.kind)?;
         match self.by_full_form(class, field, base, divided.as_ref()) {
@@ -222,8 +222,8 @@ impl CatalogueTables {
 
     /// The choice by a form: those with it as their heading, and where there is none those with it as a see-from heading.
     fn by_form(&self, form: &Form, among: Among, whole: bool) -> Option<Chosen>
-        ensures { (keys : List Key) (s : State) → TellsState self.now.forms keys self.now.index s
-            → result ≡ option_map (chosen_for keys) (by_form (authorities_among among (linkable_authorities s)) whole form.now) }
+        ensures { AnswersUnderAny self.now.forms self.now.index
+            (λ keys all. option_map (chosen_for keys) (by_form (authorities_among among all) whole form.now)) result }
     {
         chosen_among(self.candidates(form, among), whole)
     }

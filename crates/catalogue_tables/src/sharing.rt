@@ -6,8 +6,7 @@ ghost use Rattle.std.specs.Option.{option_copied, option_to_list};
 ghost use Rattle.marc_types.specs.declared.key.Key.{Key as AnyKey};
 ghost use Rattle.marc_types.specs.Order.{key_cmp, same_key};
 ghost use Rattle.form_index.specs.Index.{IsInOrder, row_under};
-ghost use Rattle.catalogue_rules.specs.State.{State, linkable_authorities};
-ghost use Rattle.catalogue_tables.specs.Choosing.{TellsState, number_known};
+ghost use Rattle.catalogue_tables.specs.Choosing.{AnswersAs, number_known};
 ghost use Rattle.catalogue_tables.specs.Lent.{keys_at};
 ghost use Rattle.catalogue_tables.specs.Sharing.{AreHeaded, established_in, is_headed_by_any, keys_crossing, keys_sharing, shown_keys};
 
@@ -107,8 +106,7 @@ impl CatalogueTables {
         keys: &'a Numbering<Key>,
         key: &Key,
     ) -> Result<Vec<&'a Key>, NoMemory>
-        ensures { IfOk result (λ found. (s : State) → TellsState self.now.forms keys.now self.now.index s
-            → shown_keys found.items ≡ keys_sharing key.now (linkable_authorities s)) }
+        ensures { IfOk result (λ found. AnswersAs self.now.forms keys.now self.now.index (keys_sharing key.now) (shown_keys found.items)) }
     {
         let Some(row) = self.row_of(keys, key) else {
             return Ok(Vec::new(alloc));
@@ -124,8 +122,7 @@ impl CatalogueTables {
         keys: &'a Numbering<Key>,
         key: &Key,
     ) -> Result<Vec<&'a Key>, NoMemory>
-        ensures { IfOk result (λ found. (s : State) → TellsState self.now.forms keys.now self.now.index s
-            → shown_keys found.items ≡ keys_crossing key.now (linkable_authorities s)) }
+        ensures { IfOk result (λ found. AnswersAs self.now.forms keys.now self.now.index (keys_crossing key.now) (shown_keys found.items)) }
     {
         let Some(row) = self.row_of(keys, key) else {
             return Ok(Vec::new(alloc));

@@ -8,7 +8,7 @@ ghost use Rattle.entry_record.specs.Headings.{divided_form};
 ghost use Rattle.catalogue_rules.specs.Choice.{by_base_form, by_form, by_full_form, choice};
 ghost use Rattle.catalogue_rules.specs.Receipt.{standing_by};
 ghost use Rattle.catalogue_rules.specs.State.{State, kept_field, linkable_authorities};
-ghost use Rattle.catalogue_tables.specs.Choosing.{TellsState, authorities_among, form_choice};
+ghost use Rattle.catalogue_tables.specs.Choosing.{AnswersAs, TellsState, authorities_among, form_choice};
 ghost use Rattle.catalogue_tables.specs.Lent.{AreGiven, keys_at, keys_of};
 ghost use Rattle.catalogue_tables.specs.Meant.{AreMeant, numbers_in, standing_among};
 ghost use Rattle.catalogue_tables.specs.Stands.{field_standing, stands_as};
@@ -91,8 +91,8 @@ impl CatalogueTables {
         field: &Field,
         tie: &Tie,
     ) -> Result<Standing, NoMemory>
-        ensures { IfOk result (λ standing. (s : State) → TellsState self.now.forms keys.now self.now.index s
-            → standing ≡ field_standing (linkable_authorities s) class (kept_field field.now tie.now)) }
+        ensures { IfOk result (AnswersAs self.now.forms keys.now self.now.index
+            (λ all. field_standing all class (kept_field field.now tie.now))) }
     {
         if let Some(_key) = &tie.key {
             return Ok(Standing::Linked);
@@ -114,8 +114,8 @@ impl CatalogueTables {
         base: &Form,
     ) -> Result<Standing, NoMemory>
         requires { base.now ≡ base_form base.now.kind field.now }
-        ensures { IfOk result (λ standing. (s : State) → TellsState self.now.forms keys.now self.now.index s
-            → standing ≡ stands_as (standing_by (choice (linkable_authorities s) class base.now.kind (kept_field field.now tie.now)))) }
+        ensures { IfOk result (AnswersAs self.now.forms keys.now self.now.index
+            (λ all. stands_as (standing_by (choice all class base.now.kind (kept_field field.now tie.now))))) }
     {
         match self.taker_by_number(alloc, keys, class, base.kind, field, tie)? {
             // an authority that could take the field is no link yet
@@ -134,8 +134,8 @@ impl CatalogueTables {
         base: &Form,
     ) -> Result<Standing, NoMemory>
         requires { base.now ≡ base_form base.now.kind field.now }
-        ensures { IfOk result (λ standing. (s : State) → TellsState self.now.forms keys.now self.now.index s
-            → standing ≡ stands_as (standing_by (form_choice (linkable_authorities s) class base.now.kind (kept_field field.now tie.now)))) }
+        ensures { IfOk result (AnswersAs self.now.forms keys.now self.now.index
+            (λ all. stands_as (standing_by (form_choice all class base.now.kind (kept_field field.now tie.now))))) }
     {
         let divided = divided_form(alloc, class, field, base.kind)?;
         let meant = self.meant(class, field, tie, base, divided.as_ref());

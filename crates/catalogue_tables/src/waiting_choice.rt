@@ -11,7 +11,7 @@ ghost use Rattle.entry_record.specs.Authority.{base_form, full_form, heading_kin
 ghost use Rattle.catalogue_rules.specs.Choice.{asks_base, by_base_form, by_form, by_full_form};
 ghost use Rattle.catalogue_rules.specs.State.{State, kept_field, linkable_authorities, new_field};
 ghost use Rattle.catalogue_tables.specs.Asked.{IsAskedBy, IsRowOfField, NamesNone, first_of, last_of};
-ghost use Rattle.catalogue_tables.specs.Choosing.{TellsState, authorities_among, chosen_for, form_choice, heading_choice, taker_by_number, unlinked};
+ghost use Rattle.catalogue_tables.specs.Choosing.{AnswersAs, TellsState, authorities_among, chosen_for, form_choice, heading_choice, taker_by_number, unlinked};
 
 use crate::choosing::{Chosen, Taker, asks_base, chosen_among, link};
 use crate::tables::CatalogueTables;
@@ -50,8 +50,8 @@ impl CatalogueTables {
         tie: &Tie,
     ) -> Result<Option<Chosen>, NoMemory>
         requires { IsRowOfField self.now.forms seat.class (kept_field field.now tie.now) ((waits self.now.waits).waiting seat) }
-        ensures { IfOk result (λ chosen. (s : State) → TellsState self.now.forms keys.now self.now.index s
-            → chosen ≡ option_map (chosen_for keys.now) (heading_choice (linkable_authorities s) seat.class (kept_field field.now tie.now))) }
+        ensures { IfOk result (AnswersAs self.now.forms keys.now self.now.index
+            (λ all. option_map (chosen_for keys.now) (heading_choice all seat.class (kept_field field.now tie.now)))) }
     {
         let Some(row) = self.waits.row(seat) else {
             return Ok(None);

@@ -7,7 +7,8 @@ use Rattle.std.proofs.lemmas.List.Sums.{fold-append}
 use Rattle.commit_journal.specs.declared.frame.Frame.{Frame}
 use Rattle.checkpoint.specs.Format.{part_bytes}
 use Rattle.checkpoint.specs.Parts.{IsPart, IsPartOf, ArePartsOf}
-use Rattle.checkpoint.specs.Points.{nothing_yet, read_on, read_all, payloads_of, IsPointOf, IsUnreadFrame, IsUnread}
+use Rattle.checkpoint.specs.Points.{nothing_yet, read_on, read_all, IsPointOf, IsUnreadFrame, IsUnread}
+use Rattle.commit_journal.specs.Log.{payloads_of}
 use Rattle.checkpoint.specs.declared.part.Part.{Part}
 use Rattle.checkpoint.specs.declared.point.SoFar.{SoFar}
 use Rattle.checkpoint.specs.declared.fault.PointFault.{PointFault}

@@ -1,6 +1,5 @@
 pub mod Bounds
 pub mod Framing
-pub mod FromBytes
 pub mod Going
 pub mod Keying
 pub mod Kept

@@ -3,6 +3,7 @@ use Rattle.std.specs.Prelude.{◌≡◌, ℕ, ◌==◌, true, ◌&&◌, List, []
 use Rattle.std.specs.List.{flat_map}
 use Rattle.std.specs.Option.{option_or, option_map}
 use Rattle.commit_journal.specs.declared.frame.Frame.{Frame}
+use Rattle.commit_journal.specs.Log.{payloads_of}
 use Rattle.catalogue_rules.specs.State.{State}
 use Rattle.kept_rows.specs.declared.row.KeptRow.{KeptRow}
 use Rattle.kept_rows.specs.Rows.{state_of_rows, are_in_order}
@@ -66,10 +67,6 @@ pub record HasCheckpoint (parts : List Part) (entries : ℕ) (rows : List KeptRo
   pub behind : List Part
   pub split : parts ≡ before ++ (checkpoint ++ behind)
   pub whole : IsCheckpoint entries rows checkpoint
-
--- the payloads of frames
-abbrev pub payloads_of : List Frame → List (List ℕ)
-payloads_of frames = map (λ f. f.payload) frames
 
 -- the frames are parts, and this is their last whole checkpoint
 pub record IsPointOf (frames : List Frame) (found : Option Point) : Type 0 where

@@ -10,7 +10,7 @@ ghost use Rattle.checkpoint.specs.Reading.{HaveHead, HaveNoHead, IsWrittenOf, Is
 
 use crate::PartFault;
 use crate::keys::proper_key;
-use crate::numbers::{coded, sized};
+use crate::lengths::{coded, sized};
 use entry_record::first_control;
 use iso2709_record::fits;
 use marc_types::{Class, Field, Key, NoMemory, Record, RecordFault, Text};

@@ -6,7 +6,7 @@ ghost use Rattle.checkpoint.specs.Fronts.{BeginWith, BeginWithNone, IsNoFront};
 ghost use Rattle.checkpoint.specs.Reading.{IsNoKey, IsOptionalKey};
 
 use crate::PartFault;
-use crate::numbers::coded;
+use crate::lengths::coded;
 use entry_record::graphic_text;
 use marc_types::{Key, TiedKey, can_be_code, can_be_number};
 use std::alloc::Global;

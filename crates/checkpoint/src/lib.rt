@@ -15,7 +15,7 @@ mod fault;
 mod heads;
 mod keys;
 pub mod laws;
-mod numbers;
+mod lengths;
 mod part;
 mod parts;
 mod point;

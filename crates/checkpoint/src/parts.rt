@@ -4,9 +4,9 @@ ghost use Rattle.std.specs.Int.{w64, to_be_bytes};
 ghost use Rattle.checkpoint.specs.Parts.{IsPartOf};
 ghost use Rattle.checkpoint.specs.Reading.{IsNoPart};
 
-use crate::numbers::long_number;
 use crate::rows::read_rows;
 use crate::{Part, PartFault};
+use commit_journal::long_number;
 use kept_rows::KeptRows;
 use std::alloc::Global;
 

@@ -1,4 +1,5 @@
 pub mod Frames
+pub mod Taken
 pub mod Added
 pub mod Files
 pub mod Written

@@ -11,7 +11,7 @@ use Rattle.durable_catalogue.specs.Refused.{LeavesAlone}
 use Rattle.durable_catalogue.specs.declared.fault.OpenFault.{OpenFault}
 use Rattle.journal_files.specs.Journals as journals
 use Rattle.journal_files.specs.Journals.{log_bytes, KeepsHistory}
-use Rattle.output_files.proofs.Rooms.{none_or_closed}
+use Rattle.outside.proofs.Closings.{none_or_closed}
 use Rattle.checkpoint_commands.specs.PointLogs.{IsUntaken, IsPointLog}
 use Rattle.checkpoint_commands.specs.Adding.{HasPointOrNone, HasNewPoint}
 use Rattle.checkpoint_commands.specs.Refusals.{IsPointRefused}

@@ -1,4 +1,5 @@
 pub mod PointLogs
+pub mod Taking
 pub mod Adding
 pub mod Refusals
 pub mod Rooms

@@ -43,9 +43,9 @@ EndsQuick report (Told Memory) = Unit {0}
 EndsQuick report (Told OldVersion) = Unit {0}
 EndsQuick report (Told OtherHistory) = ⊥
 
--- The state that a history and the last whole checkpoint of a log make, of whose entries so many are taken: the state with which the checkpoint
--- begins it, gone on with by the entries behind those. Where the checkpoint is the history's own it is the state of the whole history; so
--- it is where there is none that can be taken up.
+-- The state that a history and the last whole checkpoint of a log make, of whose entries so many are taken: the state with which the
+-- checkpoint begins it, gone on with by the entries behind those. Where the checkpoint is the history's own it is the state of the whole
+-- history; so it is where there is none that can be taken up.
 pub record IsStateFrom (history : List Entry) (last : Option Point) (taken : ℕ) (state : State) : Type 0 where
   pub begun : State
   pub begins : BeginsWith (length history) last taken begun
@@ -63,8 +63,8 @@ pub record IsResumedFrom (journal point : List ℕ) (room : RoomView) : Type 0 w
   pub state : State
   pub is_state : IsStateFrom history last taken state
 
--- Its export is in OUT, and its report in REPORT, where one is asked for; and the console is told of how many entries the checkpoint spared it, or a
--- front of that, where it failed. What couldn't be written is as it was or whole.
+-- Its export is in OUT, and its report in REPORT, where one is asked for; and the console is told of how many entries the checkpoint spared
+-- it, or a front of that, where it failed. What couldn't be written is as it was or whole.
 pub record IsExported (journal point out : List ℕ) (report : Option (List ℕ)) (o : Outcome) : Type 0 where
   pub resumed : IsResumedFrom journal point o.old
   pub file : o.end ≢ out_unwritten → o.new.file out ≡ Some (export_of all_keys resumed.state)
@@ -74,8 +74,8 @@ pub record IsExported (journal point out : List ℕ) (report : Option (List ℕ)
   pub line : o.end ≡ Done → Appends o.told o.now (resumed_line resumed.taken (length resumed.history))
   pub front : o.end ≡ console_unwritten → WritesFront o.told o.now (resumed_line resumed.taken (length resumed.history))
 
--- The command `quick`: of the state that a journal's history and POINT's last whole checkpoint make, the export is written into the file OUT,
--- and then the report into the file REPORT, where one is asked for; the journal keeps its history, and nothing is written to POINT.
+-- The command `quick`: of the state that a journal's history and POINT's last whole checkpoint make, the export is written into the file
+-- OUT, and then the report into the file REPORT, where one is asked for; the journal keeps its history, and nothing is written to POINT.
 pub record ExportsQuickly (journal point out : List ℕ) (report : Option (List ℕ)) (o : Outcome) : Type 0 where
   pub ends : EndsQuick report o.end
   pub keeps : o.old.tells ≡ true → KeepsHistory (IsDeviceOf o journal) o.old o.new journal

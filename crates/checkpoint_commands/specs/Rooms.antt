@@ -8,8 +8,8 @@ use Rattle.checkpoint_commands.specs.PointLogs.{IsPointLog}
 use Rattle.checkpoint_commands.specs.Adding.{HasPointOrNone, HasNewPoint}
 
 -- A checkpoint of a history is put behind the log of that name, as far as it comes. The log was not opened, and is as it was; or it is a
--- closed log again: each image since its first sync has the frames that it had, or the checkpoint too, and so has the file; of a log that tells its
--- moments and has not synced the file is as it was.
+-- closed log again: each image since its first sync has the frames that it had, or the checkpoint too, and so has the file; of a log that
+-- tells its moments and has not synced the file is as it was.
 pub data PutsBehind (history : List Entry) (old new : RoomView) (name : List ℕ) : Type 0 where
   Unopened : IsUntouched old new name → PutsBehind history old new name
   Opened : new.has_log name ≡ true

@@ -7,9 +7,11 @@ ghost use Rattle.checkpoint.specs.Points.{IsPointOf};
 ghost use Rattle.restoring.specs.Resuming.{IsInOrder};
 ghost use Rattle.checkpoint_commands.specs.PointLogs.{AreUntaken, IsOnlyRead, IsPointLog, IsUntaken};
 
+use crate::taking::{PointTaker, last_known};
 use checkpoint::{Point, PointFault, read_point};
-use commit_journal::{FoundLog, Frames, Version};
+use commit_journal::{Frames, Version};
 use durable_catalogue::{OpenFault, open_fault};
+use log_walk::find_each;
 use outside::Disk;
 use restoring::laws::a_found_checkpoint_is_in_order;
 use std::alloc::Global;
@@ -37,7 +39,7 @@ pub(crate) fn last_of(
     Ok(last)
 }
 
-/// Reads the last whole checkpoint of a log, and writes nothing.
+/// Reads the last whole checkpoint of a log, and writes nothing. A frame is let go before the next is read.
 pub fn read_last<D: Disk>(alloc: Global, disk: D) -> (D, Result<Option<Point>, OpenFault>)
     ensures read { IsOnlyRead (IsErrOf result.1 DeviceFault) (D.seen disk) (D.seen result.0) }
     ensures last { IfOk result.1 (λ last. (log : List ℕ) → (D.seen disk).content ≡ Some log → IsPointLog last log) }
@@ -45,14 +47,11 @@ pub fn read_last<D: Disk>(alloc: Global, disk: D) -> (D, Result<Option<Point>, O
     ensures untaken { IfErr result.1 (λ why. (log : List ℕ) → (D.seen disk).content ≡ Some log → IsUntaken log why) }
     ensures cause { IsErrOf result.1 DeviceFault → Rose (D.seen disk).faults (D.seen result.0).faults }
 {
-    match FoundLog::find(alloc, disk) {
-        Ok((found, frames)) => {
-            let last = last_of(alloc, found.version(), frames);
-            (found.leave(), last)
-        }
-        Err(failed) => {
-            let (disk, fault) = failed;
-            (disk, Err(open_fault(fault)))
-        }
+    a_found_checkpoint_is_in_order();
+    let mut disk = disk;
+    let mut taker = PointTaker::new();
+    match find_each(alloc, &mut disk, &mut taker) {
+        Ok(version) => (disk, last_known(version, taker.known)),
+        Err(fault) => (disk, Err(open_fault(fault))),
     }
 }

@@ -14,3 +14,4 @@ mod outputs;
 mod point_file;
 mod quick;
 mod resumed;
+mod taking;

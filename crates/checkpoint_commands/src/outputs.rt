@@ -33,7 +33,8 @@ fn write_export<R: Room>(
     }
 }
 
-/// Writes all records of a state into the file `out`, and then its report into the file `report`. All memory is taken before either is begun.
+/// Writes all records of a state into the file `out`, and then its report into the file `report`. All memory is taken before either is
+/// begun.
 #[tactic(auto, using(outside::proofs::Rooms::same_but_itself))]
 fn write_export_and_report<R: Room>(
     alloc: Global,

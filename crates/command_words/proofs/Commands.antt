@@ -19,7 +19,7 @@ use Rattle.command_words.specs.Topics.{topic_of}
 use Rattle.marc_types.specs.declared.form.Kind.{Kind}
 use Rattle.command_words.specs.Look.{Look, HeadingRange, most_headings, kind_of}
 use Rattle.command_words.specs.Look as look
-use Rattle.command_words.specs.Command.{Command, Pass, Run, Load, Browse, Export, Report, Make, Verify, VerifyPoint, Matches, Holdings, Headings, Worklist, Migrate, Checkpoint, Quick, QuickReport, Read, ReadHoldings, ReadWorklist, Refused, Help, Version, is_name, differ, split_at_equals, library_of, are_libraries, is_free, number_upto, greatest_seed, are_two_names, are_three_names, are_four_names, are_three_alone, are_four_alone, as_pass, as_run, as_load, as_browse, as_export, as_report, as_make, as_verify, as_migrate, as_matches, as_holdings, as_headings, as_worklist, as_checkpoint, as_quick, is_looking, looking, unheld, as_reading, as_refused, as_help, alone, is_version_flag, is_help_flag, only_telling, over_input, over_journal, behind_verb, asks_how, command_of, words_of_files, libraries_of, file_count, names_of, AreNames, IsBounded, IsRange}
+use Rattle.command_words.specs.Command.{Command, Pass, Run, Load, Browse, Export, Report, Make, Verify, VerifyPoint, VerifyDigest, Matches, Holdings, Headings, Worklist, Migrate, Salvage, Checkpoint, Quick, QuickReport, Read, ReadHoldings, ReadWorklist, Refused, Help, Version, is_name, differ, split_at_equals, library_of, are_libraries, is_free, number_upto, greatest_number, is_digest, are_two_names, are_three_names, are_four_names, are_three_alone, are_four_alone, as_pass, as_run, as_load, as_browse, as_export, as_report, as_make, as_verify, as_migrate, as_salvage, as_matches, as_holdings, as_headings, as_worklist, as_checkpoint, as_quick, is_looking, looking, unheld, as_reading, as_refused, as_help, alone, is_version_flag, is_help_flag, only_telling, over_input, over_journal, behind_verb, asks_how, command_of, words_of_files, libraries_of, file_count, names_of, AreNames, IsBounded, IsRange}
 
 -- a test and what it lets through
 pub if_some : {A : Type 0} (good : Bool) (a b : A) → (if good then Some a else None) ≡ Some b → (good ≡ true) × (a ≡ b)
@@ -245,7 +245,7 @@ make_is verb [] c is = cc
 make_is verb (seed ∷ []) c is = cc
 make_is verb (seed ∷ count ∷ []) c is = cc
 make_is verb (seed ∷ count ∷ out ∷ []) c is =
-    let first = and_then_some _ (number_upto greatest_seed seed) c is in
+    let first = and_then_some _ (number_upto greatest_number seed) c is in
     let second = and_then_some _ (number_upto most_entries count) c first.2 in
     let parts = if_some (is_name out) (Make first.0 second.0 out) c second.2 in
     subst (IsCommand (verb ∷ seed ∷ count ∷ out ∷ [])) parts.1 (without_files (verb ∷ seed ∷ count ∷ out ∷ []) _ refl refl (named out parts.0, tt, tt) (number_within most_entries count second.0 second.1))
@@ -259,7 +259,11 @@ verify_is verb (journal ∷ []) c is =
 verify_is verb (journal ∷ point ∷ []) c is =
     let parts = if_some _ (VerifyPoint journal point) c is in
     subst (IsCommand (verb ∷ journal ∷ point ∷ [])) parts.1 (without_files (verb ∷ journal ∷ point ∷ []) _ refl refl tt tt)
-verify_is verb (journal ∷ point ∷ other ∷ rest) c is = cc
+verify_is verb (journal ∷ count ∷ digest ∷ []) c is =
+    let first = and_then_some _ (number_upto greatest_number count) c is in
+    let parts = if_some (is_name journal && is_digest digest) (VerifyDigest journal first.0 digest) c first.2 in
+    subst (IsCommand (verb ∷ journal ∷ count ∷ digest ∷ [])) parts.1 (without_files (verb ∷ journal ∷ count ∷ digest ∷ []) _ refl refl tt tt)
+verify_is verb (journal ∷ count ∷ digest ∷ other ∷ rest) c is = cc
 
 matches_is : (verb : List ℕ) (words : List (List ℕ)) (c : Command) → as_matches words ≡ Some c → IsCommand (verb ∷ words) c
 matches_is verb [] c is = cc
@@ -302,6 +306,14 @@ migrate_is verb (old ∷ new ∷ []) c is =
     let parts = if_some (are_two_names old new) (Migrate old new) c is in
     subst (IsCommand (verb ∷ old ∷ new ∷ [])) parts.1 (without_files (verb ∷ old ∷ new ∷ []) _ refl refl (two_names old new parts.0) tt)
 migrate_is verb (old ∷ new ∷ other ∷ rest) c is = cc
+
+salvage_is : (verb : List ℕ) (words : List (List ℕ)) (c : Command) → as_salvage words ≡ Some c → IsCommand (verb ∷ words) c
+salvage_is verb [] c is = cc
+salvage_is verb (journal ∷ []) c is = cc
+salvage_is verb (journal ∷ new ∷ []) c is =
+    let parts = if_some (are_two_names journal new) (Salvage journal new) c is in
+    subst (IsCommand (verb ∷ journal ∷ new ∷ [])) parts.1 (without_files (verb ∷ journal ∷ new ∷ []) _ refl refl (two_names journal new parts.0) tt)
+salvage_is verb (journal ∷ new ∷ other ∷ rest) c is = cc
 
 checkpoint_is : (verb : List ℕ) (words : List (List ℕ)) (c : Command) → as_checkpoint words ≡ Some c → IsCommand (verb ∷ words) c
 checkpoint_is verb [] c is = cc
@@ -452,7 +464,9 @@ unheld_is verb words (Browse journal out report pages files) d good is = cc
 unheld_is verb words (Make seed count out) d good is = cc
 unheld_is verb words (Verify journal) d good is = cc
 unheld_is verb words (VerifyPoint journal point) d good is = cc
+unheld_is verb words (VerifyDigest journal count digest) d good is = cc
 unheld_is verb words (Migrate old new) d good is = cc
+unheld_is verb words (Salvage journal new) d good is = cc
 unheld_is verb words (Checkpoint journal point) d good is = cc
 unheld_is verb words (Quick journal point out) d good is = cc
 unheld_is verb words (QuickReport journal point out report) d good is = cc
@@ -480,6 +494,7 @@ behind_is verb words c is =
     chosen (is_looking verb) (looking verb words) _ c (looking_is verb verb words c) (
     chosen (bytes_eq verb (codes "verify")) (as_verify words) _ c (verify_is verb words c) (
     chosen (bytes_eq verb (codes "migrate")) (as_migrate words) _ c (migrate_is verb words c) (
+    chosen (bytes_eq verb (codes "salvage")) (as_salvage words) _ c (salvage_is verb words c) (
     chosen (bytes_eq verb (codes "checkpoint")) (as_checkpoint words) _ c (checkpoint_is verb words c) (
     chosen (bytes_eq verb (codes "quick")) (as_quick words) _ c (quick_is verb words c) (
     chosen (bytes_eq verb (codes "reading")) (as_reading words) _ c (reading_is verb words c) (
@@ -487,7 +502,7 @@ behind_is verb words c is =
     chosen (bytes_eq verb (codes "help")) (as_help words) _ c (help_is verb words c) (
     chosen (is_help_flag verb) (alone (Help topic.All) words) _ c (alone_is verb words (Help topic.All) c (a_help (verb ∷ words) topic.All)) (
     chosen (bytes_eq verb (codes "version")) (alone Version words) _ c (alone_is verb words Version c (a_version (verb ∷ words))) (
-    chosen (is_version_flag verb) (alone Version words) None c (alone_is verb words Version c (a_version (verb ∷ words))) (λ none. cc)))))))))))))))) is
+    chosen (is_version_flag verb) (alone Version words) None c (alone_is verb words Version c (a_version (verb ∷ words))) (λ none. cc))))))))))))))))) is
 
 command_is : (words : List (List ℕ)) (c : Command) → command_of words ≡ Some c → IsCommand words c
 unfolding command_of

@@ -9,7 +9,7 @@ use Rattle.command_words.specs.declared.asked.Unasked.TheVariants.{Usage, NoMemo
 use Rattle.command_words.specs.Look as look
 use Rattle.command_words.specs.Look.{HeadingRange, kind_of, most_headings}
 use Rattle.command_words.specs.Asked.{alone_asked, alone_libraries, IsAloneFor, IsAloneAskedBy, IsUnasked, IsUnheld}
-use Rattle.command_words.specs.Command.{Command, Pass, Run, Load, Browse, Export, Report, Make, Verify, VerifyPoint, Matches, Holdings, Headings, Worklist, Migrate, Checkpoint, Quick, QuickReport, Read, ReadHoldings, ReadWorklist, Refused, Help, Version, number_upto, split_at_equals, as_export, as_report, as_matches, as_holdings, as_headings, as_worklist, as_reading, command_if, looking, unheld, words_of_files, ReadsFiles}
+use Rattle.command_words.specs.Command.{Command, Pass, Run, Load, Browse, Export, Report, Make, Verify, VerifyPoint, VerifyDigest, Matches, Holdings, Headings, Worklist, Migrate, Salvage, Checkpoint, Quick, QuickReport, Read, ReadHoldings, ReadWorklist, Refused, Help, Version, number_upto, split_at_equals, as_export, as_report, as_matches, as_holdings, as_headings, as_worklist, as_reading, command_if, looking, unheld, words_of_files, ReadsFiles}
 use Rattle.command_words.proofs.Commands.{and_then_some, chosen, if_some}
 
 -- a command that only looks into a journal has one that doesn't hold it
@@ -85,11 +85,13 @@ files_still (Report journal out) some reads = absurd reads
 files_still (Make seed count out) some reads = absurd reads
 files_still (Verify journal) some reads = absurd reads
 files_still (VerifyPoint journal point) some reads = absurd reads
+files_still (VerifyDigest journal count digest) some reads = absurd reads
 files_still (Matches journal out) some reads = absurd reads
 files_still (Holdings journal out rest code) some reads = tt
 files_still (Headings journal range out) some reads = absurd reads
 files_still (Worklist journal list page code) some reads = absurd reads
 files_still (Migrate old new) some reads = absurd reads
+files_still (Salvage journal new) some reads = absurd reads
 files_still (Checkpoint journal point) some reads = absurd reads
 files_still (Quick journal point out) some reads = absurd reads
 files_still (QuickReport journal point out report) some reads = absurd reads
@@ -119,7 +121,9 @@ words_still word verb rest (Browse journal out report pages files) d is = cc
 words_still word verb rest (Make seed count out) d is = cc
 words_still word verb rest (Verify journal) d is = cc
 words_still word verb rest (VerifyPoint journal point) d is = cc
+words_still word verb rest (VerifyDigest journal count digest) d is = cc
 words_still word verb rest (Migrate old new) d is = cc
+words_still word verb rest (Salvage journal new) d is = cc
 words_still word verb rest (Checkpoint journal point) d is = cc
 words_still word verb rest (Quick journal point out) d is = cc
 words_still word verb rest (QuickReport journal point out report) d is = cc

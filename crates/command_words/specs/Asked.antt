@@ -8,7 +8,7 @@ use Rattle.command_words.specs.declared.asked.Look.{Look}
 use Rattle.command_words.specs.declared.asked.Look.TheVariants as look
 use Rattle.command_words.specs.declared.library.Library.{Library}
 use Rattle.command_words.specs.declared.asked.AloneRequest.{AloneRequest}
-use Rattle.command_words.specs.declared.asked.AloneRequest.TheVariants.{Pass, Export, Report, Make, Verify, VerifyPoint, Migrate, Matches, Holdings, Headings, Worklist, Checkpoint, Quick, QuickReport, Read, ReadHoldings, ReadWorklist, Refused, Help, Version}
+use Rattle.command_words.specs.declared.asked.AloneRequest.TheVariants.{Pass, Export, Report, Make, Verify, VerifyPoint, VerifyDigest, Migrate, Salvage, Matches, Holdings, Headings, Worklist, Checkpoint, Quick, QuickReport, Read, ReadHoldings, ReadWorklist, Refused, Help, Version}
 use Rattle.command_words.specs.declared.asked.HeadingRange.{HeadingRange}
 use Rattle.command_words.specs.declared.asked.HoldingsRequest.{HoldingsRequest}
 use Rattle.command_words.specs.declared.asked.LoadRequest.{LoadRequest}
@@ -38,11 +38,13 @@ alone_asked (Report journal out) = command.Report journal.now out.now
 alone_asked (Make seed count out) = command.Make seed count out.now
 alone_asked (Verify journal) = command.Verify journal.now
 alone_asked (VerifyPoint journal point) = command.VerifyPoint journal.now point.now
+alone_asked (VerifyDigest journal count digest) = command.VerifyDigest journal.now count digest.now
 alone_asked (Matches journal out) = command.Matches journal.now out.now
 alone_asked (Holdings r) = command.Holdings r.journal.now r.out.now r.rest.now (option_copied r.code)
 alone_asked (Headings journal range out) = command.Headings journal.now (range_asked range) out.now
 alone_asked (Worklist journal list page code) = command.Worklist journal.now list.now page.now (option_copied code)
 alone_asked (Migrate old new) = command.Migrate old.now new.now
+alone_asked (Salvage journal new) = command.Salvage journal.now new.now
 alone_asked (Checkpoint journal point) = command.Checkpoint journal.now point.now
 alone_asked (Quick journal point out) = command.Quick journal.now point.now out.now
 alone_asked (QuickReport journal point out report) = command.QuickReport journal.now point.now out.now report.now
@@ -80,11 +82,13 @@ alone_libraries (Report journal out) = []
 alone_libraries (Make seed count out) = []
 alone_libraries (Verify journal) = []
 alone_libraries (VerifyPoint journal point) = []
+alone_libraries (VerifyDigest journal count digest) = []
 alone_libraries (Matches journal out) = []
 alone_libraries (Holdings r) = r.library ∷ []
 alone_libraries (Headings journal range out) = []
 alone_libraries (Worklist journal list page code) = []
 alone_libraries (Migrate old new) = []
+alone_libraries (Salvage journal new) = []
 alone_libraries (Checkpoint journal point) = []
 alone_libraries (Quick journal point out) = []
 alone_libraries (QuickReport journal point out report) = []
@@ -144,11 +148,13 @@ IsFileless (Report journal out) = Unit {0}
 IsFileless (Make seed count out) = Unit {0}
 IsFileless (Verify journal) = Unit {0}
 IsFileless (VerifyPoint journal point) = Unit {0}
+IsFileless (VerifyDigest journal count digest) = Unit {0}
 IsFileless (Matches journal out) = Unit {0}
 IsFileless (Holdings r) = ⊥
 IsFileless (Headings journal range out) = Unit {0}
 IsFileless (Worklist journal list page code) = Unit {0}
 IsFileless (Migrate old new) = Unit {0}
+IsFileless (Salvage journal new) = Unit {0}
 IsFileless (Checkpoint journal point) = Unit {0}
 IsFileless (Quick journal point out) = Unit {0}
 IsFileless (QuickReport journal point out report) = Unit {0}

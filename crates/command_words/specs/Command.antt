@@ -33,6 +33,8 @@ pub data Command : Type 0 where
   Verify : List ℕ → Command
   -- `verify JOURNAL POINT`: whether POINT's last checkpoint is one of this journal
   VerifyPoint : List ℕ → List ℕ → Command
+  -- `verify JOURNAL N HEX`: whether the bytes of the journal's first N entries have this digest
+  VerifyDigest : List ℕ → ℕ → List ℕ → Command
   -- `matches JOURNAL OUT`: which records share a number, into the file OUT
   Matches : List ℕ → List ℕ → Command
   -- `holdings JOURNAL OUT REST CODE=FILE`, or with a further CODE for the keys with that code: the records with the file's holdings
@@ -45,6 +47,8 @@ pub data Command : Type 0 where
   Worklist : List ℕ → List ℕ → List ℕ → Option (List ℕ) → Command
   -- `migrate OLD NEW`: the history of the journal OLD into the journal NEW
   Migrate : List ℕ → List ℕ → Command
+  -- `salvage JOURNAL NEW`: what is sound of the bytes of the damaged journal JOURNAL into the journal NEW
+  Salvage : List ℕ → List ℕ → Command
   -- `checkpoint JOURNAL POINT`: a checkpoint of the journal's catalogue behind the log POINT
   Checkpoint : List ℕ → List ℕ → Command
   -- `quick JOURNAL POINT OUT`: the export into the file OUT, from POINT's last checkpoint and the entries behind it
@@ -104,8 +108,8 @@ number_upto limit word =
     then Some (digits_value 10 word) else None
 
 -- the greatest number of 64 bits
-abbrev pub greatest_seed : ℕ
-greatest_seed = 2 ^ 64 - 1
+abbrev pub greatest_number : ℕ
+greatest_number = 2 ^ 64 - 1
 
 -- the command, if its words are good ones
 abbrev pub command_if : Bool → Command → Option Command
@@ -152,15 +156,26 @@ o >>= f = option_and_then f o
 -- `SEED COUNT OUT`
 abbrev pub as_make : List (List ℕ) → Option Command
 as_make (seed ∷ count ∷ out ∷ []) = do
-  s ← number_upto greatest_seed seed
+  s ← number_upto greatest_number seed
   n ← number_upto most_entries count
   command_if (is_name out) (Make s n out)
 as_make words = None
 
--- `JOURNAL`, whatever the word is, or with a point behind it, which may have the same name
+-- a hexadecimal digit, of either case
+unfoldable pub is_hex_digit : ℕ → Bool
+is_hex_digit b = is_digit b || (nat_le 65 b && nat_le b 70) || (nat_le 97 b && nat_le b 102)
+
+-- the 64 hexadecimal digits of a SHA-256
+unfoldable pub is_digest : List ℕ → Bool
+is_digest word = (length word == 64) && list_all is_hex_digit word
+
+-- `JOURNAL`, whatever the word is; or with a point behind it, which may have the same name; or with a number of entries and a digest
 abbrev pub as_verify : List (List ℕ) → Option Command
 as_verify (journal ∷ []) = command_if (is_name journal) (Verify journal)
 as_verify (journal ∷ point ∷ []) = command_if (is_name journal && is_name point) (VerifyPoint journal point)
+as_verify (journal ∷ count ∷ digest ∷ []) = do
+  n ← number_upto greatest_number count
+  command_if (is_name journal && is_digest digest) (VerifyDigest journal n digest)
 as_verify words = None
 
 -- `JOURNAL OUT`
@@ -196,6 +211,11 @@ as_holdings words = None
 abbrev pub as_migrate : List (List ℕ) → Option Command
 as_migrate (old ∷ new ∷ []) = command_if (are_two_names old new) (Migrate old new)
 as_migrate words = None
+
+-- `JOURNAL NEW`
+abbrev pub as_salvage : List (List ℕ) → Option Command
+as_salvage (journal ∷ new ∷ []) = command_if (are_two_names journal new) (Salvage journal new)
+as_salvage words = None
 
 -- `JOURNAL POINT`
 abbrev pub as_checkpoint : List (List ℕ) → Option Command
@@ -312,6 +332,7 @@ over_journal verb words =
     if is_looking verb then looking verb words
     else if bytes_eq verb (codes "verify") then as_verify words
     else if bytes_eq verb (codes "migrate") then as_migrate words
+    else if bytes_eq verb (codes "salvage") then as_salvage words
     else if bytes_eq verb (codes "checkpoint") then as_checkpoint words
     else if bytes_eq verb (codes "quick") then as_quick words
     else over_input verb words
@@ -348,11 +369,13 @@ words_of_files words (Some (Report journal out)) = []
 words_of_files words (Some (Make seed count out)) = []
 words_of_files words (Some (Verify journal)) = []
 words_of_files words (Some (VerifyPoint journal point)) = []
+words_of_files words (Some (VerifyDigest journal count digest)) = []
 words_of_files words (Some (Matches journal out)) = []
 words_of_files words (Some (Holdings journal out rest code)) = take 1 (drop 4 words)
 words_of_files words (Some (Headings journal range out)) = []
 words_of_files words (Some (Worklist journal list page code)) = []
 words_of_files words (Some (Migrate old new)) = []
+words_of_files words (Some (Salvage journal new)) = []
 words_of_files words (Some (Checkpoint journal point)) = []
 words_of_files words (Some (Quick journal point out)) = []
 words_of_files words (Some (QuickReport journal point out report)) = []
@@ -378,11 +401,13 @@ file_count (Report journal out) = 0
 file_count (Make seed count out) = 0
 file_count (Verify journal) = 0
 file_count (VerifyPoint journal point) = 0
+file_count (VerifyDigest journal count digest) = 0
 file_count (Matches journal out) = 0
 file_count (Holdings journal out rest code) = 1
 file_count (Headings journal range out) = 0
 file_count (Worklist journal list page code) = 0
 file_count (Migrate old new) = 0
+file_count (Salvage journal new) = 0
 file_count (Checkpoint journal point) = 0
 file_count (Quick journal point out) = 0
 file_count (QuickReport journal point out report) = 0
@@ -404,11 +429,13 @@ ReadsFiles (Report journal out) = ⊥
 ReadsFiles (Make seed count out) = ⊥
 ReadsFiles (Verify journal) = ⊥
 ReadsFiles (VerifyPoint journal point) = ⊥
+ReadsFiles (VerifyDigest journal count digest) = ⊥
 ReadsFiles (Matches journal out) = ⊥
 ReadsFiles (Holdings journal out rest code) = Unit {0}
 ReadsFiles (Headings journal range out) = ⊥
 ReadsFiles (Worklist journal list page code) = ⊥
 ReadsFiles (Migrate old new) = ⊥
+ReadsFiles (Salvage journal new) = ⊥
 ReadsFiles (Checkpoint journal point) = ⊥
 ReadsFiles (Quick journal point out) = ⊥
 ReadsFiles (QuickReport journal point out report) = ⊥
@@ -419,7 +446,7 @@ ReadsFiles (Refused out) = Unit {0}
 ReadsFiles (Help topic) = ⊥
 ReadsFiles Version = ⊥
 
--- the names of a command's log and outputs: of a journal that is only looked at none
+-- the names of a command's logs and outputs, and of a journal that is salvaged; of one that is only looked at none
 abbrev pub names_of : Command → List (List ℕ)
 names_of (Pass out) = out ∷ []
 names_of (Run journal out report files) = journal ∷ out ∷ report ∷ []
@@ -430,11 +457,13 @@ names_of (Report journal out) = journal ∷ out ∷ []
 names_of (Make seed count out) = out ∷ []
 names_of (Verify journal) = []
 names_of (VerifyPoint journal point) = []
+names_of (VerifyDigest journal count digest) = []
 names_of (Matches journal out) = journal ∷ out ∷ []
 names_of (Holdings journal out rest code) = journal ∷ out ∷ rest ∷ []
 names_of (Headings journal range out) = journal ∷ out ∷ []
 names_of (Worklist journal list page code) = journal ∷ list ∷ page ∷ []
 names_of (Migrate old new) = old ∷ new ∷ []
+names_of (Salvage journal new) = journal ∷ new ∷ []
 names_of (Checkpoint journal point) = journal ∷ point ∷ []
 names_of (Quick journal point out) = journal ∷ point ∷ out ∷ []
 names_of (QuickReport journal point out report) = journal ∷ point ∷ out ∷ report ∷ []
@@ -472,11 +501,13 @@ IsBounded (Report journal out) = Unit {0}
 IsBounded (Make seed count out) = count ≤ most_entries
 IsBounded (Verify journal) = Unit {0}
 IsBounded (VerifyPoint journal point) = Unit {0}
+IsBounded (VerifyDigest journal count digest) = Unit {0}
 IsBounded (Matches journal out) = Unit {0}
 IsBounded (Holdings journal out rest code) = Unit {0}
 IsBounded (Headings journal range out) = IsRange range
 IsBounded (Worklist journal list page code) = Unit {0}
 IsBounded (Migrate old new) = Unit {0}
+IsBounded (Salvage journal new) = Unit {0}
 IsBounded (Checkpoint journal point) = Unit {0}
 IsBounded (Quick journal point out) = Unit {0}
 IsBounded (QuickReport journal point out report) = Unit {0}

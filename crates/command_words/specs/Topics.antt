@@ -2,7 +2,7 @@
 use Rattle.std.specs.Prelude.{ℕ, List, Option, Some, None, codes, if◌then◌else◌}
 use Rattle.std.specs.Str.{bytes_eq}
 use Rattle.command_words.specs.declared.topic.Topic.{Topic}
-use Rattle.command_words.specs.declared.topic.Topic.TheVariants.{Pass, Run, Load, Browse, Export, Report, Make, Verify, Migrate, Matches, Holdings, Headings, Worklist, Checkpoint, Quick, Reading, Refused, Help, Version, Statuses}
+use Rattle.command_words.specs.declared.topic.Topic.TheVariants.{Pass, Run, Load, Browse, Export, Report, Make, Verify, Migrate, Salvage, Matches, Holdings, Headings, Worklist, Checkpoint, Quick, Reading, Refused, Help, Version, Statuses}
 
 -- the command that a word names, or another topic
 unfoldable pub topic_of : List ℕ → Option Topic
@@ -16,6 +16,7 @@ topic_of word =
     else if bytes_eq word (codes "make") then Some Make
     else if bytes_eq word (codes "verify") then Some Verify
     else if bytes_eq word (codes "migrate") then Some Migrate
+    else if bytes_eq word (codes "salvage") then Some Salvage
     else if bytes_eq word (codes "matches") then Some Matches
     else if bytes_eq word (codes "holdings") then Some Holdings
     else if bytes_eq word (codes "headings") then Some Headings

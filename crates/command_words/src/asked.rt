@@ -47,6 +47,12 @@ pub enum AloneRequest<'a> {
         journal: &'a str,
         point: &'a str,
     },
+    /// Tell whether the bytes of the journal's first entries, so many, have this SHA-256, which is 64 hexadecimal digits, and write nothing.
+    VerifyDigest {
+        journal: &'a str,
+        count: u64,
+        digest: &'a str,
+    },
     /// Write which of the journal's records share a number into the file `out`.
     Matches {
         journal: &'a str,
@@ -71,6 +77,11 @@ pub enum AloneRequest<'a> {
     /// Bring the history of the journal `old` into the journal `new`.
     Migrate {
         old: &'a str,
+        new: &'a str,
+    },
+    /// Bring what is sound of the bytes of the damaged journal `journal` into the journal `new`; `journal` is an input.
+    Salvage {
+        journal: &'a str,
         new: &'a str,
     },
     /// Put a checkpoint of the journal's catalogue behind the log `point`.

@@ -14,5 +14,8 @@ mod asked;
 mod kind;
 pub mod laws;
 mod library;
+mod loading;
+mod looking;
+mod names;
 mod topic;
 mod words;

@@ -1,4 +1,5 @@
 pub mod Header
+pub mod FromBytes
 pub mod Walks
 pub mod Steps
 pub mod Logs

@@ -1,5 +1,5 @@
 -- What the bytes of a log say: a header, and gates and frames in turn, up to the first closed gate.
-use Rattle.std.specs.Prelude.{ℕ, zero, suc, ◌+◌, Bool, true, false, List, [], ◌∷◌, ◌++◌, length, take, drop, slice_index, Option, Some, None, Result, Ok, Err, if◌then◌else◌, ◌==◌, ◌&&◌, ◌||◌, nat_le, nat_lt}
+use Rattle.std.specs.Prelude.{ℕ, zero, suc, ◌+◌, Bool, true, false, List, [], ◌∷◌, ◌++◌, length, take, drop, slice_index, map, Option, Some, None, Result, Ok, Err, if◌then◌else◌, ◌==◌, ◌&&◌, ◌||◌, nat_le, nat_lt}
 use Rattle.std.specs.Int.{w32, from_be_bytes}
 use Rattle.commit_journal.specs.declared.frame.Frame.{Frame}
 use Rattle.commit_journal.specs.declared.format.TheConstants.{HEADER_1, HEADER_2, BLANK_LENGTH, VERSION_PLACE, DIGIT_1, CLOSED_GATE, FIRST_GATE, LARGEST_PAYLOAD, LENGTH_BYTES}
@@ -72,3 +72,7 @@ frames_of log = if nat_le (length log) BLANK_LENGTH then Ok [] else frames_found
 -- the version of a log; a blank one is of version 2
 unfoldable pub version_of : List ℕ → ℕ
 version_of log = if nat_le (length log) BLANK_LENGTH then 2 else version_of_header log
+
+-- the payloads of frames
+abbrev pub payloads_of : List Frame → List (List ℕ)
+payloads_of frames = map (λ f. f.payload) frames

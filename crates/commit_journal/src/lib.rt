@@ -12,6 +12,7 @@ mod format;
 mod found;
 mod frame;
 mod journal;
+mod numbers;
 mod reading;
 mod settling;
 mod version;
@@ -24,4 +25,5 @@ pub use format::{
 pub use found::FoundLog;
 pub use frame::{Frame, Frames};
 pub use journal::Journal;
+pub use numbers::{long_number, short_number};
 pub use version::Version;

@@ -13,8 +13,9 @@ use Rattle.catalogue_core.specs.declared.catalogue.CoreFault.TheVariants as comm
 use Rattle.entry_history.specs.Payloads.{Holds, IsHistory, NoMore}
 use Rattle.entry_history.specs.Readers.{Taken, Takes}
 use Rattle.durable_catalogue.specs.Loading.{IsUncommitted, IsBuilt, IsLoaded}
-use Rattle.durable_catalogue.specs.Logs.{payloads_of}
-use Rattle.durable_catalogue.specs.Openings.{IsBadFrame, catalogue_of}
+use Rattle.commit_journal.specs.Log.{payloads_of}
+use Rattle.durable_catalogue.specs.Openings.{catalogue_of}
+use Rattle.entry_history.specs.Frames.{IsBadFrame}
 use Rattle.durable_catalogue.specs.declared.taking.Reading.{Reading}
 use Rattle.durable_catalogue.specs.Taking.{WereTaken}
 use Rattle.durable_catalogue.proofs.Histories.{one_behind, bounded_behind_none}

@@ -11,7 +11,7 @@ use Rattle.commit_journal.specs.declared.frame.Frame.{Frame}
 use Rattle.commit_journal.specs.declared.fault.JournalFault.{JournalFault}
 use Rattle.commit_journal.specs.declared.fault.JournalFault.TheVariants as journal
 use Rattle.commit_journal.specs.declared.format.TheConstants.{BLANK_LENGTH, VERSION_PLACE, DIGIT_1}
-use Rattle.commit_journal.specs.Log.{frames_of, version_of, version_of_header}
+use Rattle.commit_journal.specs.Log.{frames_of, version_of, version_of_header, payloads_of}
 use Rattle.commit_journal.specs.Journal.{IsRecovered, Opens, HasOpenCause}
 use Rattle.commit_journal.proofs.Logs.{version_two, version_blank, version_long, short_or_long}
 use Rattle.entry_record.specs.History.{next_run}
@@ -19,10 +19,11 @@ use Rattle.entry_history.specs.Readers.{IsVersion}
 use Rattle.entry_history.specs.Payloads.{IsHistory, CanFollow}
 use Rattle.durable_catalogue.specs.declared.fault.OpenFault.{OpenFault}
 use Rattle.durable_catalogue.specs.declared.fault.OpenFault.TheVariants.{DeviceFault, NotAJournal, OldVersion, Full, NoMemory}
-use Rattle.durable_catalogue.specs.Logs.{payloads_of, IsLogOf}
+use Rattle.durable_catalogue.specs.Logs.{IsLogOf}
 use Rattle.durable_catalogue.specs.Images.{Reaches, framed_lengths}
 use Rattle.durable_catalogue.specs.Durables.{IsKept}
-use Rattle.durable_catalogue.specs.Openings.{IsBadFrame, IsUnloaded, NoGate, NoPayload, IsUnopened, IsOpening}
+use Rattle.durable_catalogue.specs.Openings.{IsUnloaded, IsUnopened, IsOpening}
+use Rattle.entry_history.specs.Frames.{IsBadFrame, NoGate, NoPayload}
 use Rattle.durable_catalogue.specs.Faults.{open_fault}
 use Rattle.durable_catalogue.proofs.Framed.{framed_append}
 use Rattle.durable_catalogue.proofs.Histories.{runs_bounded}

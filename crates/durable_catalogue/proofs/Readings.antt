@@ -4,11 +4,11 @@ use Rattle.std.proofs.lemmas.List.{map-append}
 use Rattle.marc_types.specs.declared.entry.Entry.{Entry}
 use Rattle.commit_journal.specs.declared.frame.Frame.{Frame}
 use Rattle.commit_journal.specs.declared.format.TheConstants.{BLANK_LENGTH}
-use Rattle.commit_journal.specs.Log.{frames_of, version_of}
+use Rattle.commit_journal.specs.Log.{frames_of, version_of, payloads_of}
 use Rattle.commit_journal.specs.Journal.{SameLog, HasFrameOrNot, and_frame}
 use Rattle.commit_journal.proofs.Logs.{frames_blank, version_blank, short_or_long}
 use Rattle.entry_history.specs.Payloads.{Holds, IsHistory, NoMore}
-use Rattle.durable_catalogue.specs.Logs.{payloads_of, IsLogOf}
+use Rattle.durable_catalogue.specs.Logs.{IsLogOf}
 use Rattle.durable_catalogue.proofs.Histories.{none_more, one_behind}
 
 -- a log of the same frames and version has the same history

@@ -8,9 +8,10 @@ use Rattle.entry_history.specs.Payloads.{Holds, IsHistory}
 use Rattle.entry_history.specs.Readers.{Counted, HasExtent, CountsEntries}
 use Rattle.durable_catalogue.specs.declared.fault.OpenFault.{OpenFault}
 use Rattle.durable_catalogue.specs.declared.fault.OpenFault.TheVariants.{DeviceFault, NotAJournal, OldVersion, Full, NoMemory}
-use Rattle.durable_catalogue.specs.Logs.{payloads_of}
+use Rattle.commit_journal.specs.Log.{payloads_of}
 use Rattle.durable_catalogue.specs.Loading.{IsUnreadFrame}
-use Rattle.durable_catalogue.specs.Openings.{IsBadFrame, IsUnread}
+use Rattle.durable_catalogue.specs.Openings.{IsUnread}
+use Rattle.entry_history.specs.Frames.{IsBadFrame}
 use Rattle.durable_catalogue.specs.Taking.{WereTaken, HasLeft}
 use Rattle.durable_catalogue.proofs.Loads.{AreRead, none_read, one_read, bad_frame, all_read}
 

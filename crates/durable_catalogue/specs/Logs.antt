@@ -1,13 +1,9 @@
 -- The history that a log holds. The rules are this project's own.
-use Rattle.std.specs.Prelude.{◌≡◌, ℕ, List, [], map, Ok}
+use Rattle.std.specs.Prelude.{◌≡◌, ℕ, List, [], Ok}
 use Rattle.marc_types.specs.declared.entry.Entry.{Entry}
 use Rattle.commit_journal.specs.declared.frame.Frame.{Frame}
-use Rattle.commit_journal.specs.Log.{frames_of, version_of}
+use Rattle.commit_journal.specs.Log.{frames_of, version_of, payloads_of}
 use Rattle.entry_history.specs.Payloads.{IsHistory}
-
--- the payloads of frames
-abbrev pub payloads_of : List Frame → List (List ℕ)
-payloads_of frames = map (λ f. f.payload) frames
 
 -- a log is read as these entries: it is a journal, and its payloads, up to its first closed gate, are each valid behind those
 -- before it

@@ -1,28 +1,18 @@
 -- Why a log is not opened, and what an opening leaves. The rules are this project's own.
-use Rattle.std.specs.Prelude.{◌≡◌, ◌≢◌, ℕ, true, List, [], ◌∷◌, ◌++◌, Some, None, is_some, Ok, Err}
+use Rattle.std.specs.Prelude.{◌≡◌, ◌≢◌, ℕ, true, List, [], Some, None, is_some}
 use Rattle.marc_types.specs.declared.entry.Entry.{Entry}
 use Rattle.marc_types.specs.declared.entry.Limits.{Limits}
 use Rattle.outside.specs.Disk.{DiskView}
 use Rattle.commit_journal.specs.declared.frame.Frame.{Frame}
-use Rattle.commit_journal.specs.Log.{frames_of, version_of}
+use Rattle.commit_journal.specs.Log.{version_of, payloads_of}
 use Rattle.commit_journal.specs.Journal.{LeavesLog}
 use Rattle.entry_record.specs.History.{IsWithin}
-use Rattle.entry_history.specs.Payloads.{Holds, IsHistory}
+use Rattle.entry_history.specs.Frames.{IsBadFrame, IsNoJournal}
+use Rattle.entry_history.specs.Payloads.{IsHistory}
 use Rattle.catalogue_core.specs.Catalogues.{Catalogued}
 use Rattle.durable_catalogue.specs.declared.fault.OpenFault.{OpenFault}
 use Rattle.durable_catalogue.specs.declared.fault.OpenFault.TheVariants.{DeviceFault, NotAJournal, OldVersion, Full, NoMemory}
-use Rattle.durable_catalogue.specs.Logs.{payloads_of, IsLogOf, HasHistory}
-
--- the first frame whose payload isn't valid behind those before it has its gate at that place
-pub record IsBadFrame (version : ℕ) (frames : List Frame) (place : ℕ) : Type 0 where
-  pub front : List Frame
-  pub bad : Frame
-  pub behind : List Frame
-  pub entries : List Entry
-  pub split : frames ≡ front ++ bad ∷ behind
-  pub history : IsHistory version [] (payloads_of front) entries
-  pub invalid : (more : List Entry) → Holds version entries more bad.payload → ⊥
-  pub at : bad.gate ≡ place
+use Rattle.durable_catalogue.specs.Logs.{IsLogOf, HasHistory}
 
 -- why frames of a version are not loaded: a payload isn't valid, the version is another, or their history passes the limits
 abbrev pub IsUnloaded : ℕ → List Frame → Limits → OpenFault → Type 0
@@ -31,11 +21,6 @@ IsUnloaded version frames limits OldVersion = (version ≢ 2) × ((entries : Lis
 IsUnloaded version frames limits Full = (entries : List Entry) × IsHistory version [] (payloads_of frames) entries × (IsWithin limits entries → ⊥)
 IsUnloaded version frames limits NoMemory = Unit {0}
 IsUnloaded version frames limits DeviceFault = ⊥
-
--- nothing that is a journal stands at that place, or it is the gate of a payload that isn't valid
-pub data IsNoJournal (log : List ℕ) (place : ℕ) : Type 0 where
-  NoGate : frames_of log ≡ Err place → IsNoJournal log place
-  NoPayload : (frames : List Frame) → frames_of log ≡ Ok frames → IsBadFrame (version_of log) frames place → IsNoJournal log place
 
 -- what a log is that is not opened
 abbrev pub IsUnopened : Limits → List ℕ → OpenFault → Type 0

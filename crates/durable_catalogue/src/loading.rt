@@ -6,7 +6,7 @@ ghost use Rattle.entry_record.specs.History.{last_run, next_run, IsWithin};
 ghost use Rattle.entry_history.specs.Payloads.{IsHistory};
 ghost use Rattle.durable_catalogue.specs.declared.fault.OpenFault.TheVariants.{DeviceFault, OldVersion, Full};
 ghost use Rattle.durable_catalogue.specs.Loading.{IsUncommitted, IsBuilt, IsLoaded};
-ghost use Rattle.durable_catalogue.specs.Logs.{payloads_of};
+ghost use Rattle.commit_journal.specs.Log.{payloads_of};
 ghost use Rattle.durable_catalogue.specs.Openings.{IsUnloaded, IsUnread, catalogue_of};
 
 use crate::OpenFault;

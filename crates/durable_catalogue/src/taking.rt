@@ -7,7 +7,7 @@ ghost use Rattle.entry_history.specs.Payloads.{IsHistory};
 ghost use Rattle.entry_history.specs.Readers.{HasExtent, CountsEntries};
 ghost use Rattle.durable_catalogue.specs.declared.fault.OpenFault.TheVariants.{DeviceFault, OldVersion, Full};
 ghost use Rattle.durable_catalogue.specs.Loading.{IsUnreadFrame};
-ghost use Rattle.durable_catalogue.specs.Logs.{payloads_of};
+ghost use Rattle.commit_journal.specs.Log.{payloads_of};
 ghost use Rattle.durable_catalogue.specs.Openings.{IsUnread};
 ghost use Rattle.durable_catalogue.specs.Taking.{WereTaken, HasLeft};
 

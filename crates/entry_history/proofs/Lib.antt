@@ -3,7 +3,6 @@ pub mod Batches
 pub mod Format
 pub mod Histories
 pub mod ReadEntries
-pub mod ReadNumbers
 pub mod ReadOld
 pub mod ReadPayloads
 pub mod Runs

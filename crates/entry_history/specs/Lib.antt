@@ -3,6 +3,7 @@ pub mod Batches
 pub mod Commits
 pub mod Events
 pub mod Format
+pub mod Frames
 pub mod Payloads
 pub mod Readers
 pub mod Reading

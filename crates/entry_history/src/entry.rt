@@ -7,8 +7,8 @@ ghost use Rattle.entry_record.specs.Prepared.{new_entry};
 ghost use Rattle.entry_history.specs.Reading.{IsEntryHead, BeginWithNone, BeginWith, IsNotWritten, IsNoEntry};
 
 use crate::EntryFault;
-use crate::numbers::{long_number, short_number};
 use crate::written::entry_part;
+use commit_journal::{long_number, short_number};
 use entry_record::Prepared;
 use marc_types::{RecordFault, Text};
 use reading::prepare;

@@ -18,7 +18,7 @@ mod event;
 mod extent;
 mod fault;
 pub mod laws;
-mod numbers;
+mod lengths;
 mod old;
 mod part;
 mod payload;

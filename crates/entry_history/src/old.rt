@@ -6,8 +6,9 @@ ghost use Rattle.entry_history.specs.Reading.{IsOldHead, BeginOld, BeginWithNoOl
 
 use crate::EntryFault;
 use crate::entry::prepare_written;
-use crate::numbers::{coded, long_number, short_number, sized};
+use crate::lengths::{coded, sized};
 use crate::payload::{is_count, read_library};
+use commit_journal::{long_number, short_number};
 use entry_record::Prepared;
 use iso2709_record::encode_vec;
 use marc_types::NoMemory;

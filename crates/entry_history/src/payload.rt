@@ -9,7 +9,7 @@ ghost use Rattle.entry_history.specs.Reading.{AreEntries, AreNoEntries, HasHead,
 use crate::EntryFault;
 use crate::entry::read_entry;
 use crate::extent::Extent;
-use crate::numbers::{long_number, short_number};
+use commit_journal::{long_number, short_number};
 use entry_record::Prepared;
 use marc_types::{Text, can_be_code};
 use outside::LARGEST_BATCH;

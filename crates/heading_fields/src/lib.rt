@@ -2,7 +2,7 @@
 //! control numbers in `$0`, and how a field takes over the heading of an authority.
 #![tactic(auto)]
 
-pub use numbers::{is_number_of, names};
+pub use numbers::{add_key, is_number_of, names};
 pub use parts::{belongs, controlled, full, has_subdivision, heading_len, part_count, part_region};
 pub use rewriting::{rewrite, unlink};
 pub use tables::{authority_kind, heading_kind, is_controlled_code, takes_subdivisions};

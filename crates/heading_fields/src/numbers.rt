@@ -4,7 +4,7 @@ ghost use Rattle.marc_types.specs.Fields.{subfields_of};
 ghost use Rattle.heading_fields.specs.Numbers.{without_blanks, key_text, is_naming, unnumbered, number_of};
 
 use marc_types::{Field, Key, NoMemory, Subfield, Text, TryCopy};
-use std::alloc::Global;
+use std::alloc::{AllocError, Global};
 
 /// The code of the subfield that holds a record control number, `$0`.
 const NUMBER: u8 = b'0';
@@ -27,6 +27,18 @@ fn key_byte(key: &Key, place: usize) -> Option<u8>
     } else {
         number.get(place - 2 - code.len()).copied()
     }
+}
+
+/// Puts a key's text behind some bytes: the code in parentheses, and the number.
+#[tactic(auto, unfolding(crate::specs::Numbers::key_text))]
+pub fn add_key(text: &mut Vec<u8>, key: &Key) -> Result<(), AllocError>
+    ensures { OnOk result (text.new.items ≡ text.old.items ++ key_text key.now) }
+{
+    text.push(b'(')?;
+    text.extend_from_slice(key.code.as_bytes())?;
+    text.push(b')')?;
+    text.extend_from_slice(key.number.as_bytes())?;
+    Ok(())
 }
 
 /// Whether a text without its blanks is the key's text.

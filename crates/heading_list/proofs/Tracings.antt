@@ -20,7 +20,7 @@ use Rattle.catalogue_rules.specs.State.{KeptRecord, fields_of}
 use Rattle.entry_record.specs.Authority.{Linkable, base_form, full_form, has_form, has_no_item, heading_of, is_empty, is_kind, is_see_from, is_tracing_of, linkable_by, linkable_kind, linkable_of, linkable_with, option_filter, same_kind}
 use Rattle.entry_record.specs.Headings.{is_tracing_tag}
 use Rattle.entry_record.specs.Prepared.{established_in, established_of, kept_entry}
-use Rattle.heading_list.specs.Rows.{field_text, list_row, rows_of_authority, rows_of_linkable, tracing_row, tracing_rows}
+use Rattle.heading_list.specs.Rows.{coded_text, list_row, rows_of_authority, rows_of_linkable, tracing_row, tracing_rows}
 use Rattle.heading_list.specs.declared.row.Role.TheVariants.{Established}
 
 -- ---- whether a field is a tracing
@@ -121,18 +121,18 @@ headless key fields form none has =
 
 rows_by : (o : Option Kind) (key : Key) (fields : List Field) (heading : Field) (form : Form)
     → Some form ≡ established_in (option_map (linkable_with key fields heading) o)
-    → list_row form Established key (field_text heading) ∷ tracing_rows key form.kind fields
+    → list_row form Established key (coded_text heading) ∷ tracing_rows key form.kind fields
     ≡ option_map_or (rows_of_linkable fields) (option_map (linkable_with key fields heading) o) []
 unfolding form_of
 rows_by (Some k) key fields heading form is =
     let same : form ≡ full_form k Authority heading = cc in
-    ap (λ (f : Form). list_row f Established key (field_text heading) ∷ tracing_rows key f.kind fields) same
+    ap (λ (f : Form). list_row f Established key (coded_text heading) ∷ tracing_rows key f.kind fields) same
 rows_by None key fields heading form is = cc
 
 -- the heading's row, and those of the tracings
 pub rows_are : (key : Key) (fields : List Field) (heading : Field) (form : Form) → Some heading ≡ heading_of fields
     → Some form ≡ established_in (linkable_of key fields)
-    → list_row form Established key (field_text heading) ∷ tracing_rows key form.kind fields ≡ option_map_or (rows_of_linkable fields) (linkable_of key fields) []
+    → list_row form Established key (coded_text heading) ∷ tracing_rows key form.kind fields ≡ option_map_or (rows_of_linkable fields) (linkable_of key fields) []
 unfolding linkable_of
 rows_are key fields heading form found is =
     let by : linkable_of key fields ≡ linkable_by key fields heading = sym (ap (option_and_then (linkable_by key fields)) found) in

@@ -28,8 +28,8 @@ abbrev pub subfield_text : Subfield → List ℕ
 subfield_text s = 36 ∷ s.code ∷ s.text
 
 -- the subfields of a field as they stand in it, each with its code
-abbrev pub field_text : Field → List ℕ
-field_text f = flat_map subfield_text (subfields_of f)
+abbrev pub coded_text : Field → List ℕ
+coded_text f = flat_map subfield_text (subfields_of f)
 
 -- a row of a form, of what that is to the authority of a key, and of the text as it stands there
 abbrev pub list_row : Form → Role → Key → List ℕ → ListRow
@@ -37,11 +37,11 @@ list_row form role key text = record { form = form; role = role; key = key; text
 
 -- the row of an authority's heading
 abbrev pub heading_row : Linkable → ListRow
-heading_row c = list_row c.established Established c.key (field_text c.heading)
+heading_row c = list_row c.established Established c.key (coded_text c.heading)
 
 -- the row of a see from tracing of a kind, under which the authority of a key is found
 abbrev pub tracing_row : Key → Kind → Field → ListRow
-tracing_row key kind f = list_row (full_form kind Authority f) SeeFrom key (field_text f)
+tracing_row key kind f = list_row (full_form kind Authority f) SeeFrom key (coded_text f)
 
 -- the row of each field that is such a tracing
 unfoldable pub tracing_rows : Key → Kind → List Field → List ListRow

@@ -1,12 +1,10 @@
--- The list of the headings of a journal, and how the command ends that writes it. The rules are this project's own.
+-- The list of the headings of a journal. The rules are this project's own.
 use Rattle.std.specs.Prelude.{ℕ, List}
 use Rattle.std.specs.List.{flat_map}
 use Rattle.marc_types.specs.declared.entry.Entry.{Entry}
 use Rattle.command_words.specs.Look.{HeadingRange}
 use Rattle.catalogue_rules.specs.Settle.{state_of}
 use Rattle.catalogue_rules.specs.State.{State}
-use Rattle.console_lines.specs.Ends.{Outcome}
-use Rattle.archive_commands.specs.Reads.{ReadsJournal}
 use Rattle.heading_list.specs.Lines.{linked_to, row_line}
 use Rattle.heading_list.specs.Rows.{first_rows}
 use Rattle.heading_list.specs.Typed.{typed_form}
@@ -18,7 +16,3 @@ headings_of range s = flat_map (λ r. row_line (linked_to r.key s) r) (first_row
 -- what is due of a history: the list of the headings of the state behind it
 abbrev pub headings_due : HeadingRange → List Entry → List ℕ
 headings_due range entries = headings_of range (state_of entries)
-
--- The command `headings`: the list of a journal's headings of a kind is written into the file OUT, and the journal keeps its history.
-abbrev pub TellsHeadings : List ℕ → List ℕ → HeadingRange → Outcome → Type 0
-TellsHeadings journal out range o = ReadsJournal journal out (headings_due range) o

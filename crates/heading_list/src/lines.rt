@@ -1,14 +1,14 @@
 //! The lines of a list of headings.
 ghost use Rattle.std.specs.Prelude.{◌≡◌, ◌++◌, OnOk, IfOk, unwrap_or};
 ghost use Rattle.std.specs.List.{flat_map};
-ghost use Rattle.heading_fields.specs.Numbers.{key_text};
 ghost use Rattle.heading_list.specs.Counting.{count_of};
 ghost use Rattle.heading_list.specs.Lines.{key_column, printed_byte, row_line, text_column};
 
 use crate::links::Links;
 use crate::row::{ListRow, Role};
+use heading_fields::add_key;
 use itoa::Buffer;
-use marc_types::{Key, NoMemory};
+use marc_types::NoMemory;
 use std::alloc::Global;
 use std::collections::BTreeSet;
 
@@ -42,18 +42,6 @@ fn add_text(text: &mut Vec<u8>, bytes: &[u8]) -> Result<(), NoMemory>
     Ok(())
 }
 
-/// The text of a key: the code in parentheses, and the number.
-#[tactic(auto, unfolding(heading_fields::specs::Numbers::key_text))]
-fn add_key(text: &mut Vec<u8>, key: &Key) -> Result<(), NoMemory>
-    ensures { OnOk result (text.new.items ≡ text.old.items ++ key_text key.now) }
-{
-    text.push(b'(')?;
-    text.extend_from_slice(key.code.as_bytes())?;
-    text.push(b')')?;
-    text.extend_from_slice(key.number.as_bytes())?;
-    Ok(())
-}
-
 /// What stands behind the text of a row, to whose key so many fields are linked.
 fn add_key_column(text: &mut Vec<u8>, row: &ListRow, linked: u64) -> Result<(), NoMemory>
     ensures { OnOk result (text.new.items ≡ text.old.items ++ key_column linked row.now.role row.now.key) }
@@ -67,7 +55,8 @@ fn add_key_column(text: &mut Vec<u8>, row: &ListRow, linked: u64) -> Result<(), 
         }
         Role::SeeFrom => {
             text.extend_from_slice(b"-> ")?;
-            add_key(text, &row.key)
+            add_key(text, &row.key)?;
+            Ok(())
         }
     }
 }

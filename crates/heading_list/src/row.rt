@@ -1,7 +1,7 @@
 //! Rows of a list of headings.
 ghost use Rattle.std.specs.Prelude.{◌≡◌, ◌++◌, IfOk, OnOk};
 ghost use Rattle.std.specs.List.{flat_map};
-ghost use Rattle.heading_list.specs.Rows.{field_text, list_row, role_rank, subfield_text};
+ghost use Rattle.heading_list.specs.Rows.{coded_text, list_row, role_rank, subfield_text};
 
 use marc_types::{Field, Form, Key, NoMemory, Sequence, Subfield, TryCopy};
 use std::alloc::Global;
@@ -49,9 +49,9 @@ fn add_subfields(text: &mut Vec<u8>, subfields: &[Subfield]) -> Result<(), NoMem
     Ok(())
 }
 
-/// The subfields of a field as they stand in it.
-fn field_text(alloc: Global, field: &Field) -> Result<Sequence<u8>, NoMemory>
-    ensures { IfOk result (λ text. text ≡ field_text field.now) }
+/// The subfields of a field as they stand in it, each with its code.
+fn coded_text(alloc: Global, field: &Field) -> Result<Sequence<u8>, NoMemory>
+    ensures { IfOk result (λ text. text ≡ coded_text field.now) }
 {
     let mut text = Vec::new(alloc);
     add_subfields(&mut text, field.subfields())?;
@@ -67,13 +67,13 @@ impl ListRow {
         key: &Key,
         field: &Field,
     ) -> Result<ListRow, NoMemory>
-        ensures { IfOk result (λ row. row ≡ list_row form role key.now (field_text field.now)) }
+        ensures { IfOk result (λ row. row ≡ list_row form role key.now (coded_text field.now)) }
     {
         Ok(ListRow {
             form,
             role,
             key: key.copy(alloc)?,
-            text: field_text(alloc, field)?,
+            text: coded_text(alloc, field)?,
         })
     }
 }

@@ -7,7 +7,7 @@ use Rattle.csv.specs.Reading.{default_config, records, records_from, records_nex
 use Rattle.csv.specs.Writing.{default_writer, escaped}
 use Rattle.csv.specs.declared.parser.State.TheVariants as st
 use Rattle.csv.proofs.RoundTrip.{quoted-run}
-use Rattle.heading_worklist.specs.Csv.{CsvLine, apostrophe, cell_bytes, is_risky, line_bytes, line_end, list_bytes, meant, quoted, shown, texts_of, then_cell}
+use Rattle.heading_worklist.specs.Csv.{CsvLine, apostrophe, cell_bytes, is_risky, line_bytes, line_end, list_bytes, meant, quoted, shown, line_texts, then_cell}
 
 -- ---- the apostrophe
 
@@ -77,7 +77,7 @@ split_line line tail =
     ∙ append_assoc (cell_bytes line.first) (flat_map then_cell line.others) (13 ∷ 10 ∷ tail)
 
 line_read : (line : CsvLine) (tail : List ℕ)
-    → next_record default_config st.StartRecord [] [] (line_bytes line ++ tail) ≡ Some (map shown (texts_of line), st.AfterCr, 10 ∷ tail)
+    → next_record default_config st.StartRecord [] [] (line_bytes line ++ tail) ≡ Some (map shown (line_texts line), st.AfterCr, 10 ∷ tail)
 line_read line tail =
     ap (λ (t : List ℕ). next_record default_config st.StartRecord [] [] t) (split_line line tail)
     ∙ first_read line.first (flat_map then_cell line.others ++ 13 ∷ 10 ∷ tail)
@@ -91,19 +91,19 @@ unfolding records_from next_record
 over_feed zero tail = refl
 over_feed (suc n) tail = refl
 
-lines_read : (n : ℕ) (lines : List CsvLine) → length lines < n → records_from default_config n st.StartRecord (flat_map line_bytes lines) ≡ map (λ line. map shown (texts_of line)) lines
+lines_read : (n : ℕ) (lines : List CsvLine) → length lines < n → records_from default_config n st.StartRecord (flat_map line_bytes lines) ≡ map (λ line. map shown (line_texts line)) lines
 unfolding records_from next_record
 lines_read zero lines low = absurd (omega (arith, low))
 lines_read (suc n) [] low = refl
 lines_read (suc n) (line ∷ lines) low =
     ap (λ (r : Option Read). records_next (records_from default_config n) r) (line_read line (flat_map line_bytes lines))
-    ∙ ap (λ (t : List (List (List ℕ))). map shown (texts_of line) ∷ t) (over_feed n (flat_map line_bytes lines) ∙ lines_read n lines (omega (arith, low)))
+    ∙ ap (λ (t : List (List (List ℕ))). map shown (line_texts line) ∷ t) (over_feed n (flat_map line_bytes lines) ∙ lines_read n lines (omega (arith, low)))
 
 -- a line has a byte or more
 long : (lines : List CsvLine) → length lines ≤ length (flat_map line_bytes lines)
 long [] = omega arith
 long (line ∷ lines) = omega (arith, long lines, length-append (line_bytes line) (flat_map line_bytes lines))
 
-pub read_back : (lines : List CsvLine) → records default_config (strip_bom (list_bytes lines)) ≡ map (λ line. map shown (texts_of line)) lines
+pub read_back : (lines : List CsvLine) → records default_config (strip_bom (list_bytes lines)) ≡ map (λ line. map shown (line_texts line)) lines
 unfolding strip_bom
 read_back lines = lines_read (length (flat_map line_bytes lines) + 1) lines (omega (arith, long lines))

@@ -21,7 +21,7 @@ counts s = cond (is_ambiguous s) 1 0 + cond (is_unlinked s) 1 0
 
 module _ (all : List Linkable) (class : Class) (row : Row) where
   abbrev heading_with : ℕ → KeptField → Kind → List Key → OpenHeading
-  heading_with n h kind keys = record { class = class; row = row; place = n; held = h; kind = kind; candidates = keys }
+  heading_with n h kind keys = record { class = class; row = row; number = n; held = h; kind = kind; candidates = keys }
 
   abbrev put_so : ℕ → KeptField → Option Kind → Standing → List OpenHeading → List OpenHeading
   put_so n h k s ys = cons_option (option_and_then (λ kind. option_map (heading_with n h kind) (candidates_by s)) k) ys

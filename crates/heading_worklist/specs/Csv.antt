@@ -51,8 +51,8 @@ pub record CsvLine : Type 0 where
   pub others : List (List ℕ)
 
 -- the texts of a line
-abbrev pub texts_of : CsvLine → List (List ℕ)
-texts_of line = line.first ∷ line.others
+abbrev pub line_texts : CsvLine → List (List ℕ)
+line_texts line = line.first ∷ line.others
 
 -- the bytes of a line
 abbrev pub line_bytes : CsvLine → List ℕ

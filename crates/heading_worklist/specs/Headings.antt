@@ -11,12 +11,12 @@ use Rattle.catalogue_rules.specs.State.{KeptField, Row, State, rows_of, linkable
 use Rattle.heading_worklist.specs.Counts.{Compared}
 use Rattle.catalogue_rules.specs.Receipt.{Standing, LinkedTo, AmbiguousAmong, WithoutLink, WithoutHeading, standing_of}
 
--- A heading field that isn't linked: its record's class and row, its place in the record, the field with its tie, its kind, and the keys
--- of the authorities that it could be linked to (two or more where it is ambiguous, else none).
+-- A heading field that isn't linked: its record's class and row, its number among the record's fields, the field with its tie, its kind,
+-- and the keys of the authorities that it could be linked to (two or more where it is ambiguous, else none).
 pub record OpenHeading : Type 0 where
   pub class : Class
   pub row : Row
-  pub place : ℕ
+  pub number : ℕ
   pub held : KeptField
   pub kind : Kind
   pub candidates : List Key
@@ -33,7 +33,7 @@ abbrev pub open_heading : List Linkable → Class → Row → ℕ × KeptField �
 open_heading all class row numbered =
     option_and_then
     (λ kind. option_map
-    (λ keys. record { class = class; row = row; place = numbered.0; held = numbered.1; kind = kind; candidates = keys })
+    (λ keys. record { class = class; row = row; number = numbered.0; held = numbered.1; kind = kind; candidates = keys })
     (candidates_by (standing_of all class numbered.1)))
     (heading_kind class numbered.1.field)
 
@@ -64,5 +64,5 @@ compared x = record {
   ambiguous = is_ambiguous x;
   full = full_form x.kind x.class x.held.field;
   base = base_form x.kind x.held.field;
-  place = record { class = x.class; key = x.row.0; field = x.place };
+  place = record { class = x.class; key = x.row.0; field = x.number };
 }

@@ -1,15 +1,15 @@
 -- The lines of a worklist: the texts of their cells. The columns are this project's own.
-use Rattle.std.specs.Prelude.{ℕ, ◌+◌, Bool, true, false, ◌&&◌, ◌||◌, not, List, [], ◌∷◌, length, map, filter, codes, Option, option_to_list, if◌then◌else◌}
+use Rattle.std.specs.Prelude.{ℕ, ◌+◌, Bool, true, false, ◌&&◌, ◌||◌, not, List, [], ◌∷◌, ◌++◌, length, map, filter, codes, Option, option_to_list, if◌then◌else◌}
 use Rattle.std.specs.List.{count_by, filter_map, flat_map, list_any, sum_by}
 use Rattle.std.specs.Option.{option_map, option_map_or}
 use Rattle.std.specs.Fmt.{decimal}
 use Rattle.marc_types.specs.Fields.{tag_of}
-use Rattle.marc_types.specs.declared.entry.Tie.{Tie}
 use Rattle.marc_types.specs.declared.key.Class.TheVariants.{Authority}
 use Rattle.marc_types.specs.declared.key.Key.{Key}
 use Rattle.marc_types.specs.Order.{same_key}
 use Rattle.heading_fields.specs.Numbers.{key_text}
-use Rattle.catalogue_rules.specs.State.{KeptField, Row, State, linkable_authorities}
+use Rattle.catalogue_rules.specs.Settle.{is_linked_to}
+use Rattle.catalogue_rules.specs.State.{Row, State, linkable_authorities}
 use Rattle.catalogue_rules.specs.Output.{tag_text}
 use Rattle.catalogue_rules.specs.Receipt.{kept_under}
 use Rattle.catalogue_tables.specs.Sharing.{keys_crossing, keys_sharing}
@@ -83,7 +83,7 @@ heading_cells s x count base_count = record {
   library = x.row.0.code;
   title = name_of_kept x.class x.row.1;
   tag = tag_text (tag_of x.held.field);
-  field = decimal x.place;
+  field = decimal x.number;
   identifiers = identifiers_text x.held.field;
   awaits = option_map_or key_text x.held.tie.awaits [];
   candidate_count = decimal (length x.candidates);
@@ -91,14 +91,6 @@ heading_cells s x count base_count = record {
   candidate_headings = names_text s x.candidates;
   why = reason_words (reason_of s x);
 }
-
--- the tie is a link to the authority under the key
-abbrev pub is_tied_to : Key → Tie → Bool
-is_tied_to key tie = option_map_or (λ linked. same_key linked key) tie.key false
-
--- the field is linked to the authority under the key
-abbrev pub is_linked_to : Key → KeptField → Bool
-is_linked_to key h = is_tied_to key h.tie
 
 -- how many fields of rows are linked to the authority under a key
 abbrev pub links_in : Key → List Row → ℕ
@@ -156,16 +148,23 @@ shared_at keep s row = group_lines keep s row.0 (keys_sharing row.0 (linkable_au
 abbrev pub shared_lines : (Key → Bool) → State → List CsvLine
 shared_lines keep s = flat_map (shared_at keep s) s.authorities
 
--- the line of an authority that is found under the headings of others, where it or one of them is kept
+-- the line of an authority that is found under the heading of another, or the other way round
+abbrev pub crossing_line : State → List Key → Key → Option CsvLine
+crossing_line s others key = authority_line s (codes "crossing") others key
+
+-- the line of the one that is found under the headings of others, and behind it a line for each of those
+abbrev pub lines_across : State → Key → List Key → List CsvLine
+lines_across s key others = option_to_list (crossing_line s others key) ++ filter_map (crossing_line s (key ∷ [])) others
+
+-- these lines, where the one or one of the others is kept
 abbrev pub crossing_among : (Key → Bool) → State → Key → List Key → List CsvLine
 crossing_among keep s key [] = []
-crossing_among keep s key (other ∷ others) =
-    if keep key || list_any keep (other ∷ others) then option_to_list (authority_line s (codes "crossing") (other ∷ others) key) else []
+crossing_among keep s key (other ∷ others) = if keep key || list_any keep (other ∷ others) then lines_across s key (other ∷ others) else []
 
--- the line that stands at a row, of those under whose heading its authority is found
+-- the lines that stand at a row, of its authority and of those under whose heading it is found
 abbrev pub crossing_at : (Key → Bool) → State → Row → List CsvLine
 crossing_at keep s row = crossing_among keep s row.0 (keys_crossing row.0 (linkable_authorities s))
 
--- a line for each authority that is found under the heading of others
+-- the lines of authorities that are found under the heading of others, each with those behind it
 abbrev pub crossing_lines : (Key → Bool) → State → List CsvLine
 crossing_lines keep s = flat_map (crossing_at keep s) s.authorities

@@ -1,5 +1,5 @@
 -- The worklist of a state. The list is this project's own.
-use Rattle.std.specs.Prelude.{ℕ, Bool, List, ◌∷◌, ◌++◌, map, Option, option_and_then}
+use Rattle.std.specs.Prelude.{ℕ, Bool, List, ◌∷◌, ◌++◌, map, Option, None, option_and_then, if◌then◌else◌}
 use Rattle.std.specs.List.{filter_map}
 use Rattle.std.specs.Option.{option_map}
 use Rattle.marc_types.specs.declared.key.Key.{Key}
@@ -27,18 +27,22 @@ counted_cells s c = option_map (λ x. heading_cells s x c.count c.base_count) (o
 abbrev pub counted_line : State → Counted → Option CsvLine
 counted_line s c = option_map line_of_cells (counted_cells s c)
 
--- the lines of open headings that were counted
-abbrev pub counted_lines : State → List Counted → List CsvLine
-counted_lines s found = filter_map (counted_line s) found
+-- its line, where the key of its record is kept
+abbrev pub kept_line : (Key → Bool) → State → Counted → Option CsvLine
+kept_line keep s c = if keep c.heading.place.key then counted_line s c else None
 
--- The columns' names; the lines of open headings that were counted; then a line for each authority that shares its heading with others, and
--- one for each that is found under another's.
+-- the lines of those open headings that were counted whose record's key is kept
+abbrev pub counted_lines : (Key → Bool) → State → List Counted → List CsvLine
+counted_lines keep s found = filter_map (kept_line keep s) found
+
+-- The columns' names; the lines of open headings that were counted; then those of authorities that share their heading with others, and of
+-- authorities that are found under the heading of others. Of all these the lines that are kept.
 abbrev pub lines_behind : (Key → Bool) → State → List Counted → List CsvLine
-lines_behind keep s found = column_names ∷ counted_lines s found ++ shared_lines keep s ++ crossing_lines keep s
+lines_behind keep s found = column_names ∷ counted_lines keep s found ++ shared_lines keep s ++ crossing_lines keep s
 
--- the lines of a worklist: those of the open headings of the records whose key is kept, in order, and those of authorities
+-- the lines of a worklist: of all open headings, counted and in order, those of the records whose key is kept, and those of authorities
 unfoldable pub worklist_lines : (Key → Bool) → State → List CsvLine
-worklist_lines keep s = lines_behind keep s (counted_in_order keep (map compared (open_headings s)))
+worklist_lines keep s = lines_behind keep s (counted_in_order (map compared (open_headings s)))
 
 -- the worklist, as bytes
 unfoldable pub worklist_of : (Key → Bool) → State → List ℕ

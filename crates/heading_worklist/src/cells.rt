@@ -2,7 +2,6 @@
 ghost use Rattle.std.specs.Prelude.{◌≡◌, ◌++◌, map, OnOk};
 ghost use Rattle.std.specs.List.{flat_map};
 ghost use Rattle.std.specs.Fmt.{decimal};
-ghost use Rattle.heading_fields.specs.Numbers.{key_text};
 ghost use Rattle.catalogue_tables.specs.Sharing.{shown_keys};
 ghost use Rattle.catalogue_rules.specs.Output.{tag_text};
 ghost use Rattle.heading_worklist.specs.Csv.{line_bytes, then_cell};
@@ -10,6 +9,7 @@ ghost use Rattle.heading_worklist.specs.Lines.{column_names, line_of_cells};
 ghost use Rattle.heading_worklist.specs.Texts.{first_keys, keys_text};
 
 use crate::quoting::{add_cell, begin_line, end_line};
+use heading_fields::add_key;
 use itoa::Buffer;
 use marc_types::{Key, Tag};
 use std::alloc::{AllocError, Global};
@@ -124,18 +124,6 @@ pub fn add_tag(cell: &mut Vec<u8>, tag: &Tag) -> Result<(), AllocError>
     ensures { OnOk result (cell.new.items ≡ cell.old.items ++ tag_text tag.now) }
 {
     cell.extend_from_slice(&[tag.a, tag.b, tag.c])
-}
-
-/// The text of a key.
-#[tactic(auto, unfolding(heading_fields::specs::Numbers::key_text))]
-pub fn add_key(cell: &mut Vec<u8>, key: &Key) -> Result<(), AllocError>
-    ensures { OnOk result (cell.new.items ≡ cell.old.items ++ key_text key.now) }
-{
-    cell.push(b'(')?;
-    cell.extend_from_slice(key.code.as_bytes())?;
-    cell.push(b')')?;
-    cell.extend_from_slice(key.number.as_bytes())?;
-    Ok(())
 }
 
 pub(crate) fn first_keys<'a, 'k>(keys: &'a [&'k Key]) -> &'a [&'k Key]

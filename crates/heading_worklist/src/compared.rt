@@ -6,13 +6,14 @@ ghost use Rattle.heading_worklist.specs.Counts.{heading_cmp};
 use marc_types::{Class, Form, Key};
 use std::cmp::Ordering;
 use std::marker::Model;
+use std::rc::Rc;
 
-/// An open heading: whether it is ambiguous, its full form and its base form, and its place.
+/// An open heading: whether it is ambiguous, its full form and its base form, and its place. Headings share their forms.
 #[derive(Drop)]
 pub struct Compared<'a> {
     pub ambiguous: bool,
-    pub full: Form,
-    pub base: Form,
+    pub full: Rc<Form>,
+    pub base: Rc<Form>,
     pub class: Class,
     pub key: &'a Key,
     pub field: u32,
@@ -26,8 +27,8 @@ impl<'a> Model for Compared<'a> {
 
     ghost view = { λ x. record {
       ambiguous = x.ambiguous;
-      full = x.full;
-      base = x.base;
+      full = x.full.value;
+      base = x.base.value;
       place = record { class = x.class; key = x.key.now; field = x.field };
     } };
 }
@@ -60,7 +61,7 @@ impl Compared<'_> {
     pub(crate) fn order(&self, other: &Self) -> Ordering
         ensures { result ≡ heading_cmp self.now other.now }
     {
-        match self.full.cmp(&other.full) {
+        match self.full.as_ref().cmp(other.full.as_ref()) {
             Ordering::Equal => match self.ambiguous.cmp(&other.ambiguous) {
                 Ordering::Equal => self.place_order(other),
                 order => order,

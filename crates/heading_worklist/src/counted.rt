@@ -7,8 +7,8 @@ use std::marker::Model;
 #[derive(Drop)]
 pub struct Counted<'f> {
     pub heading: &'f Compared<'f>,
-    pub count: u64,
-    pub base_count: u64,
+    pub count: u32,
+    pub base_count: u32,
 }
 
 impl<'f> Model for Counted<'f> {

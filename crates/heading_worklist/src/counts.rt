@@ -1,40 +1,44 @@
 //! How often the open headings of a catalogue stand.
 ghost use Rattle.std.specs.Prelude.{◌≡◌, ◌+◌, IfOk, OnOk, if◌then◌else◌};
-ghost use Rattle.heading_worklist.specs.Counts.{Asked as AnyAsked, asked, same_asked};
-ghost use Rattle.heading_worklist.specs.Counting.{AreTimes, times};
+ghost use Rattle.heading_worklist.specs.Counts.{StatedForm as AnyStatedForm, stated, same_stated};
+ghost use Rattle.heading_worklist.specs.Counting.{AreTimes, stated_times};
 
-use crate::asked::Asked;
 use crate::compared::Compared;
+use crate::stated::StatedForm;
 use marc_types::NoMemory;
 use std::alloc::Global;
-use std::collections::BTreeMap;
+use std::collections::HashMap;
 
 /// How often each state and form stands.
-pub(crate) type Counts<'f> = BTreeMap<Asked<'f>, u64>;
+pub(crate) type Counts<'f> = HashMap<StatedForm<'f>, u32>;
 
 /// A heading by its full form or its base form.
-pub(crate) fn asked<'f>(heading: &'f Compared<'_>, whole: bool) -> Asked<'f>
-    ensures { result ≡ asked whole heading.now }
+pub(crate) fn stated<'f>(heading: &'f Compared<'_>, whole: bool) -> StatedForm<'f>
+    ensures { result ≡ stated whole heading.now }
 {
-    Asked {
+    StatedForm {
         ambiguous: heading.ambiguous,
-        form: if whole { &heading.full } else { &heading.base },
+        form: if whole {
+            heading.full.as_ref()
+        } else {
+            heading.base.as_ref()
+        },
     }
 }
 
 /// How often a state and form are counted.
-pub(crate) fn times<'f>(counts: &Counts<'f>, asked: &Asked<'f>) -> u64
-    ensures { result ≡ times counts.now asked.now }
+pub(crate) fn stated_times<'f>(counts: &Counts<'f>, stated: &StatedForm<'f>) -> u32
+    ensures { result ≡ stated_times counts.now stated.now }
 {
-    counts.get(asked).copied().unwrap_or(0)
+    counts.get(stated).copied().unwrap_or(0)
 }
 
 #[tactic(auto, using(crate::proofs::Counting::one_more))]
-fn count_in<'f>(counts: &mut Counts<'f>, thing: Asked<'f>) -> Result<(), NoMemory>
-    ensures { OnOk result ((a : AnyAsked) → times counts.new a ≡ times counts.old a + (if same_asked thing.entry a then 1 else 0)) }
+fn count_in<'f>(counts: &mut Counts<'f>, thing: StatedForm<'f>) -> Result<(), NoMemory>
+    ensures { OnOk result ((a : AnyStatedForm) → stated_times counts.new a ≡ stated_times counts.old a + (if same_stated thing.entry a then 1 else 0)) }
 {
-    let so_far = times(counts, &thing);
-    if so_far == u64::MAX {
+    let so_far = stated_times(counts, &thing);
+    if so_far == u32::MAX {
         return Err(NoMemory);
     }
     counts.insert(thing, so_far + 1)?;
@@ -49,9 +53,9 @@ pub(crate) fn counted<'f>(
 ) -> Result<Counts<'f>, NoMemory>
     ensures { IfOk result (AreTimes whole all.now) }
 {
-    let mut counts = BTreeMap::new(alloc);
+    let mut counts = HashMap::new(alloc);
     for heading in all {
-        count_in(&mut counts, asked(heading, whole))?;
+        count_in(&mut counts, stated(heading, whole))?;
     }
     Ok(counts)
 }

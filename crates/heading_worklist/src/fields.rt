@@ -23,7 +23,7 @@ pub(crate) struct OpenField<'a> {
     pub(crate) class: Class,
     pub(crate) key: &'a Key,
     pub(crate) kept: &'a StoredRecord,
-    pub(crate) place: u32,
+    pub(crate) number: u32,
     pub(crate) found: FoundField<'a>,
     pub(crate) forms: HeadingForms,
     pub(crate) candidates: Keys,
@@ -40,7 +40,7 @@ impl<'a> Model for OpenField<'a> {
     ghost view = { λ x. record {
       class = x.class;
       row = (x.key.now, kept_record x.kept.now);
-      place = x.place;
+      number = x.number;
       held = found_field x.found;
       kind = x.forms.kind;
       candidates = x.candidates;
@@ -102,7 +102,7 @@ pub(crate) fn open_field_at<'a>(
         class,
         key,
         kept,
-        place,
+        number: place,
         found,
         forms,
         candidates,

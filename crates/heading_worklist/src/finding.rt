@@ -7,11 +7,13 @@ ghost use Rattle.heading_worklist.specs.Headings.{compared, open_headings, open_
 ghost use Rattle.heading_worklist.specs.Found.{open_at_field, open_state};
 
 use crate::compared::Compared;
-use crate::forms::{HeadingForms, forms_of};
+use crate::forms::forms_of;
+use crate::known_forms::{KnownForms, shared_forms};
 use catalogue_core::{Engine, Standing};
 use marc_types::{Class, Key, NoMemory};
 use numbered_store::{RowMap, StoredRecord};
 use std::alloc::Global;
+use std::collections::HashSet;
 
 // Whether a field that stands so is ambiguous, where it is an open heading.
 fn open_state(standing: Option<Standing>) -> Option<bool>
@@ -26,6 +28,7 @@ fn open_state(standing: Option<Standing>) -> Option<bool>
 
 /// The open heading that the field at a place is, if it is one.
 fn open_at<'a>(
+    known: &mut KnownForms,
     alloc: Global,
     engine: &Engine,
     class: Class,
@@ -42,9 +45,10 @@ fn open_at<'a>(
     let Some(field) = kept.field_at(alloc, place)? else {
         return Ok(None);
     };
-    let Some(HeadingForms { full, base, .. }) = forms_of(alloc, class, &field)? else {
+    let Some(forms) = forms_of(alloc, class, &field)? else {
         return Ok(None);
     };
+    let (full, base) = shared_forms(known, alloc, forms)?;
     Ok(Some(Compared {
         ambiguous,
         full,
@@ -59,6 +63,7 @@ fn open_at<'a>(
 #[tactic(auto, using(crate::proofs::Walked::pushed, crate::proofs::Walked::not_pushed))]
 fn push_open<'a>(
     found: &mut Vec<Compared<'a>>,
+    known: &mut KnownForms,
     alloc: Global,
     engine: &Engine,
     class: Class,
@@ -69,7 +74,7 @@ fn push_open<'a>(
     ensures { OnOk result (found.new.items ≡ found.old.items
         ++ option_to_list (option_map compared (open_at_field (linkable_authorities engine.now.state) class (key.now, kept_record kept.now) place))) }
 {
-    match open_at(alloc, engine, class, key, kept, place)? {
+    match open_at(known, alloc, engine, class, key, kept, place)? {
         Some(heading) => {
             found.push(heading)?;
             Ok(())
@@ -81,6 +86,7 @@ fn push_open<'a>(
 // Puts those of a record behind those that were found.
 fn push_row<'a>(
     found: &mut Vec<Compared<'a>>,
+    known: &mut KnownForms,
     alloc: Global,
     engine: &Engine,
     class: Class,
@@ -91,7 +97,7 @@ fn push_row<'a>(
         ++ map compared (open_in_row (linkable_authorities engine.now.state) class (key.now, kept_record kept.now))) }
 {
     for place in 0..kept.field_count() {
-        push_open(found, alloc, engine, class, key, kept, place)?;
+        push_open(found, known, alloc, engine, class, key, kept, place)?;
     }
     Ok(())
 }
@@ -99,6 +105,7 @@ fn push_row<'a>(
 // Puts those of a class behind those that were found.
 fn push_class<'a>(
     found: &mut Vec<Compared<'a>>,
+    known: &mut KnownForms,
     alloc: Global,
     engine: &Engine,
     class: Class,
@@ -108,7 +115,7 @@ fn push_class<'a>(
     ensures { OnOk result (found.new.items ≡ found.old.items ++ map compared (open_in_class engine.now.state class)) }
 {
     for (key, kept) in rows {
-        push_row(found, alloc, engine, class, *key, *kept)?;
+        push_row(found, known, alloc, engine, class, *key, *kept)?;
     }
     Ok(())
 }
@@ -120,12 +127,15 @@ pub fn open_headings<'a>(alloc: Global, engine: &'a Engine) -> Result<Vec<Compar
     let authorities = engine.rows(alloc, Class::Authority)?;
     let bibliographic = engine.rows(alloc, Class::Bibliographic)?;
     let mut found = Vec::new(alloc);
-    push_class(&mut found, alloc, engine, Class::Authority, &authorities)?;
+    let mut known = HashSet::new(alloc);
+    let (first, second) = (Class::Authority, Class::Bibliographic);
+    push_class(&mut found, &mut known, alloc, engine, first, &authorities)?;
     push_class(
         &mut found,
+        &mut known,
         alloc,
         engine,
-        Class::Bibliographic,
+        second,
         &bibliographic,
     )?;
     Ok(found)

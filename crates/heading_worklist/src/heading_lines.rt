@@ -39,8 +39,8 @@ pub(crate) fn heading_cells(
     alloc: Global,
     engine: &Engine,
     heading: &OpenField<'_>,
-    count: u64,
-    base_count: u64,
+    count: u32,
+    base_count: u32,
 ) -> Result<Cells, NoMemory>
     ensures { IfOk result (λ cells. cells ≡ heading_cells engine.now.state heading.now count base_count) }
 {
@@ -52,13 +52,13 @@ pub(crate) fn heading_cells(
         state: word_cell(alloc, state_word(heading.is_ambiguous()))?,
         kind: word_cell(alloc, kind_word(kind).as_bytes())?,
         heading: heading_cell(alloc, field, kind, heading.class)?,
-        count: number_cell(alloc, count)?,
-        base_count: number_cell(alloc, base_count)?,
+        count: number_cell(alloc, count as u64)?,
+        base_count: number_cell(alloc, base_count as u64)?,
         record_key: key_cell(alloc, heading.key)?,
         library: word_cell(alloc, heading.key.code.as_bytes())?,
         title: name_cell(alloc, heading.class, heading.kept)?,
         tag: tag_cell(alloc, field.tag())?,
-        field: number_cell(alloc, heading.place as u64)?,
+        field: number_cell(alloc, heading.number as u64)?,
         identifiers: identifiers_cell(alloc, field)?,
         awaits: awaited_cell(alloc, heading.awaits())?,
         candidate_count: number_cell(alloc, candidates.len() as u64)?,

@@ -1,7 +1,7 @@
 //! What a cataloguer works from: the open headings of a catalogue, line by line.
 #![tactic(auto)]
 
-pub use cells::{Cells, add_key, add_number};
+pub use cells::{Cells, add_number};
 pub use compared::Compared;
 pub use counted::Counted;
 pub use finding::open_headings;
@@ -9,7 +9,6 @@ pub use heading_lines::counted_cells;
 pub use order::counted_in_order;
 pub use writing::write_worklist;
 
-mod asked;
 mod authorities;
 mod authority_lines;
 mod cells;
@@ -21,6 +20,7 @@ mod finding;
 mod forms;
 mod heading_lines;
 mod identifying;
+mod known_forms;
 pub mod laws;
 mod linked_key;
 mod links;
@@ -29,5 +29,6 @@ mod names;
 mod order;
 mod quoting;
 mod reasons;
+mod stated;
 mod texts;
 mod writing;

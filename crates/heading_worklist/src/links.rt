@@ -4,8 +4,9 @@ ghost use Rattle.std.specs.List.{count_by};
 ghost use Rattle.marc_types.specs.Order.{same_key};
 ghost use Rattle.marc_types.specs.declared.key.Key.{Key as AnyKey};
 ghost use Rattle.numbered_store.specs.Kept.{kept_record, shown_row};
-ghost use Rattle.heading_worklist.specs.Counting.{AreLinks, linked_times};
-ghost use Rattle.heading_worklist.specs.Lines.{is_linked_to, is_tied_to, links_in};
+ghost use Rattle.catalogue_rules.specs.Settle.{is_linked_to};
+ghost use Rattle.heading_worklist.specs.Counting.{AreLinks, is_tied_to, linked_times};
+ghost use Rattle.heading_worklist.specs.Lines.{links_in};
 
 use crate::linked_key::LinkedKey;
 use catalogue_core::Engine;
@@ -24,9 +25,8 @@ pub(crate) fn linked_times<'a>(counts: &LinkCounts<'a>, key: &'a Key) -> u64
     counts.get(&LinkedKey { key }).copied().unwrap_or(0)
 }
 
-#[tactic(auto, using(crate::proofs::Counting::one_link))]
 fn count_link<'a>(counts: &mut LinkCounts<'a>, key: &'a Key) -> Result<(), NoMemory>
-    ensures { OnOk result ((k : AnyKey) → linked_times counts.new k ≡ linked_times counts.old k + (if same_key key.now k then 1 else 0)) }
+    ensures { OnOk result ((k : AnyKey) → linked_times counts.new k ≡ linked_times counts.old k + (if same_key k key.now then 1 else 0)) }
 {
     let so_far = linked_times(counts, key);
     if so_far == u64::MAX {

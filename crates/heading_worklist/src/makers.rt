@@ -10,11 +10,12 @@ ghost use Rattle.heading_worklist.specs.Lines.{name_under, names_text};
 ghost use Rattle.heading_worklist.specs.Reasons.{reason_words};
 ghost use Rattle.heading_worklist.specs.Texts.{heading_text, identifiers_text, keys_text, name_of_kept};
 
-use crate::cells::{add_key, add_keys, add_number, add_tag, first_keys};
+use crate::cells::{add_keys, add_number, add_tag, first_keys};
 use crate::names::add_name;
 use crate::reasons::{Reason, add_reason};
 use crate::texts::{add_heading, add_identifiers};
 use catalogue_core::Engine;
+use heading_fields::add_key;
 use marc_types::{Class, Field, Key, Kind, NoMemory, Tag};
 use numbered_store::StoredRecord;
 use std::alloc::Global;

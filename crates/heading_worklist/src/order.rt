@@ -1,5 +1,5 @@
 //! Open headings in the order of a worklist.
-ghost use Rattle.std.specs.Prelude.{◌≡◌, [], filter, fold, map, IfOk};
+ghost use Rattle.std.specs.Prelude.{◌≡◌, [], fold, map, IfOk};
 ghost use Rattle.std.specs.BTreeSet.{insert_key};
 ghost use Rattle.std.specs.Option.{option_copied};
 ghost use Rattle.heading_worklist.specs.Counting.{counted_by, kept_in};
@@ -7,7 +7,7 @@ ghost use Rattle.heading_worklist.specs.Counts.{counted_cmp, counted_in_order};
 
 use crate::compared::Compared;
 use crate::counted::Counted;
-use crate::counts::{Counts, asked, counted, times};
+use crate::counts::{Counts, counted, stated, stated_times};
 use marc_types::{Key, NoMemory};
 use std::alloc::Global;
 use std::collections::BTreeSet;
@@ -26,41 +26,36 @@ fn counted_by<'f>(heading: &'f Compared<'f>, full: &Counts<'f>, base: &Counts<'f
 {
     Counted {
         heading,
-        count: times(full, &asked(heading, true)),
-        base_count: times(base, &asked(heading, false)),
+        count: stated_times(full, &stated(heading, true)),
+        base_count: stated_times(base, &stated(heading, false)),
     }
 }
 
-/// Puts the headings of records whose key is kept in their order, as the maps count them.
+/// Puts the headings in their order, as the maps count them.
 fn ordered_by<'f>(
     alloc: Global,
     all: &'f [Compared<'f>],
-    code: Option<&str>,
     full: &Counts<'f>,
     base: &Counts<'f>,
 ) -> Result<BTreeSet<Counted<'f>>, NoMemory>
-    ensures { IfOk result (λ lines. lines.keys
-        ≡ fold (insert_key counted_cmp) [] (map (counted_by full.now base.now) (filter (λ x. kept_in (option_copied code.entry) x.place.key) all.now))) }
+    ensures { IfOk result (λ lines. lines.keys ≡ fold (insert_key counted_cmp) [] (map (counted_by full.now base.now) all.now)) }
 {
     let mut lines = BTreeSet::new(alloc);
     for heading in all {
-        if is_kept(heading.key, code) {
-            lines.insert(counted_by(heading, full, base))?;
-        }
+        lines.insert(counted_by(heading, full, base))?;
     }
     Ok(lines)
 }
 
-/// The headings of records whose key is kept, each counted over all, in their order.
+/// All headings, each counted, in their order.
 #[tactic(auto, using(crate::proofs::Counting::counted_alike), unfolding(crate::specs::Counts::in_order))]
 pub fn counted_in_order<'f>(
     alloc: Global,
     all: &'f [Compared<'f>],
-    code: Option<&str>,
 ) -> Result<BTreeSet<Counted<'f>>, NoMemory>
-    ensures { IfOk result (λ lines. lines.keys ≡ counted_in_order (kept_in (option_copied code.entry)) all.now) }
+    ensures { IfOk result (λ lines. lines.keys ≡ counted_in_order all.now) }
 {
     let full = counted(alloc, all, true)?;
     let base = counted(alloc, all, false)?;
-    ordered_by(alloc, all, code, &full, &base)
+    ordered_by(alloc, all, &full, &base)
 }

@@ -9,8 +9,8 @@ ghost use Rattle.catalogue_tables.specs.Sharing.{shown_keys};
 ghost use Rattle.numbered_store.specs.Kept.{shown_row};
 ghost use Rattle.heading_worklist.specs.Csv.{line_bytes, list_bytes};
 ghost use Rattle.heading_worklist.specs.Counting.{AreLinks, kept_in};
-ghost use Rattle.heading_worklist.specs.Lines.{authority_line, crossing_among, crossing_lines, group_lines, line_of_cells, member_line, shared_lines};
-ghost use Rattle.heading_worklist.specs.Worklist.{counted_line, counted_lines, lines_behind};
+ghost use Rattle.heading_worklist.specs.Lines.{authority_line, crossing_among, crossing_line, crossing_lines, group_lines, lines_across, line_of_cells, member_line, shared_lines};
+ghost use Rattle.heading_worklist.specs.Worklist.{counted_lines, kept_line, lines_behind};
 
 use crate::authorities::heading_under;
 use crate::authority_lines::{any_kept, authority_cells, is_kept_among, other_keys};
@@ -18,6 +18,7 @@ use crate::cells::{Cells, column_names};
 use crate::counted::Counted;
 use crate::heading_lines::counted_cells;
 use crate::links::{LinkCounts, links_of};
+use crate::order::is_kept;
 use crate::quoting::MARK;
 use catalogue_core::Engine;
 use marc_types::{Class, Key, NoMemory};
@@ -70,7 +71,20 @@ impl<'a> Lister<'a> {
         })
     }
 
-    /// Writes the lines of open headings that were counted.
+    /// The cells of an open heading that was counted, where the key of its record is kept.
+    fn kept(&self, counted: &Counted<'_>) -> Result<Option<Cells>, NoMemory>
+        ensures { IfOk result (λ cells. option_map line_of_cells cells
+            ≡ kept_line (kept_in (option_copied self.now.code)) self.now.engine.now.state counted.now) }
+    {
+        let heading = counted.heading;
+        if is_kept(heading.key, self.code) {
+            counted_cells(self.alloc, self.engine, counted)
+        } else {
+            Ok(None)
+        }
+    }
+
+    /// Writes the lines of open headings that were counted, of those that are kept.
     #[tactic(auto, using(outside::proofs::Fronts::writing_begun, outside::proofs::Fronts::writing_stopped, outside::proofs::Fronts::writing_done))]
     fn write_counted<K: Sink>(
         &self,
@@ -79,13 +93,13 @@ impl<'a> Lister<'a> {
         out: &mut K,
     ) -> Result<(), WriteFault>
         ensures bytes { OnOk result
-            (Appends (K.written out.old) (K.written out.new) (flat_map line_bytes (counted_lines self.now.engine.now.state lines.now.keys))) }
+            (Appends (K.written out.old) (K.written out.new) (flat_map line_bytes (counted_lines (kept_in (option_copied self.now.code)) self.now.engine.now.state lines.now.keys))) }
         ensures front { WritesFront (K.written out.old) (K.written out.new)
-            (flat_map line_bytes (counted_lines self.now.engine.now.state lines.now.keys)) }
+            (flat_map line_bytes (counted_lines (kept_in (option_copied self.now.code)) self.now.engine.now.state lines.now.keys)) }
         ensures cause { HasWriteCause (K.faults out.old) (K.faults out.new) result }
     {
         for counted in lines.iter() {
-            let Ok(cells) = counted_cells(self.alloc, self.engine, counted) else {
+            let Ok(cells) = self.kept(counted) else {
                 return Err(WriteFault::NoMemory);
             };
             write_found(cells, text, out)?;
@@ -176,12 +190,58 @@ impl<'a> Lister<'a> {
         Ok(())
     }
 
-    /// Writes the line of an authority that is found under the headings of others, where it or one of them is kept.
+    /// Writes a line for each of the authorities under whose heading one is found.
+    #[tactic(auto, using(outside::proofs::Fronts::writing_begun, outside::proofs::Fronts::writing_stopped, outside::proofs::Fronts::writing_done))]
+    fn write_others<K: Sink>(
+        &self,
+        own: &[&Key],
+        others: &[&'a Key],
+        text: &mut Vec<u8>,
+        out: &mut K,
+    ) -> Result<(), WriteFault>
+        ensures bytes { OnOk result (Appends (K.written out.old) (K.written out.new)
+            (flat_map line_bytes (filter_map (crossing_line self.now.engine.now.state (shown_keys own.now)) (shown_keys others.now)))) }
+        ensures front { WritesFront (K.written out.old) (K.written out.new)
+            (flat_map line_bytes (filter_map (crossing_line self.now.engine.now.state (shown_keys own.now)) (shown_keys others.now))) }
+        ensures cause { HasWriteCause (K.faults out.old) (K.faults out.new) result }
+    {
+        for key in others {
+            let Ok(cells) = self.authority(b"crossing", own, *key) else {
+                return Err(WriteFault::NoMemory);
+            };
+            write_found(cells, text, out)?;
+        }
+        Ok(())
+    }
+
+    /// Writes the line of an authority that is found under the headings of others, and behind it those of the others.
+    #[tactic(auto, using(outside::proofs::Fronts::front_none))]
+    fn write_across<K: Sink>(
+        &self,
+        own: &'a Key,
+        others: &[&'a Key],
+        text: &mut Vec<u8>,
+        out: &mut K,
+    ) -> Result<(), WriteFault>
+        ensures bytes { OnOk result (Appends (K.written out.old) (K.written out.new)
+            (flat_map line_bytes (lines_across self.now.engine.now.state own.now (shown_keys others.now)))) }
+        ensures front { WritesFront (K.written out.old) (K.written out.new)
+            (flat_map line_bytes (lines_across self.now.engine.now.state own.now (shown_keys others.now))) }
+        ensures cause { HasWriteCause (K.faults out.old) (K.faults out.new) result }
+    {
+        let Ok(cells) = self.authority(b"crossing", others, own) else {
+            return Err(WriteFault::NoMemory);
+        };
+        write_found(cells, text, out)?;
+        self.write_others(&[own], others, text, out)
+    }
+
+    /// Writes these lines where the one or one of the others is kept.
     #[tactic(auto, using(outside::proofs::Fronts::front_none))]
     fn write_crossing<K: Sink>(
         &self,
         own: &'a Key,
-        others: &[&Key],
+        others: &[&'a Key],
         text: &mut Vec<u8>,
         out: &mut K,
     ) -> Result<(), WriteFault>
@@ -197,10 +257,7 @@ impl<'a> Lister<'a> {
         if !is_kept_among(own, others, self.code) {
             return Ok(());
         }
-        let Ok(cells) = self.authority(b"crossing", others, own) else {
-            return Err(WriteFault::NoMemory);
-        };
-        write_found(cells, text, out)
+        self.write_across(own, others, text, out)
     }
 
     /// Writes the lines of authorities that share a heading.
@@ -227,7 +284,7 @@ impl<'a> Lister<'a> {
         Ok(())
     }
 
-    /// Writes the lines of authorities that are found under another's heading.
+    /// Writes the lines of authorities that are found under another's heading, and of those others.
     #[tactic(auto, using(outside::proofs::Fronts::writing_begun, outside::proofs::Fronts::writing_stopped, outside::proofs::Fronts::writing_done))]
     fn write_crossing_lines<K: Sink>(
         &self,
@@ -274,8 +331,8 @@ impl<'a> Lister<'a> {
     }
 }
 
-/// Writes the worklist of a catalogue whose open headings were counted, as `counted_in_order` gives them for the same code: all lines, or
-/// those of the records with that code. After a fault some front of it was written, maybe none or all; `OutputFault` is the sink's.
+/// Writes the worklist of a catalogue whose open headings were counted, as `counted_in_order` gives them: all lines, or those of the records
+/// with a code. After a fault some front of it was written, maybe none or all; `OutputFault` is the sink's.
 #[tactic(auto, using(outside::proofs::Fronts::front_none))]
 pub fn write_worklist<'a, K: Sink>(
     alloc: Global,

@@ -3,11 +3,11 @@ use Rattle.std.proofs.Common.{◌≡◌, ℕ, List, [], sym, ap, subst}
 use Rattle.std.proofs.Math.Logic.{∥∥₁_map, ∥∥₁_elim}
 use Rattle.std.specs.Coded.{Coded-set, coded_ℕ, coded_list}
 use Rattle.marc_types.specs.declared.entry.Entry.{Entry}
-use Rattle.commit_journal.specs.Log.{version_of}
+use Rattle.commit_journal.specs.Log.{version_of, payloads_of}
 use Rattle.entry_history.specs.Payloads.{IsHistory}
 use Rattle.entry_history.proofs.Histories.{history_once}
 use Rattle.entry_record.specs.History.{IsWithin}
-use Rattle.durable_catalogue.specs.Logs.{payloads_of, HasHistory, IsLogOf}
+use Rattle.durable_catalogue.specs.Logs.{HasHistory, IsLogOf}
 use Rattle.journal_files.specs.Journals.{journal_limits, HasFittingHistory}
 
 -- a log is read as one history

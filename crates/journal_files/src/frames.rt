@@ -3,7 +3,7 @@ ghost use Rattle.std.specs.Prelude.{◌≢◌, [], OnOk, IfErr};
 ghost use Rattle.commit_journal.specs.Versions.{number_of};
 ghost use Rattle.entry_history.specs.Payloads.{IsHistory};
 ghost use Rattle.durable_catalogue.specs.declared.fault.OpenFault.TheVariants.{DeviceFault, OldVersion};
-ghost use Rattle.durable_catalogue.specs.Logs.{payloads_of};
+ghost use Rattle.commit_journal.specs.Log.{payloads_of};
 ghost use Rattle.durable_catalogue.specs.Openings.{IsUnloaded};
 ghost use Rattle.journal_files.specs.Taking.{IsHandedOn};
 

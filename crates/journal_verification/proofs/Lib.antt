@@ -1,7 +1,9 @@
 pub mod Comings
+pub mod Digests
 pub mod Gates
 pub mod Headers
 pub mod There
 pub mod Told
+pub mod ToldDigest
 pub mod Verifying
 pub mod Walks

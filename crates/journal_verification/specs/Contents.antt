@@ -1,11 +1,12 @@
 -- What a journal has, and what is no journal.
-use Rattle.std.specs.Prelude.{◌≡◌, ℕ, ◌+◌, List, [], length, nat_le, nat_lt, if◌then◌else◌, Option, Some, None, Ok, Err}
+use Rattle.std.specs.Prelude.{◌≡◌, ℕ, ◌+◌, List, [], length, nat_le, nat_lt, if◌then◌else◌, Option, Some, None, Ok}
 use Rattle.marc_types.specs.declared.entry.Entry.{Entry}
 use Rattle.commit_journal.specs.declared.frame.Frame.{Frame}
 use Rattle.commit_journal.specs.declared.format.TheConstants.{BLANK_LENGTH}
-use Rattle.commit_journal.specs.Log.{frames_of, version_of, walk_of}
+use Rattle.commit_journal.specs.Log.{frames_of, version_of, walk_of, payloads_of}
+use Rattle.sha2.specs.Sha256.{sha256}
 use Rattle.entry_history.specs.Payloads.{IsHistory}
-use Rattle.journal_verification.specs.Walking.{payloads_of, IsBadFrame}
+use Rattle.journal_verification.specs.Digests.{front_of}
 use Rattle.journal_verification.specs.declared.verified.Verified.{Verified}
 
 -- bytes stand behind the closed gate at that place
@@ -16,7 +17,8 @@ torn_behind place bytes = if nat_lt (place + 1) bytes then Some place else None
 abbrev pub torn_of : List ℕ → Option ℕ
 torn_of log = if nat_le (length log) BLANK_LENGTH then None else torn_behind (walk_of log).place (length log)
 
--- A log is a journal, and this is what it has: its version, the entries of its history, its frames and its bytes.
+-- A log is a journal, and this is what it has: its version, the entries of its history, its frames and its bytes, and the digest of those
+-- in front of its first closed gate.
 pub record IsVerified (log : List ℕ) (v : Verified) : Type 0 where
   pub history : List Entry
   pub found : List Frame
@@ -26,9 +28,5 @@ pub record IsVerified (log : List ℕ) (v : Verified) : Type 0 where
   pub entries : v.entries ≡ length history
   pub frames : v.frames ≡ length found
   pub bytes : v.bytes ≡ length log
+  pub digest : v.digest ≡ sha256 (front_of log found)
   pub torn : v.torn ≡ torn_of log
-
--- nothing that is a journal stands at that place, or it is the gate of a payload that isn't valid
-pub data IsNoJournal (log : List ℕ) (place : ℕ) : Type 0 where
-  NoGate : frames_of log ≡ Err place → IsNoJournal log place
-  NoPayload : (frames : List Frame) → frames_of log ≡ Ok frames → IsBadFrame (version_of log) frames place → IsNoJournal log place

@@ -10,7 +10,9 @@ use Rattle.console_lines.specs.declared.end.End.TheVariants.{Done, Refused, Unwr
 use Rattle.console_lines.specs.declared.end.Unwritten.TheVariants.{Out, Side, Pages, Console}
 use Rattle.console_lines.specs.declared.fault.Fault.{Fault}
 use Rattle.console_lines.specs.declared.fault.Fault.TheVariants.{Usage, Input, Device, NotAJournal, Full, Memory, OldVersion, OtherHistory}
-use Rattle.journal_verification.specs.Contents.{IsVerified, IsNoJournal}
+use Rattle.journal_verification.specs.Contents.{IsVerified}
+use Rattle.journal_verification.specs.Digests.{digest_line}
+use Rattle.entry_history.specs.Frames.{IsNoJournal}
 use Rattle.journal_verification.specs.declared.verified.Verified.{Verified}
 
 -- the line of a journal that is torn
@@ -26,7 +28,7 @@ counts_line v =
 
 -- what is told of a journal
 abbrev pub verified_lines : Verified → List ℕ
-verified_lines v = counts_line v ++ torn_line v.torn
+verified_lines v = counts_line v ++ (digest_line v.digest v.entries ++ torn_line v.torn)
 
 -- how it ends
 abbrev pub EndsVerifying : End → Type 0

@@ -1,9 +1,13 @@
 //! The bytes of an input as they come, with as many as are looked at together in memory.
-ghost use Rattle.std.specs.Prelude.{◌≡◌, ℕ, ◌+◌, ◌<◌, ◌≤◌, ◌^◌, List, [], drop, length, true, false, IfOk, OnOk};
+ghost use Rattle.std.specs.Prelude.{◌≡◌, ℕ, ◌+◌, ◌<◌, ◌≤◌, ◌^◌, List, [], ◌++◌, take, drop, length, true, false, IfOk, OnOk};
+ghost use Rattle.sha2.specs.Hashers.{Holds256};
+ghost use Rattle.sha2.specs.Sha256.{sha256};
 ghost use Rattle.journal_verification.specs.Coming.{Comes, HasMore, HasNoMore, HasReadCause};
 
 use crate::fault::ReadFault;
+use marc_types::NoMemory;
 use outside::Source;
+use sha2::{Digest, Sha256};
 use std::alloc::Global;
 
 /// The most bytes that one read asks for.
@@ -17,6 +21,8 @@ pub struct Coming<S: Source> {
     window: Vec<u8>,
     // How many were passed.
     place: u64,
+    // It has taken those that were passed.
+    hasher: Sha256,
     ghost room: { place + length window.items + S.bound source < 2 ^ 64 },
 }
 
@@ -26,12 +32,14 @@ impl<S: Source> Coming<S> {
         ensures source { result.source ≡ source }
         ensures window { result.window.items ≡ [] }
         ensures place { result.place ≡ 0 }
+        ensures hashed { Holds256 result.hasher [] }
     {
         let _most = source.remaining();
         Coming {
             source,
             window: Vec::new(alloc),
             place: 0,
+            hasher: Sha256::new(),
         }
     }
 
@@ -47,6 +55,14 @@ impl<S: Source> Coming<S> {
         ensures { result ≡ self.now.place }
     {
         self.place
+    }
+
+    /// The SHA-256 of the bytes that were passed.
+    pub fn digest(&self) -> Result<[u8; 32], NoMemory>
+        ensures { IfOk result (λ digest. (passed : List ℕ) → Holds256 self.now.hasher passed → digest ≡ sha256 passed) }
+    {
+        let hasher = self.hasher.clone()?;
+        Ok(hasher.finalize())
     }
 
     /// Gives the input back.
@@ -66,6 +82,7 @@ impl<S: Source> Coming<S> {
         ensures comes { OnOk result ((b : List ℕ) → Comes self.old.window.items (S.left self.old.source) b →
             Comes self.new.window.items (S.left self.new.source) b) }
         ensures place { self.new.place ≡ self.old.place }
+        ensures hasher { self.new.hasher ≡ self.old.hasher }
         ensures cause { HasReadCause (S.faults self.old.source) (S.faults self.new.source) result }
     {
         let mut chunk = [0; MOST_AT_ONCE];
@@ -86,6 +103,7 @@ impl<S: Source> Coming<S> {
         ensures comes { OnOk result ((b : List ℕ) → Comes self.old.window.items (S.left self.old.source) b →
             Comes self.new.window.items (S.left self.new.source) b) }
         ensures place { self.new.place ≡ self.old.place }
+        ensures hasher { self.new.hasher ≡ self.old.hasher }
         ensures cause { HasReadCause (S.faults self.old.source) (S.faults self.new.source) result }
     {
         while self.window.len() < count {
@@ -104,9 +122,12 @@ impl<S: Source> Coming<S> {
         ensures window { self.new.window.items ≡ drop count self.old.window.items }
         ensures place { self.new.place ≡ self.old.place + count }
         ensures source { self.new.source ≡ self.old.source }
+        ensures hashed { (passed : List ℕ) → Holds256 self.old.hasher passed →
+            Holds256 self.new.hasher (passed ++ take count self.old.window.items) }
         ensures comes { (b : List ℕ) → Comes self.old.window.items (S.left self.old.source) b →
             Comes self.new.window.items (S.left self.new.source) (drop count b) }
     {
+        self.hasher.update(&self.window[..count]);
         let kept = self.window.len() - count;
         self.window.rotate_left(count);
         self.window.truncate(kept);

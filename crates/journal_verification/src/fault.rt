@@ -1,6 +1,7 @@
 ghost use Rattle.std.specs.Prelude.{◌≡◌};
 ghost use Rattle.journal_verification.specs.Coming.{verify_fault};
 
+use marc_types::NoMemory;
 use outside::Failed;
 use std::alloc::AllocError;
 
@@ -50,5 +51,15 @@ impl From<ReadFault> for VerifyFault {
             ReadFault::InputFault => VerifyFault::InputFault,
             ReadFault::NoMemory => VerifyFault::NoMemory,
         }
+    }
+}
+
+impl From<NoMemory> for VerifyFault {
+    ghost use Rattle.journal_verification.specs.declared.fault.VerifyFault.{VerifyFault};
+
+    ghost from_gives = { λ _ fault. fault ≡ VerifyFault.NoMemory };
+
+    fn from(_fault: NoMemory) -> VerifyFault {
+        VerifyFault::NoMemory
     }
 }

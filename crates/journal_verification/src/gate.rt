@@ -37,6 +37,7 @@ pub fn next_gate<S: Source>(coming: &mut Coming<S>) -> Result<Gate, ReadFault>
     ensures comes { OnOk result ((b : List ℕ) → Comes coming.old.window.items (S.left coming.old.source) b →
         Comes coming.new.window.items (S.left coming.new.source) b) }
     ensures place { coming.new.place ≡ coming.old.place }
+    ensures hasher { coming.new.hasher ≡ coming.old.hasher }
     ensures cause { HasReadCause (S.faults coming.old.source) (S.faults coming.new.source) result }
 {
     if !coming.fill(1)? {

@@ -1,14 +1,17 @@
-//! The command `verify`: a journal is read as an input, what it has is told, and nothing is written.
+//! The command `verify`: a journal is read as an input, what it has is told, or whether a digest is its own, and nothing is written.
 #![tactic(auto)]
 
 pub use command::verify;
 pub use fault::VerifyFault;
-pub use verified::{Verified, verify_source};
+pub use owning::verify_digest;
+pub use verified::{Looked, Verified, look_source, verify_source};
 
 mod coming;
 mod command;
 mod fault;
 mod gate;
+mod looking;
+mod owning;
 mod text;
 mod verified;
 mod walking;

@@ -1,6 +1,7 @@
 ghost use Rattle.std.specs.Prelude.{◌≡◌, ◌++◌, IfOk, string_bytes, codes};
 ghost use Rattle.std.specs.Fmt.{decimal};
 ghost use Rattle.journal_verification.specs.Verifying.{counts_line, torn_line, verified_lines};
+ghost use Rattle.journal_verification.specs.Digests.{digest_line};
 
 use crate::verified::Verified;
 use marc_types::NoMemory;
@@ -28,11 +29,22 @@ fn counts_text(alloc: Global, verified: &Verified) -> Result<String, NoMemory>
     Ok(format!(in alloc; "version {version}, {entries} entries, {frames} frames, {bytes} bytes\n")?)
 }
 
+/// The line of the digest of so many entries.
+#[tactic(auto, unfolding(crate::specs::Digests::digest_line))]
+pub fn digest_text(alloc: Global, digest: &[u8; 32], count: u64) -> Result<String, NoMemory>
+    ensures { IfOk result (λ text. string_bytes text ≡ digest_line digest.now count) }
+{
+    let digits = hex::encode(alloc, digest.as_slice())?;
+    Ok(format!(in alloc; "sha256 {digits} of {count} entries\n")?)
+}
+
 /// What the console is told of a journal.
 pub fn verified_text(alloc: Global, verified: &Verified) -> Result<String, NoMemory>
     ensures { IfOk result (λ text. string_bytes text ≡ verified_lines verified.now) }
 {
     let mut text = counts_text(alloc, verified)?;
+    let digest = digest_text(alloc, &verified.digest, verified.entries)?;
+    text.push_str(digest.as_str())?;
     let torn = torn_text(alloc, verified.torn)?;
     text.push_str(torn.as_str())?;
     Ok(text)

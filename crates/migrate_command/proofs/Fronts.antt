@@ -13,7 +13,7 @@ use Rattle.commit_journal.specs.Versions.{number_of}
 use Rattle.entry_record.specs.History.{IsWithin}
 use Rattle.entry_history.specs.Payloads.{IsHistory}
 use Rattle.entry_history.proofs.Histories.{history_once}
-use Rattle.durable_catalogue.specs.Logs.{payloads_of}
+use Rattle.commit_journal.specs.Log.{payloads_of}
 use Rattle.durable_catalogue.specs.declared.fault.OpenFault.{OpenFault}
 use Rattle.durable_catalogue.specs.declared.fault.OpenFault.TheVariants as opening
 use Rattle.durable_catalogue.specs.Openings.{IsUnread}

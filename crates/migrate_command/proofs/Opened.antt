@@ -14,12 +14,13 @@ use Rattle.commit_journal.specs.declared.format.TheConstants.{BLANK_LENGTH}
 use Rattle.commit_journal.specs.declared.version.Version.{Version}
 use Rattle.commit_journal.specs.declared.version.Version.TheVariants.{Two}
 use Rattle.commit_journal.specs.Versions.{number_of}
-use Rattle.commit_journal.specs.Log.{frames_of, version_of}
+use Rattle.commit_journal.specs.Log.{frames_of, version_of, payloads_of}
 use Rattle.commit_journal.specs.Journal.{Continues, IsFound, IsRecovered, IsSettling, IsDurableLog, EndsAt, SameLog, Opens, HasOpenCause, LeavesContent}
 use Rattle.commit_journal.proofs.Logs.{version_two}
 use Rattle.entry_history.specs.Payloads.{IsHistory}
-use Rattle.durable_catalogue.specs.Logs.{payloads_of, IsLogOf, HasHistory}
-use Rattle.durable_catalogue.specs.Openings.{IsBadFrame, NoGate, NoPayload, IsOpening}
+use Rattle.durable_catalogue.specs.Logs.{IsLogOf, HasHistory}
+use Rattle.durable_catalogue.specs.Openings.{IsOpening}
+use Rattle.entry_history.specs.Frames.{IsBadFrame, NoGate, NoPayload}
 use Rattle.durable_catalogue.proofs.Keeping.{some_of}
 use Rattle.durable_catalogue.proofs.Opened.{reading, opening_of, either_version}
 use Rattle.durable_catalogue.proofs.Readings.{same_log, same_newest}

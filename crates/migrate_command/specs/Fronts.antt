@@ -4,13 +4,13 @@ use Rattle.marc_types.specs.declared.entry.Entry.{Entry}
 use Rattle.marc_types.specs.declared.entry.Limits.{Limits}
 use Rattle.outside.specs.Disk.{DiskView, LeavesOnly}
 use Rattle.commit_journal.specs.declared.frame.Frame.{Frame}
-use Rattle.commit_journal.specs.Log.{version_of}
+use Rattle.commit_journal.specs.Log.{version_of, payloads_of}
 use Rattle.commit_journal.specs.Journal.{IsFound}
 use Rattle.entry_record.specs.History.{IsWithin}
 use Rattle.entry_history.specs.Payloads.{CanFollow, IsHistory}
-use Rattle.durable_catalogue.specs.Logs.{payloads_of, IsLogOf, HasHistory}
+use Rattle.durable_catalogue.specs.Logs.{IsLogOf, HasHistory}
 use Rattle.durable_catalogue.specs.Images.{framed_length, framed_lengths}
-use Rattle.durable_catalogue.specs.Openings.{IsBadFrame}
+use Rattle.entry_history.specs.Frames.{IsBadFrame}
 use Rattle.migrate_command.specs.Migrations.{Begins, AreWithin, IsAmid}
 use Rattle.migrate_command.specs.declared.fault.MigrateFault.{MigrateFault}
 use Rattle.migrate_command.specs.declared.fault.MigrateFault.TheVariants.{DeviceFault, NotAJournal, OldVersion, Full, NotPrefix, NoMemory}

@@ -10,7 +10,7 @@ use Rattle.commit_journal.specs.Journal.{EndsAt, LeavesLog, Unwritten}
 use Rattle.entry_record.specs.History.{IsWithin}
 use Rattle.durable_catalogue.specs.Logs.{IsLogOf, HasHistory}
 use Rattle.durable_catalogue.specs.Images.{framed_lengths}
-use Rattle.durable_catalogue.specs.Openings.{IsNoJournal}
+use Rattle.entry_history.specs.Frames.{IsNoJournal}
 use Rattle.durable_catalogue.specs.Refused.{LeavesAlone}
 use Rattle.migrate_command.specs.declared.fault.MigrateFault.{MigrateFault}
 use Rattle.migrate_command.specs.declared.fault.MigrateFault.TheVariants.{DeviceFault, NotAJournal, OldVersion, Full, NotPrefix, NoMemory}

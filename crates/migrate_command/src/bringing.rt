@@ -62,6 +62,29 @@ fn bring_into<R: Room>(
     }
 }
 
+/// Brings a history into the file of that name, in version 2, whatever version it stood in; and answers how many entries it has.
+pub fn bring_history<R: Room>(
+    alloc: Global,
+    room: &mut R,
+    history: &[EntryPayload],
+    into: &str,
+) -> Result<u64, Fault>
+    requires free { (R.seen room.old).open_as into.now ≡ None }
+    requires within { IsWithin journal_limits history.now }
+    ensures apart { SameBut (R.seen room.old) (R.seen room.new) (into.now ∷ []) }
+    ensures closed { (R.seen room.new).open_as into.now ≡ None }
+    ensures brings { (was : List ℕ) → (R.seen room.old).tells ≡ true → HasHistory history.now was →
+        BringsInto history.now (R.seen room.old) (R.seen room.new) into.now }
+    ensures brought { OnOk result (IsBroughtInto history.now 1 (R.seen room.old) (R.seen room.new) into.now) }
+    ensures fault { IfErr result (IsUnbrought history.now 1 (R.seen room.old) (R.seen room.new) into.now) }
+    ensures kept { IfErr result (λ fault. fault ≢ Device → (R.seen room.old).tells ≡ true →
+        log_bytes (R.seen room.new) into.now ≡ log_bytes (R.seen room.old) into.now) }
+    ensures settled { IfErr result (λ fault. fault ≢ Device → (R.seen room.old).tells ≡ true →
+        IsSettledLog (R.seen room.old) (R.seen room.new) into.now) }
+{
+    bring_into(alloc, room, 1, history, into)
+}
+
 /// Brings the history of the file `from` into the file `into`, and answers how many entries it has.
 pub fn bring_over<R: Room>(
     alloc: Global,

@@ -4,7 +4,7 @@ ghost use Rattle.marc_types.specs.declared.entry.Entry.{Entry as AnyEntry};
 ghost use Rattle.commit_journal.specs.Versions.{number_of};
 ghost use Rattle.entry_record.specs.History.{IsWithin};
 ghost use Rattle.entry_history.specs.Payloads.{IsHistory};
-ghost use Rattle.durable_catalogue.specs.Logs.{payloads_of};
+ghost use Rattle.commit_journal.specs.Log.{payloads_of};
 ghost use Rattle.migrate_command.specs.Fronts.{HoldsFront, HoldNoFront};
 ghost use Rattle.migrate_command.specs.Migrations.{Begins};
 ghost use Rattle.migrate_command.specs.declared.fault.MigrateFault.TheVariants.{DeviceFault};

@@ -18,6 +18,8 @@ pub struct FileDisk<R> {
     len: u64,
     faults: u64,
     cause: Option<Cause>,
+    // whether a sync failed, behind which the system may show what isn't on the disk
+    has_failed_sync: bool,
     // who tells how far its reading has come
     watch: Option<Watch<R>>,
     ghost short: { len ≤ longest_disk },
@@ -34,6 +36,7 @@ impl<R: Eprint + Clock> FileDisk<R> {
                 file,
                 faults: 0,
                 cause: None,
+                has_failed_sync: false,
                 watch: None,
             }),
             Ok(_) => Err(Cause::TooLong),
@@ -51,6 +54,11 @@ impl<R: Eprint + Clock> FileDisk<R> {
     /// Why the last call that failed did.
     pub fn cause(&self) -> Option<Cause> {
         self.cause
+    }
+
+    /// Whether a sync failed.
+    pub fn has_failed_sync(&self) -> bool {
+        self.has_failed_sync
     }
 
     // A fault more, which had that cause.
@@ -186,7 +194,10 @@ impl<R: Eprint + Clock> Disk for FileDisk<R> {
     {
         match self.file.sync_data() {
             Ok(()) => Ok(()),
-            Err(error) => Err(self.fail(Cause::of(&error))),
+            Err(error) => {
+                self.has_failed_sync = true;
+                Err(self.fail(Cause::of(&error)))
+            }
         }
     }
 }

@@ -25,6 +25,11 @@ impl<R: Eprint> LineNotes<R> {
         }
     }
 
+    /// So many more pieces of the file that was told last were refused, of which nothing is told.
+    pub fn pass_over(&mut self, pieces: u64) {
+        self.refused = self.refused.saturating_add(pieces);
+    }
+
     /// No more notes come.
     pub fn end(&mut self) {
         self.end_file();

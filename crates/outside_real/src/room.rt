@@ -62,6 +62,8 @@ pub struct Intent {
     pub has_reading: bool,
     /// Whether it looks at its inputs without holding them.
     pub looks: bool,
+    /// The file whose pieces the command judges, where it is one alone.
+    pub judged: Option<String>,
     /// What is told of how much was written.
     pub counts: Counts,
     /// An output of which that isn't told.
@@ -78,6 +80,7 @@ impl Intent {
             reads: None,
             has_reading: false,
             looks: false,
+            judged: None,
             counts: Counts::Nothing,
             uncounted: None,
             is_terminal: false,
@@ -209,15 +212,41 @@ impl<R: Files<File = File> + Print + Eprint + Clock + Alloc + Clone + Drop> File
         }
     }
 
-    // An input that is to be MARC and begins like something else.
+    // An input that is to be MARC and begins like something else. A journal that is only looked at isn't to be MARC.
     fn tell_foreign(&self, name: &str) {
-        if self.intent.looks {
+        if self.intent.looks && !is_named(&self.intent.judged, name) {
             return;
         }
         if let Some(sort) = foreign_sort(&self.rt, name) {
             self.end_progress();
             let _told = eprintln!(self.rt;
                 "union_cat: {name}: this looks like no MARC file ({sort})"
+            );
+        }
+    }
+
+    /// Tells that a file looks like no MARC whose first pieces are all refused, so many, unless its first bytes have told it.
+    pub fn tell_refused_front(&self, name: &str, pieces: usize) {
+        if foreign_sort(&self.rt, name).is_none() {
+            let _told = eprintln!(self.rt;
+                "union_cat: {name}: this looks like no MARC file (its first {pieces} pieces are refused)"
+            );
+        }
+    }
+
+    /// The file whose pieces the command judges, where it is one alone.
+    pub fn judged(&self) -> Option<&str> {
+        match &self.intent.judged {
+            Some(name) => Some(name.as_str()),
+            None => None,
+        }
+    }
+
+    // What is to be done behind a sync that failed, since the next command would read what the system keeps.
+    fn tell_unsynced(&self, name: &str, object: &FileDisk<R>) {
+        if object.has_failed_sync() {
+            let _told = eprintln!(self.rt;
+                "union_cat: {name}: mount its disk anew, or restart, before the next command: what is shown of it may not be there"
             );
         }
     }
@@ -564,6 +593,7 @@ impl<R: Files<File = File> + Print + Eprint + Clock + Alloc + Clone + Send + Dro
     {
         self.end_progress();
         self.tell_some(name, object.cause());
+        self.tell_unsynced(name, &object);
         self.logs = added(self.logs, object.faults());
         self.forget(name);
     }

@@ -6,6 +6,7 @@ ghost use Rattle.outside_real.specs.Gathering.{GathersNothing};
 
 use crate::cause::Cause;
 use crate::count::raised;
+use crate::heard::Heard;
 use crate::tally::Tally;
 use crate::target::{Keep, Target};
 use crate::writing::{pass_on, write_whole};
@@ -187,6 +188,11 @@ impl<R: Print + Eprint + Clock + Drop> FileSink<Target<R>> {
     /// What was counted of what was written; nothing of the console.
     pub fn tally(&self) -> Option<&Tally<R>> {
         self.to.tally()
+    }
+
+    /// What was heard of the console.
+    pub fn heard(&self) -> Option<&Heard> {
+        self.to.heard()
     }
 
     /// The new file, where there is one.

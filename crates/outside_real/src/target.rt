@@ -2,6 +2,7 @@ ghost use Rattle.std.specs.Prelude.{◌≤◌, length, IfOk, OnOk, ⊤};
 
 use crate::cause::Cause;
 use crate::draft::Draft;
+use crate::heard::Heard;
 use crate::opening::synced;
 use crate::tally::Tally;
 use std::fs::File;
@@ -20,12 +21,13 @@ pub trait Keep {
         ensures { OnOk result (keeps self.now) };
 }
 
-/// Where an output goes: a new file that is to replace another, a file that is written straight, or what the runtime prints to.
+/// Where an output goes: a new file that is to replace another, a file that is written straight, or what the runtime prints to, which can be
+/// heard.
 #[derive(Drop)]
 pub enum Target<R> {
     Draft(Draft, Tally<R>),
     File(File, Tally<R>),
-    Console(R),
+    Console(R, Option<Heard>),
 }
 
 impl<R> Target<R> {
@@ -33,7 +35,7 @@ impl<R> Target<R> {
     pub fn put<F: Files>(&mut self, files: &F) -> Result<(), Cause> {
         match self {
             Target::Draft(draft, _) => draft.put(files),
-            Target::File(_, _) | Target::Console(_) => Ok(()),
+            Target::File(_, _) | Target::Console(_, _) => Ok(()),
         }
     }
 
@@ -41,7 +43,7 @@ impl<R> Target<R> {
     pub fn give_up<F: Files>(&self, files: &F) -> Result<(), Cause> {
         match self {
             Target::Draft(draft, _) => draft.give_up(files),
-            Target::File(_, _) | Target::Console(_) => Ok(()),
+            Target::File(_, _) | Target::Console(_, _) => Ok(()),
         }
     }
 
@@ -49,7 +51,15 @@ impl<R> Target<R> {
     pub fn tally(&self) -> Option<&Tally<R>> {
         match self {
             Target::Draft(_, tally) | Target::File(_, tally) => Some(tally),
-            Target::Console(_) => None,
+            Target::Console(_, _) => None,
+        }
+    }
+
+    /// What was heard of the console.
+    pub fn heard(&self) -> Option<&Heard> {
+        match self {
+            Target::Console(_, heard) => heard.as_ref(),
+            Target::Draft(_, _) | Target::File(_, _) => None,
         }
     }
 
@@ -57,7 +67,7 @@ impl<R> Target<R> {
     pub fn draft(&self) -> Option<&File> {
         match self {
             Target::Draft(draft, _) => Some(&draft.file),
-            Target::File(_, _) | Target::Console(_) => None,
+            Target::File(_, _) | Target::Console(_, _) => None,
         }
     }
 }
@@ -70,7 +80,7 @@ impl<R> Keep for Target<R> {
         match self {
             Target::Draft(draft, _) => draft.keep(),
             Target::File(file, _) => synced(file),
-            Target::Console(_) => Ok(()),
+            Target::Console(_, _) => Ok(()),
         }
     }
 }
@@ -88,7 +98,13 @@ impl<R: Print + Eprint + Clock> Write for Target<R> {
                 tally.count(&answer, buf);
                 answer
             }
-            Target::Console(rt) => rt.write_some(buf),
+            Target::Console(rt, heard) => {
+                let answer = rt.write_some(buf);
+                if let Some(heard) = heard {
+                    heard.hear(&answer, buf);
+                }
+                answer
+            }
         }
     }
 
@@ -96,7 +112,7 @@ impl<R: Print + Eprint + Clock> Write for Target<R> {
         match self {
             Target::Draft(draft, _) => draft.file.flush(),
             Target::File(file, _) => file.flush(),
-            Target::Console(_) => Ok(()),
+            Target::Console(_, _) => Ok(()),
         }
     }
 }

@@ -87,7 +87,7 @@ fn deliver_pieces<R: Room>(
 
 /// The command `refused`: takes one file as `pass` does, and writes its refused pieces, as they stand in it, into the file `out`. It tells
 /// an input's fault, a file that has more than a catalogue takes, and want of memory.
-#[tactic(auto, using(output_files::proofs::Rooms::closed_one))]
+#[tactic(auto, using(outside::proofs::Closings::closed_one))]
 pub fn give_back<R: Room>(
     alloc: Global,
     room: &mut R,

@@ -44,7 +44,7 @@ impl Document for Workload {
 
 /// The command `make`: writes a workload of at most 1,048,576 records into the file `out`, and tells what their commits to an
 /// empty catalogue answer.
-#[tactic(auto, using(output_files::proofs::Rooms::closed_one))]
+#[tactic(auto, using(outside::proofs::Closings::closed_one))]
 pub fn make<R: Room>(
     alloc: Global,
     room: &mut R,

@@ -79,7 +79,7 @@ fn deliver_export<R: Room>(
 
 /// The command `pass`: one file through an empty catalogue, into the file `out`. It tells an input's fault, a file that has
 /// more than a catalogue takes, and want of memory.
-#[tactic(auto, using(output_files::proofs::Rooms::closed_one))]
+#[tactic(auto, using(outside::proofs::Closings::closed_one))]
 pub fn pass<R: Room>(
     alloc: Global,
     room: &mut R,

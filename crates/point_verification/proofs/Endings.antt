@@ -10,8 +10,8 @@ use Rattle.console_lines.specs.declared.fault.Fault.{Fault}
 use Rattle.console_lines.specs.declared.fault.Fault.TheVariants.{Input}
 use Rattle.console_lines.proofs.Ends.{told_once, told_not_unwritten, never_told}
 use Rattle.checkpoint.specs.declared.point.Point.{Point}
-use Rattle.reading_commands.specs.Looking.{fault_of_look}
-use Rattle.point_verification.specs.Verifying.{EndsVerifyingPoint, IsNotOwnOf, NotOwn, NoRoom, VerifiesPoint, WhyNot, OfJournal, OfPoint, OfBoth}
+use Rattle.unheld_journals.specs.Untaken.{fault_of_look}
+use Rattle.point_verification.specs.Verifying.{EndsVerifyingPoint, IsNotOwnOf, NotOwn, NoRoom, VerifiesPoint, WhyNotOwn, OfJournal, OfPoint, OfBoth}
 
 -- a fault for which bytes aren't taken is one of the command, and none of the input
 log_ends : (reason : OpenFault) → EndsVerifyingPoint (Told (fault_of_look reason))
@@ -36,19 +36,19 @@ not_own_not_input : {history : List Entry} {last : Option Point} {why : Fault} �
 not_own_not_input (NotOwn other) is = cc
 not_own_not_input NoRoom is = cc
 
-why_ends : (journal point : List ℕ) (why : Fault) → WhyNot journal point why → EndsVerifyingPoint (Told why)
+why_ends : (journal point : List ℕ) (why : Fault) → WhyNotOwn journal point why → EndsVerifyingPoint (Told why)
 why_ends journal point why (OfJournal reason current is unopened) = subst (λ w. EndsVerifyingPoint (Told w)) (sym is) (log_ends reason)
 why_ends journal point why (OfPoint history has within reason is untaken) = subst (λ w. EndsVerifyingPoint (Told w)) (sym is) (log_ends reason)
 why_ends journal point why (OfBoth history has within last is_last other) = not_own_ends other
 
-why_not_input : (journal point : List ℕ) (why : Fault) → WhyNot journal point why → why ≡ Input → ⊥
+why_not_input : (journal point : List ℕ) (why : Fault) → WhyNotOwn journal point why → why ≡ Input → ⊥
 why_not_input journal point why (OfJournal reason current is unopened) same = log_not_input reason (sym is ∙ same)
 why_not_input journal point why (OfPoint history has within reason is untaken) same = log_not_input reason (sym is ∙ same)
 why_not_input journal point why (OfBoth history has within last is_last other) same = not_own_not_input other same
 
 -- both files were read, and nothing else is told of them
 pub verifies_not : (journal point history_bytes point_bytes : List ℕ) (o : Outcome) (why : Fault) → (o.old.tells ≡ true → o.old.file journal ≡ Some history_bytes)
-    → (o.old.tells ≡ true → o.old.file point ≡ Some point_bytes) → WhyNot history_bytes point_bytes why → o.end ≡ Told why → IsTold why o → VerifiesPoint journal point o
+    → (o.old.tells ≡ true → o.old.file point ≡ Some point_bytes) → WhyNotOwn history_bytes point_bytes why → o.end ≡ Told why → IsTold why o → VerifiesPoint journal point o
 verifies_not journal point history_bytes point_bytes o why there point_there not is told = record {
   ends = subst EndsVerifyingPoint (sym is) (why_ends history_bytes point_bytes why not);
   told = λ other also. subst (λ w. IsTold w o) (told_once o.end why other is also) told;
@@ -58,7 +58,7 @@ verifies_not journal point history_bytes point_bytes o why there point_there not
     history_file = there tells;
     point_bytes = point_bytes;
     point_file = point_there tells;
-    so = subst (WhyNot history_bytes point_bytes) (told_once o.end why other is also) not;
+    so = subst (WhyNotOwn history_bytes point_bytes) (told_once o.end why other is also) not;
   };
   input = λ also. absurd (why_not_input history_bytes point_bytes why not (told_once o.end why Input is also));
   console_cause = λ also. absurd (told_not_unwritten o.end why Console is also);

@@ -14,7 +14,7 @@ use Rattle.kept_rows.specs.declared.row.KeptRow.{KeptRow}
 use Rattle.checkpoint.specs.declared.point.Point.{Point}
 use Rattle.restoring.specs.Resuming.{IsOfFront}
 use Rattle.checkpoint_commands.specs.PointLogs.{IsPointLog}
-use Rattle.point_verification.specs.Verifying.{IsNotOwnOf, NotOwn, WhyNot, OfBoth}
+use Rattle.point_verification.specs.Verifying.{IsNotOwnOf, NotOwn, WhyNotOwn, OfBoth}
 
 pub own_front : (history : List Entry) (point : Point) (made : State) (rows : List KeptRow) (told : Bool) → rows ≡ point.rows
     → made ≡ state_of (take point.entries history) → point.entries ≤ length history → ((told ≡ true) ↔ (made ≡ state_of_rows rows))
@@ -36,7 +36,7 @@ module _ (history : List Entry) (last : Option Point) where
 
 -- both files' bytes are taken, and the last checkpoint isn't the history's own
 pub not_own : (journal point : List ℕ) (history entries : List Entry) (last : Option Point) (result : Result (ℕ × ℕ) Fault) → HasHistory history journal
-    → IsWithin journal_limits history → entries ≡ history → IsPointLog last point → IfErr result (IsNotOwnOf entries last) → IfErr result (WhyNot journal point)
+    → IsWithin journal_limits history → entries ≡ history → IsPointLog last point → IfErr result (IsNotOwnOf entries last) → IfErr result (WhyNotOwn journal point)
 not_own journal point history entries last (Ok told) has within same is_last own = tt
 not_own journal point history entries last (Err why) has within same is_last not =
     OfBoth history has within last is_last (subst (λ es. IsNotOwnOf es last why) same not)

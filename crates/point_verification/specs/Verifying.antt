@@ -19,7 +19,7 @@ use Rattle.console_lines.specs.declared.fault.Fault.TheVariants.{Usage, Input, D
 use Rattle.journal_files.specs.Journals.{journal_limits}
 use Rattle.checkpoint.specs.declared.point.Point.{Point}
 use Rattle.restoring.specs.Resuming.{IsOfFront}
-use Rattle.reading_commands.specs.Looking.{fault_of_look}
+use Rattle.unheld_journals.specs.Untaken.{fault_of_look}
 use Rattle.checkpoint_commands.specs.PointLogs.{IsPointLog, IsUntaken}
 
 -- how it ends: nothing is refused, no output is written and no device fails
@@ -52,8 +52,8 @@ pub data IsNotOwnOf (history : List Entry) (last : Option Point) : Fault → Typ
   NotOwn : IfSome last (λ point. IsOfFront history point → ⊥) → IsNotOwnOf history last OtherHistory
   NoRoom : IsNotOwnOf history last Memory
 
--- The bytes of the one are a journal's, with a history within the limits, and those of the other are a log of checkpoints, the last of which
--- is of a front of that history, and holds so many entries of so many.
+-- The bytes of the one are a journal's, with a history within the limits, and those of the other are a log of checkpoints, the last of
+-- which is of a front of that history, and holds so many entries of so many.
 pub record AreOwn (journal point : List ℕ) (held count : ℕ) : Type 0 where
   pub history : List Entry
   pub has : HasHistory history journal
@@ -62,16 +62,18 @@ pub record AreOwn (journal point : List ℕ) (held count : ℕ) : Type 0 where
   pub is_last : IsPointLog last point
   pub own : IsOwnOf history last held count
 
--- Why that isn't told: the bytes of the journal are not taken; or they are, and those of the log of checkpoints are not; or both are, and its
--- last checkpoint isn't the history's own.
-pub data WhyNot (journal point : List ℕ) (why : Fault) : Type 0 where
-  OfJournal : (reason : OpenFault) → reason ≢ opening.OldVersion → why ≡ fault_of_look reason → IsUnopened journal_limits journal reason → WhyNot journal point why
+-- Why that isn't told: the bytes of the journal are not taken; or they are, and those of the log of checkpoints are not; or both are, and
+-- its last checkpoint isn't the history's own.
+pub data WhyNotOwn (journal point : List ℕ) (why : Fault) : Type 0 where
+  OfJournal : (reason : OpenFault) → reason ≢ opening.OldVersion → why ≡ fault_of_look reason → IsUnopened journal_limits journal reason
+      → WhyNotOwn journal point why
   OfPoint : (history : List Entry) → HasHistory history journal → IsWithin journal_limits history → (reason : OpenFault) → why ≡ fault_of_look reason
-      → IsUntaken point reason → WhyNot journal point why
+      → IsUntaken point reason → WhyNotOwn journal point why
   OfBoth : (history : List Entry) → HasHistory history journal → IsWithin journal_limits history → (last : Option Point) → IsPointLog last point
-      → IsNotOwnOf history last why → WhyNot journal point why
+      → IsNotOwnOf history last why → WhyNotOwn journal point why
 
--- files of these bytes were there, and the console was told so, or a front of it
+-- Files of these bytes were there, and the console was told how many entries the checkpoint holds, and of how many; where it could not be
+-- written it was told a front of that.
 pub record IsToldOwn (journal point : List ℕ) (o : Outcome) : Type 0 where
   pub history_bytes : List ℕ
   pub history_file : o.old.file journal ≡ Some history_bytes
@@ -83,21 +85,21 @@ pub record IsToldOwn (journal point : List ℕ) (o : Outcome) : Type 0 where
   pub line : o.end ≡ Done → Appends o.told o.now (resumed_line held count)
   pub front : o.end ≡ console_unwritten → WritesFront o.told o.now (resumed_line held count)
 
--- files of these bytes were there, and this is why nothing else is told of them
-pub record IsToldWhy (journal point : List ℕ) (why : Fault) (o : Outcome) : Type 0 where
+-- files of these bytes were there, and this is why it isn't told that the checkpoint is the journal's own: nothing else is told
+pub record IsToldWhyNotOwn (journal point : List ℕ) (why : Fault) (o : Outcome) : Type 0 where
   pub history_bytes : List ℕ
   pub history_file : o.old.file journal ≡ Some history_bytes
   pub point_bytes : List ℕ
   pub point_file : o.old.file point ≡ Some point_bytes
-  pub so : WhyNot history_bytes point_bytes why
+  pub so : WhyNotOwn history_bytes point_bytes why
 
--- The command `verify` over a journal and a log of checkpoints: it ends with 0 where the last checkpoint is of a front of the journal's history,
--- whole, and where that isn't so it doesn't. No file changes.
+-- The command `verify` over a journal and a log of checkpoints: it ends with 0 where the last checkpoint is of a front of the journal's
+-- history, whole, and where that isn't so it doesn't. No file changes.
 pub record VerifiesPoint (journal point : List ℕ) (o : Outcome) : Type 0 where
   pub ends : EndsVerifyingPoint o.end
   pub told : (why : Fault) → o.end ≡ Told why → IsTold why o
   pub own : TellsNoFault o.end → o.old.tells ≡ true → IsToldOwn journal point o
-  pub so : (why : Fault) → o.end ≡ Told why → why ≢ Input → why ≢ Memory → o.old.tells ≡ true → IsToldWhy journal point why o
+  pub so : (why : Fault) → o.end ≡ Told why → why ≢ Input → why ≢ Memory → o.old.tells ≡ true → IsToldWhyNotOwn journal point why o
   -- the outside's faults have their cause
   pub input : o.end ≡ Told Input → Rose (o.old.in_faults journal) (o.new.in_faults journal) ⊎ Rose (o.old.in_faults point) (o.new.in_faults point)
   pub console_cause : o.end ≡ console_unwritten → Rose o.faults o.faults_now

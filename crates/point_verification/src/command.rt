@@ -7,11 +7,12 @@ use crate::judging::judged;
 use console_lines::{End, Unwritten, tell, write_resumed};
 use memory_files::read_file;
 use outside::Room;
-use reading_commands::fault_of_reading;
 use std::alloc::Global;
+use unheld_journals::fault_of_reading;
 
-/// The command `verify` over a journal and a log of checkpoints: tells how many entries the last checkpoint holds, and of how many, where it is the
-/// journal's own, and else that it is of another history. Both files are read whole as inputs, the log first; no file changes.
+/// The command `verify` over a journal and a log of checkpoints: tells how many entries the last checkpoint holds, and of how many, where
+/// it is the journal's own, and else that it is of another history. Both files are read whole as inputs, the log of checkpoints first; no
+/// file changes.
 pub fn verify_point<R: Room>(
     alloc: Global,
     room: &mut R,

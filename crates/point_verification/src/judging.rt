@@ -1,14 +1,14 @@
 //! What comes of a journal's bytes beside those of a log of checkpoints.
 ghost use Rattle.std.specs.Prelude.{IfOk, IfErr};
-ghost use Rattle.point_verification.specs.Verifying.{AreOwn, IsOwnOf, IsNotOwnOf, WhyNot};
+ghost use Rattle.point_verification.specs.Verifying.{AreOwn, IsOwnOf, IsNotOwnOf, WhyNotOwn};
 
 use crate::logs::{history_of, last_of};
 use crate::owning::is_own;
 use checkpoint::Point;
 use console_lines::Fault;
 use entry_history::EntryPayload;
-use reading_commands::fault_of_look;
 use std::alloc::Global;
+use unheld_journals::fault_of_look;
 
 /// How many entries a checkpoint holds that is a history's own, and of how many.
 fn own_of(alloc: Global, entries: &[EntryPayload], last: Option<Point>) -> Result<(u64, u64), Fault>
@@ -30,7 +30,7 @@ fn own_of(alloc: Global, entries: &[EntryPayload], last: Option<Point>) -> Resul
 /// How many entries the last checkpoint holds, of how many, where it is the journal's own; or why nothing is told of it.
 pub(crate) fn judged(alloc: Global, journal: Vec<u8>, point: Vec<u8>) -> Result<(u64, u64), Fault>
     ensures own { IfOk result (λ told. AreOwn journal.items point.items told.0 told.1) }
-    ensures not_own { IfErr result (WhyNot journal.items point.items) }
+    ensures not_own { IfErr result (WhyNotOwn journal.items point.items) }
 {
     let entries = match history_of(alloc, journal) {
         Ok(entries) => entries,

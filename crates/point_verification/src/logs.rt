@@ -14,7 +14,8 @@ use journal_files::{HistoryEntries, JOURNAL_LIMITS, JournalScan};
 use memory_files::ByteDisk;
 use std::alloc::Global;
 
-/// The history of a journal's bytes, of either version.
+/// The history of a journal's bytes, of either version. A fault tells why they aren't a journal's, that their history passes the limits, or
+/// want of memory.
 pub(crate) fn history_of(alloc: Global, bytes: Vec<u8>) -> Result<HistoryEntries, OpenFault>
     ensures history { IfOk result (λ entries. HasHistory entries bytes.items) }
     ensures within { IfOk result (λ entries. IsWithin journal_limits entries) }
@@ -31,7 +32,8 @@ pub(crate) fn history_of(alloc: Global, bytes: Vec<u8>) -> Result<HistoryEntries
     }
 }
 
-/// The last whole checkpoint of a log's bytes, which hold checkpoints and nothing else.
+/// The last whole checkpoint of a log's bytes, which hold checkpoints and nothing else; none where they hold none. A fault tells why they
+/// aren't such a log's, or want of memory.
 pub(crate) fn last_of(alloc: Global, bytes: Vec<u8>) -> Result<Option<Point>, OpenFault>
     ensures last { IfOk result (λ last. IsPointLog last bytes.items) }
     ensures untaken { IfErr result (IsUntaken bytes.items) }

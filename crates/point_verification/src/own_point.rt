@@ -10,8 +10,8 @@ use restoring::{has_state_of, resume};
 use std::alloc::Global;
 use std::sync::ledger::Ledger;
 
-/// Whether a checkpoint is of a front of this history, and so its own: of no more entries, and its state is exactly the one behind so many of
-/// them. These are committed anew, and no two are prepared at once.
+/// Whether a checkpoint is of a front of this history, and so its own: of no more entries, and its state is exactly the one behind so many
+/// of them. These are committed anew, and no two are prepared at once.
 pub fn is_point_of<L: Ledger>(
     alloc: Global,
     point: &Point,

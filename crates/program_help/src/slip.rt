@@ -69,6 +69,14 @@ pub enum Slip<'a> {
     NoCount {
         word: &'a str,
     },
+    /// A word stands where a number of entries is wanted.
+    NoEntries {
+        word: &'a str,
+    },
+    /// A word stands where the digits of a SHA-256 are wanted.
+    NoDigest {
+        word: &'a str,
+    },
 }
 
 /// How the words behind a command's name go: so many names of files, so many words `CODE=FILE`, and maybe a code.
@@ -88,7 +96,7 @@ enum Files {
     Many,
 }
 
-const VERBS: [&str; 19] = [
+const VERBS: [&str; 20] = [
     "pass",
     "run",
     "load",
@@ -98,6 +106,7 @@ const VERBS: [&str; 19] = [
     "make",
     "verify",
     "migrate",
+    "salvage",
     "matches",
     "holdings",
     "headings",
@@ -146,12 +155,12 @@ fn form_of(topic: Topic, words: usize) -> Form {
         Topic::Load => (1, Files::Many, false),
         Topic::Browse => (4, Files::Many, false),
         Topic::Export => (2, Files::None, true),
-        Topic::Report | Topic::Matches | Topic::Migrate | Topic::Checkpoint => {
+        Topic::Report | Topic::Matches | Topic::Migrate | Topic::Salvage | Topic::Checkpoint => {
             (2, Files::None, false)
         }
         Topic::Make => (3, Files::None, false),
         Topic::Quick => (if words > 3 { 4 } else { 3 }, Files::None, false),
-        Topic::Verify => (if words > 1 { 2 } else { 1 }, Files::None, false),
+        Topic::Verify => (words.clamp(1, 3), Files::None, false),
         Topic::Worklist => (3, Files::None, true),
         Topic::Holdings => (3, Files::One, true),
         Topic::Headings | Topic::Reading => (2, Files::None, false),
@@ -171,6 +180,7 @@ fn slip_behind<'a>(alloc: Global, topic: Topic, behind: &'a [Text]) -> Result<Sl
         Topic::Help => slip_of_help(alloc, behind),
         Topic::Reading => Ok(slip_of_reading(behind)),
         Topic::Headings => Ok(slip_of_headings(topic, behind)),
+        Topic::Verify if behind.len() == 3 => Ok(slip_of_digest(behind)),
         topic => Ok(slip_of_form(&form_of(topic, behind.len()), behind)),
     }
 }
@@ -231,6 +241,31 @@ fn slip_of_headings(topic: Topic, behind: &[Text]) -> Slip<'_> {
     Slip::NoCount {
         word: most.as_str(),
     }
+}
+
+/// What is wrong with the words `JOURNAL N HEX`.
+fn slip_of_digest(behind: &[Text]) -> Slip<'_> {
+    let topic = Topic::Verify;
+    let [journal, count, digest] = behind else {
+        return Slip::TooFew { topic };
+    };
+    if journal.is_empty() {
+        return Slip::Empty { topic };
+    }
+    if is_number(count) {
+        Slip::NoDigest {
+            word: digest.as_str(),
+        }
+    } else {
+        Slip::NoEntries {
+            word: count.as_str(),
+        }
+    }
+}
+
+/// Whether a word is a number below 2^64.
+fn is_number(word: &Text) -> bool {
+    word.as_bytes().iter().all(|byte| byte.is_ascii_digit()) && word.as_str().parse::<u64>().is_ok()
 }
 
 fn slip_of_help<'a>(alloc: Global, behind: &'a [Text]) -> Result<Slip<'a>, NoMemory> {
@@ -300,10 +335,8 @@ fn slip_of_names<'a>(form: &Form, behind: &'a [Text]) -> Option<Slip<'a>> {
 
 /// SEED where it is no number below 2^64, else COUNT.
 fn slip_of_numbers(names: &[Text]) -> Option<Slip<'_>> {
-    let are_digits = |word: &Text| word.as_bytes().iter().all(|byte| byte.is_ascii_digit());
     let seed = names.first()?;
-    let is_seed = are_digits(seed) && seed.as_str().parse::<u64>().is_ok();
-    let word = if is_seed { names.get(1)? } else { seed };
+    let word = if is_number(seed) { names.get(1)? } else { seed };
     Some(Slip::NoNumber {
         topic: Topic::Make,
         word: word.as_str(),
@@ -382,6 +415,7 @@ impl Slip<'_> {
             | Slip::Twice { topic, .. }
             | Slip::NoNumber { topic, .. } => Some(topic),
             Slip::NoKind { .. } | Slip::NoCount { .. } => Some(Topic::Headings),
+            Slip::NoEntries { .. } | Slip::NoDigest { .. } => Some(Topic::Verify),
         }
     }
 
@@ -423,6 +457,8 @@ impl Slip<'_> {
             Slip::NoCount { word } => {
                 write!(f, "{word} is no such number: MOST from 1 to 100000")
             }
+            Slip::NoEntries { word } => write!(f, "{word} is no such number: N below 2^64"),
+            Slip::NoDigest { word } => { write!(f, "{word} is no SHA-256: 64 hexadecimal digits") }
         }
     }
 }

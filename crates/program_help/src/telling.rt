@@ -25,6 +25,7 @@ pub(crate) fn text_of(topic: Topic) -> &'static str
         Topic::Headings => texts::HEADINGS,
         Topic::Worklist => texts::WORKLIST,
         Topic::Migrate => texts::MIGRATE,
+        Topic::Salvage => texts::SALVAGE,
         Topic::Checkpoint => texts::CHECKPOINT,
         Topic::Quick => texts::QUICK,
         Topic::Reading => texts::READING,

@@ -10,16 +10,18 @@ browse JOURNAL OUT REPORT PAGES CODE=FILE ..  as run, and pages of headings
 export JOURNAL OUT [CODE]            write the journal's records into OUT
 report JOURNAL OUT                   write the report on the headings into OUT
 make SEED COUNT OUT                  write made-up records, to try the program
-verify JOURNAL [POINT]               tell what the journal has; write nothing
+verify JOURNAL [POINT | N HEX]       tell what the journal has; write nothing
 matches JOURNAL OUT                  write which records share a number
 holdings JOURNAL OUT REST CODE=FILE  write the records with a file's holdings
 headings JOURNAL KIND FROM MOST OUT  write the headings of one kind from FROM on
 worklist JOURNAL LIST PAGE [CODE]    write the headings to work on, and a page
 migrate OLD NEW                      bring a journal of version 1 into a new one
+salvage JOURNAL NEW                  bring what is sound of a damaged journal
+                                     into a new one
 checkpoint JOURNAL POINT             keep the journal's catalogue behind POINT
 quick JOURNAL POINT OUT [REPORT]     export from POINT's last checkpoint on
-reading export JOURNAL OUT [CODE]    the same without holding JOURNAL, even while
-                                     a load has it; also report, matches,
+reading export JOURNAL OUT [CODE]    the same without holding JOURNAL, even
+                                     while a load has it; also report, matches,
                                      holdings, headings and worklist
 refused OUT CODE=FILE                write the pieces of a file that are refused
 help [COMMAND]                       tell this, or how that command is used
@@ -147,19 +149,24 @@ Example: union_cat make 1 1000 tried.mrc
 /// The page of `verify`.
 pub const VERIFY: &str = "union_cat verify JOURNAL
 union_cat verify JOURNAL POINT
+union_cat verify JOURNAL N HEX
 
 Reads the journal from its first byte to its last, as an input.
 Writes: no file; on the console a line with its version and how many entries,
-frames and bytes it has, and where bytes stand behind its end, as a crash may
-leave them, a line with the place of the last byte that counts.
+frames and bytes it has, one with the SHA-256 of its bytes but the last that
+counts, and where bytes stand behind that, as a crash may leave them, a line
+with its place.
 With POINT it tells whether POINT's last checkpoint is one of this journal: its
 entries are taken anew, and what they make is compared with the checkpoint. The
 console has the line of quick.
-Status: 0 it is a journal, and POINT is its own; 2 wrong words; 3 a file isn't
-there, or couldn't be read; 4 the console couldn't be written; 6 JOURNAL is no
-journal, or POINT has no checkpoints, but something else; 8 memory ran out; with
-POINT also 7 JOURNAL has more than a catalogue takes, 9 POINT is of version 1,
-10 POINT has no whole checkpoint, or one of another history.
+With N and HEX it tells whether HEX is the SHA-256 of the bytes of the first N
+entries, as such a line had them once. The console has that line again.
+Status: 0 it is a journal, and POINT or HEX is its own; 2 wrong words; 3 a file
+isn't there, or couldn't be read; 4 the console couldn't be written; 6 JOURNAL
+is no journal, or POINT has no checkpoints, but something else; 8 memory ran
+out; with POINT also 7 JOURNAL has more than a catalogue takes, 9 POINT is of
+version 1, 10 POINT has no whole checkpoint, or one of another history; with HEX
+also 10 its first N entries have another SHA-256, or no frame ends behind them.
 Example: union_cat verify union.jnl
 ";
 
@@ -244,6 +251,24 @@ written; 5 a journal's disk failed; 6 one of them is no journal; 7 one has more
 than a catalogue takes; 8 memory ran out; 9 OLD isn't of version 1, or NEW is;
 10 NEW has another history.
 Example: union_cat migrate old.jnl union.jnl
+";
+
+/// The page of `salvage`.
+pub const SALVAGE: &str = "union_cat salvage JOURNAL NEW
+
+Brings what is sound of the damaged journal JOURNAL into the journal NEW, of
+version 2. It can be given again after any stop: it goes on where it was.
+Past a wrong header, or a closed gate with two whole frames behind it, it goes
+on. Any other damage ends it: nothing tells what stands behind that.
+Writes: NEW, which is made if it isn't there; on the console a line with the
+number of entries, a line for each damage, and one with how many bytes are left
+out. JOURNAL is read as an input.
+Status: 0 NEW has what is sound; 2 wrong words; 3 JOURNAL isn't there, or
+couldn't be read; 4 NEW has it, but the console couldn't be written; 5 NEW's
+disk failed; 6 nothing of JOURNAL is sound, or NEW is no journal; 7 one has more
+than a catalogue takes; 8 memory ran out; 9 NEW is of version 1; 10 NEW has
+another history.
+Example: union_cat salvage broken.jnl union.jnl
 ";
 
 /// The page of `checkpoint`.
@@ -350,8 +375,9 @@ The exit statuses of all commands:
   6  the file is no journal, or a damaged one
   7  there are more records than a catalogue takes
   8  memory ran out
-  9  the journal or POINT is of version 1; in migrate: OLD isn't, or NEW is
-  10 in migrate: NEW has another history; in verify: POINT isn't JOURNAL's own
+  9  the journal, POINT or NEW is of version 1; in migrate: OLD isn't
+  10 in migrate and salvage: NEW has another history; in verify: POINT or HEX
+     isn't JOURNAL's own
 Standard error names the file and the cause.
 ";
 

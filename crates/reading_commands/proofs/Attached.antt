@@ -37,7 +37,7 @@ use Rattle.holdings_command.specs.Shelving.{IsFaultOfShelving}
 use Rattle.holdings_command.specs.declared.ready.Ready.{Ready}
 use Rattle.holdings_command.proofs.Delivering.{Delivers, attached_of_any, delivers_stopped, delivers_told}
 use Rattle.holdings_command.proofs.OnShelves.{there_more}
-use Rattle.reading_commands.specs.Looking.{WhyUntaken, fault_of_look, fault_of_reading}
+use Rattle.unheld_journals.specs.Untaken.{WhyUntaken, fault_of_look, fault_of_reading}
 use Rattle.reading_commands.specs.Unheld.{EndsUnheld, AttachesUnheld}
 use Rattle.reading_commands.proofs.Endings.{same_bytes, untaken_not_input}
 

@@ -25,7 +25,8 @@ use Rattle.journal_files.specs.Journals.{journal_limits, HasFittingHistory}
 use Rattle.output_files.specs.Outputs.{IsOutputLeft}
 use Rattle.output_files.proofs.Parts.{left_since}
 use Rattle.journal_files.proofs.Histories.{due_of_any, fitting_history}
-use Rattle.reading_commands.specs.Looking.{EndsLooking, IsLooked, LooksInto, WhyUntaken, fault_of_look, fault_of_reading}
+use Rattle.unheld_journals.specs.Untaken.{WhyUntaken, fault_of_look, fault_of_reading}
+use Rattle.reading_commands.specs.Looking.{EndsLooking, IsLooked, LooksInto}
 
 -- a fault for which bytes aren't taken is one of looking, and none of the input
 ends_untaken : (reason : OpenFault) → reason ≢ opening.OldVersion → EndsLooking (Told (fault_of_look reason))

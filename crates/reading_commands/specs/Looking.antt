@@ -9,19 +9,15 @@ use Rattle.command_words.specs.Look.{Look}
 use Rattle.command_words.specs.Look as look
 use Rattle.entry_record.specs.History.{IsWithin}
 use Rattle.durable_catalogue.specs.Logs.{HasHistory}
-use Rattle.durable_catalogue.specs.Openings.{IsUnopened}
-use Rattle.durable_catalogue.specs.declared.fault.OpenFault.{OpenFault}
-use Rattle.durable_catalogue.specs.declared.fault.OpenFault.TheVariants as opening
 use Rattle.console_lines.specs.Ends.{Outcome, IsTold, TellsNoFault, IsSilent, out_unwritten}
 use Rattle.console_lines.specs.declared.end.End.{End}
 use Rattle.console_lines.specs.declared.end.End.TheVariants.{Done, Refused, Unwritten, Told}
 use Rattle.console_lines.specs.declared.end.Unwritten.TheVariants.{Out, Side, Pages, Console}
 use Rattle.console_lines.specs.declared.fault.Fault.{Fault}
 use Rattle.console_lines.specs.declared.fault.Fault.TheVariants.{Usage, Input, Device, NotAJournal, Full, Memory, OldVersion, OtherHistory}
-use Rattle.memory_files.specs.declared.reading.ReadFault.{ReadFault}
-use Rattle.memory_files.specs.declared.reading.ReadFault.TheVariants as read
 use Rattle.output_files.specs.Outputs.{IsOutput, IsOutputLeft}
 use Rattle.journal_files.specs.Journals.{journal_limits, HasFittingHistory}
+use Rattle.unheld_journals.specs.Untaken.{WhyUntaken}
 use Rattle.archive_commands.specs.Reads.{due_of}
 use Rattle.archive_commands.specs.Reads as reads
 use Rattle.archive_commands.specs.Telling.{matches_due}
@@ -33,25 +29,6 @@ look_due (look.Export code) = due_of (reads.Export code)
 look_due look.Report = due_of reads.Report
 look_due look.Matches = matches_due
 look_due (look.Headings range) = headings_due range
-
--- why a journal's bytes aren't had, as the console tells it
-abbrev pub fault_of_reading : ReadFault → Fault
-fault_of_reading read.InputFault = Input
-fault_of_reading read.NoMemory = Memory
-
--- why a journal's bytes aren't taken, as the console tells it: they are in memory, so that no device but memory fails them
-abbrev pub fault_of_look : OpenFault → Fault
-fault_of_look opening.DeviceFault = Memory
-fault_of_look (opening.NotAJournal place) = NotAJournal place
-fault_of_look opening.OldVersion = OldVersion
-fault_of_look opening.Full = Full
-fault_of_look opening.NoMemory = Memory
-
--- the fault is why these bytes were not taken, and they are so
-pub record WhyUntaken (bytes : List ℕ) (fault : Fault) : Type 0 where
-  pub reason : OpenFault
-  pub is : fault ≡ fault_of_look reason
-  pub so : IsUnopened journal_limits bytes reason
 
 -- What is due of the history of these bytes, which is within the limits, was written into the file OUT, so far as it could be; without
 -- memory for it nothing was begun.
@@ -94,7 +71,8 @@ pub record LooksInto (journal out : List ℕ) (due : List Entry → List ℕ) (o
   -- the outside's faults have their cause
   pub input : o.end ≡ Told Input → Rose (o.old.in_faults journal) (o.new.in_faults journal)
   pub out_cause : o.end ≡ out_unwritten → Rose (o.old.out_faults out) (o.new.out_faults out)
-  -- the file was there, with a history within the limits, and the output is what is due of it; where it could not be written it is as it was or that
+  -- the file was there, with a history within the limits, and the output is what is due of it; where it could not be written it is as it
+  -- was or that
   pub history : TellsNoFault o.end → o.old.tells ≡ true → IsSomeAnd (o.old.file journal) HasFittingHistory
   pub whole : (bytes : List ℕ) (entries : List Entry) → o.end ≡ Done → o.old.tells ≡ true → o.old.file journal ≡ Some bytes → HasHistory entries bytes
       → o.new.file out ≡ Some (due entries)

@@ -15,7 +15,7 @@ use Rattle.console_lines.specs.declared.fault.Fault.{Fault}
 use Rattle.console_lines.specs.declared.fault.Fault.TheVariants.{Usage, Input, Device, NotAJournal, Full, Memory, OldVersion, OtherHistory}
 use Rattle.journal_files.specs.Journals.{HasFittingHistory}
 use Rattle.holdings_command.specs.Attaching.{rest_unwritten, IsAttached}
-use Rattle.reading_commands.specs.Looking.{WhyUntaken}
+use Rattle.unheld_journals.specs.Untaken.{WhyUntaken}
 
 -- how it ends: no device fails, since none is used
 abbrev pub EndsUnheld : End → Type 0
@@ -34,8 +34,8 @@ EndsUnheld (Told Memory) = Unit {0}
 EndsUnheld (Told OldVersion) = ⊥
 EndsUnheld (Told OtherHistory) = ⊥
 
--- The command `reading holdings`: the records of the history of a journal's bytes, which are only read, up to their first closed gate, with the
--- holdings of a file behind them into OUT, and the holdings that wait for their record into REST.
+-- The command `reading holdings`: the records of the history of a journal's bytes, which are only read, up to their first closed gate, with
+-- the holdings of a file behind them into OUT, and the holdings that wait for their record into REST.
 pub record AttachesUnheld (journal out rest : List ℕ) (library : Library) (code : Option (List ℕ)) (o : Outcome) : Type 0 where
   pub ends : EndsUnheld o.end
   -- a fault is told, and leaves the room as it was

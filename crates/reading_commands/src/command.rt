@@ -4,13 +4,13 @@ ghost use Rattle.console_lines.specs.Ends.{outcome};
 ghost use Rattle.outside.specs.Room.{SameBut};
 ghost use Rattle.reading_commands.specs.Looking.{LooksInto, look_due};
 
-use crate::fault::{fault_of_look, fault_of_reading};
 use crate::writing::write_look;
 use command_words::Look;
 use console_lines::{End, end_of_output, tell};
 use memory_files::read_file;
 use outside::Room;
 use std::alloc::Global;
+use unheld_journals::{fault_of_look, fault_of_reading};
 
 /// The commands behind `reading`: what is looked for in a journal is written into the file `out`. The journal is read whole, as an input,
 /// and closed before anything else is done, so that it isn't held, and nothing of it is written.

@@ -2,11 +2,9 @@
 #![tactic(auto)]
 
 pub use command::look_into;
-pub use fault::{fault_of_look, fault_of_reading};
 pub use unheld::attach_unheld;
 
 mod command;
-mod fault;
 mod opening;
 mod unheld;
 mod writing;

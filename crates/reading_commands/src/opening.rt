@@ -3,34 +3,18 @@ ghost use Rattle.std.specs.Prelude.{◌≡◌, ◌≢◌, IfOk, IfErr};
 ghost use Rattle.durable_catalogue.specs.declared.fault.OpenFault.TheVariants.{OldVersion};
 ghost use Rattle.durable_catalogue.specs.Logs.{HasHistory};
 ghost use Rattle.durable_catalogue.specs.Openings.{IsUnopened};
-ghost use Rattle.entry_record.specs.History.{IsWithin};
 ghost use Rattle.journal_files.specs.Taking.{IsHandedOn};
 ghost use Rattle.journal_files.specs.Journals.{journal_limits};
 ghost use Rattle.match_report.specs.Matches.{table_after};
 
 use archive_commands::HistoryMatches;
-use durable_catalogue::{OpenFault, RecoveredReadOnly};
+use durable_catalogue::OpenFault;
 use journal_files::{JOURNAL_LIMITS, JournalScan};
 use memory_files::ByteDisk;
 use std::alloc::Global;
 
-/// The catalogue of a journal's bytes, of either version.
-pub fn catalogue_of(alloc: Global, bytes: Vec<u8>) -> Result<RecoveredReadOnly<ByteDisk>, OpenFault>
-    ensures history { IfOk result (λ archive. HasHistory archive.core.history bytes.items) }
-    ensures within { IfOk result (λ archive. IsWithin journal_limits archive.core.history) }
-    ensures unopened { IfErr result (IsUnopened journal_limits bytes.items) }
-    ensures current { IfErr result (λ fault. fault ≢ OldVersion) }
-{
-    let Some(disk) = ByteDisk::new(alloc, bytes) else {
-        return Err(OpenFault::NoMemory);
-    };
-    match RecoveredReadOnly::open(alloc, disk, JOURNAL_LIMITS) {
-        Ok(archive) => Ok(archive),
-        Err((_disk, fault)) => Err(fault),
-    }
-}
-
-/// The numbers of the records of a journal's bytes, of either version.
+/// The numbers of the records of a journal's bytes, of either version. A fault tells why they aren't a journal's, that their history passes
+/// the limits, or want of memory.
 pub fn matches_of(alloc: Global, bytes: Vec<u8>) -> Result<HistoryMatches, OpenFault>
     ensures taken { IfOk result (λ taken. IsHandedOn (λ entries. taken.table ≡ table_after entries)
         (λ entries. HasHistory entries bytes.items) journal_limits) }

@@ -5,8 +5,6 @@ ghost use Rattle.console_lines.specs.Ends.{outcome};
 ghost use Rattle.outside.specs.Room.{SameBut};
 ghost use Rattle.reading_commands.specs.Unheld.{AttachesUnheld};
 
-use crate::fault::{fault_of_look, fault_of_reading};
-use crate::opening::catalogue_of;
 use command_words::Library;
 use console_lines::{End, end_of_outputs, tell};
 use durable_catalogue::OnClose;
@@ -14,10 +12,11 @@ use holdings_command::{Ready, prepare, write_both};
 use memory_files::read_file;
 use outside::Room;
 use std::alloc::Global;
+use unheld_journals::{catalogue_of, fault_of_look, fault_of_reading};
 
 /// The command `reading holdings`: writes the records of a journal, each with its holdings of a file behind it, into the file `out`: all
-/// records, or those under keys with that code; and the holdings whose record isn't kept into the file `rest`. The journal is read whole, as
-/// an input, and closed before anything else is done, so that it isn't held, and nothing of it is written.
+/// records, or those under keys with that code; and the holdings whose record isn't kept into the file `rest`. The journal is read whole,
+/// as an input, and closed before anything else is done, so that it isn't held, and nothing of it is written.
 pub fn attach_unheld<R: Room>(
     alloc: Global,
     room: &mut R,

@@ -10,13 +10,13 @@ ghost use Rattle.journal_files.specs.Journals.{journal_limits};
 ghost use Rattle.archive_commands.specs.Telling.{matches_due};
 ghost use Rattle.reading_commands.specs.Looking.{IsLooked, look_due};
 
-use crate::opening::{catalogue_of, matches_of};
-use archive_commands::{Due, write_due, write_table};
+use crate::opening::matches_of;
+use archive_commands::{Due, write_due, write_headings, write_table};
 use command_words::{HeadingRange, Look};
 use durable_catalogue::{OnClose, OpenFault};
-use heading_list::write_headings;
 use outside::{Room, WriteFault};
 use std::alloc::Global;
+use unheld_journals::catalogue_of;
 
 /// Writes what is due of the catalogue of a journal's bytes into the file `out`, or answers why they have none.
 fn write_catalogue<R: Room>(

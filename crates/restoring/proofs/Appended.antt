@@ -15,14 +15,14 @@ use Rattle.catalogue_rules.proofs.Elements.{Each, each_weaker}
 use Rattle.kept_rows.specs.declared.row.KeptRow.{KeptRow}
 use Rattle.kept_rows.specs.Rows.{row_of, is_of, rows_in, state_of_rows, are_in_order}
 use Rattle.kept_rows.proofs.Classes.{ascending_ordered}
-use Rattle.commit_journal.specs.Log.{frames_of}
+use Rattle.commit_journal.specs.Log.{frames_of, payloads_of}
 use Rattle.commit_journal.specs.Journal.{and_frames, frames_from, frames_len, HasAllOrNone}
 use Rattle.commit_journal.specs.declared.frame.Frame.{Frame}
 use Rattle.commit_journal.specs.declared.format.TheConstants.{LENGTH_BYTES}
 use Rattle.commit_journal.proofs.Steps.{leaves_weaker}
 use Rattle.checkpoint.specs.Format.{part_bytes}
 use Rattle.checkpoint.specs.Parts.{IsPart, ArePartsOf}
-use Rattle.checkpoint.specs.Points.{IsSnapshot, half_checkpoint, payloads_of, point_of}
+use Rattle.checkpoint.specs.Points.{IsSnapshot, half_checkpoint, point_of}
 use Rattle.checkpoint.specs.declared.part.Part.{Part}
 use Rattle.checkpoint.specs.declared.part.Part.TheVariants.{End}
 use Rattle.checkpoint.specs.declared.point.Point.{Point}

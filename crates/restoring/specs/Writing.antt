@@ -2,12 +2,12 @@
 use Rattle.std.specs.Prelude.{◌≡◌, ◌⊎◌, ℕ, ◌+◌, ◌≤◌, List, length, map, Option, Some, Ok}
 use Rattle.catalogue_rules.specs.State.{State}
 use Rattle.kept_rows.specs.Rows.{state_of_rows}
-use Rattle.commit_journal.specs.Log.{frames_of, version_of}
+use Rattle.commit_journal.specs.Log.{frames_of, version_of, payloads_of}
 use Rattle.commit_journal.specs.Journal.{and_frames, frames_len}
 use Rattle.commit_journal.specs.declared.frame.Frame.{Frame}
 use Rattle.checkpoint.specs.Format.{part_bytes}
 use Rattle.checkpoint.specs.Parts.{ArePartsOf}
-use Rattle.checkpoint.specs.Points.{IsSnapshot, IsPointOf, payloads_of}
+use Rattle.checkpoint.specs.Points.{IsSnapshot, IsPointOf}
 use Rattle.checkpoint.specs.declared.part.Part.{Part}
 use Rattle.checkpoint.specs.declared.point.Point.{Point}
 

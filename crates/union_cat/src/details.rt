@@ -1,4 +1,5 @@
 //! What is known of a refused piece beside its reason: the byte in question, the length that it claims, and its number.
+use holdings::HoldingRefusal;
 use marc_types::{Refusal, is_printable_byte};
 use std::{fmt, str};
 
@@ -7,14 +8,16 @@ const LEADER: usize = 24;
 /// How many bytes of a leader tell the record's length.
 const LENGTH: usize = 5;
 
-/// Where the base address stands in a leader, and behind which place.
+/// From which place to behind which the base address stands in a leader.
 const BASE: (usize, usize) = (12, 17);
 
-/// Where the record's type and the coding of its text stand in a leader.
+/// Where the record's type stands in a leader.
 const TYPE: usize = 6;
 
+/// Where the coding of the record's text stands in a leader.
 const CODING: usize = 9;
 
+/// How many bytes an entry of the directory has.
 const ENTRY: usize = 12;
 
 const FIELD_TERMINATOR: u8 = 0x1E;
@@ -44,12 +47,12 @@ impl fmt::Display for Shown {
 #[derive(Clone, Copy, Debug)]
 pub struct RefusedBytes<'a> {
     piece: &'a [u8],
-    refusal: Refusal,
+    refusal: HoldingRefusal,
 }
 
 impl<'a> RefusedBytes<'a> {
     /// The piece with which these bytes begin.
-    pub fn new(bytes: &'a [u8], refusal: Refusal) -> Self {
+    pub fn new(bytes: &'a [u8], refusal: HoldingRefusal) -> Self {
         let piece = match bytes.iter().position(|byte| *byte == RECORD_TERMINATOR) {
             Some(end) => bytes.get(..end.saturating_add(1)).unwrap_or(bytes),
             None => bytes,
@@ -210,19 +213,33 @@ impl RefusedBytes<'_> {
     }
 }
 
+impl RefusedBytes<'_> {
+    // The reason, with what is known of it.
+    fn write_refusal<W: fmt::Write>(
+        &self,
+        f: &mut fmt::Formatter<W>,
+        refusal: Refusal,
+    ) -> fmt::Result {
+        f.write_str(words(refusal))?;
+        match refusal {
+            Refusal::Unfinished | Refusal::BadLength => self.write_lengths(f),
+            Refusal::BadLeader => self.write_leader(f),
+            Refusal::UnknownCoding => self.write_leader_byte(f, CODING),
+            Refusal::OtherType => self.write_leader_byte(f, TYPE),
+            Refusal::BadDirectory(place) | Refusal::BadField(place) => self.write_entry(f, place),
+            Refusal::BadText(place, offset) | Refusal::OtherSet(_, place, offset) => {
+                self.write_byte(f, place, offset)
+            }
+            _ => Ok(()),
+        }
+    }
+}
+
 impl fmt::Display for RefusedBytes<'_> {
     fn fmt<W: fmt::Write>(&self, f: &mut fmt::Formatter<W>) -> fmt::Result {
-        f.write_str(words(self.refusal))?;
         match self.refusal {
-            Refusal::Unfinished | Refusal::BadLength => self.write_lengths(f)?,
-            Refusal::BadLeader => self.write_leader(f)?,
-            Refusal::UnknownCoding => self.write_leader_byte(f, CODING)?,
-            Refusal::OtherType => self.write_leader_byte(f, TYPE)?,
-            Refusal::BadDirectory(place) | Refusal::BadField(place) => self.write_entry(f, place)?,
-            Refusal::BadText(place, offset) | Refusal::OtherSet(_, place, offset) => {
-                self.write_byte(f, place, offset)?
-            }
-            _ => {}
+            HoldingRefusal::OfRecord(refusal) => self.write_refusal(f, refusal)?,
+            HoldingRefusal::NoTarget => f.write_str("no target")?,
         }
         match self.control_number() {
             Some(number) => write!(f, ", 001 is {number}"),

@@ -33,6 +33,9 @@ fn tell_of(alloc: Global, asked: &AloneRequest<'_>, intent: &mut Intent) -> io::
     if let Some(output) = uncounted_of(asked) {
         intent.uncounted = Some(String::from_str(alloc, output)?);
     }
+    if let Some(file) = judged_of(asked) {
+        intent.judged = Some(String::from_str(alloc, file)?);
+    }
     intent.has_reading = has_reading(asked);
     intent.looks = looks(asked);
     intent.counts = counts_of(asked);
@@ -82,6 +85,19 @@ fn journal_of<'a>(asked: &AloneRequest<'a>) -> Option<&'a str> {
     }
 }
 
+/// The file whose pieces a command judges.
+fn judged_of<'a>(asked: &'a AloneRequest<'_>) -> Option<&'a str> {
+    match asked {
+        AloneRequest::Pass { library, .. } | AloneRequest::Refused { library, .. } => Some(
+            library.file.as_str(),
+        ),
+        AloneRequest::Holdings(wanted) | AloneRequest::ReadHoldings(wanted) => Some(
+            wanted.library.file.as_str(),
+        ),
+        _ => None,
+    }
+}
+
 /// Whether `reading` can stand before a command.
 fn has_reading(asked: &AloneRequest<'_>) -> bool {
     matches!(
@@ -101,6 +117,7 @@ fn looks(asked: &AloneRequest<'_>) -> bool {
         asked,
         AloneRequest::Verify { .. }
             | AloneRequest::VerifyPoint { .. }
+            | AloneRequest::VerifyDigest { .. }
             | AloneRequest::Read { .. }
             | AloneRequest::ReadHoldings(_)
             | AloneRequest::ReadWorklist { .. }

@@ -1,18 +1,12 @@
 //! What standard error tells of files that were loaded, beside the console's lines.
-use crate::details::RefusedBytes;
+use crate::refused::{LAST_OF_FRONT, MOST_TOLD, Piece, end_pieces, tell_piece};
 use durable_catalogue::Effects;
 use file_entries::RefusedItem;
+use holdings::HoldingRefusal;
 use loader_workers::FileEnd;
-use outside::{Note, Notes, RefusedPiece};
 use outside_real::{FileRoom, LineNotes};
 use std::alloc::Global;
 use union_top::Loaded;
-
-/// The most bytes of a refused piece that are looked at: one more than the longest record has.
-const LOOKED_AT: usize = 100_000;
-
-/// The most refused pieces of a file that are looked at, as many as are told.
-const MOST_REFUSED: usize = 100;
 
 /// Tells of each file what is known of its refused pieces, and what its committed records did to those under their keys. Where there is no
 /// memory for that it is passed over.
@@ -48,7 +42,7 @@ fn tell_effects(rt: &HostRuntime, file: &str, effects: Effects, end: FileEnd) {
     );
 }
 
-// What is known of a file's refused pieces. Those that aren't looked at are counted.
+// What is known of a file's refused pieces.
 fn tell_refused(
     alloc: Global,
     file: &str,
@@ -56,32 +50,15 @@ fn tell_refused(
     room: &FileRoom<HostRuntime>,
     notes: &mut LineNotes<HostRuntime>,
 ) {
-    for (place, item) in items.iter().enumerate() {
-        let details = if place < MOST_REFUSED {
-            details_of(alloc, file, item, room)
-        } else {
-            None
-        };
-        notes.tell(&Note::Refused(RefusedPiece {
-            file,
+    for item in items.iter().take(MOST_TOLD) {
+        let piece = Piece {
             ordinal: item.ordinal,
             offset: item.offset,
-            details: details.as_ref().map_or("", |text| text.as_str()),
-        }));
+            refusal: HoldingRefusal::OfRecord(item.refusal),
+        };
+        tell_piece(alloc, file, &piece, room, notes);
     }
-    notes.end();
-}
-
-// Why a piece was refused, with what the file has at its place; none where there is no memory for it.
-fn details_of(
-    alloc: Global,
-    file: &str,
-    item: &RefusedItem,
-    room: &FileRoom<HostRuntime>,
-) -> Option<String> {
-    let bytes = room
-        .bytes_at(file, item.offset, LOOKED_AT)
-        .unwrap_or(Vec::new(alloc));
-    let refused = RefusedBytes::new(bytes.as_slice(), item.refusal);
-    format!(in alloc; "{refused}").ok()
+    let untold = items.len().saturating_sub(MOST_TOLD) as u64;
+    let last_of_front = items.get(LAST_OF_FRONT).map(|item| item.ordinal);
+    end_pieces(file, untold, last_of_front, room, notes);
 }

@@ -2,14 +2,17 @@
 #![tactic(auto)]
 
 mod details;
+mod heard;
 mod intent;
 mod loaded;
+mod refused;
 
+use crate::heard::tell_heard;
 use crate::intent::intent_of;
 use crate::loaded::tell_loaded;
 use command_words::{Request, Unasked, Words, request};
 use marc_types::Text;
-use outside_real::{FileRoom, FileSink, LineNotes, OpenGate, Target};
+use outside_real::{FileRoom, FileSink, Heard, LineNotes, OpenGate, Target};
 use program_help::slip_in;
 use std::alloc::Global;
 use std::io::{ErrorKind, IsTerminal};
@@ -21,6 +24,9 @@ use union_top::{Begun, begin, end, end_browsing, load, load_browsing};
 
 /// The exit status where there is no memory for the words of the command line.
 const NO_MEMORY: u8 = 8;
+
+/// The exit status where pieces are refused, and all else was taken.
+const REFUSED: u8 = 1;
 
 /// The exit status where the words are no command.
 const USAGE: u8 = 2;
@@ -85,10 +91,16 @@ fn command<H: Threads + Wait + Sync>(rt: &HostRuntime, threads: &H) -> io::Resul
     let asked = request(alloc, &words);
     let writes_behind = is_run(&asked);
     room.intend(intent_of(alloc, &asked, rt.stderr().is_terminal())?);
-    let mut console = FileSink::direct(alloc, Target::Console(told));
+    let heard = room.judged().map(|_| Heard::new(alloc));
+    let mut console = FileSink::direct(alloc, Target::Console(told, heard));
     let mut notes = LineNotes::new(notes, alloc);
     let status = match begin(alloc, &words, asked, &mut room, &mut console) {
-        Begun::Ended(status) => status,
+        Begun::Ended(status) => {
+            if status == REFUSED {
+                tell_heard(alloc, &room, &console, &mut notes);
+            }
+            status
+        }
         Begun::Loading(loading) => {
             let loaded = load(threads, alloc, loading, &OpenGate);
             tell_loaded(rt, &loaded, &room, &mut notes);

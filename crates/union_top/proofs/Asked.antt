@@ -12,7 +12,7 @@ use Rattle.command_words.specs.declared.asked.BrowseRequest.{BrowseRequest}
 use Rattle.command_words.specs.declared.asked.LoadRequest.{LoadRequest}
 use Rattle.command_words.specs.declared.asked.Outputs.{Outputs}
 use Rattle.command_words.specs.declared.asked.Request.TheVariants as request
-use Rattle.command_words.specs.Command.{Command, Pass, Run, Load, Browse, Export, Report, Make, Verify, VerifyPoint, Matches, Holdings, Headings, Worklist, Migrate, Checkpoint, Quick, QuickReport, Read, ReadHoldings, ReadWorklist, Refused as RefusedOf, Help, Version, command_of, libraries_of, file_count, names_of, AreNames, IsBounded, ReadsFiles}
+use Rattle.command_words.specs.Command.{Command, Pass, Run, Load, Browse, Export, Report, Make, Verify, VerifyPoint, VerifyDigest, Matches, Holdings, Headings, Worklist, Migrate, Salvage, Checkpoint, Quick, QuickReport, Read, ReadHoldings, ReadWorklist, Refused as RefusedOf, Help, Version, command_of, libraries_of, file_count, names_of, AreNames, IsBounded, ReadsFiles}
 use Rattle.command_words.specs.Asked.{alone_asked, browse_asked, load_asked, loading_of, AsksFor}
 use Rattle.console_lines.specs.Ends.{Outcome, IsTold}
 use Rattle.console_lines.specs.declared.end.End.TheVariants.{Told}
@@ -180,6 +180,7 @@ module _ (o : Outcome) (told : o.end ≡ Told fault.Memory) (tells : IsTold faul
   unasked words (Make seed count out) takes = absurd takes
   unasked words (Verify journal) takes = absurd takes
   unasked words (VerifyPoint journal point) takes = absurd takes
+  unasked words (VerifyDigest journal count digest) takes = absurd takes
   unasked words (Matches journal out) takes = absurd takes
   unasked words (Holdings journal out rest code) takes = λ library is.
       attaches_unopened journal out rest library code o opening.NoMemory told tells (same_but_none o.old o.new (journal ∷ []) stays) (λ old. cc) (λ room. tt)
@@ -187,6 +188,7 @@ module _ (o : Outcome) (told : o.end ≡ Told fault.Memory) (tells : IsTold faul
   unasked words (Headings journal range out) takes = absurd takes
   unasked words (Worklist journal list page code) takes = absurd takes
   unasked words (Migrate from into) takes = absurd takes
+  unasked words (Salvage journal into) takes = absurd takes
   unasked words (Checkpoint journal point) takes = absurd takes
   unasked words (Quick journal point out) takes = absurd takes
   unasked words (QuickReport journal point out report) takes = absurd takes

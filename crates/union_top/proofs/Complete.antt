@@ -3,7 +3,7 @@ use Rattle.std.proofs.Common.{◌≡◌, ◌⊎◌, inl, inr, ℕ, zero, suc, �
 use Rattle.std.specs.Prelude.{All, slice_get}
 use Rattle.std.proofs.lemmas.List.Elements.{All-head, All-tail}
 use Rattle.command_words.specs.declared.library.Library.{Library}
-use Rattle.command_words.specs.Command.{Command, Pass, Run, Load, Browse, Export, Report, Make, Verify, VerifyPoint, Matches, Holdings, Headings, Worklist, Migrate, Checkpoint, Quick, QuickReport, Read, ReadHoldings, ReadWorklist, Refused as RefusedOf, Help, Version, libraries_of}
+use Rattle.command_words.specs.Command.{Command, Pass, Run, Load, Browse, Export, Report, Make, Verify, VerifyPoint, VerifyDigest, Matches, Holdings, Headings, Worklist, Migrate, Salvage, Checkpoint, Quick, QuickReport, Read, ReadHoldings, ReadWorklist, Refused as RefusedOf, Help, Version, libraries_of}
 use Rattle.console_lines.specs.Ends.{Outcome, end_status}
 use Rattle.console_lines.specs.declared.end.End.{End}
 use Rattle.console_lines.specs.declared.end.End.TheVariants.{Done, Refused, Unwritten, Told}
@@ -19,12 +19,13 @@ use Rattle.program_help.specs.Telling.{help_text, version_text}
 use Rattle.union_top.specs.Commands.{Ends}
 use Rattle.union_top.specs.Complete.{Around, InStayed, InputsStayed, IsUnhindered}
 use Rattle.union_top.proofs.Listed.{lists_well}
-use Rattle.union_top.proofs.Sought.{seeks_well}
+use Rattle.union_top.proofs.ListedUnheld.{lists_unheld_well}
 use Rattle.union_top.proofs.Fitting.{EndsWell, well_status, passes_well, makes_well, reads_well, attaches_well, loads_well, runs_well}
 use Rattle.union_top.proofs.Looking.{looks_well}
 use Rattle.union_top.proofs.Unheld.{unheld_well}
-use Rattle.union_top.proofs.Untroubled.{verify_well, tells_well}
+use Rattle.union_top.proofs.Untroubled.{verify_well, digest_well, tells_well}
 use Rattle.union_top.proofs.Migrated.{migrates_well}
+use Rattle.union_top.proofs.Salvaged.{salvages_well}
 use Rattle.union_top.proofs.Pointed.{checkpoints_well, quick_well, never_side}
 use Rattle.union_top.proofs.OwnPoint.{owns_well}
 
@@ -80,6 +81,8 @@ module _ (o : Outcome) where
       verify_well o journal v u.fits (λ is. u.stayed.1 (v.console_cause is)) (λ is. u.stayed.0 (v.input is))
   ends_well words (VerifyPoint journal point) v u =
       owns_well o journal point v (λ is. u.stayed.2 (v.console_cause is)) (λ is. neither u.stayed.0 u.stayed.1 (v.input is)) u.fits
+  ends_well words (VerifyDigest journal count digest) v u =
+      digest_well o journal count digest v u.fits (λ is. u.stayed.1 (v.console_cause is)) (λ is. u.stayed.0 (v.input is))
   ends_well words (Matches journal out) r u =
       reads_well o journal out matches_due r u.fits (λ is. u.stayed.1 (r.out_cause is)) (λ is. u.stayed.0 (r.device is))
   ends_well words (Holdings journal out rest code) ends u =
@@ -94,6 +97,8 @@ module _ (o : Outcome) where
       lists_well o journal list page code m u.fits (λ is. u.stayed.1 (m.list_cause is)) (λ is. u.stayed.2 (m.page_cause is)) (λ is. u.stayed.0 (m.device is))
   ends_well words (Migrate from into) m u =
       migrates_well o from into m u.fits (λ is. neither u.stayed.0 u.stayed.1 (m.device is)) (λ is. u.stayed.2 (m.console is))
+  ends_well words (Salvage journal into) s u =
+      salvages_well o journal into s u.fits (λ is. u.stayed.0 (s.input is).0) (λ is. u.stayed.1 (s.device is)) (λ is. u.stayed.2 (s.console is))
   ends_well words (Checkpoint journal point) c u =
       checkpoints_well o journal point c u.fits u.stayed.0 u.stayed.1 (λ is. u.stayed.2 (c.console is))
   ends_well words (Quick journal point out) q u =
@@ -110,7 +115,7 @@ module _ (o : Outcome) where
       unheld_well o journal out rest u.fits.library code a (λ is. s.3 (a.out_cause is)) (λ is. s.4 (a.rest_cause is)) (λ is. s.2 (a.console_cause is))
       (λ is. neither s.1 (one_stayed (around_of o) (libraries_of words) s.0 u.fits.library u.fits.named) (a.input is)) u.fits.look
   ends_well words (ReadWorklist journal list page code) l u =
-      seeks_well o journal list page code l u.fits (λ is. u.stayed.1 (l.list_cause is)) (λ is. u.stayed.2 (l.page_cause is)) (λ is. u.stayed.0 (l.input is))
+      lists_unheld_well o journal list page code l u.fits (λ is. u.stayed.1 (l.list_cause is)) (λ is. u.stayed.2 (l.page_cause is)) (λ is. u.stayed.0 (l.input is))
   ends_well words (RefusedOf out) ends u =
       let p = ends u.fits.library u.fits.named in
       passes_well o refused_due (libraries_of words) out ends u.fits (λ is. u.stayed.1 (p.out_cause is)) (λ is. u.stayed.2 (p.console_cause is))

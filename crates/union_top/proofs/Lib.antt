@@ -9,11 +9,13 @@ mod Unopened
 mod Judgements
 mod Remaining
 mod Untroubled
+mod Digested
+mod Salvaged
 mod Fitting
 mod Looking
 mod Unheld
 mod Listed
-mod Sought
+mod ListedUnheld
 mod Complete
 mod Held
 mod Sure

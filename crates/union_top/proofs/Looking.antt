@@ -16,7 +16,8 @@ use Rattle.durable_catalogue.specs.declared.fault.OpenFault.{OpenFault}
 use Rattle.durable_catalogue.specs.declared.fault.OpenFault.TheVariants as opening
 use Rattle.journal_files.specs.Faults.{fault_of_opening}
 use Rattle.journal_files.specs.Journals.{journal_limits, HasFittingHistory}
-use Rattle.reading_commands.specs.Looking.{LooksInto, EndsLooking, WhyUntaken, fault_of_look, look_due}
+use Rattle.unheld_journals.specs.Untaken.{WhyUntaken, fault_of_look}
+use Rattle.reading_commands.specs.Looking.{LooksInto, EndsLooking, look_due}
 use Rattle.union_top.specs.Fits.{FitsLook}
 use Rattle.union_top.specs.Misfits.{IsStatus, RefusesMisfits}
 use Rattle.union_top.proofs.Fitting.{EndsWell, by_end}

@@ -1,4 +1,5 @@
--- The command that tells whether a log of checkpoints is a journal's own: how it ends where both fit, and with which status where one can't be used.
+-- The command that tells whether a log of checkpoints is a journal's own: how it ends where both fit, and with which status where one can't
+-- be used.
 use Rattle.std.proofs.Common.{◌≡◌, ◌≢◌, inl, inr, ℕ, true, List, Option, Some, None, refl, sym, ap, subst, ◌∙◌}
 use Rattle.std.specs.Prelude.{IfSome, IsSomeAnd}
 use Rattle.marc_types.specs.declared.entry.Entry.{Entry}
@@ -22,9 +23,9 @@ use Rattle.journal_files.proofs.Histories.{fitting_history}
 use Rattle.checkpoint.specs.declared.point.Point.{Point}
 use Rattle.restoring.specs.Resuming.{IsOfFront}
 use Rattle.restoring.specs.Writing.{HasLast}
-use Rattle.reading_commands.specs.Looking.{fault_of_look}
+use Rattle.unheld_journals.specs.Untaken.{fault_of_look}
 use Rattle.checkpoint_commands.specs.PointLogs.{IsPointLog}
-use Rattle.point_verification.specs.Verifying.{EndsVerifyingPoint, VerifiesPoint, IsNotOwnOf, WhyNot, OfJournal, OfPoint, OfBoth, NotOwn, NoRoom}
+use Rattle.point_verification.specs.Verifying.{EndsVerifyingPoint, VerifiesPoint, IsNotOwnOf, WhyNotOwn, OfJournal, OfPoint, OfBoth, NotOwn, NoRoom}
 use Rattle.union_top.specs.Fits.{FitsVerifyPoint}
 use Rattle.union_top.specs.Misfits.{IsOldPoint, IsStatus, RefusesMisfits}
 use Rattle.union_top.proofs.Fitting.{EndsWell}
@@ -61,7 +62,7 @@ look_old opening.NoMemory is = cc
 -- why nothing is told of files that fit: memory ran out
 why_well : (journal point : List ℕ) (why : Fault) (last : Option Point) → HasFittingHistory journal → IsPointLog last point
     → ((history : List Entry) (found : Option Point) → HasHistory history journal → IsPointLog found point → IsSomeAnd found (IsOfFront history))
-    → WhyNot journal point why → why ≡ fault.Memory
+    → WhyNotOwn journal point why → why ≡ fault.Memory
 why_well journal point why last fits log own (OfJournal reason current is so) =
     look_well journal reason why is (may_be journal reason fits so) (λ old. current (look_old reason (sym is ∙ old)))
 why_well journal point why last fits log own (OfPoint history has within reason is so) = is ∙ point_well reason (taken_well point last reason log so)
@@ -71,14 +72,14 @@ why_well journal point why last fits log own (OfBoth history has within found fo
 unfit_status : (due : ℕ) (journal point : List ℕ) (why : Fault) → (HasFittingHistory journal → ⊥)
     → ((reason : OpenFault) → IsUnopened journal_limits journal reason → reason ≢ opening.OldVersion → (fault_of_opening reason ≡ fault.Device → ⊥)
     → IsStatus due (fault_status (fault_of_opening reason)))
-    → WhyNot journal point why → IsStatus due (fault_status why)
+    → WhyNotOwn journal point why → IsStatus due (fault_status why)
 unfit_status due journal point why unfit opens (OfJournal reason current is so) =
     subst (λ f. IsStatus due (fault_status f)) (sym is) (look_status due reason (opens reason so current))
 unfit_status due journal point why unfit opens (OfPoint history has within reason is so) = absurd (unfit (fitting_history history journal has within))
 unfit_status due journal point why unfit opens (OfBoth history has within found found_log other) = absurd (unfit (fitting_history history journal has within))
 
 old_why : (journal point : List ℕ) (why : Fault) (last : Option Point) → HasFittingHistory journal → HasLast last point → version_of point ≡ 1
-    → WhyNot journal point why → IsStatus 9 (fault_status why)
+    → WhyNotOwn journal point why → IsStatus 9 (fault_status why)
 old_why journal point why last fits has_last oldest (OfJournal reason current is so) =
     inr (ap fault_status (look_well journal reason why is (may_be journal reason fits so) (λ old. current (look_old reason (sym is ∙ old)))))
 old_why journal point why last fits has_last oldest (OfPoint history has within reason is so) =
@@ -117,7 +118,7 @@ module _ (o : Outcome) (journal point : List ℕ) (v : VerifiesPoint journal poi
       let one = same_file (o.old.file journal) t.history_bytes f.look.bytes t.history_file f.look.there in
       let other = same_file (o.old.file point) t.point_bytes f.point_bytes t.point_file f.point_there in
       why_well f.look.bytes f.point_bytes why f.last f.look.history f.is f.own
-      (subst (λ bytes. WhyNot bytes f.point_bytes why) one (subst (λ bytes. WhyNot t.history_bytes bytes why) other t.so))))
+      (subst (λ bytes. WhyNotOwn bytes f.point_bytes why) one (subst (λ bytes. WhyNotOwn t.history_bytes bytes why) other t.so))))
 
   module _ (tells : o.old.tells ≡ true) where
     -- the journal has no history within the limits, and this is how its bytes are refused
@@ -135,7 +136,7 @@ module _ (o : Outcome) (journal point : List ℕ) (v : VerifiesPoint journal poi
         (by_fault o.end (λ why. IsStatus due (fault_status why)) no_input (inr refl) (λ why is input memory.
         let t = v.so why is input memory tells in
         let one = same_file (o.old.file journal) t.history_bytes bytes t.history_file there in
-        unfit_status due bytes t.point_bytes why unfit opens (subst (λ bytes. WhyNot bytes t.point_bytes why) one t.so)))
+        unfit_status due bytes t.point_bytes why unfit opens (subst (λ bytes. WhyNotOwn bytes t.point_bytes why) one t.so)))
 
     -- the log of checkpoints is of version 1
     old_status : IsOldPoint o.old journal point → IsStatus 9 (end_status o.end)

@@ -20,7 +20,7 @@ use Rattle.journal_files.specs.Journals.{log_bytes}
 use Rattle.journal_files.proofs.Faults.{opening_device}
 use Rattle.checkpoint.specs.Format.{part_bytes}
 use Rattle.checkpoint.specs.Parts.{IsPart, IsPartOf}
-use Rattle.checkpoint.specs.Points.{payloads_of}
+use Rattle.commit_journal.specs.Log.{payloads_of}
 use Rattle.checkpoint.specs.declared.part.Part.{Part}
 use Rattle.checkpoint.specs.declared.point.Point.{Point}
 use Rattle.restoring.specs.Writing.{HasLast}

@@ -5,7 +5,7 @@ use Rattle.marc_types.specs.declared.entry.Entry.{Entry}
 use Rattle.outside.specs.Room.{SameBut}
 use Rattle.commit_journal.specs.Log.{version_of}
 use Rattle.command_words.specs.declared.library.Library.{Library}
-use Rattle.command_words.specs.Command.{Command, Pass, Run, Load, Browse, Export, Report, Make, Verify, VerifyPoint, Matches, Holdings, Headings, Worklist, Migrate, Checkpoint, Quick, QuickReport, Read, ReadHoldings, ReadWorklist, Refused as RefusedOf, Help, Version, libraries_of}
+use Rattle.command_words.specs.Command.{Command, Pass, Run, Load, Browse, Export, Report, Make, Verify, VerifyPoint, VerifyDigest, Matches, Holdings, Headings, Worklist, Migrate, Salvage, Checkpoint, Quick, QuickReport, Read, ReadHoldings, ReadWorklist, Refused as RefusedOf, Help, Version, libraries_of}
 use Rattle.command_words.specs.Look.{HeadingRange}
 use Rattle.entry_record.specs.History.{IsMerged, IsWithin}
 use Rattle.console_lines.specs.Ends.{Outcome, IsAllDone, TellsNoFault, end_status, out_unwritten, side_unwritten, console_unwritten}
@@ -37,11 +37,13 @@ use Rattle.union_top.specs.Misfits.{IsNoHistory, IsOfVersion, IsTooLarge, AreToo
 use Rattle.union_top.proofs.Complete.{around_of, one_stayed, none_failed, neither}
 use Rattle.union_top.proofs.Unopened.{may_be}
 use Rattle.union_top.proofs.Listed.{lists_refuses}
-use Rattle.union_top.proofs.Sought.{seeks_refuses}
+use Rattle.union_top.proofs.ListedUnheld.{lists_unheld_refuses}
 use Rattle.union_top.proofs.Looking.{looks_refuses, with_bytes}
 use Rattle.union_top.proofs.Unheld.{unheld_status}
 use Rattle.union_top.proofs.Pointing.{checkpoint_refuses, quick_refuses, quick_report_refuses}
 use Rattle.union_top.proofs.OwnPoint.{owns_refuses}
+use Rattle.union_top.proofs.Digested.{none_digested}
+use Rattle.union_top.proofs.Salvaged.{none_salvaged}
 use Rattle.union_top.proofs.Misfits.{by_told, none_opened, large_opened, none_fits, large_fits, none_loaded, old_loaded, large_loaded}
 use mathlib.Core.HLevel.{⊥_prop}
 
@@ -354,11 +356,21 @@ module _ (o : Outcome) (tells : o.old.tells ≡ true) where
     refuses (Pass out) p s = record { no_history = λ no. absurd no; other_version = λ no. absurd no; limits = λ no. absurd no }
     refuses (Make seed count out) m s = record { no_history = λ no. absurd no; other_version = λ no. absurd no; limits = λ no. absurd no }
     refuses (Verify journal) v s = record { no_history = λ no. absurd no; other_version = λ no. absurd no; limits = λ no. absurd no }
+    refuses (VerifyDigest journal count digest) v s = record {
+      no_history = none_digested o journal count digest v tells (λ is. s.0 (v.input is));
+      other_version = λ no. absurd no;
+      limits = λ no. absurd no;
+    }
+    refuses (Salvage journal into) v s = record {
+      no_history = none_salvaged o journal into v tells (λ is. s.0 (v.input is).0);
+      other_version = λ no. absurd no;
+      limits = λ no. absurd no;
+    }
     refuses (QuickReport journal point out report) q s = quick_report_refuses o tells words journal point out report q s
     refuses (Read look journal out) l s = looks_refuses o tells words look journal out l (λ is. s.1 (l.out_cause is)) (λ is. s.0 (l.input is))
     refuses (ReadHoldings journal out rest code) ends s = unheld_refuses journal out rest code ends s
     refuses (ReadWorklist journal list page code) l s =
-        seeks_refuses o journal list page code l words tells (λ is. s.1 (l.list_cause is)) (λ is. s.2 (l.page_cause is)) (λ is. s.0 (l.input is))
+        lists_unheld_refuses o journal list page code l words tells (λ is. s.1 (l.list_cause is)) (λ is. s.2 (l.page_cause is)) (λ is. s.0 (l.input is))
     refuses (RefusedOf out) p s = record { no_history = λ no. absurd no; other_version = λ no. absurd no; limits = λ no. absurd no }
     refuses (Help topic) t s = record { no_history = λ no. absurd no; other_version = λ no. absurd no; limits = λ no. absurd no }
     refuses Version t s = record { no_history = λ no. absurd no; other_version = λ no. absurd no; limits = λ no. absurd no }

@@ -11,7 +11,7 @@ use Rattle.marc_stream.specs.Pieces.{items}
 use Rattle.workload.specs.Workload.{workload_bytes}
 use Rattle.commit_journal.specs.declared.format.TheConstants.{BLANK_LENGTH}
 use Rattle.command_words.specs.declared.library.Library.{Library}
-use Rattle.command_words.specs.Command.{Command, Pass, Run, Load, Browse, Export, Report, Make, Verify, VerifyPoint, Matches, Holdings, Headings, Worklist, Migrate, Checkpoint, Quick, QuickReport, Read, ReadHoldings, ReadWorklist, Refused as RefusedOf, Help, Version, libraries_of}
+use Rattle.command_words.specs.Command.{Command, Pass, Run, Load, Browse, Export, Report, Make, Verify, VerifyPoint, VerifyDigest, Matches, Holdings, Headings, Worklist, Migrate, Salvage, Checkpoint, Quick, QuickReport, Read, ReadHoldings, ReadWorklist, Refused as RefusedOf, Help, Version, libraries_of}
 use Rattle.file_entries.specs.Files.{IsJudged}
 use Rattle.file_entries.specs.declared.refused.RefusedItem.{RefusedItem}
 use Rattle.console_lines.specs.Ends.{Outcome, IsAllDone, TellsNoFault, end_of, end_status, out_unwritten, side_unwritten, console_unwritten}
@@ -38,6 +38,10 @@ use Rattle.union_top.proofs.Looking.{looks_well}
 use Rattle.union_top.proofs.Unheld.{unheld_well}
 use Rattle.journal_verification.specs.Contents.{IsVerified}
 use Rattle.journal_verification.specs.Verifying.{Verifies, IsToldInPart, verified_lines}
+use Rattle.journal_verification.specs.Digests.{digest_line}
+use Rattle.journal_verification.specs.Owning.{VerifiesDigest, IsToldDigest}
+use Rattle.salvage_command.specs.Salvages.{Salvages, IsSalvageOf}
+use Rattle.salvage_command.specs.Told.{salvaged_lines}
 use Rattle.catalogue_rules.specs.Settle.{state_of}
 use Rattle.file_holdings.specs.Files.{AreHoldings}
 use Rattle.holdings_command.specs.Attaching as attaching
@@ -60,23 +64,24 @@ use Rattle.browsing_commands.specs.Pages.{pages_text}
 use Rattle.browsing_commands.specs.Browses.{Browses}
 use Rattle.loading_commands.specs.Runs.{IsMergedLoad, WhyNotLoad}
 use Rattle.union_top.specs.Commands.{Ends}
-use Rattle.union_top.specs.Fits.{FitsPass, FitsLoad, FitsReading, FitsHoldings, FitsVerify, FitsLook, FitsUnheld, FitsMigrate, FitsPoint, FitsVerifyPoint}
+use Rattle.union_top.specs.Fits.{FitsPass, FitsLoad, FitsReading, FitsHoldings, FitsVerify, FitsLook, FitsUnheld, FitsMigrate, FitsSalvage, FitsPoint, FitsVerifyPoint, FitsVerifyDigest}
 use Rattle.union_top.specs.Complete.{Around, LogStayed}
-use Rattle.union_top.specs.Sure.{HoldsLog, HoldsText, PassCase, LoadCase, HoldingsCase, holdings_due, IsSurePass, IsSureMake, IsSureReading, IsSureVerify, IsSureVerifyPoint, IsSureLook, LogHas, FileHas, IsSureAttaching, IsSureHoldings, IsSureUnheld, IsSureMigrate, IsSureQuick, IsSureLoad, IsSureRun, IsSureBrowse, IsSure, IsSureWorklist, IsSureSearch}
+use Rattle.union_top.specs.Sure.{HoldsLog, HoldsText, PassCase, LoadCase, HoldingsCase, holdings_due, IsSurePass, IsSureMake, IsSureReading, IsSureVerify, IsSureVerifyPoint, IsSureVerifyDigest, IsSureLook, LogHas, FileHas, IsSureAttaching, IsSureHoldings, IsSureUnheld, IsSureMigrate, IsSureSalvage, IsSureQuick, IsSureLoad, IsSureRun, IsSureBrowse, IsSure, IsSureWorklist, IsSureWorklistUnheld}
 use Rattle.union_top.proofs.Complete.{around_of, one_stayed, none_failed, neither}
 use Rattle.union_top.proofs.Fitting.{EndsWell, well_status, Never, passes_well, makes_well, reads_well, attaches_well, loads_well, runs_well}
 use Rattle.union_top.proofs.Framed.{part_no_longer}
 use Rattle.union_top.proofs.Listed.{lists_well}
-use Rattle.union_top.proofs.Sought.{seeks_well}
-use Rattle.worklist_command.specs.Looking.{LooksForWork}
+use Rattle.union_top.proofs.ListedUnheld.{lists_unheld_well}
+use Rattle.worklist_command.specs.Unheld.{ListsUnheld}
 use Rattle.worklist_command.specs.Working.{MakesWorklist, list_due}
 use Rattle.worklist_page.specs.Page.{page_of}
 use Rattle.union_top.proofs.Held.{in_stayed, inputs_stayed, out_stayed, log_stayed, same_stayed, kept_stayed, text_stayed}
 use Rattle.union_top.proofs.Judgements.{fits_judged}
 use Rattle.union_top.proofs.Migrated.{migrates_well}
+use Rattle.union_top.proofs.Salvaged.{salvages_well}
 use Rattle.union_top.proofs.Pointed.{quick_well, never_side}
 use Rattle.union_top.proofs.OwnPoint.{owns_well}
-use Rattle.union_top.proofs.Untroubled.{verify_well, tells_well}
+use Rattle.union_top.proofs.Untroubled.{verify_well, digest_well, tells_well}
 use mathlib.Core.HLevel.{⊥_prop}
 
 -- an image amid a migration is no longer than with a frame for each entry that is to come
@@ -181,6 +186,16 @@ module _ (o : Outcome) (promises : (n : List ℕ) → o.new.promise n ≡ o.old.
       text_stayed a (verified_lines part.verified) (h.console part.verified verified) part.console (v.console_cause is))
       (λ is. in_stayed a promises kept journal h.input (v.input is))
 
+  sure_digest : (journal : List ℕ) (count : ℕ) (digits : List ℕ) → VerifiesDigest journal count digits o → FitsVerifyDigest o.old journal count digits
+      → IsSureVerifyDigest journal count digits a → EndsWell o.end
+  sure_digest journal count digits v f h =
+      digest_well o journal count digits v f
+      (λ is.
+      let t : IsToldDigest count digits f.verify.bytes o =
+      subst (λ file. IsSomeAnd file (λ log. IsToldDigest count digits log o)) f.verify.there (v.own (subst TellsNoFault (sym is) tt) f.verify.tells) in
+      text_stayed a (digest_line t.own.digest count) (h.console f.verify.bytes t.own f.verify.there) (t.front is) (v.console_cause is))
+      (λ is. in_stayed a promises kept journal h.input (v.input is))
+
   sure_own : (journal point : List ℕ) → VerifiesPoint journal point o → FitsVerifyPoint o.old journal point → IsSureVerifyPoint journal point a → EndsWell o.end
   sure_own journal point v f h =
       owns_well o journal point v
@@ -198,10 +213,10 @@ module _ (o : Outcome) (promises : (n : List ℕ) → o.new.promise n ≡ o.old.
       out_stayed a promises kept out (due one.0) (h.output f.bytes one.0 f.there ∣ one.1 ∣₁) (l.part f.bytes one.0 is f.tells f.there ∣ one.1 ∣₁) (l.out_cause is)))
       (λ is. in_stayed a promises kept journal h.input (l.input is))
 
-  sure_search : (journal list page : List ℕ) (code : Option (List ℕ)) → LooksForWork journal list page code o → FitsLook o.old journal
-      → IsSureSearch journal list page code a → EndsWell o.end
-  sure_search journal list page code l f h =
-      seeks_well o journal list page code l f
+  sure_worklist_unheld : (journal list page : List ℕ) (code : Option (List ℕ)) → ListsUnheld journal list page code o → FitsLook o.old journal
+      → IsSureWorklistUnheld journal list page code a → EndsWell o.end
+  sure_worklist_unheld journal list page code l f h =
+      lists_unheld_well o journal list page code l f
       (λ is.
       ∥∥₁_elim f.history ⊥_prop (λ (one : (entries : List Entry) × IsLogOf entries f.bytes × IsWithin journal_limits entries).
       out_stayed a promises kept list (list_due code one.0) (h.output f.bytes one.0 f.there ∣ one.1 ∣₁) (l.list_part f.bytes one.0 is f.tells f.there ∣ one.1 ∣₁) (l.list_cause is)))
@@ -305,26 +320,38 @@ module _ (o : Outcome) (promises : (n : List ℕ) → o.new.promise n ≡ o.old.
       (λ is. neither (in_stayed a promises kept journal h.input)
       (never_read (FileHas o.old journal) (libraries_of words) out rest code f.library f.named h.attaching found) (c.input is)) f.look
 
-  module _ (from into : List ℕ) (m : Migrates from into o) (f : FitsMigrate o.old from into) (h : IsSureMigrate from into a) where
-    module _ (fit : IsFit journal_limits f.history f.entries (log_bytes o.old into)) where
-      into_holds : HoldsLog o.old into (framed_lengths fit.begins.0)
-      into_holds =
-          h.new_log f.entries fit.begins.0 ∣ fit.has ∣₁ (subst (λ es. HasHistory es (log_bytes o.old from)) (sym fit.begins.1) f.was)
+  -- a log into which a history is brought, for which it is fit
+  module _ (into : List ℕ) (history entries : List Entry) (fit : IsFit journal_limits history entries (log_bytes o.old into))
+      (holds : HoldsLog o.old into (framed_lengths fit.begins.0)) where
+    into_stayed : BringsInto history o.old o.new into → LogStayed a into
+    into_stayed (migrates.Unopened u) rose = same_stayed a promises kept into (framed_lengths fit.begins.0) holds u.file rose
+    into_stayed (migrates.Opened is_log images content unsynced) rose =
+        ∥∥₁_elim (content entries ∣ fit.has ∣₁) ⊥_prop (λ amid.
+        log_stayed a promises kept into (framed_lengths fit.begins.0) holds
+        (amid_length _ history entries fit.begins.0 (log_bytes o.old into) (log_bytes o.new into) fit.begins.1 amid) rose)
 
-      into_stayed : BringsInto f.history o.old o.new into → LogStayed a into
-      into_stayed (migrates.Unopened u) rose = same_stayed a promises kept into (framed_lengths fit.begins.0) into_holds u.file rose
-      into_stayed (migrates.Opened is_log images content unsynced) rose =
-          ∥∥₁_elim (content f.entries ∣ fit.has ∣₁) ⊥_prop (λ amid.
-          log_stayed a promises kept into (framed_lengths fit.begins.0) into_holds
-          (amid_length _ f.history f.entries fit.begins.0 (log_bytes o.old into) (log_bytes o.new into) fit.begins.1 amid) rose)
+  module _ (from into : List ℕ) (m : Migrates from into o) (f : FitsMigrate o.old from into) (h : IsSureMigrate from into a) where
+    into_holds : (fit : IsFit journal_limits f.history f.entries (log_bytes o.old into)) → HoldsLog o.old into (framed_lengths fit.begins.0)
+    into_holds fit = h.new_log f.entries fit.begins.0 ∣ fit.has ∣₁ (subst (λ es. HasHistory es (log_bytes o.old from)) (sym fit.begins.1) f.was)
 
     sure_migrate : EndsWell o.end
     sure_migrate =
         migrates_well o from into m f
         (λ is. neither (λ rose. kept_stayed a promises kept (IsDeviceOf o from) from 0 h.log (m.keeps f.tells) rose)
-        (λ rose. ∥∥₁_elim (m.brings f.history f.tells f.was) ⊥_prop (λ brings. ∥∥₁_elim f.fits ⊥_prop (λ fit. into_stayed fit brings rose)))
+        (λ rose. ∥∥₁_elim (m.brings f.history f.tells f.was) ⊥_prop (λ brings. ∥∥₁_elim f.fits ⊥_prop (λ fit. into_stayed into f.history f.entries fit (into_holds fit) brings rose)))
         (m.device is))
         (λ is. text_stayed a (migrated_line (length f.history)) (h.console f.history f.was) (m.front f.history is f.tells f.was) (m.console is))
+
+  sure_salvage : (journal into : List ℕ) → Salvages journal into o → FitsSalvage o.old journal into → IsSureSalvage journal into a → EndsWell o.end
+  sure_salvage journal into s f h =
+      let told : IsSalvageOf o.old journal f.bytes f.all = (f.tells, f.there, f.sound) in
+      let fit = f.fit.fit in
+      let holds = h.new_log f.bytes f.all f.fit.before fit.begins.0 f.there f.sound ∣ fit.has ∣₁ fit.begins.1 in
+      salvages_well o journal into s f
+      (λ is. in_stayed a promises kept journal h.input (s.input is).0)
+      (λ is.
+      ∥∥₁_elim (s.brings f.bytes f.all told) ⊥_prop (λ brings. into_stayed into f.all.entries f.fit.before fit holds brings (s.device is)))
+      (λ is. text_stayed a (salvaged_lines f.bytes f.all) (h.console f.bytes f.all f.there f.sound) (s.front f.bytes f.all is told) (s.console is))
 
   module _ (libraries : List Library) (journal : List ℕ) (f : FitsLoad o.old journal libraries) (h : IsSureLoad libraries journal a) where
     abbrev load_case : IsMergedLoad o.old o.new journal libraries → LoadCase o.old journal libraries
@@ -416,11 +443,13 @@ module _ (o : Outcome) (promises : (n : List ℕ) → o.new.promise n ≡ o.old.
   ends_sure words (Make seed count out) m u = sure_make seed count out m u.holds
   ends_sure words (Verify journal) v u = sure_verify journal v u.fits u.holds
   ends_sure words (VerifyPoint journal point) v u = sure_own journal point v u.fits u.holds
+  ends_sure words (VerifyDigest journal count digest) v u = sure_digest journal count digest v u.fits u.holds
   ends_sure words (Matches journal out) r u = sure_read journal out matches_due r u.fits u.holds
   ends_sure words (Holdings journal out rest code) ends u = sure_holdings words journal out rest code ends u.fits u.holds
   ends_sure words (Headings journal range out) r u = sure_read journal out (headings_due range) r u.fits u.holds
   ends_sure words (Worklist journal list page code) m u = sure_worklist journal list page code m u.fits u.holds
   ends_sure words (Migrate from into) m u = sure_migrate from into m u.fits u.holds
+  ends_sure words (Salvage journal into) s u = sure_salvage journal into s u.fits u.holds
   ends_sure words (Checkpoint journal point) c u = absurd u.holds
   ends_sure words (Quick journal point out) q u = sure_quick journal point out None q u.fits u.holds (never_side o.end q.ends)
   ends_sure words (QuickReport journal point out report) q u =
@@ -430,7 +459,7 @@ module _ (o : Outcome) (promises : (n : List ℕ) → o.new.promise n ≡ o.old.
       out_stayed a promises kept report (report_of e.resumed.state) (u.holds.report_output e.resumed) (e.report_part is) (q.report_cause is))
   ends_sure words (Read look journal out) l u = sure_look (look_due look) journal out l u.fits u.holds
   ends_sure words (ReadHoldings journal out rest code) ends u = sure_unheld words journal out rest code ends u.fits u.holds
-  ends_sure words (ReadWorklist journal list page code) l u = sure_search journal list page code l u.fits u.holds
+  ends_sure words (ReadWorklist journal list page code) l u = sure_worklist_unheld journal list page code l u.fits u.holds
   ends_sure words (RefusedOf out) ends u = sure_pass refused_due (libraries_of words) out ends u.fits u.holds
   ends_sure words (Help topic) t u = sure_text (help_text topic) t u.holds
   ends_sure words Version t u = sure_text version_text t u.holds

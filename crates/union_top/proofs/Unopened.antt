@@ -5,13 +5,14 @@ use Rattle.std.proofs.lemmas.List.{map-append}
 use Rattle.marc_types.specs.declared.entry.Entry.{Entry}
 use Rattle.console_lines.specs.declared.fault.Fault.TheVariants as fault
 use Rattle.commit_journal.specs.declared.frame.Frame.{Frame}
-use Rattle.commit_journal.specs.Log.{version_of}
+use Rattle.commit_journal.specs.Log.{version_of, payloads_of}
 use Rattle.entry_history.specs.Payloads.{Holds, IsHistory, NoMore, OneMore}
 use Rattle.entry_history.proofs.Histories.{history_once}
 use Rattle.durable_catalogue.specs.declared.fault.OpenFault.{OpenFault}
 use Rattle.durable_catalogue.specs.declared.fault.OpenFault.TheVariants as opening
-use Rattle.durable_catalogue.specs.Logs.{payloads_of, IsLogOf}
-use Rattle.durable_catalogue.specs.Openings.{IsBadFrame, NoGate, NoPayload, IsUnopened}
+use Rattle.durable_catalogue.specs.Logs.{IsLogOf}
+use Rattle.durable_catalogue.specs.Openings.{IsUnopened}
+use Rattle.entry_history.specs.Frames.{IsBadFrame, NoGate, NoPayload}
 use Rattle.entry_record.specs.History.{IsWithin}
 use Rattle.journal_files.specs.Faults.{fault_of_opening}
 use Rattle.journal_files.specs.Journals.{journal_limits, HasFittingHistory}

@@ -8,29 +8,19 @@ use Rattle.console_lines.specs.declared.end.End.TheVariants.{Done, Refused, Unwr
 use Rattle.console_lines.specs.declared.end.Unwritten.TheVariants.{Out, Side, Pages, Console}
 use Rattle.console_lines.specs.declared.fault.Fault.TheVariants as fault
 use Rattle.durable_catalogue.specs.declared.fault.OpenFault.TheVariants as opening
-use Rattle.durable_catalogue.specs.Openings as openings
 use Rattle.durable_catalogue.specs.Openings.{IsUnopened}
 use Rattle.journal_files.specs.Journals.{journal_limits}
-use Rattle.journal_verification.specs.Contents.{IsNoJournal, NoGate, NoPayload}
+use Rattle.entry_history.specs.Frames.{IsNoJournal}
 use Rattle.journal_verification.specs.Verifying.{EndsVerifying, Verifies}
+use Rattle.journal_verification.specs.Owning.{EndsVerifyingDigest, VerifiesDigest, IsOfOther}
 use Rattle.program_help.specs.Telling.{EndsTelling, Tells}
-use Rattle.union_top.specs.Fits.{FitsVerify}
+use Rattle.union_top.specs.Fits.{FitsVerify, FitsVerifyDigest}
 use Rattle.union_top.proofs.Unopened.{no_journal}
 use mathlib.Core.HLevel.{⊥_prop}
 
 -- what is told to be no journal is none that is opened
 unopened : (log : List ℕ) (place : ℕ) → IsNoJournal log place → IsUnopened journal_limits log (opening.NotAJournal place)
-unopened log place (NoGate none) = openings.NoGate none
-unopened log place (NoPayload frames found bad) = openings.NoPayload frames found (record {
-  front = bad.front;
-  bad = bad.bad;
-  behind = bad.behind;
-  entries = bad.entries;
-  split = bad.split;
-  history = bad.history;
-  invalid = bad.invalid;
-  at = bad.at;
-})
+unopened log place none = none
 
 verified_well : (end : End) → EndsVerifying end → (end ≡ console_unwritten → ⊥) → (end ≡ Told fault.Input → ⊥)
     → ((place : ℕ) → end ≡ Told (fault.NotAJournal place) → ⊥) → IsAllDone end ⊎ (end ≡ Told fault.Memory)
@@ -49,6 +39,23 @@ verified_well (Told fault.Memory) kind console input none = inr refl
 verified_well (Told fault.OldVersion) kind console input none = absurd kind
 verified_well (Told fault.OtherHistory) kind console input none = absurd kind
 
+digested_well : (end : End) → EndsVerifyingDigest end → (end ≡ console_unwritten → ⊥) → (end ≡ Told fault.Input → ⊥)
+    → ((place : ℕ) → end ≡ Told (fault.NotAJournal place) → ⊥) → (end ≡ Told fault.OtherHistory → ⊥) → IsAllDone end ⊎ (end ≡ Told fault.Memory)
+digested_well Done kind console input none other = inl tt
+digested_well Refused kind console input none other = absurd kind
+digested_well (Unwritten Out) kind console input none other = absurd kind
+digested_well (Unwritten Side) kind console input none other = absurd kind
+digested_well (Unwritten Pages) kind console input none other = absurd kind
+digested_well (Unwritten Console) kind console input none other = absurd (console refl)
+digested_well (Told fault.Usage) kind console input none other = absurd kind
+digested_well (Told fault.Input) kind console input none other = absurd (input refl)
+digested_well (Told fault.Device) kind console input none other = absurd kind
+digested_well (Told (fault.NotAJournal place)) kind console input none other = absurd (none place refl)
+digested_well (Told fault.Full) kind console input none other = absurd kind
+digested_well (Told fault.Memory) kind console input none other = inr refl
+digested_well (Told fault.OldVersion) kind console input none other = absurd kind
+digested_well (Told fault.OtherHistory) kind console input none other = absurd (other refl)
+
 told_well : (end : End) → EndsTelling end → (end ≡ console_unwritten → ⊥) → IsAllDone end ⊎ (end ≡ Told fault.Memory)
 told_well Done kind console = inl tt
 told_well Refused kind console = absurd kind
@@ -59,13 +66,25 @@ told_well (Unwritten Console) kind console = absurd (console refl)
 told_well (Told why) kind console = absurd kind
 
 module _ (o : Outcome) where
+  -- a file that fits is a journal
+  is_journal : (journal : List ℕ) (f : FitsVerify o.old journal) (place : ℕ) → IsSomeAnd (o.old.file journal) (λ log. IsNoJournal log place) → ⊥
+  is_journal journal f place some =
+      let none : IsNoJournal f.bytes place = subst (λ file. IsSomeAnd file (λ log. IsNoJournal log place)) f.there some in
+      ∥∥₁_elim f.was ⊥_prop (λ history. no_journal f.bytes place f.entries history (unopened f.bytes place none))
+
   pub verify_well : (journal : List ℕ) → Verifies journal o → FitsVerify o.old journal
       → (o.end ≡ console_unwritten → ⊥) → (o.end ≡ Told fault.Input → ⊥) → IsAllDone o.end ⊎ (o.end ≡ Told fault.Memory)
   verify_well journal v f no_console no_input =
-      verified_well o.end v.ends no_console no_input
-      (λ place is.
-      let none : IsNoJournal f.bytes place = subst (λ file. IsSomeAnd file (λ log. IsNoJournal log place)) f.there (v.none place is f.tells) in
-      ∥∥₁_elim f.was ⊥_prop (λ history. no_journal f.bytes place f.entries history (unopened f.bytes place none)))
+      verified_well o.end v.ends no_console no_input (λ place is. is_journal journal f place (v.none place is f.tells))
+
+  pub digest_well : (journal : List ℕ) (count : ℕ) (digits : List ℕ) → VerifiesDigest journal count digits o → FitsVerifyDigest o.old journal count digits
+      → (o.end ≡ console_unwritten → ⊥) → (o.end ≡ Told fault.Input → ⊥) → IsAllDone o.end ⊎ (o.end ≡ Told fault.Memory)
+  digest_well journal count digits v f no_console no_input =
+      digested_well o.end v.ends no_console no_input (λ place is. is_journal journal f.verify place (v.none place is f.verify.tells))
+      (λ is.
+      let of_other : IsOfOther count digits f.verify.bytes =
+      subst (λ file. IsSomeAnd file (IsOfOther count digits)) f.verify.there (v.other is f.verify.tells) in
+      of_other.other f.own)
 
   pub tells_well : (text : List ℕ) → Tells text o → (o.end ≡ console_unwritten → ⊥) → IsAllDone o.end ⊎ (o.end ≡ Told fault.Memory)
   tells_well text t no_console = told_well o.end t.ends no_console

@@ -2,7 +2,7 @@
 use Rattle.std.specs.Prelude.{◌≡◌, ◌≢◌, ℕ, List, [], ◌∷◌, Some, None}
 use Rattle.outside.specs.Room.{SameBut}
 use Rattle.command_words.specs.declared.library.Library.{Library}
-use Rattle.command_words.specs.Command.{Command, Pass, Run, Load, Browse, Export, Report, Make, Verify, VerifyPoint, Matches, Holdings, Headings, Worklist, Migrate, Checkpoint, Quick, QuickReport, Read, ReadHoldings, ReadWorklist, Refused as RefusedOf, Help, Version, libraries_of, names_of}
+use Rattle.command_words.specs.Command.{Command, Pass, Run, Load, Browse, Export, Report, Make, Verify, VerifyPoint, VerifyDigest, Matches, Holdings, Headings, Worklist, Migrate, Salvage, Checkpoint, Quick, QuickReport, Read, ReadHoldings, ReadWorklist, Refused as RefusedOf, Help, Version, libraries_of, names_of}
 use Rattle.console_lines.specs.Ends.{Outcome, end_status}
 use Rattle.console_lines.specs.declared.end.End.{End}
 use Rattle.console_lines.specs.declared.end.End.TheVariants.{Told}
@@ -15,12 +15,14 @@ use Rattle.plain_commands.specs.GivingBack.{GivesBack}
 use Rattle.reading_commands.specs.Unheld.{AttachesUnheld}
 use Rattle.reading_commands.specs.Looking.{LooksInto, look_due}
 use Rattle.journal_verification.specs.Verifying.{Verifies}
+use Rattle.journal_verification.specs.Owning.{VerifiesDigest}
 use Rattle.archive_commands.specs.Telling.{TellsMatches}
-use Rattle.heading_list.specs.Telling.{TellsHeadings}
+use Rattle.archive_commands.specs.Telling.{TellsHeadings}
 use Rattle.holdings_command.specs.Attaching.{AttachesHoldings}
-use Rattle.worklist_command.specs.Looking.{LooksForWork}
+use Rattle.worklist_command.specs.Unheld.{ListsUnheld}
 use Rattle.worklist_command.specs.Working.{MakesWorklist}
 use Rattle.migrate_command.specs.Migrates.{Migrates}
+use Rattle.salvage_command.specs.Salvages.{Salvages}
 use Rattle.checkpoint_commands.specs.Checkpoints.{Checkpoints}
 use Rattle.checkpoint_commands.specs.Quick.{ExportsQuickly}
 use Rattle.point_verification.specs.Verifying.{VerifiesPoint}
@@ -39,17 +41,19 @@ Ends words (Report journal out) o = Reads journal out reads.Report o
 Ends words (Make seed count out) o = Makes seed count out o
 Ends words (Verify journal) o = Verifies journal o
 Ends words (VerifyPoint journal point) o = VerifiesPoint journal point o
+Ends words (VerifyDigest journal count digest) o = VerifiesDigest journal count digest o
 Ends words (Matches journal out) o = TellsMatches journal out o
 Ends words (Holdings journal out rest code) o = (library : Library) → libraries_of words ≡ library ∷ [] → AttachesHoldings journal out rest library code o
 Ends words (Headings journal range out) o = TellsHeadings journal out range o
 Ends words (Worklist journal list page code) o = MakesWorklist journal list page code o
 Ends words (Migrate from into) o = Migrates from into o
+Ends words (Salvage journal into) o = Salvages journal into o
 Ends words (Checkpoint journal point) o = Checkpoints journal point o
 Ends words (Quick journal point out) o = ExportsQuickly journal point out None o
 Ends words (QuickReport journal point out report) o = ExportsQuickly journal point out (Some report) o
 Ends words (Read look journal out) o = LooksInto journal out (look_due look) o
 Ends words (ReadHoldings journal out rest code) o = (library : Library) → libraries_of words ≡ library ∷ [] → AttachesUnheld journal out rest library code o
-Ends words (ReadWorklist journal list page code) o = LooksForWork journal list page code o
+Ends words (ReadWorklist journal list page code) o = ListsUnheld journal list page code o
 Ends words (RefusedOf out) o = (library : Library) → libraries_of words ≡ library ∷ [] → GivesBack library out o
 Ends words (Help topic) o = Tells (help_text topic) o
 Ends words Version o = Tells version_text o

@@ -3,7 +3,7 @@ use Rattle.std.specs.Prelude.{ℕ, List, All, Option}
 use Rattle.outside.specs.Fault.{Rose}
 use Rattle.outside.specs.Room.{RoomView}
 use Rattle.command_words.specs.declared.library.Library.{Library}
-use Rattle.command_words.specs.Command.{Command, Pass, Run, Load, Browse, Export, Report, Make, Verify, VerifyPoint, Matches, Holdings, Headings, Worklist, Migrate, Checkpoint, Quick, QuickReport, Read, ReadHoldings, ReadWorklist, Refused as RefusedOf, Help, Version, libraries_of}
+use Rattle.command_words.specs.Command.{Command, Pass, Run, Load, Browse, Export, Report, Make, Verify, VerifyPoint, VerifyDigest, Matches, Holdings, Headings, Worklist, Migrate, Salvage, Checkpoint, Quick, QuickReport, Read, ReadHoldings, ReadWorklist, Refused as RefusedOf, Help, Version, libraries_of}
 use Rattle.union_top.specs.Fits.{Fits}
 
 -- what the room and the console were before and after a command
@@ -64,12 +64,14 @@ CountsStayed words (Report journal out) a = LogStayed a journal × OutStayed a o
 CountsStayed words (Make seed count out) a = OutStayed a out × ConsoleStayed a
 CountsStayed words (Verify journal) a = InStayed a journal × ConsoleStayed a
 CountsStayed words (VerifyPoint journal point) a = InStayed a journal × InStayed a point × ConsoleStayed a
+CountsStayed words (VerifyDigest journal count digest) a = InStayed a journal × ConsoleStayed a
 CountsStayed words (Matches journal out) a = LogStayed a journal × OutStayed a out
 CountsStayed words (Holdings journal out rest code) a =
     InputsStayed a (libraries_of words) × LogStayed a journal × ConsoleStayed a × OutStayed a out × OutStayed a rest
 CountsStayed words (Headings journal range out) a = LogStayed a journal × OutStayed a out
 CountsStayed words (Worklist journal list page code) a = LogStayed a journal × OutStayed a list × OutStayed a page
 CountsStayed words (Migrate from into) a = LogStayed a from × LogStayed a into × ConsoleStayed a
+CountsStayed words (Salvage journal into) a = InStayed a journal × LogStayed a into × ConsoleStayed a
 CountsStayed words (Checkpoint journal point) a = LogStayed a journal × LogStayed a point × ConsoleStayed a
 CountsStayed words (Quick journal point out) a = LogStayed a journal × LogStayed a point × OutStayed a out × ConsoleStayed a
 CountsStayed words (QuickReport journal point out report) a =

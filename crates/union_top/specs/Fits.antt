@@ -7,13 +7,16 @@ use Rattle.outside.specs.Room.{RoomView}
 use Rattle.marc_stream.specs.Pieces.{items}
 use Rattle.commit_journal.specs.Log.{version_of}
 use Rattle.command_words.specs.declared.library.Library.{Library}
-use Rattle.command_words.specs.Command.{Command, Pass, Run, Load, Browse, Export, Report, Make, Verify, VerifyPoint, Matches, Holdings, Headings, Worklist, Migrate, Checkpoint, Quick, QuickReport, Read, ReadHoldings, ReadWorklist, Refused as RefusedOf, Help, Version, libraries_of}
+use Rattle.command_words.specs.Command.{Command, Pass, Run, Load, Browse, Export, Report, Make, Verify, VerifyPoint, VerifyDigest, Matches, Holdings, Headings, Worklist, Migrate, Salvage as SalvageOf, Checkpoint, Quick, QuickReport, Read, ReadHoldings, ReadWorklist, Refused as RefusedOf, Help, Version, libraries_of}
 use Rattle.file_entries.specs.Files.{IsJudged}
 use Rattle.file_entries.specs.declared.refused.RefusedItem.{RefusedItem}
 use Rattle.entry_record.specs.History.{entries_size}
 use Rattle.durable_catalogue.specs.Logs.{HasHistory}
 use Rattle.journal_files.specs.Journals.{journal_limits, log_bytes, HasFittingHistory}
+use Rattle.journal_verification.specs.Digests.{IsDigestOf}
 use Rattle.migrate_command.specs.Migrations.{IsFit}
+use Rattle.sound_frames.specs.Sound.{Salvage, IsSoundOf}
+use Rattle.salvage_command.specs.Salvages.{WasFit}
 use Rattle.checkpoint.specs.declared.point.Point.{Point}
 use Rattle.restoring.specs.Resuming.{IsOfFront}
 use Rattle.checkpoint_commands.specs.PointLogs.{IsPointLog}
@@ -69,6 +72,11 @@ pub record FitsVerify (room : RoomView) (journal : List ℕ) : Type 0 where
   pub there : room.file journal ≡ Some bytes
   pub was : HasHistory entries bytes
 
+-- the verifying of a digest of a journal's first so many entries, in a room that tells its files: the journal is there, and that is its digest
+pub record FitsVerifyDigest (room : RoomView) (journal : List ℕ) (count : ℕ) (digits : List ℕ) : Type 0 where
+  pub verify : FitsVerify room journal
+  pub own : IsDigestOf count digits verify.bytes
+
 -- a look into a journal that isn't held, in a room that tells its files: it is there, with a history within the limits
 pub record FitsLook (room : RoomView) (journal : List ℕ) : Type 0 where
   pub tells : room.tells ≡ true
@@ -92,15 +100,25 @@ pub record FitsMigrate (room : RoomView) (from into : List ℕ) : Type 0 where
   pub version : version_of (log_bytes room from) ≡ 1
   pub fits : ∥ IsFit journal_limits history entries (log_bytes room into) ∥₁
 
--- a journal and a log of checkpoints, in a room that tells its files: that has checkpoints and nothing else, and is of version 2, as a blank
--- log and none are
+-- the bringing of what is sound of a damaged journal into another one, in a room that tells its files: the damaged one is there, with
+-- something sound, within the limits, and the new one, which may be blank or none, is fit for it
+pub record FitsSalvage (room : RoomView) (journal into : List ℕ) : Type 0 where
+  pub tells : room.tells ≡ true
+  pub bytes : List ℕ
+  pub there : room.file journal ≡ Some bytes
+  pub all : Salvage
+  pub sound : IsSoundOf bytes all
+  pub fit : WasFit room all into
+
+-- a journal and a log of checkpoints, in a room that tells its files: that has checkpoints and nothing else, and is of version 2, as a
+-- blank log and none are
 pub record FitsPoint (room : RoomView) (journal point : List ℕ) : Type 0 where
   pub reading : FitsReading room journal
   pub last : Option Point
   pub is : IsPointLog last (log_bytes room point)
 
--- a journal and a log of checkpoints that are inputs, in a room that tells its files: both are there, the one with a history within the limits,
--- and the last whole checkpoint of the other is of a front of it
+-- a journal and a log of checkpoints that are inputs, in a room that tells its files: both are there, the one with a history within the
+-- limits, and the last whole checkpoint of the other is of a front of it
 pub record FitsVerifyPoint (room : RoomView) (journal point : List ℕ) : Type 0 where
   pub look : FitsLook room journal
   pub point_bytes : List ℕ
@@ -121,11 +139,13 @@ Fits words (Report journal out) room = FitsReading room journal
 Fits words (Make seed count out) room = Unit {0}
 Fits words (Verify journal) room = FitsVerify room journal
 Fits words (VerifyPoint journal point) room = FitsVerifyPoint room journal point
+Fits words (VerifyDigest journal count digest) room = FitsVerifyDigest room journal count digest
 Fits words (Matches journal out) room = FitsReading room journal
 Fits words (Holdings journal out rest code) room = FitsHoldings room journal (libraries_of words)
 Fits words (Headings journal range out) room = FitsReading room journal
 Fits words (Worklist journal list page code) room = FitsReading room journal
 Fits words (Migrate from into) room = FitsMigrate room from into
+Fits words (SalvageOf journal into) room = FitsSalvage room journal into
 Fits words (Checkpoint journal point) room = FitsPoint room journal point
 Fits words (Quick journal point out) room = FitsPoint room journal point
 Fits words (QuickReport journal point out report) room = FitsPoint room journal point

@@ -4,18 +4,26 @@ use Rattle.marc_types.specs.declared.entry.Entry.{Entry}
 use Rattle.outside.specs.Room.{RoomView}
 use Rattle.commit_journal.specs.Log.{version_of}
 use Rattle.command_words.specs.declared.library.Library.{Library}
-use Rattle.command_words.specs.Command.{Command, Pass, Run, Load, Browse, Export, Report, Make, Verify, VerifyPoint, Matches, Holdings, Headings, Worklist, Migrate, Checkpoint, Quick, QuickReport, Read, ReadHoldings, ReadWorklist, Refused as RefusedOf, Help, Version, libraries_of}
+use Rattle.command_words.specs.Command.{Command, Pass, Run, Load, Browse, Export, Report, Make, Verify, VerifyPoint, VerifyDigest, Matches, Holdings, Headings, Worklist, Migrate, Salvage as SalvageOf, Checkpoint, Quick, QuickReport, Read, ReadHoldings, ReadWorklist, Refused as RefusedOf, Help, Version, libraries_of}
 use Rattle.file_entries.specs.declared.refused.RefusedItem.{RefusedItem}
 use Rattle.entry_record.specs.History.{IsMerged, IsWithin}
 use Rattle.durable_catalogue.specs.Logs.{HasHistory}
 use Rattle.journal_files.specs.Journals.{journal_limits, log_bytes, HasFittingHistory}
 use Rattle.loading_commands.specs.Merged.{AreJudged}
+use Rattle.sound_frames.specs.Sound.{Salvage, IsSoundOf, IsNothing}
 use Rattle.checkpoint.specs.declared.point.Point.{Point}
 use Rattle.restoring.specs.Writing.{HasLast}
 
 -- a log has no history
 abbrev pub IsNoHistory : List ℕ → Type 0
 IsNoHistory log = (entries : List Entry) → HasHistory entries log → ⊥
+
+-- nothing of a damaged log is sound
+pub record HasNothingSound (log : List ℕ) : Type 0 where
+  pub all : Salvage
+  pub sound : IsSoundOf log all
+  pub place : ℕ
+  pub nothing : IsNothing all place
 
 -- it has one, and is of that version
 pub record IsOfVersion (version : ℕ) (log : List ℕ) : Type 0 where
@@ -47,7 +55,7 @@ pub record IsOneFile (words : List (List ℕ)) : Type 0 where
   pub library : Library
   pub named : libraries_of words ≡ library ∷ []
 
--- the journal of the command of some words has no history: the old one of `migrate`
+-- the journal of the command of some words has no history: the old one of `migrate`; nothing of that of `salvage` is sound
 abbrev pub HasNoHistory : List (List ℕ) → Command → RoomView → Type 0
 HasNoHistory words (Run journal out report files) room = IsNoHistory (log_bytes room journal)
 HasNoHistory words (Load journal files) room = IsNoHistory (log_bytes room journal)
@@ -65,6 +73,8 @@ HasNoHistory words (Quick journal point out) room = IsNoHistory (log_bytes room 
 HasNoHistory words (Pass out) room = ⊥
 HasNoHistory words (Make seed count out) room = ⊥
 HasNoHistory words (Verify journal) room = ⊥
+HasNoHistory words (VerifyDigest journal count digest) room = IsSomeAnd (room.file journal) IsNoHistory
+HasNoHistory words (SalvageOf journal into) room = IsSomeAnd (room.file journal) HasNothingSound
 HasNoHistory words (QuickReport journal point out report) room = IsNoHistory (log_bytes room journal)
 HasNoHistory words (Read look journal out) room = IsSomeAnd (room.file journal) IsNoHistory
 HasNoHistory words (ReadHoldings journal out rest code) room = IsOneFile words × IsSomeAnd (room.file journal) IsNoHistory
@@ -91,6 +101,8 @@ IsOfOtherVersion (Holdings journal out rest code) room = ⊥
 IsOfOtherVersion (Pass out) room = ⊥
 IsOfOtherVersion (Make seed count out) room = ⊥
 IsOfOtherVersion (Verify journal) room = ⊥
+IsOfOtherVersion (VerifyDigest journal count digest) room = ⊥
+IsOfOtherVersion (SalvageOf journal into) room = ⊥
 IsOfOtherVersion (QuickReport journal point out report) room = IsOldPoint room journal point
 IsOfOtherVersion (Read look journal out) room = ⊥
 IsOfOtherVersion (ReadHoldings journal out rest code) room = ⊥
@@ -117,6 +129,8 @@ PassesLimits words (Quick journal point out) room = IsTooLarge (log_bytes room j
 PassesLimits words (Pass out) room = ⊥
 PassesLimits words (Make seed count out) room = ⊥
 PassesLimits words (Verify journal) room = ⊥
+PassesLimits words (VerifyDigest journal count digest) room = ⊥
+PassesLimits words (SalvageOf journal into) room = ⊥
 PassesLimits words (QuickReport journal point out report) room = IsTooLarge (log_bytes room journal)
 PassesLimits words (Read look journal out) room = IsSomeAnd (room.file journal) IsTooLarge
 PassesLimits words (ReadHoldings journal out rest code) room = IsOneFile words × IsSomeAnd (room.file journal) IsTooLarge

@@ -8,7 +8,7 @@ use Rattle.marc_stream.specs.Pieces.{items}
 use Rattle.workload.specs.Workload.{workload_bytes}
 use Rattle.commit_journal.specs.declared.format.TheConstants.{BLANK_LENGTH}
 use Rattle.command_words.specs.declared.library.Library.{Library}
-use Rattle.command_words.specs.Command.{Command, Pass, Run, Load, Browse, Export, Report, Make, Verify, VerifyPoint, Matches, Holdings, Headings, Worklist, Migrate, Checkpoint, Quick, QuickReport, Read, ReadHoldings, ReadWorklist, Refused as RefusedOf, Help, Version, libraries_of}
+use Rattle.command_words.specs.Command.{Command, Pass, Run, Load, Browse, Export, Report, Make, Verify, VerifyPoint, VerifyDigest, Matches, Holdings, Headings, Worklist, Migrate, Salvage as SalvageOf, Checkpoint, Quick, QuickReport, Read, ReadHoldings, ReadWorklist, Refused as RefusedOf, Help, Version, libraries_of}
 use Rattle.file_entries.specs.Files.{IsJudged}
 use Rattle.file_entries.specs.declared.refused.RefusedItem.{RefusedItem}
 use Rattle.entry_record.specs.History.{IsMerged}
@@ -23,6 +23,9 @@ use Rattle.reading_commands.specs.Looking.{look_due}
 use Rattle.journal_verification.specs.Contents.{IsVerified}
 use Rattle.journal_verification.specs.declared.verified.Verified.{Verified}
 use Rattle.journal_verification.specs.Verifying.{verified_lines}
+use Rattle.journal_verification.specs.Digests.{IsDigestOf, digest_line}
+use Rattle.sound_frames.specs.Sound.{Salvage, IsSoundOf}
+use Rattle.salvage_command.specs.Told.{salvaged_lines}
 use Rattle.holdings.specs.declared.holding.Holding.{Holding}
 use Rattle.file_holdings.specs.Files.{AreHoldings}
 use Rattle.file_holdings.specs.declared.refused.RefusedHolding.{RefusedHolding}
@@ -105,11 +108,11 @@ abbrev pub holdings_due : {room : RoomView} {has : List Entry → Type 0} {libra
     → attaching.Due
 holdings_due code c = attaching.due_of c.library.file code (state_of c.entries) c.accepted c.refused
 
--- a log has these entries, or a file that is there has them
+-- the log of that name has these entries
 abbrev pub LogHas : RoomView → List ℕ → List Entry → Type 0
 LogHas room journal entries = HasHistory entries (log_bytes room journal)
 
--- the same of a journal that is an input
+-- a file of that name is there, and its bytes have these entries
 abbrev pub FileHas : RoomView → List ℕ → List Entry → Type 0
 FileHas room journal entries = IsSomeAnd (room.file journal) (HasHistory entries)
 
@@ -142,7 +145,7 @@ pub record IsSureLook (due : List Entry → List ℕ) (journal out : List ℕ) (
   pub output : (bytes : List ℕ) (entries : List Entry) → a.old.file journal ≡ Some bytes → HasHistory entries bytes → HoldsOutput a.old out (due entries)
 
 -- the journal is an input, and the list and the page that are due of its history are written
-pub record IsSureSearch (journal list page : List ℕ) (code : Option (List ℕ)) (a : Around) : Type 0 where
+pub record IsSureWorklistUnheld (journal list page : List ℕ) (code : Option (List ℕ)) (a : Around) : Type 0 where
   pub input : a.old.promise journal ≡ ReadsAlways
   pub output : (bytes : List ℕ) (entries : List Entry) → a.old.file journal ≡ Some bytes → HasHistory entries bytes → HoldsOutput a.old list (list_due code entries)
   pub page_output : (bytes : List ℕ) (entries : List Entry) → a.old.file journal ≡ Some bytes → HasHistory entries bytes → HoldsOutput a.old page (page_of entries)
@@ -152,12 +155,18 @@ pub record IsSureVerify (journal : List ℕ) (a : Around) : Type 0 where
   pub input : a.old.promise journal ≡ ReadsAlways
   pub console : (v : Verified) → IsSomeAnd (a.old.file journal) (λ log. IsVerified log v) → HoldsText a (verified_lines v)
 
--- the journal and the log of checkpoints are inputs, and the console is told how many entries the checkpoint holds that is the journal's own
+-- the journal and the log of checkpoints are inputs, and the console is told how many entries the checkpoint holds that is the journal's
+-- own
 pub record IsSureVerifyPoint (journal point : List ℕ) (a : Around) : Type 0 where
   pub input : a.old.promise journal ≡ ReadsAlways
   pub point_input : a.old.promise point ≡ ReadsAlways
   pub console : (bytes point_bytes : List ℕ) (held count : ℕ) → a.old.file journal ≡ Some bytes → a.old.file point ≡ Some point_bytes
       → AreOwn bytes point_bytes held count → HoldsText a (resumed_line held count)
+
+-- the journal is an input, and the console is told the digest of its first so many entries
+pub record IsSureVerifyDigest (journal : List ℕ) (count : ℕ) (digits : List ℕ) (a : Around) : Type 0 where
+  pub input : a.old.promise journal ≡ ReadsAlways
+  pub console : (bytes : List ℕ) (own : IsDigestOf count digits bytes) → a.old.file journal ≡ Some bytes → HoldsText a (digest_line own.digest count)
 
 -- the file is read; both outputs of a journal that has such entries are written, and the console is told of the file
 pub record IsSureAttaching (has : List Entry → Type 0) (libraries : List Library) (out rest : List ℕ) (code : Option (List ℕ)) (a : Around) : Type 0 where
@@ -166,12 +175,12 @@ pub record IsSureAttaching (has : List Entry → Type 0) (libraries : List Libra
   pub rest_output : (c : HoldingsCase a.old has libraries) → HoldsOutput a.old rest (holdings_due code c).rest
   pub console : (c : HoldingsCase a.old has libraries) → HoldsText a (holdings_due code c).text
 
--- the journal is only read
+-- the journal is only read, and both outputs are written as above
 pub record IsSureHoldings (libraries : List Library) (journal out rest : List ℕ) (code : Option (List ℕ)) (a : Around) : Type 0 where
   pub log : HoldsLog a.old journal 0
   pub attaching : IsSureAttaching (LogHas a.old journal) libraries out rest code a
 
--- the journal is an input
+-- the journal is an input, and both outputs are written as above
 pub record IsSureUnheld (libraries : List Library) (journal out rest : List ℕ) (code : Option (List ℕ)) (a : Around) : Type 0 where
   pub input : a.old.promise journal ≡ ReadsAlways
   pub attaching : IsSureAttaching (FileHas a.old journal) libraries out rest code a
@@ -183,6 +192,14 @@ pub record IsSureMigrate (from into : List ℕ) (a : Around) : Type 0 where
   pub new_log : (entries more : List Entry) → HasHistory entries (log_bytes a.old into) → HasHistory (entries ++ more) (log_bytes a.old from)
       → HoldsLog a.old into (framed_lengths more)
   pub console : (history : List Entry) → HasHistory history (log_bytes a.old from) → HoldsText a (migrated_line (length history))
+
+-- the damaged journal is an input, and the new one gains a frame for each sound entry behind its own; the console is told of them and of the
+-- damages
+pub record IsSureSalvage (journal into : List ℕ) (a : Around) : Type 0 where
+  pub input : a.old.promise journal ≡ ReadsAlways
+  pub new_log : (bytes : List ℕ) (all : Salvage) (entries more : List Entry) → a.old.file journal ≡ Some bytes → IsSoundOf bytes all
+      → HasHistory entries (log_bytes a.old into) → entries ++ more ≡ all.entries → HoldsLog a.old into (framed_lengths more)
+  pub console : (bytes : List ℕ) (all : Salvage) → a.old.file journal ≡ Some bytes → IsSoundOf bytes all → HoldsText a (salvaged_lines bytes all)
 
 -- both logs are only read, what is due of them is written, and the console is told of how many entries the checkpoint spared
 pub record IsSureQuick (journal point out : List ℕ) (a : Around) : Type 0 where
@@ -226,17 +243,19 @@ HoldsAll words (Report journal out) a = IsSureReading (reads.due_of reads.Report
 HoldsAll words (Make seed count out) a = IsSureMake seed count out a
 HoldsAll words (Verify journal) a = IsSureVerify journal a
 HoldsAll words (VerifyPoint journal point) a = IsSureVerifyPoint journal point a
+HoldsAll words (VerifyDigest journal count digest) a = IsSureVerifyDigest journal count digest a
 HoldsAll words (Matches journal out) a = IsSureReading matches_due journal out a
 HoldsAll words (Holdings journal out rest code) a = IsSureHoldings (libraries_of words) journal out rest code a
 HoldsAll words (Headings journal range out) a = IsSureReading (headings_due range) journal out a
 HoldsAll words (Worklist journal list page code) a = IsSureWorklist journal list page code a
 HoldsAll words (Migrate from into) a = IsSureMigrate from into a
+HoldsAll words (SalvageOf journal into) a = IsSureSalvage journal into a
 HoldsAll words (Checkpoint journal point) a = ⊥
 HoldsAll words (Quick journal point out) a = IsSureQuick journal point out a
 HoldsAll words (QuickReport journal point out report) a = IsSureQuickReport journal point out report a
 HoldsAll words (Read look journal out) a = IsSureLook (look_due look) journal out a
 HoldsAll words (ReadHoldings journal out rest code) a = IsSureUnheld (libraries_of words) journal out rest code a
-HoldsAll words (ReadWorklist journal list page code) a = IsSureSearch journal list page code a
+HoldsAll words (ReadWorklist journal list page code) a = IsSureWorklistUnheld journal list page code a
 HoldsAll words (RefusedOf out) a = IsSurePass refused_due (libraries_of words) out a
 HoldsAll words (Help topic) a = HoldsText a (help_text topic)
 HoldsAll words Version a = HoldsText a version_text

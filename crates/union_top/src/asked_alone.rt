@@ -5,22 +5,22 @@ ghost use Rattle.command_words.specs.declared.asked.Request.{Request};
 ghost use Rattle.console_lines.specs.Ends.{outcome};
 ghost use Rattle.union_top.specs.Commands.{CarriesOut};
 
-use archive_commands::{Due, write_from_journal, write_matches};
+use archive_commands::{Due, list_headings, write_from_journal, write_matches};
 use checkpoint_commands::{export_quickly, put_checkpoint};
 use command_words::laws::{files_are_named, names_are_apart, numbers_are_bounded};
 use command_words::{AloneRequest, Words};
 use console_lines::End;
-use heading_list::list_headings;
 use holdings_command::attach_holdings;
-use journal_verification::verify;
+use journal_verification::{verify, verify_digest};
 use migrate_command::migrate_journal;
 use outside::Room;
 use plain_commands::{give_back, make, pass};
 use point_verification::verify_point;
 use program_help::{help, version};
 use reading_commands::{attach_unheld, look_into};
+use salvage_command::salvage_journal;
 use std::alloc::Global;
-use worklist_command::{look_for_work, make_worklist};
+use worklist_command::{list_unheld, make_worklist};
 
 /// Carries out the command that some words ask for, which starts no threads. It waits for no thread and no lock.
 pub fn carry_out<R: Room>(
@@ -51,6 +51,11 @@ pub fn carry_out<R: Room>(
         AloneRequest::VerifyPoint { journal, point } => {
             verify_point(alloc, room, console, journal, point)
         }
+        AloneRequest::VerifyDigest {
+            journal,
+            count,
+            digest,
+        } => verify_digest(alloc, room, console, journal, count, digest),
         AloneRequest::Matches { journal, out } => write_matches(alloc, room, console, journal, out),
         AloneRequest::Holdings(wanted) => attach_holdings(
             alloc,
@@ -68,6 +73,9 @@ pub fn carry_out<R: Room>(
             out,
         } => list_headings(alloc, room, console, journal, out, range),
         AloneRequest::Migrate { old, new } => migrate_journal(alloc, room, console, old, new),
+        AloneRequest::Salvage { journal, new } => {
+            salvage_journal(alloc, room, console, journal, new)
+        }
         AloneRequest::Checkpoint { journal, point } => {
             put_checkpoint(alloc, room, console, journal, point)
         }
@@ -97,7 +105,7 @@ pub fn carry_out<R: Room>(
             list,
             page,
             code,
-        } => look_for_work(alloc, room, console, journal, list, page, code),
+        } => list_unheld(alloc, room, console, journal, list, page, code),
         AloneRequest::ReadHoldings(wanted) => attach_unheld(
             alloc,
             room,

@@ -1,4 +1,4 @@
 pub mod Due
 pub mod Ended
-pub mod Looked
 pub mod Rooms
+pub mod ListedUnheld

@@ -1,2 +1,2 @@
-pub mod Looking
+pub mod Unheld
 pub mod Working

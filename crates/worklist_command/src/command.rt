@@ -6,7 +6,7 @@ ghost use Rattle.console_lines.specs.Ends.{outcome};
 ghost use Rattle.worklist_command.specs.Working.{MakesWorklist};
 
 use crate::ending::end_of_both;
-use crate::opening::{close_listed, open_listed};
+use crate::opening::{close_catalogued, open_catalogued};
 use crate::writing::write_both;
 use console_lines::{End, tell};
 use journal_files::fault_of_opening;
@@ -31,11 +31,19 @@ pub fn make_worklist<R: Room>(
     ensures ends { MakesWorklist journal.now list.now page.now (option_copied code.entry)
         (outcome R.seen R.Out.written R.Out.faults room.old room.new console.old console.new result) }
 {
-    let listed = match open_listed(alloc, room, journal) {
-        Ok(listed) => listed,
+    let catalogued = match open_catalogued(alloc, room, journal) {
+        Ok(catalogued) => catalogued,
         Err(fault) => return tell(console, fault_of_opening(fault)),
     };
-    let written = write_both(alloc, room, list, page, &listed.core, &listed.brought, code);
-    close_listed(room, journal, listed);
+    let written = write_both(
+        alloc,
+        room,
+        list,
+        page,
+        &catalogued.core,
+        &catalogued.brought,
+        code,
+    );
+    close_catalogued(room, journal, catalogued);
     end_of_both(console, written)
 }

@@ -2,11 +2,11 @@
 #![tactic(auto)]
 
 pub use command::make_worklist;
-pub use looking::look_for_work;
+pub use unheld::list_unheld;
 
+mod cataloguing;
 mod command;
 mod ending;
-mod listing;
-mod looking;
 mod opening;
+mod unheld;
 mod writing;

@@ -11,7 +11,7 @@ ghost use Rattle.entry_record.specs.History.{IsWithin};
 ghost use Rattle.journal_files.specs.Journals.{journal_limits, log_bytes, IsClosedDisk, IsOpenLog, IsRefusedLog};
 ghost use Rattle.worklist_page.specs.Brought.{brought_by};
 
-use crate::listing::Listing;
+use crate::cataloguing::CataloguingAndCounting;
 use catalogue_core::Catalogue;
 use durable_catalogue::OpenFault;
 use journal_files::{JOURNAL_LIMITS, JournalScan, close_history, close_refused};
@@ -24,7 +24,7 @@ use worklist_page::Brought;
 
 /// The catalogue of a journal's history, who brought its entries, and the journal's log.
 #[derive(Drop)]
-pub(crate) struct Listed<D: Disk> {
+pub(crate) struct CataloguedAndCounted<D: Disk> {
     pub(crate) core: Catalogue,
     pub(crate) brought: Brought,
     pub(crate) scan: JournalScan<D>,
@@ -37,7 +37,7 @@ fn open_in<L: Ledger, D: Disk>(
     alloc: Global,
     disk: D,
     blank: Blank,
-) -> Result<Listed<D>, (D, OpenFault)>
+) -> Result<CataloguedAndCounted<D>, (D, OpenFault)>
     requires name { blank.name ≡ L.name }
     requires parts { blank.parts ≡ L.parts }
     requires shared { 0 < blank.parts }
@@ -48,15 +48,15 @@ fn open_in<L: Ledger, D: Disk>(
     ensures refused { IfErr result (λ e. IsRefusedDisk journal_limits (D.seen disk) (D.seen e.0) e.1) }
     ensures current { IfErr result (λ e. e.1 ≢ OldVersion) }
 {
-    let mut listing = Listing::<L>::new(alloc, blank);
-    let scan = match JournalScan::open(alloc, disk, JOURNAL_LIMITS, &mut listing) {
+    let mut cataloguing = CataloguingAndCounting::<L>::new(alloc, blank);
+    let scan = match JournalScan::open(alloc, disk, JOURNAL_LIMITS, &mut cataloguing) {
         Ok(scan) => scan,
         Err(refused) => return Err(refused),
     };
-    let Listing { building, brought } = listing;
+    let CataloguingAndCounting { building, brought } = cataloguing;
     let core = building.core;
     match core {
-        Some(core) => Ok(Listed {
+        Some(core) => Ok(CataloguedAndCounted {
             core,
             brought,
             scan,
@@ -66,7 +66,7 @@ fn open_in<L: Ledger, D: Disk>(
     }
 }
 
-impl<D: Disk> Listed<D> {
+impl<D: Disk> CataloguedAndCounted<D> {
     /// Opens a log that a crash may have left, of either version, to read its history. A fault hands the disk back.
     fn open(alloc: Global, disk: D) -> Result<Self, (D, OpenFault)>
         ensures history { IfOk result (λ l. (log : List ℕ) → (D.seen disk).content ≡ Some log → HasHistory l.core.history log) }
@@ -82,11 +82,11 @@ impl<D: Disk> Listed<D> {
 
 /// Opens the file of that name to read its history, of either version. A fault closes it again.
 #[tactic(auto, using(journal_files::proofs::Journals::unopened_log))]
-pub(crate) fn open_listed<R: Room>(
+pub(crate) fn open_catalogued<R: Room>(
     alloc: Global,
     room: &mut R,
     name: &str,
-) -> Result<Listed<R::Log>, OpenFault>
+) -> Result<CataloguedAndCounted<R::Log>, OpenFault>
     requires { (R.seen room.old).open_as name.now ≡ None }
     ensures apart { SameBut (R.seen room.old) (R.seen room.new) (name.now ∷ []) }
 
@@ -102,24 +102,32 @@ pub(crate) fn open_listed<R: Room>(
     let Ok(log) = room.open_log(name) else {
         return Err(OpenFault::DeviceFault);
     };
-    match Listed::open(alloc, log) {
-        Ok(listed) => Ok(listed),
+    match CataloguedAndCounted::open(alloc, log) {
+        Ok(catalogued) => Ok(catalogued),
         Err(refused) => Err(close_refused(room, name, refused)),
     }
 }
 
 /// Closes its log as the file of that name.
-pub(crate) fn close_listed<R: Room>(room: &mut R, name: &str, listed: Listed<R::Log>)
+pub(crate) fn close_catalogued<R: Room>(
+    room: &mut R,
+    name: &str,
+    catalogued: CataloguedAndCounted<R::Log>,
+)
     requires { (R.seen room.old).open_as name.now ≡ Some AsLog }
     ensures apart { SameBut (R.seen room.old) (R.seen room.new) (name.now ∷ []) }
     ensures closed { (R.seen room.new).open_as name.now ≡ None }
-    ensures log { (R.seen room.old).tells ≡ true → IsClosedDisk (R.Log.seen listed.scan.journal.disk) (R.seen room.new) name.now }
+    ensures log { (R.seen room.old).tells ≡ true → IsClosedDisk (R.Log.seen catalogued.scan.journal.disk) (R.seen room.new) name.now }
 {
-    close_history(room, name, listed.scan);
+    close_history(room, name, catalogued.scan);
 }
 
-/// The catalogue of a journal's bytes, of either version, and who brought its entries.
-pub(crate) fn read_listed(alloc: Global, bytes: Vec<u8>) -> Result<Listed<ByteDisk>, OpenFault>
+/// The catalogue of a journal's bytes, of either version, and who brought its entries. A fault tells why they aren't a journal's, that
+/// their history passes the limits, or want of memory.
+pub(crate) fn read_catalogued(
+    alloc: Global,
+    bytes: Vec<u8>,
+) -> Result<CataloguedAndCounted<ByteDisk>, OpenFault>
     ensures history { IfOk result (λ l. HasHistory l.core.history bytes.items) }
     ensures within { IfOk result (λ l. IsWithin journal_limits l.core.history) }
     ensures unopened { IfErr result (IsUnopened journal_limits bytes.items) }
@@ -128,8 +136,8 @@ pub(crate) fn read_listed(alloc: Global, bytes: Vec<u8>) -> Result<Listed<ByteDi
     let Some(disk) = ByteDisk::new(alloc, bytes) else {
         return Err(OpenFault::NoMemory);
     };
-    match Listed::open(alloc, disk) {
-        Ok(listed) => Ok(listed),
+    match CataloguedAndCounted::open(alloc, disk) {
+        Ok(catalogued) => Ok(catalogued),
         Err((_disk, fault)) => Err(fault),
     }
 }

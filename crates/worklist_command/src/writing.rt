@@ -104,14 +104,14 @@ pub(crate) fn write_both<R: Room>(
         (worklist_of (kept_in (option_copied code.entry)) (state_of core.now.history))
         (state_page (state_of core.now.history) brought.now) (R.seen room.old) (R.seen room.new) which }
 {
-    let Ok(shown) = page_bytes(alloc, core, brought) else {
-        return Err(OutputsFault::NoMemory);
-    };
     let engine = core.engine();
     let Ok(found) = open_headings(alloc, engine) else {
         return Err(OutputsFault::NoMemory);
     };
-    let Ok(lines) = counted_in_order(alloc, &found, code) else {
+    let Ok(lines) = counted_in_order(alloc, &found) else {
+        return Err(OutputsFault::NoMemory);
+    };
+    let Ok(shown) = page_bytes(alloc, engine, &lines, brought) else {
         return Err(OutputsFault::NoMemory);
     };
     let listed = ListLines {

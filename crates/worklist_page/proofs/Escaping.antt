@@ -5,7 +5,7 @@ use Rattle.std.specs.List.{list_any}
 use Rattle.std.proofs.lemmas.List.Folds.{list_any-append}
 use Rattle.std.proofs.lemmas.Bool.{eqb-true}
 use Rattle.worklist_page.specs.Texts.{html_byte, html_text, is_control, is_markup}
-use Rattle.worklist_page.specs.Reading.{same_bytes, shown_byte, shown_text, text_from, text_in}
+use Rattle.worklist_page.specs.Reading.{shown_byte, shown_text, text_from, text_in}
 
 -- ---- no markup
 
@@ -46,7 +46,7 @@ FindsByte rest b = text_from None (html_byte b ++ rest) ≡ shown_byte b ++ text
 
 read_byte : (b : ℕ) (rest : List ℕ) (amp lt gt quote apostrophe control : Bool) → (b == 0x26) ≡ amp → (b == 0x3C) ≡ lt → (b == 0x3E) ≡ gt
     → (b == 0x22) ≡ quote → (b == 0x27) ≡ apostrophe → is_control b ≡ control → FindsByte rest b
-unfolding text_from same_bytes
+unfolding text_from
 read_byte b rest true lt gt quote apostrophe control e1 e2 e3 e4 e5 e6 = subst (FindsByte rest) (sym (eqb-true b 0x26 e1)) refl
 read_byte b rest false true gt quote apostrophe control e1 e2 e3 e4 e5 e6 = subst (FindsByte rest) (sym (eqb-true b 0x3C e2)) refl
 read_byte b rest false false true quote apostrophe control e1 e2 e3 e4 e5 e6 = subst (FindsByte rest) (sym (eqb-true b 0x3E e3)) refl

@@ -11,9 +11,7 @@ use Rattle.worklist_page.specs.declared.names.Element.TheVariants as tag
 use Rattle.worklist_page.specs.Pieces.{Adds, End, Piece, Start, element, page_bytes, words}
 use Rattle.worklist_page.proofs.Adding.{nothing, then}
 use Rattle.worklist_page.specs.declared.shares.Shares.{Shares}
-use Rattle.marc_types.specs.declared.entry.Entry.{Entry}
 use Rattle.catalogue_rules.specs.State.{State}
-use Rattle.catalogue_rules.specs.Settle.{state_of}
 use Rattle.worklist_page.specs.declared.bringer.Bringer.{Bringer}
 use Rattle.worklist_page.specs.Figures.{Figured, figures_of}
 use Rattle.worklist_page.specs.Shares.{no_shares, together}
@@ -143,7 +141,3 @@ pub shown_page : (begun page : List ℕ) (s : State) (f : Figured) (brought : Li
 unfolding Adds
 shown_page begun page s f brought figures none added =
     added ∙ ap (λ l. l ++ page_bytes (page_pieces s f brought)) none ∙ ap (λ g. page_bytes (page_pieces s g brought)) figures
-
--- the state behind a history of which nothing is staged
-pub state_behind : (s : State) (history staged : List Entry) → staged ≡ [] → s ≡ state_of (history ++ staged) → s ≡ state_of history
-state_behind s history staged none is = is ∙ ap (λ l. state_of (history ++ l)) none ∙ ap state_of (append-nil history)

@@ -6,7 +6,7 @@ use Rattle.std.specs.Option.{option_map, option_map_or}
 use Rattle.std.specs.Bool.{beq}
 use Rattle.marc_types.specs.declared.form.Form.{Form}
 use Rattle.marc_types.specs.Order.{same_form}
-use Rattle.heading_worklist.specs.Counts.{Compared, Counted, asked, asked_cmp, same_asked}
+use Rattle.heading_worklist.specs.Counts.{Compared, Counted, stated, stated_cmp, same_stated}
 use Rattle.worklist_page.specs.Headings.{last_of, same_heading, stands_again}
 use Rattle.std.proofs.lemmas.List.{take_all, length-append, length-map, map-append}
 
@@ -126,24 +126,24 @@ seen_again same now found seen x test is all tested told = ap (λ (l : List _). 
 -- ---- which headings are the same
 
 by_form : (a b : Bool) (f g : Form) (r : Bool) → beq a b ≡ true → r ≡ same_form f g
-    → r ≡ same_asked (record { ambiguous = a; form = f }) (record { ambiguous = b; form = g })
-unfolding asked_cmp
+    → r ≡ same_stated (record { ambiguous = a; form = f }) (record { ambiguous = b; form = g })
+unfolding stated_cmp
 by_form true true f g r same told = told
 by_form false false f g r same told = told
 by_form true false f g r same told = cc same
 by_form false true f g r same told = cc same
 
-off_form : (a b : Bool) (f g : Form) → beq a b ≡ false → beq a b ≡ same_asked (record { ambiguous = a; form = f }) (record { ambiguous = b; form = g })
-unfolding asked_cmp
+off_form : (a b : Bool) (f g : Form) → beq a b ≡ false → beq a b ≡ same_stated (record { ambiguous = a; form = f }) (record { ambiguous = b; form = g })
+unfolding stated_cmp
 off_form true true f g off = cc off
 off_form false false f g off = cc off
 off_form true false f g off = refl
 off_form false true f g off = refl
 
-seen_same : (one other : Counted) (x y : Compared) (r : Bool) → x ≡ one.heading → y ≡ other.heading → r ≡ same_asked (asked true x) (asked true y)
+seen_same : (one other : Counted) (x y : Compared) (r : Bool) → x ≡ one.heading → y ≡ other.heading → r ≡ same_stated (stated true x) (stated true y)
     → r ≡ same_heading one other
 seen_same one other x y r first second told =
-    told ∙ ap (λ z. same_asked (asked true z) (asked true y)) first ∙ ap (λ z. same_asked (asked true one.heading) (asked true z)) second
+    told ∙ ap (λ z. same_stated (stated true z) (stated true y)) first ∙ ap (λ z. same_stated (stated true one.heading) (stated true z)) second
 
 -- of one state, they are the same where their forms are
 pub same_by_form : (one other : Counted) (x y : Compared) (r : Bool) → x ≡ one.heading → y ≡ other.heading → beq x.ambiguous y.ambiguous ≡ true

@@ -1,4 +1,5 @@
--- A bar of three parts, as a picture within the page. Source: SVG 2. The picture's own unit is one thing counted, so that nothing is divided.
+-- A bar of three parts, as a picture within the page. Source: SVG 2. The picture's own unit is one thing counted, so that nothing is
+-- divided.
 use Rattle.std.specs.Prelude.{ℕ, ◌+◌, List, [], ◌∷◌, ◌++◌, codes}
 use Rattle.std.specs.Fmt.{decimal}
 use Rattle.worklist_page.specs.declared.names.Element.TheVariants.{Rect, Svg}

@@ -23,12 +23,12 @@ bringer_cmp_total =
     then_total (on_total (λ b. b.run) nat_cmp_total) (then_total (on_total (λ b. b.loader) nat_cmp_total) (on_total (λ b. b.library) nat_list_cmp_total))
 
 -- how many entries are counted under one
-abbrev pub times : List (Bringer × ℕ) → Bringer → ℕ
-times rows b = unwrap_or (lookup (is_at (bringer_cmp b)) rows) 0
+abbrev pub count_under : List (Bringer × ℕ) → Bringer → ℕ
+count_under rows b = unwrap_or (lookup (is_at (bringer_cmp b)) rows) 0
 
 -- one more entry is counted
 abbrev pub with_entry : List (Bringer × ℕ) → Entry → List (Bringer × ℕ)
-with_entry rows e = insert_entry bringer_cmp rows (bringer_of e) (times rows (bringer_of e) + 1)
+with_entry rows e = insert_entry bringer_cmp rows (bringer_of e) (count_under rows (bringer_of e) + 1)
 
 -- how many entries of a history each brought, in that order
 unfoldable pub brought_by : List Entry → List (Bringer × ℕ)

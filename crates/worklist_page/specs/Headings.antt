@@ -3,8 +3,7 @@ use Rattle.std.specs.Prelude.{Bool, true, false, List, [], ◌∷◌, ◌++◌, 
 use Rattle.std.specs.List.{dedup, flat_map}
 use Rattle.std.specs.Option.{option_map_or}
 use Rattle.catalogue_rules.specs.State.{State}
-use Rattle.heading_worklist.specs.Counting.{kept_in}
-use Rattle.heading_worklist.specs.Counts.{Counted, asked, counted_in_order, same_asked}
+use Rattle.heading_worklist.specs.Counts.{Counted, stated, counted_in_order, same_stated}
 use Rattle.heading_worklist.specs.Headings.{compared, open_headings}
 use Rattle.heading_worklist.specs.Lines.{Cells}
 use Rattle.heading_worklist.specs.Worklist.{counted_cells}
@@ -13,7 +12,7 @@ use Rattle.worklist_page.specs.Tables.{cell, column, number_cell, row, row_name,
 
 -- the same state and the same full form
 abbrev pub same_heading : Counted → Counted → Bool
-same_heading x y = same_asked (asked true x.heading) (asked true y.heading)
+same_heading x y = same_stated (stated true x.heading) (stated true y.heading)
 
 -- the last of a list
 unfoldable pub last_of : {X : Type 0} → List X → Option X
@@ -25,9 +24,9 @@ last_of (k ∷ l ∷ more) = last_of (l ∷ more)
 abbrev pub stands_again : {X : Type 0} → (X → X → Bool) → List X → X → Bool
 stands_again same found x = option_map_or (same x) (last_of found) false
 
--- the headings of a state that aren't linked, counted and in the order of the list, in which the same stand together
-abbrev pub all_headings : State → List Counted
-all_headings s = counted_in_order (kept_in None) (map compared (open_headings s))
+-- the open headings of a state, counted and in the order of the list, in which the same stand together
+abbrev pub all_open_headings : State → List Counted
+all_open_headings s = counted_in_order (map compared (open_headings s))
 
 -- the first of each, a hundred at most
 abbrev pub top_of : List Counted → List Counted
@@ -47,4 +46,4 @@ headings_table s =
     table (codes "Headings that are not linked: the 100 that stand most often, with the candidates of the first place")
     (column (codes "Heading") ++ column (codes "State") ++ column (codes "Kind") ++ column (codes "Count") ++ column (codes "Candidates")
     ++ column (codes "Their names"))
-    (flat_map (heading_row s) (top_of (all_headings s)))
+    (flat_map (heading_row s) (top_of (all_open_headings s)))

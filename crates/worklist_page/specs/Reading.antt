@@ -1,5 +1,5 @@
 -- What a reader finds in a page. Source: HTML Living Standard (tags, character references), of which this is the part that pages here use.
-use Rattle.std.specs.Prelude.{ℕ, ◌==◌, Bool, true, false, List, [], ◌∷◌, ◌++◌, Option, Some, None, codes, if◌then◌else◌}
+use Rattle.std.specs.Prelude.{ℕ, ◌==◌, List, [], ◌∷◌, ◌++◌, Option, Some, None, bytes_eq, codes, if◌then◌else◌}
 use Rattle.std.specs.List.{flat_map}
 use Rattle.worklist_page.specs.Texts.{is_control, replacement}
 
@@ -14,21 +14,14 @@ tags_from (Some read) (b ∷ bytes) = if b == 0x3E then read ∷ tags_from None 
 abbrev pub tags_in : List ℕ → List (List ℕ)
 tags_in bytes = tags_from None bytes
 
--- the same bytes
-unfoldable pub same_bytes : List ℕ → List ℕ → Bool
-same_bytes [] [] = true
-same_bytes [] (y ∷ ys) = false
-same_bytes (x ∷ xs) [] = false
-same_bytes (x ∷ xs) (y ∷ ys) = if x == y then same_bytes xs ys else false
-
 -- the character that a reference names; the page has no others
 abbrev pub referred : List ℕ → List ℕ
 referred name =
-    if same_bytes name (codes "amp") then 0x26 ∷ []
-    else if same_bytes name (codes "lt") then 0x3C ∷ []
-    else if same_bytes name (codes "gt") then 0x3E ∷ []
-    else if same_bytes name (codes "quot") then 0x22 ∷ []
-    else if same_bytes name (codes "#39") then 0x27 ∷ []
+    if bytes_eq name (codes "amp") then 0x26 ∷ []
+    else if bytes_eq name (codes "lt") then 0x3C ∷ []
+    else if bytes_eq name (codes "gt") then 0x3E ∷ []
+    else if bytes_eq name (codes "quot") then 0x22 ∷ []
+    else if bytes_eq name (codes "#39") then 0x27 ∷ []
     else []
 
 -- a text with its references replaced: each begins with `&` and ends with `;`, and what was read of one is there

@@ -43,7 +43,8 @@ bar_of s = record { linked = s.linked; ambiguous = s.ambiguous; unlinked = s.unl
 -- the heads of columns of shares, behind a first one
 abbrev pub shares_columns : List ℕ → List Piece
 shares_columns first =
-    column first ++ column (codes "Linked") ++ column (codes "Ambiguous") ++ column (codes "Unlinked") ++ column (codes "Shares of the row, from the left: linked (dark), ambiguous (brown), unlinked (light)")
+    column first ++ column (codes "Linked") ++ column (codes "Ambiguous") ++ column (codes "Unlinked")
+    ++ column (codes "Shares of the row, from the left: linked (dark), ambiguous (brown), unlinked (light)")
 
 -- the three numbers of shares
 abbrev pub shares_numbers : Shares → List Piece

@@ -1,7 +1,7 @@
 //! The headings that aren't linked and stand most often.
 ghost use Rattle.std.specs.Prelude.{◌≡◌, ◌++◌, codes, map, IfOk, OnOk};
 ghost use Rattle.std.specs.List.{flat_map};
-ghost use Rattle.worklist_page.specs.Headings.{all_headings, cells_row, heading_row, headings_table, same_heading, stands_again, top_of};
+ghost use Rattle.worklist_page.specs.Headings.{all_open_headings, cells_row, heading_row, headings_table, same_heading, stands_again, top_of};
 ghost use Rattle.worklist_page.specs.Pieces.{Adds};
 ghost use Rattle.worklist_page.specs.Tables.{cell, column, number_cell, row_name};
 
@@ -11,7 +11,7 @@ use crate::tables::{
     add_cell, add_column, add_number_cell, add_row_name, end_table, start_rows, start_table,
 };
 use catalogue_core::Engine;
-use heading_worklist::{Cells, Counted, counted_cells, counted_in_order, open_headings};
+use heading_worklist::{Cells, Counted, counted_cells};
 use marc_types::NoMemory;
 use std::alloc::{AllocError, Global};
 use std::collections::BTreeSet;
@@ -149,14 +149,18 @@ fn add_headings(
     Ok(())
 }
 
-/// The rows of those of a state.
-fn add_top(page: &mut Vec<u8>, alloc: Global, engine: &Engine) -> Result<(), NoMemory>
+/// The rows of those of a state, of which all open headings are given in their order.
+fn add_top(
+    page: &mut Vec<u8>,
+    alloc: Global,
+    engine: &Engine,
+    all: &BTreeSet<Counted<'_>>,
+) -> Result<(), NoMemory>
+    requires { all.now.keys ≡ all_open_headings engine.now.state }
     ensures { OnOk result (Adds page.old.items page.new.items
-        (flat_map (heading_row engine.now.state) (top_of (all_headings engine.now.state)))) }
+        (flat_map (heading_row engine.now.state) (top_of (all_open_headings engine.now.state)))) }
 {
-    let open = open_headings(alloc, engine)?;
-    let all = counted_in_order(alloc, &open, None)?;
-    let found = top_of(alloc, &all)?;
+    let found = top_of(alloc, all)?;
     add_headings(page, alloc, engine, &found)
 }
 
@@ -178,7 +182,9 @@ pub(crate) fn add_headings_table(
     page: &mut Vec<u8>,
     alloc: Global,
     engine: &Engine,
+    all: &BTreeSet<Counted<'_>>,
 ) -> Result<(), NoMemory>
+    requires { all.now.keys ≡ all_open_headings engine.now.state }
     ensures { OnOk result (Adds page.old.items page.new.items (headings_table engine.now.state)) }
 {
     start_table(
@@ -187,7 +193,7 @@ pub(crate) fn add_headings_table(
     )?;
     add_columns(page)?;
     start_rows(page)?;
-    add_top(page, alloc, engine)?;
+    add_top(page, alloc, engine, all)?;
     end_table(page)?;
     Ok(())
 }

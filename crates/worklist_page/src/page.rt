@@ -1,10 +1,10 @@
 //! The page as a whole.
 ghost use Rattle.std.specs.Prelude.{◌≡◌, ◌++◌, ◌∷◌, [], codes, length, IfOk, OnOk};
-ghost use Rattle.catalogue_rules.specs.Settle.{state_of};
 ghost use Rattle.worklist_page.specs.declared.names.Element.TheVariants as tag;
 ghost use Rattle.worklist_page.specs.declared.names.Attribute.TheVariants as attribute;
 ghost use Rattle.worklist_page.specs.Pieces.{Adds, Start, element, element_with, words};
 ghost use Rattle.worklist_page.specs.Figures.{figures_of};
+ghost use Rattle.worklist_page.specs.Headings.{all_open_headings};
 ghost use Rattle.worklist_page.specs.Page.{content, head, page_name, page_pieces, state_page, totals_table};
 ghost use Rattle.worklist_page.specs.declared.style.TheConstants.{STYLE as the_style};
 
@@ -16,9 +16,11 @@ use crate::names::{Attribute, Element};
 use crate::pieces::{add_doctype, add_element, end, start, start_with};
 use crate::sections::{add_brought_table, add_kinds_table, add_totals_table};
 use crate::style::STYLE;
-use catalogue_core::{Catalogue, Engine};
+use catalogue_core::Engine;
+use heading_worklist::Counted;
 use marc_types::{Class, NoMemory};
 use std::alloc::{AllocError, Global};
+use std::collections::BTreeSet;
 
 fn add_named(page: &mut Vec<u8>, name: Element) -> Result<(), AllocError>
     ensures { OnOk result (Adds page.old.items page.new.items (element name (words page_name))) }
@@ -51,12 +53,14 @@ fn add_head(page: &mut Vec<u8>) -> Result<(), AllocError>
     Ok(())
 }
 
-/// What the page shows: a catalogue, its figures, and who brought entries.
+/// What the page shows: a catalogue, its open headings in their order, its figures, and who brought entries.
 #[derive(Drop)]
-struct Shown<'a> {
+struct Shown<'a, 'h> {
     engine: &'a Engine,
+    headings: &'a BTreeSet<Counted<'h>>,
     figures: &'a Figures,
     brought: &'a Brought,
+    ghost ordered: { headings.now.keys ≡ all_open_headings engine.now.state },
 }
 
 #[tactic(auto, using(crate::proofs::Rows::shown_totals))]
@@ -70,7 +74,7 @@ fn add_totals(page: &mut Vec<u8>, engine: &Engine, figures: &Figures) -> Result<
     add_totals_table(page, authorities, bibliographic, totals)
 }
 
-fn add_content(page: &mut Vec<u8>, alloc: Global, shown: &Shown<'_>) -> Result<(), NoMemory>
+fn add_content(page: &mut Vec<u8>, alloc: Global, shown: &Shown<'_, '_>) -> Result<(), NoMemory>
     ensures { OnOk result (Adds page.old.items page.new.items
         (content shown.now.engine.now.state shown.now.figures.now shown.now.brought.now)) }
 {
@@ -78,12 +82,12 @@ fn add_content(page: &mut Vec<u8>, alloc: Global, shown: &Shown<'_>) -> Result<(
     add_totals(page, shown.engine, shown.figures)?;
     add_libraries_table(page, alloc, shown.figures)?;
     add_kinds_table(page, alloc, shown.figures)?;
-    add_headings_table(page, alloc, shown.engine)?;
+    add_headings_table(page, alloc, shown.engine, shown.headings)?;
     add_brought_table(page, shown.brought)?;
     Ok(())
 }
 
-fn add_body(page: &mut Vec<u8>, alloc: Global, shown: &Shown<'_>) -> Result<(), NoMemory>
+fn add_body(page: &mut Vec<u8>, alloc: Global, shown: &Shown<'_, '_>) -> Result<(), NoMemory>
     ensures { OnOk result (Adds page.old.items page.new.items
         (element tag.Body (content shown.now.engine.now.state shown.now.figures.now shown.now.brought.now))) }
 {
@@ -93,7 +97,7 @@ fn add_body(page: &mut Vec<u8>, alloc: Global, shown: &Shown<'_>) -> Result<(), 
     Ok(())
 }
 
-fn add_halves(page: &mut Vec<u8>, alloc: Global, shown: &Shown<'_>) -> Result<(), NoMemory>
+fn add_halves(page: &mut Vec<u8>, alloc: Global, shown: &Shown<'_, '_>) -> Result<(), NoMemory>
     ensures { OnOk result (Adds page.old.items page.new.items
         (head ++ element tag.Body (content shown.now.engine.now.state shown.now.figures.now shown.now.brought.now))) }
 {
@@ -102,7 +106,7 @@ fn add_halves(page: &mut Vec<u8>, alloc: Global, shown: &Shown<'_>) -> Result<()
     Ok(())
 }
 
-fn add_html(page: &mut Vec<u8>, alloc: Global, shown: &Shown<'_>) -> Result<(), NoMemory>
+fn add_html(page: &mut Vec<u8>, alloc: Global, shown: &Shown<'_, '_>) -> Result<(), NoMemory>
     ensures { OnOk result (Adds page.old.items page.new.items (element_with tag.Html ((attribute.Lang, codes "en") ∷ [])
         (head ++ element tag.Body (content shown.now.engine.now.state shown.now.figures.now shown.now.brought.now)))) }
 {
@@ -112,7 +116,7 @@ fn add_html(page: &mut Vec<u8>, alloc: Global, shown: &Shown<'_>) -> Result<(), 
     Ok(())
 }
 
-fn add_page(page: &mut Vec<u8>, alloc: Global, shown: &Shown<'_>) -> Result<(), NoMemory>
+fn add_page(page: &mut Vec<u8>, alloc: Global, shown: &Shown<'_, '_>) -> Result<(), NoMemory>
     ensures { OnOk result (Adds page.old.items page.new.items
         (page_pieces shown.now.engine.now.state shown.now.figures.now shown.now.brought.now)) }
 {
@@ -121,25 +125,24 @@ fn add_page(page: &mut Vec<u8>, alloc: Global, shown: &Shown<'_>) -> Result<(), 
     Ok(())
 }
 
-/// The page of a state, and of who brought its history.
-fn state_page(alloc: Global, engine: &Engine, brought: &Brought) -> Result<Vec<u8>, NoMemory>
+/// The page of a state, of which all open headings are given in their order, and of who brought entries, made in memory.
+pub fn page_bytes(
+    alloc: Global,
+    engine: &Engine,
+    headings: &BTreeSet<Counted<'_>>,
+    brought: &Brought,
+) -> Result<Vec<u8>, NoMemory>
+    requires { headings.now.keys ≡ all_open_headings engine.now.state }
     ensures { IfOk result (λ page. page.items ≡ state_page engine.now.state brought.now) }
 {
     let figures = figures_of(alloc, engine)?;
     let shown = Shown {
         engine,
+        headings,
         figures: &figures,
         brought,
     };
     let mut page = Vec::new(alloc);
     add_page(&mut page, alloc, &shown)?;
     Ok(page)
-}
-
-/// The page of the state behind a catalogue's history, of which nothing is staged, and of who brought entries, made in memory.
-pub fn page_bytes(alloc: Global, core: &Catalogue, brought: &Brought) -> Result<Vec<u8>, NoMemory>
-    requires { core.now.staged ≡ [] }
-    ensures { IfOk result (λ page. page.items ≡ state_page (state_of core.now.history) brought.now) }
-{
-    state_page(alloc, core.engine(), brought)
 }

@@ -4,7 +4,7 @@ use outside_mem::MemSink;
 use program_help::{help, version};
 use std::alloc::Global;
 
-const TOPICS: [(Topic, &str); 21] = [
+const TOPICS: [(Topic, &str); 22] = [
     (Topic::All, "union_cat, a union catalogue"),
     (Topic::Pass, "union_cat pass OUT CODE=FILE\n"),
     (
@@ -31,6 +31,7 @@ const TOPICS: [(Topic, &str); 21] = [
     ),
     (Topic::Worklist, "union_cat worklist JOURNAL LIST PAGE\n"),
     (Topic::Migrate, "union_cat migrate OLD NEW\n"),
+    (Topic::Salvage, "union_cat salvage JOURNAL NEW\n"),
     (Topic::Checkpoint, "union_cat checkpoint JOURNAL POINT\n"),
     (Topic::Quick, "union_cat quick JOURNAL POINT OUT\n"),
     (Topic::Reading, "union_cat reading export JOURNAL OUT\n"),

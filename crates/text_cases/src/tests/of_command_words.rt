@@ -187,6 +187,7 @@ fn headings_text(alloc: Global, asked: &AloneRequest<'_>) -> Result<String, NoMe
 fn later_text(alloc: Global, asked: &AloneRequest<'_>) -> Result<String, NoMemory> {
     match asked {
         AloneRequest::Migrate { old, new } => barred(alloc, &["migrate", old, new]),
+        AloneRequest::Salvage { journal, new } => barred(alloc, &["salvage", journal, new]),
         AloneRequest::Checkpoint { journal, point } => {
             barred(alloc, &["checkpoint", journal, point])
         }
@@ -231,6 +232,16 @@ fn alone_text(alloc: Global, asked: &AloneRequest<'_>) -> Result<String, NoMemor
         }
         AloneRequest::Verify { journal } => barred(alloc, &["verify", journal]),
         AloneRequest::VerifyPoint { journal, point } => barred(alloc, &["verify", journal, point]),
+        AloneRequest::VerifyDigest {
+            journal,
+            count,
+            digest,
+        } => {
+            let mut text = barred(alloc, &["verify", journal])?;
+            push_word(&mut text, number_text(*count))?;
+            push_word(&mut text, digest)?;
+            Ok(text)
+        }
         AloneRequest::Matches { journal, out } => barred(alloc, &["matches", journal, out]),
         AloneRequest::Help { topic } => barred(alloc, &["help", topic_text(*topic)]),
         AloneRequest::Version => barred(alloc, &["version"]),
@@ -292,6 +303,22 @@ const WITH_FILES: [(&str, &str); 10] = [
 #[test]
 fn lines_with_files(rt: HostRuntime) -> Result<(), Fail> {
     expect_asked(&rt, rt.alloc(), &WITH_FILES)
+}
+
+const OF_DIGESTS: [(&str, &str); 2] = [
+    (
+        "verify j 7 0123456789abcdef0123456789ABCDEF0123456789abcdef0123456789abcdef",
+        "|verify|j|7|0123456789abcdef0123456789ABCDEF0123456789abcdef0123456789abcdef",
+    ),
+    (
+        "verify j 18446744073709551615 0123456789ABCDEF0123456789ABCDEF0123456789ABCDEF0123456789ABCDEF",
+        "|verify|j|18446744073709551615|0123456789ABCDEF0123456789ABCDEF0123456789ABCDEF0123456789ABCDEF",
+    ),
+];
+
+#[test]
+fn lines_with_digests(rt: HostRuntime) -> Result<(), Fail> {
+    expect_asked(&rt, rt.alloc(), &OF_DIGESTS)
 }
 
 const OVER_JOURNALS: [(&str, &str); 20] = [
@@ -404,7 +431,7 @@ fn faulty_lines_with_files(rt: HostRuntime) -> Result<(), Fail> {
     expect_none(&rt, rt.alloc(), &FAULTY_FILES)
 }
 
-const FAULTY: [&str; 60] = [
+const FAULTY: [&str; 68] = [
     "export j",
     "export j j",
     "export j o D(",
@@ -421,12 +448,20 @@ const FAULTY: [&str; 60] = [
     "verify",
     "verify j o x",
     "verify j ",
+    "verify j 7 0123456789abcdef0123456789ABCDEF0123456789abcdef0123456789abcde",
+    "verify j 7 0123456789abcdef0123456789ABCDEF0123456789abcdef0123456789abcdef0",
+    "verify j 7 0123456789abcdef0123456789ABCDEF0123456789abcdef0123456789abcdeg",
+    "verify j -7 0123456789abcdef0123456789ABCDEF0123456789abcdef0123456789abcdef",
+    "verify j 7 0123456789abcdef0123456789ABCDEF0123456789abcdef0123456789abcdef o",
     "matches a",
     "matches a a",
     "matches a b c",
     "migrate a",
     "migrate a a",
     "migrate a b c",
+    "salvage a",
+    "salvage a a",
+    "salvage a b c",
     "checkpoint j",
     "checkpoint j j",
     "checkpoint j p o",

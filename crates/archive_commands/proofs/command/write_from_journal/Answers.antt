@@ -1,4 +1,4 @@
-use Rattle.output_files.proofs.Rooms.{apart_opened, closed_opened}
+use Rattle.outside.proofs.Closings.{apart_opened, closed_opened}
 use Rattle.archive_commands.proofs.Endings.{reads_unopened, reads_output}
 use Rattle.archive_commands.proofs.command.write_from_journal.Goals as goal
 

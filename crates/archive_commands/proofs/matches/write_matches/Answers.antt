@@ -1,6 +1,6 @@
 use Rattle.std.proofs.Common.{◌≡◌, true, Some, OnOk, subst}
 use Rattle.output_files.specs.Outputs.{IsOutput}
-use Rattle.output_files.proofs.Rooms.{closed_opened}
+use Rattle.outside.proofs.Closings.{closed_opened}
 use Rattle.archive_commands.proofs.Endings.{reads_unopened, reads_output}
 use Rattle.archive_commands.specs.Telling.{matches_due}
 use Rattle.archive_commands.proofs.Taken.{due_of_table}

@@ -2,7 +2,7 @@ use Rattle.std.proofs.Common.{subst}
 use Rattle.outside.proofs.Rooms.{same_but_none, same_but_then}
 use Rattle.output_files.specs.Outputs.{IsOutputLeft}
 use Rattle.archive_commands.specs.Reads.{due_view, due_of}
-use Rattle.output_files.proofs.Rooms.{apart_closed}
+use Rattle.outside.proofs.Closings.{apart_closed}
 use Rattle.output_files.proofs.Logs.{output_closed}
 use Rattle.archive_commands.proofs.writing.write_archive.Goals as goal
 

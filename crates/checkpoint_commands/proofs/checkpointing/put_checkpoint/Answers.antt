@@ -2,7 +2,7 @@ use Rattle.std.proofs.Common.{◌≡◌, ◌∙◌, true, [], ◌∷◌, refl, s
 use Rattle.outside.proofs.Rooms.{same_but_itself, same_but_first}
 use Rattle.console_lines.specs.declared.end.End.TheVariants.{Told}
 use Rattle.console_lines.specs.Faults.{IsFaultTold, fault_line}
-use Rattle.output_files.proofs.Rooms.{closed_opened, apart_over, closed_over}
+use Rattle.outside.proofs.Closings.{closed_opened, apart_over, closed_over}
 use Rattle.checkpoint_commands.specs.Rooms.{PutsBehind, IsPutBehind}
 use Rattle.checkpoint_commands.proofs.Endings.{checkpoints_unopened, checkpoints_done, checkpoints_unwritten, checkpoints_refused, counted_history, alone_err}
 use Rattle.checkpoint_commands.proofs.checkpointing.put_checkpoint.Goals as goal

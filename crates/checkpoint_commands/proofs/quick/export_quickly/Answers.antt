@@ -3,7 +3,7 @@ use Rattle.std.specs.Option.{option_copied}
 use Rattle.outside.proofs.Rooms.{same_but_first}
 use Rattle.console_lines.specs.declared.end.End.TheVariants.{Told}
 use Rattle.console_lines.specs.Faults.{IsFaultTold, fault_line}
-use Rattle.output_files.proofs.Rooms.{closed_one}
+use Rattle.outside.proofs.Closings.{closed_one}
 use Rattle.checkpoint_commands.specs.Exporting.{outputs_of}
 use Rattle.checkpoint_commands.proofs.Over.{closed_all, apart_all}
 use Rattle.checkpoint_commands.proofs.Exports.{quick_unopened, quick_done, quick_untold, quick_stopped}

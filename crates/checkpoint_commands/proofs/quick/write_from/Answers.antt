@@ -4,7 +4,7 @@ use Rattle.std.specs.Option.{option_copied}
 use Rattle.outside.proofs.Rooms.{same_but_first, same_but_none, same_but_then}
 use Rattle.durable_catalogue.specs.declared.fault.OpenFault.TheVariants.{DeviceFault}
 use Rattle.journal_files.proofs.Journals.{keeps_where}
-use Rattle.output_files.proofs.Rooms.{closed_still}
+use Rattle.outside.proofs.Closings.{closed_still}
 use Rattle.checkpoint_commands.specs.Exporting.{outputs_of, WhyUnwritten}
 use Rattle.checkpoint_commands.proofs.Exports.{apart_from, keeps_from, kept_from, written_from, unwritten_from, handed_on, memory_refused, ok_not_err}
 use Rattle.checkpoint_commands.proofs.quick.write_from.Goals as goal

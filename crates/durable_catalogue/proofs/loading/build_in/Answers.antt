@@ -2,7 +2,7 @@ use Rattle.std.proofs.Common.{[], refl, sym, subst}
 use Rattle.commit_journal.specs.Versions.{number_of}
 use Rattle.entry_history.specs.Payloads.{IsHistory}
 use Rattle.durable_catalogue.specs.Loading.{IsBuilt}
-use Rattle.durable_catalogue.specs.Logs.{payloads_of}
+use Rattle.commit_journal.specs.Log.{payloads_of}
 use Rattle.durable_catalogue.proofs.Loads.{loaded_of}
 use Rattle.durable_catalogue.proofs.loading.build_in.Goals as goal
 

@@ -1,4 +1,4 @@
-use Rattle.durable_catalogue.specs.Logs.{payloads_of}
+use Rattle.commit_journal.specs.Log.{payloads_of}
 use Rattle.durable_catalogue.proofs.Loads.{bounded_built}
 use Rattle.durable_catalogue.proofs.loading.load_newest.Goals as goal
 

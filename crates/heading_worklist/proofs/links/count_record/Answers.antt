@@ -2,7 +2,7 @@ use Rattle.std.proofs.Common.{◌∙◌, ap, arith}
 use Rattle.std.specs.List.{count_by}
 use Rattle.catalogue_rules.specs.State.{fields_of}
 use Rattle.numbered_store.specs.Kept.{kept_record}
-use Rattle.heading_worklist.specs.Lines.{is_linked_to}
+use Rattle.catalogue_rules.specs.Settle.{is_linked_to}
 use Rattle.heading_worklist.proofs.Counting.{none_linked}
 use Rattle.heading_worklist.proofs.links.count_record.Goals as goal
 

@@ -2,7 +2,7 @@ use Rattle.std.proofs.Common.{◌≡◌, ◌+◌, take}
 use Rattle.std.specs.List.{count_by}
 use Rattle.marc_types.specs.declared.key.Key.{Key}
 use Rattle.heading_worklist.specs.Counting.{linked_times}
-use Rattle.heading_worklist.specs.Lines.{is_tied_to}
+use Rattle.heading_worklist.specs.Counting.{is_tied_to}
 use Rattle.heading_worklist.proofs.links.count_ties.Given as goal
 
 abbrev pub invariant-loop-tie : goal.invariant-loop-tie

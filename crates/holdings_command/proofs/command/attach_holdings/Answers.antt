@@ -11,7 +11,7 @@ use Rattle.durable_catalogue.specs.Logs.{HasHistory}
 use Rattle.entry_record.specs.History.{IsWithin}
 use Rattle.journal_files.specs.Journals.{journal_limits, log_bytes}
 use Rattle.holdings_command.specs.Ready.{IsReady}
-use Rattle.output_files.proofs.Rooms.{closed_but, closed_one}
+use Rattle.outside.proofs.Closings.{closed_but, closed_one}
 use Rattle.holdings_command.proofs.Rooms.{opened_alone, all_apart, closed_behind, all_written, all_stopped, read_there}
 use Rattle.holdings_command.proofs.Endings.{attaches_unopened, was_opened, attaches_unread, attaches_ended}
 use Rattle.holdings_command.proofs.command.attach_holdings.Goals as goal

@@ -1,7 +1,8 @@
 use Rattle.std.proofs.Common.{◌∙◌, ap}
-use Rattle.journal_verification.proofs.Verifying.{comes_all}
+use Rattle.std.specs.Prelude.{Err}
+use Rattle.journal_verification.proofs.Walks.{same_fault}
 use Rattle.journal_verification.proofs.verified.verify_source.Goals as goal
 
-pub returns-clause-lost : goal.returns-clause-lost
-returns-clause-lost g c wrong is log told =
-    c.verify_coming-verified.ensures.lost wrong is log (comes_all log _ _ c.new-coming.ensures.window (ap g.S.Source.left c.new-coming.ensures.source ∙ told))
+pub returns-in-Err-default-clause-lost : goal.returns-in-Err-default-clause-lost
+returns-in-Err-default-clause-lost g c wrong is log told =
+    c.look_source.ensures.lost wrong (c.in-Err-default.is-0 ∙ ap Err (same_fault _ _ is)) log told

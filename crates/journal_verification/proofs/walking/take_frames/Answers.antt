@@ -3,6 +3,8 @@ use Rattle.std.specs.Prelude.{Err}
 use Rattle.commit_journal.specs.Log.{walk}
 use Rattle.entry_history.specs.Readers.{HoldsNone}
 use Rattle.commit_journal.specs.Versions.{number_of}
+use Rattle.sha2.specs.Hashers.{Holds256}
+use Rattle.journal_verification.proofs.Digests.{tests_same, tests_other}
 use Rattle.journal_verification.specs.Gates.{GateSays, GateIn}
 use Rattle.journal_verification.specs.Walking.{IsRead, IsLostAt, IsUnread, NoGate}
 use Rattle.journal_verification.proofs.Walks.{taken_none, taken_more, read_all, ends_lost, walks_frame, unread_bad, unread_behind, same_place, same_fault, most_taken}
@@ -10,7 +12,11 @@ use Rattle.journal_verification.proofs.walking.take_frames.Goals as goal
 
 pub gates-init : goal.gates-init
 gates-init g c = record {
-  taken = λ b comes. taken_none (number_of c.args.version) c.args.coming.now.place b c.args.coming.now.window.items (g.S.Source.left c.args.coming.now.source) c.new-counter.result.extent c.new-counter.ensures.none comes;
+  taken = λ b comes.
+      taken_none (number_of c.args.version) c.args.coming.now.place c.args.wanted c.args.coming.now.hasher c.in_ok-front.front b
+      c.args.coming.now.window.items (g.S.Source.left c.args.coming.now.source) c.new-counter.result.extent c.new-counter.ensures.none
+      c.new-counter.ensures.count comes (λ is. c.in_ok-front.ensures.new (tests_same c.args.wanted 0 is))
+      (λ differs. c.in_ok-front.ensures.kept (tests_other c.args.wanted 0 differs));
   version = c.new-counter.ensures.version ∙ c.number.ensures.number;
   few = omega arith;
   counted = omega (arith, c.new-counter.ensures.count);
@@ -19,11 +25,19 @@ gates-init g c = record {
 
 pub returns-in-Closed-clause-read : goal.returns-in-Closed-clause-read
 returns-in-Closed-clause-read g c b comes =
+    let version = number_of c.args.version in
+    let from = c.args.coming.now.place in
+    let started = c.args.coming.now.hasher in
+    let digest = c.in_ok-digest-in-Closed.field-0 in
     let taken = c.gates.invariant.taken b comes in
-    let all = read_all (number_of c.args.version) c.args.coming.now.place c.gates.coming.place c.gates.frames b c.gates.coming.window.items _ c.gates.counter.extent taken
+    let all = read_all version from c.gates.coming.place c.gates.frames c.args.wanted started c.gates.coming.hasher c.gates.front digest b
+    c.gates.coming.window.items _ c.gates.counter.extent taken
+    (λ passed held. c.in_ok-digest-in-Closed.ensures passed (subst (λ h. Holds256 h passed) (sym c.next_gate.ensures.hasher) held))
     (λ x come. subst (GateSays x) c.in-Closed.is (c.in_ok-next_gate.ensures.says x come)) in
-    subst (λ p. IsRead (number_of c.args.version) c.args.coming.now.place b c.count.result c.gates.frames p) (sym c.next_gate.ensures.place)
-    (subst (λ n. IsRead (number_of c.args.version) c.args.coming.now.place b n c.gates.frames c.gates.coming.place) (sym c.count.ensures) all)
+    subst (λ p. IsRead version from c.args.wanted started b (record { entries = c.count.result; frames = c.gates.frames; digest = digest; front = c.gates.front }) p)
+    (sym c.next_gate.ensures.place)
+    (subst (λ n. IsRead version from c.args.wanted started b (record { entries = n; frames = c.gates.frames; digest = digest; front = c.gates.front }) c.gates.coming.place)
+    (sym c.count.ensures) all)
 
 pub returns-in-Closed-clause-on : goal.returns-in-Closed-clause-on
 returns-in-Closed-clause-on g c b comes =
@@ -60,11 +74,20 @@ gates-preserved g c =
     record {
       taken = λ b comes.
           let taken = c.gates.invariant.taken b comes in
-          taken_more (number_of c.args.version) c.args.coming.now.place c.gates.coming.place c.pass-in-Frame.new.self.place c.gates.frames b c.gates.coming.window.items c.pass-in-Frame.new.self.window.items
-          c.payload_in.result.now _ _ c.gates.counter c.read.new.self taken c.in-Ok.field-0.items c.gates.invariant.version (counts taken.entries taken.extent_is)
+          let count_is = c.count-in-Frame.ensures in
+          taken_more (number_of c.args.version) c.args.coming.now.place c.gates.coming.place c.pass-in-Frame.new.self.place c.gates.frames c.args.wanted
+          c.args.coming.now.hasher c.gates.coming.hasher c.pass-in-Frame.new.self.hasher c.gates.front c.in_ok-front-in-Frame.front b c.gates.coming.window.items
+          filled c.pass-in-Frame.new.self.window.items c.in-Frame.count c.payload_in.result.now _ _ _ c.gates.counter c.read.new.self taken c.in-Ok.field-0.items
+          c.gates.invariant.version (counts taken.entries taken.extent_is)
           (walks_frame _ c.gates.coming.place c.in-Frame.count c.pass-in-Frame.new.self.place b _ filled c.pass-in-Frame.new.self.window.items c.payload_in.result.now taken.frames _ _ _ taken.on
           (λ x come. subst (GateSays x) c.in-Frame.is (c.in_ok-next_gate.ensures.says x come)) c.in_ok-next_gate.ensures.comes c.pass-in-Frame.ensures.comes within
-          (omega (arith, place, same)) payload);
+          (omega (arith, place, same)) payload)
+          c.in_ok-next_gate.ensures.comes within payload
+          (record {
+            hashed = λ passed held. c.pass-in-Frame.ensures.hashed passed (subst (λ h. Holds256 h passed) (sym c.next_gate.ensures.hasher) held);
+            kept = λ differs. c.in_ok-front-in-Frame.ensures.kept (tests_other c.count-in-Frame.result c.args.wanted (λ is. differs (sym count_is ∙ is)));
+            found = λ is. c.in_ok-front-in-Frame.ensures.new (tests_same c.count-in-Frame.result c.args.wanted (count_is ∙ is));
+          });
       version = c.read.ensures.version ∙ c.gates.invariant.version;
       counted = omega (arith, counted, more, place, same, taken_len, most_taken c.in-Frame.count (drop 5 filled));
       few = omega (arith, few, place, same);
@@ -84,7 +107,7 @@ returns-in-Ok-skip_frames-clause-unread g c wrong is b comes =
     (λ x come. subst (GateSays x) c.in-Frame.is (c.in_ok-next_gate.ensures.says x come)) c.in_ok-next_gate.ensures.comes c.pass.ensures.comes within
     (omega (arith, place, same)) payload in
     subst (IsUnread (number_of c.args.version) (walk c.args.coming.now.place 0 b)) (sym c.place-place.ensures ∙ same_place _ wrong is)
-    (unread_bad (number_of c.args.version) c.args.coming.now.place c.gates.coming.place c.pass.new.self.place c.gates.frames b c.gates.coming.window.items c.pass.new.self.window.items
+    (unread_bad (number_of c.args.version) c.args.coming.now.place c.gates.coming.place c.pass.new.self.place c.gates.frames _ b c.gates.coming.window.items c.pass.new.self.window.items
     c.payload_in.result.now _ _ c.gates.counter taken c.gates.invariant.version none on c.in-Ok-skip_frames.ensures.closed)
 
 pub returns-in-Err-clause-unread : goal.returns-in-Err-clause-unread

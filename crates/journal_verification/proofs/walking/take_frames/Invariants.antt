@@ -9,7 +9,8 @@ invariant-gates g l =
     let left = g.S.Source.left in
     record {
       taken : (b : List ℕ) → Comes l.initial.coming.window.items (left l.initial.coming.source) b
-          → HasTaken (number_of l.fn.version) l.initial.coming.place b l.counter.extent l.frames l.coming.place l.coming.window.items (left l.coming.source);
+          → HasTaken (number_of l.fn.version) l.initial.coming.place
+          (record { started = l.initial.coming.hasher; wanted = l.fn.wanted; hasher = l.coming.hasher; front = l.front }) b l.counter.extent l.frames l.coming.place l.coming.window.items (left l.coming.source);
       version : l.counter.version ≡ number_of l.fn.version;
       counted : l.counter.extent.count ≤ l.coming.place;
       few : l.frames ≤ l.coming.place;

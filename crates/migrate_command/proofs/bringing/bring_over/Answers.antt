@@ -1,7 +1,7 @@
 use Rattle.std.proofs.Common.{◌∙◌, [], ◌∷◌, Err, sym, ap}
 use Rattle.outside.proofs.Rooms.{same_but_itself, same_but_first}
 use Rattle.commit_journal.specs.Versions.{number_of}
-use Rattle.output_files.proofs.Rooms.{closed_opened, apart_over, closed_over}
+use Rattle.outside.proofs.Closings.{closed_opened, apart_over, closed_over}
 use Rattle.migrate_command.proofs.Over.{over_unopened, over_either}
 use Rattle.migrate_command.proofs.bringing.bring_over.Goals as goal
 

@@ -3,7 +3,7 @@ use Rattle.std.specs.Prelude.{IsTrue}
 use Rattle.commit_journal.specs.Versions.{number_of}
 use Rattle.entry_record.specs.History.{IsWithin}
 use Rattle.entry_history.specs.Payloads.{IsHistory}
-use Rattle.durable_catalogue.specs.Logs.{payloads_of}
+use Rattle.commit_journal.specs.Log.{payloads_of}
 use Rattle.migrate_command.specs.Fronts.{HoldNoFront}
 use Rattle.migrate_command.proofs.Fronts.{no_front_unread, not_device}
 use Rattle.migrate_command.proofs.front.read_history.Goals as goal

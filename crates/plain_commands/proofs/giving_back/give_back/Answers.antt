@@ -1,7 +1,7 @@
 use Rattle.std.proofs.Common.{◌≡◌, ◌∙◌, List, ℕ, Some, sym, ap, subst}
 use Rattle.outside.proofs.Rooms.{same_but_none, same_but_then}
 use Rattle.plain_commands.specs.Passing.{IsReady}
-use Rattle.output_files.proofs.Rooms.{closed_one}
+use Rattle.outside.proofs.Closings.{closed_one}
 use Rattle.plain_commands.proofs.Passes.{passes_delivered}
 use Rattle.plain_commands.proofs.There.{there_of}
 use Rattle.plain_commands.proofs.giving_back.give_back.Goals as goal

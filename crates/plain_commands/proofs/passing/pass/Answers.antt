@@ -1,6 +1,6 @@
 use Rattle.std.proofs.Common.{◌∙◌}
 use Rattle.outside.proofs.Rooms.{same_but_none, same_but_then}
-use Rattle.output_files.proofs.Rooms.{closed_one}
+use Rattle.outside.proofs.Closings.{closed_one}
 use Rattle.plain_commands.proofs.Passes.{passes_told, passes_delivered}
 use Rattle.plain_commands.proofs.There.{there_more}
 use Rattle.plain_commands.proofs.passing.pass.Goals as goal

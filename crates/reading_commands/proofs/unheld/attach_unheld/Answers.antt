@@ -10,7 +10,7 @@ use Rattle.catalogue_rules.specs.Settle.{state_of}
 use Rattle.durable_catalogue.specs.Logs.{HasHistory}
 use Rattle.entry_record.specs.History.{IsWithin}
 use Rattle.journal_files.specs.Journals.{journal_limits}
-use Rattle.output_files.proofs.Rooms.{closed_but}
+use Rattle.outside.proofs.Closings.{closed_but}
 use Rattle.holdings_command.specs.Ready.{IsReady}
 use Rattle.reading_commands.proofs.Attached.{read_apart, stopped_since, unheld_ended, unheld_unready, written_since}
 use Rattle.reading_commands.proofs.unheld.attach_unheld.Goals as goal

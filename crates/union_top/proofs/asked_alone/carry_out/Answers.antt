@@ -3,7 +3,7 @@ use Rattle.std.specs.Prelude.{IsTrue}
 use Rattle.std.specs.Option.{option_copied}
 use Rattle.marc_types.specs.Valid.{is_code}
 use Rattle.outside.specs.Room.{IsNoneOf}
-use Rattle.outside.proofs.Rooms.{same_but_itself}
+use Rattle.outside.proofs.Rooms.{same_but_itself, same_but_more}
 use Rattle.command_words.specs.Command.{libraries_of}
 use Rattle.command_words.specs.declared.library.Library.{Library}
 use Rattle.console_lines.specs.Ends.{Outcome, outcome}
@@ -14,11 +14,13 @@ use Rattle.plain_commands.specs.GivingBack.{GivesBack}
 use Rattle.reading_commands.specs.Looking.{EndsLooking}
 use Rattle.reading_commands.specs.Unheld.{AttachesUnheld, EndsUnheld}
 use Rattle.archive_commands.specs.Reads.{EndsReading}
-use Rattle.worklist_command.specs.Looking.{EndsLookingForWork}
+use Rattle.worklist_command.specs.Unheld.{EndsListingUnheld}
 use Rattle.worklist_command.specs.Working.{EndsListing}
 use Rattle.holdings_command.specs.Attaching.{AttachesHoldings, EndsAttaching}
 use Rattle.journal_verification.specs.Verifying.{EndsVerifying}
+use Rattle.journal_verification.specs.Owning.{EndsVerifyingDigest}
 use Rattle.migrate_command.specs.Migrates.{EndsMigrating}
+use Rattle.salvage_command.specs.Salvages.{EndsSalvaging}
 use Rattle.checkpoint_commands.specs.Checkpoints.{EndsCheckpoint}
 use Rattle.checkpoint_commands.specs.Quick.{EndsQuick}
 use Rattle.point_verification.specs.Verifying.{EndsVerifyingPoint}
@@ -55,6 +57,10 @@ pub migrate_journal-requires-clause-differ : goal.migrate_journal-requires-claus
 migrate_journal-requires-clause-differ g c κs within =
     (c.names_are_apart.ensures.names _ (asked_as c.args.words.now c.args.asked c.requires.asks c.in-Migrate.is).command).1.0
 
+pub salvage_journal-requires-clause-differ : goal.salvage_journal-requires-clause-differ
+salvage_journal-requires-clause-differ g c κs within =
+    (c.names_are_apart.ensures.names _ (asked_as c.args.words.now c.args.asked c.requires.asks c.in-Salvage.is).command).1.0
+
 pub attach_holdings-requires-clause-names : goal.attach_holdings-requires-clause-names
 attach_holdings-requires-clause-names g c κs within =
     c.names_are_apart.ensures.names _ (asked_as c.args.words.now c.args.asked c.requires.asks c.in-Holdings.is).command
@@ -75,14 +81,14 @@ returns-in-Worklist g c =
     let did = c.make_worklist.ensures in
     carries c.args.words.now c.args.asked c.in-Worklist.is did.closed did.apart did.ends (λ usage. subst EndsListing usage did.ends.ends)
 
-pub look_for_work-requires-clause-differ : goal.look_for_work-requires-clause-differ
-look_for_work-requires-clause-differ g c κs within =
+pub list_unheld-requires-clause-differ : goal.list_unheld-requires-clause-differ
+list_unheld-requires-clause-differ g c κs within =
     (c.names_are_apart.ensures.names _ (asked_as c.args.words.now c.args.asked c.requires.asks c.in-ReadWorklist.is).command).1.0
 
 pub returns-in-ReadWorklist : goal.returns-in-ReadWorklist
 returns-in-ReadWorklist g c =
-    let did = c.look_for_work.ensures in
-    carries c.args.words.now c.args.asked c.in-ReadWorklist.is did.closed did.apart did.ends (λ usage. subst EndsLookingForWork usage did.ends.ends)
+    let did = c.list_unheld.ensures in
+    carries c.args.words.now c.args.asked c.in-ReadWorklist.is did.closed did.apart did.ends (λ usage. subst EndsListingUnheld usage did.ends.ends)
 
 pub returns-in-Pass : goal.returns-in-Pass
 returns-in-Pass g c =
@@ -112,6 +118,16 @@ pub returns-in-Verify : goal.returns-in-Verify
 returns-in-Verify g c =
     let did = c.verify.ensures in
     carries c.args.words.now c.args.asked c.in-Verify.is did.closed did.apart did.ends (λ usage. subst EndsVerifying usage did.ends.ends)
+
+pub returns-in-VerifyDigest : goal.returns-in-VerifyDigest
+returns-in-VerifyDigest g c =
+    let did = c.verify_digest.ensures in
+    carries c.args.words.now c.args.asked c.in-VerifyDigest.is did.closed did.apart did.ends (λ usage. subst EndsVerifyingDigest usage did.ends.ends)
+
+pub returns-in-Salvage : goal.returns-in-Salvage
+returns-in-Salvage g c =
+    let did = c.salvage_journal.ensures in
+    carries c.args.words.now c.args.asked c.in-Salvage.is did.closed (same_but_more _ _ (c.in-Salvage.new.now ∷ []) (c.in-Salvage.journal.now ∷ c.in-Salvage.new.now ∷ []) (λ n other. other.1) did.apart) did.ends (λ usage. subst EndsSalvaging usage did.ends.ends)
 
 pub returns-in-VerifyPoint : goal.returns-in-VerifyPoint
 returns-in-VerifyPoint g c =

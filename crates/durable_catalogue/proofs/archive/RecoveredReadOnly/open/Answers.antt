@@ -3,7 +3,7 @@ use Rattle.std.proofs.lemmas.Result.{err_from_is_err_and}
 use Rattle.commit_journal.specs.Versions.{number_of}
 use Rattle.entry_history.specs.Payloads.{IsHistory}
 use Rattle.durable_catalogue.specs.declared.fault.OpenFault.TheVariants.{DeviceFault, OldVersion}
-use Rattle.durable_catalogue.specs.Logs.{payloads_of}
+use Rattle.commit_journal.specs.Log.{payloads_of}
 use Rattle.durable_catalogue.proofs.Opened.{reading}
 use Rattle.durable_catalogue.proofs.Answered.{unloads_of}
 use Rattle.durable_catalogue.proofs.archive.RecoveredReadOnly.open.Goals as goal

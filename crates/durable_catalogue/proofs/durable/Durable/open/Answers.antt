@@ -6,7 +6,7 @@ use Rattle.commit_journal.specs.Journal.{IsRecovered}
 use Rattle.commit_journal.specs.Versions.{number_of}
 use Rattle.entry_record.specs.History.{IsWithin}
 use Rattle.entry_history.specs.Payloads.{IsHistory, CanFollow}
-use Rattle.durable_catalogue.specs.Logs.{payloads_of}
+use Rattle.commit_journal.specs.Log.{payloads_of}
 use Rattle.durable_catalogue.specs.Durables.{IsKept}
 use Rattle.durable_catalogue.proofs.Opened.{never_full, next_follows, reading, opened_kept}
 use Rattle.durable_catalogue.proofs.Answered.{unloads_of}

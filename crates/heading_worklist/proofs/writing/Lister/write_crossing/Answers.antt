@@ -12,12 +12,12 @@ pub returns-clause-bytes : goal.returns-clause-bytes
 returns-clause-bytes g c =
     let is = crossing_kept (kept_in (option_copied c.args.self.now.code)) c.args.self.now.engine.now.state c.args.own.now c.args.others.now c.in-len1-up.len_at_least
     (sym c.is_kept_among.ensures ∙ c.if-not-is_kept_among.false) in
-    subst (λ lines. OnOk c.write_found.result (Appends (g.K.Sink.written c.args.out.now) (g.K.Sink.written c.write_found.new.out) (flat_map line_bytes lines))) (sym is)
-    (rw c.in-Ok.ensures at c.write_found.ensures.bytes)
+    subst (λ lines. OnOk c.write_across.result (Appends (g.K.Sink.written c.args.out.now) (g.K.Sink.written c.write_across.new.out) (flat_map line_bytes lines))) (sym is)
+    c.write_across.ensures.bytes
 
 pub returns-clause-front : goal.returns-clause-front
 returns-clause-front g c =
     let is = crossing_kept (kept_in (option_copied c.args.self.now.code)) c.args.self.now.engine.now.state c.args.own.now c.args.others.now c.in-len1-up.len_at_least
     (sym c.is_kept_among.ensures ∙ c.if-not-is_kept_among.false) in
-    subst (λ lines. WritesFront (g.K.Sink.written c.args.out.now) (g.K.Sink.written c.write_found.new.out) (flat_map line_bytes lines)) (sym is)
-    (rw c.in-Ok.ensures at c.write_found.ensures.front)
+    subst (λ lines. WritesFront (g.K.Sink.written c.args.out.now) (g.K.Sink.written c.write_across.new.out) (flat_map line_bytes lines)) (sym is)
+    c.write_across.ensures.front

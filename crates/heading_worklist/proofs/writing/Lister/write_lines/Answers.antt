@@ -17,7 +17,7 @@ returns-in_err-write_all-clause-front g c =
     subst (WritesFront _ _) (sym (in_parts (kept_in (option_copied c.args.self.now.code)) c.args.self.now.engine.now.state c.args.lines.now.keys))
     (front_more _ _ _ (flat_map line_bytes (crossing_lines (kept_in (option_copied c.args.self.now.code)) c.args.self.now.engine.now.state))
     (front_more _ _ _ (flat_map line_bytes (shared_lines (kept_in (option_copied c.args.self.now.code)) c.args.self.now.engine.now.state))
-    (front_more _ _ _ (flat_map line_bytes (counted_lines c.args.self.now.engine.now.state c.args.lines.now.keys))
+    (front_more _ _ _ (flat_map line_bytes (counted_lines (kept_in (option_copied c.args.self.now.code)) c.args.self.now.engine.now.state c.args.lines.now.keys))
     (front_more _ _ _ (line_bytes column_names) c.write_all.ensures.front))))
 
 pub returns-in_err-write_all-2-clause-front : goal.returns-in_err-write_all-2-clause-front

@@ -1,0 +1,21 @@
+-- What is known of the frames of a log of checkpoints that are taken one by one.
+use Rattle.std.specs.Prelude.{◌≡◌, List}
+use Rattle.commit_journal.specs.declared.frame.Frame.{Frame}
+use Rattle.commit_journal.specs.Log.{payloads_of}
+use Rattle.checkpoint.specs.Parts.{ArePartsOf}
+use Rattle.checkpoint.specs.Points.{read_all, IsBadFrame}
+use Rattle.checkpoint.specs.declared.part.Part.{Part}
+use Rattle.checkpoint.specs.declared.point.SoFar.{SoFar}
+use Rattle.checkpoint_commands.specs.declared.taking.Known.{Known}
+use Rattle.checkpoint_commands.specs.declared.taking.Known.TheVariants.{Parts, BadAt}
+
+-- frames are parts of checkpoints, and this is known behind them all
+pub record AreRead (frames : List Frame) (so_far : SoFar) : Type 0 where
+  pub parts : List Part
+  pub are : ArePartsOf (payloads_of frames) parts
+  pub so_far_is : so_far ≡ read_all parts
+
+-- all frames are parts, or the first that is none has its gate there
+abbrev pub IsKnown : List Frame → Known → Type 0
+IsKnown frames (Parts so_far) = AreRead frames so_far
+IsKnown frames (BadAt gate) = IsBadFrame frames gate

@@ -1,8 +1,0 @@
-use Rattle.std.proofs.Common.{rules}
-use Rattle.entry_history.proofs.ReadNumbers.{short_read}
-use Rattle.entry_history.proofs.numbers.short_number.Goals as goal
-
-pub returns-clause-found : goal.returns-clause-found
-returns-clause-found c =
-    let parts = c.in_ok-number.ensures.cases in
-    short_read c.args.bytes.now c.in_ok-number.number.now c.in_ok-number.rest.now c.from_be_bytes.result parts.0 parts.1 (search rules) c.type_inv.bytes c.from_be_bytes.ensures

@@ -1,0 +1,27 @@
+//! Parts of a payload behind their length.
+ghost use Rattle.std.specs.Prelude.{◌≡◌, ◌<◌, ◌^◌, ◌∷◌, ◌++◌, length, IfSome, IfNone};
+ghost use Rattle.std.specs.Int.{w32, to_be_bytes};
+ghost use Rattle.entry_history.specs.Reading.{IsNotCoded, IsNotSized};
+
+use commit_journal::short_number;
+
+/// Bytes behind their number, which takes one byte, and what stands behind them.
+pub fn coded(bytes: &[u8]) -> Option<(&[u8], &[u8])>
+    ensures found { IfSome result (λ r. length r.0.now ∷ (r.0.now ++ r.1.now) ≡ bytes.now) }
+    ensures none { IfNone result (IsNotCoded bytes.now) }
+{
+    let (len, behind) = bytes.split_first()?;
+    let (part, rest) = behind.split_at_checked(*len as usize)?;
+    Some((part, rest))
+}
+
+/// Bytes behind their number, which takes four bytes, and what stands behind them.
+pub fn sized(bytes: &[u8]) -> Option<(&[u8], &[u8])>
+    ensures found { IfSome result (λ r. to_be_bytes w32 (length r.0.now) ++ (r.0.now ++ r.1.now) ≡ bytes.now) }
+    ensures fits { IfSome result (λ r. length r.0.now < 2 ^ 32) }
+    ensures none { IfNone result (IsNotSized bytes.now) }
+{
+    let (len, behind) = short_number(bytes)?;
+    let (part, rest) = behind.split_at_checked(len as usize)?;
+    Some((part, rest))
+}

@@ -1,4 +1,0 @@
-use Rattle.worklist_command.proofs.opening.Listed.open.Given as goal
-
-abbrev pub ghosts-open_in : goal.ghosts-open_in
-ghosts-open_in g a = record { name = a.blank.name; parts = a.blank.parts }
